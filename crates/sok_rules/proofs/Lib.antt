@@ -1,0 +1,11 @@
+pub mod Grid
+pub mod Man
+pub mod Proper
+pub mod Replays
+pub mod Rows
+pub mod Runs
+pub mod Scenes
+pub mod Spots
+pub mod Steps
+pub mod Walking
+pub mod Worked

@@ -1,0 +1,95 @@
+//! What stands on a square, the four directions, and squares by row and column.
+
+ghost use Rattle.std.specs.Prelude.{◌≡◌, ◌+◌, ◌<◌, ◌^◌};
+ghost use Rattle.sok_rules.specs.Squares.{is_wall, is_box, is_astray, is_goal, is_man, next};
+
+/// What stands on a square of a level's text.
+#[derive(Clone, Copy, Debug, PartialEq, Eq)]
+pub enum Cell {
+    Wall,
+    Floor,
+    Goal,
+    /// A box that stands on floor.
+    BoxOff,
+    /// A box that stands on a goal.
+    BoxOn,
+    /// The player on floor.
+    ManOff,
+    /// The player on a goal.
+    ManOn,
+}
+
+impl Cell {
+    pub fn is_wall(self) -> bool
+        ensures { result ≡ is_wall self }
+    {
+        matches!(self, Cell::Wall)
+    }
+
+    /// Whether a box stands there, on floor or on a goal.
+    pub fn is_box(self) -> bool
+        ensures { result ≡ is_box self }
+    {
+        matches!(self, Cell::BoxOff | Cell::BoxOn)
+    }
+
+    /// Whether a box stands there, off a goal.
+    pub fn is_astray(self) -> bool
+        ensures { result ≡ is_astray self }
+    {
+        matches!(self, Cell::BoxOff)
+    }
+
+    /// Whether it is a goal, also under a box or the player.
+    pub fn is_goal(self) -> bool
+        ensures { result ≡ is_goal self }
+    {
+        matches!(self, Cell::Goal | Cell::BoxOn | Cell::ManOn)
+    }
+
+    /// Whether the player stands there, on floor or on a goal.
+    pub fn is_man(self) -> bool
+        ensures { result ≡ is_man self }
+    {
+        matches!(self, Cell::ManOff | Cell::ManOn)
+    }
+}
+
+/// A direction in which the player walks or pushes.
+#[derive(Clone, Copy, Debug, PartialEq, Eq)]
+pub enum Dir {
+    Left,
+    Up,
+    Right,
+    Down,
+}
+
+/// A square, by its row and column, both counted from 0 at the top left.
+#[derive(Clone, Copy, Debug, PartialEq, Eq)]
+pub struct Spot {
+    pub row: u32,
+    pub col: u32,
+}
+
+impl Spot {
+    /// The square one step along. None left of column 0 and above row 0.
+    pub fn next(self, dir: Dir) -> Option<Spot>
+        requires row { self.row + 1 < 2 ^ 32 }
+        requires col { self.col + 1 < 2 ^ 32 }
+        ensures { result ≡ next dir self }
+    {
+        let Spot { row, col } = self;
+        match dir {
+            Dir::Left => Some(Spot {
+                row,
+                col: col.checked_sub(1)?,
+            }),
+            Dir::Up => Some(Spot {
+                row: row.checked_sub(1)?,
+                col,
+            }),
+            Dir::Right => Some(Spot { row, col: col + 1 }),
+            Dir::Down => Some(Spot { row: row + 1, col }),
+        }
+    }
+}

@@ -1,0 +1,133 @@
+//! Why rows are no level, and why letters cannot be played.
+
+ghost use Rattle.std.specs.Prelude.{◌≡◌};
+ghost use Rattle.sok_rules.specs.Faults.{level_fault_number, play_fault_number};
+ghost use Rattle.sok_rules.specs.declared.fault.LevelFault.TheVariants as level;
+ghost use Rattle.sok_rules.specs.declared.fault.PlayFault.TheVariants as play;
+
+use std::alloc::{AllocError, AllocFailed};
+
+/// Why rows are no level, or why there is no level at all.
+#[derive(Clone, Copy, Debug, PartialEq, Eq)]
+pub enum LevelFault {
+    /// A row has more than 64 cells.
+    TooWide,
+    /// There are more than 64 rows.
+    TooTall,
+    NoPlayer,
+    ManyPlayers,
+    NoBox,
+    /// A collection has no level of this number.
+    NoSuchLevel,
+    /// The first row without a wall, counted from 0.
+    NoWall(u32),
+    /// Memory was refused.
+    Memory,
+}
+
+impl LevelFault {
+    /// The number by which the fault is printed.
+    pub fn number(&self) -> u8
+        ensures { result ≡ level_fault_number self.now }
+    {
+        match self {
+            LevelFault::TooWide => 1,
+            LevelFault::TooTall => 2,
+            LevelFault::NoPlayer => 3,
+            LevelFault::ManyPlayers => 4,
+            LevelFault::NoBox => 5,
+            LevelFault::NoSuchLevel => 15,
+            LevelFault::NoWall(_) => 17,
+            LevelFault::Memory => 40,
+        }
+    }
+}
+
+impl From<AllocError> for LevelFault {
+    ghost from_gives = { λ _ fault. fault ≡ level.Memory };
+
+    fn from(_error: AllocError) -> LevelFault {
+        LevelFault::Memory
+    }
+}
+
+impl<T: Drop> From<AllocFailed<T>> for LevelFault {
+    ghost from_gives = { λ _ fault. fault ≡ level.Memory };
+
+    fn from(_error: AllocFailed<T>) -> LevelFault {
+        LevelFault::Memory
+    }
+}
+
+/// Why a letter, or a list of letters, is not played.
+#[derive(Clone, Copy, Debug, PartialEq, Eq)]
+pub enum PlayFault {
+    /// The place, from 0, of the first letter that is not legal.
+    Blocked(usize),
+    /// 1,000,000 letters are played already.
+    TooLong,
+    /// Memory was refused.
+    Memory,
+}
+
+impl PlayFault {
+    /// The number by which the fault is printed.
+    pub fn number(&self) -> u8
+        ensures { result ≡ play_fault_number self.now }
+    {
+        match self {
+            PlayFault::Blocked(_) => 12,
+            PlayFault::TooLong => 14,
+            PlayFault::Memory => 40,
+        }
+    }
+}
+
+impl From<AllocError> for PlayFault {
+    ghost from_gives = { λ _ fault. fault ≡ play.Memory };
+
+    fn from(_error: AllocError) -> PlayFault {
+        PlayFault::Memory
+    }
+}
+
+impl<T: Drop> From<AllocFailed<T>> for PlayFault {
+    ghost from_gives = { λ _ fault. fault ≡ play.Memory };
+
+    fn from(_error: AllocFailed<T>) -> PlayFault {
+        PlayFault::Memory
+    }
+}
+
+impl From<Memory> for PlayFault {
+    ghost from_gives = { λ _ fault. fault ≡ play.Memory };
+
+    fn from(_error: Memory) -> PlayFault {
+        PlayFault::Memory
+    }
+}
+
+/// Memory was refused, where nothing else can go wrong.
+#[derive(Clone, Copy, Debug, PartialEq, Eq)]
+pub struct Memory;
+
+impl Memory {
+    /// The number by which the fault is printed.
+    pub fn number(&self) -> u8
+        ensures { result ≡ 40 }
+    {
+        40
+    }
+}
+
+impl From<AllocError> for Memory {
+    fn from(_error: AllocError) -> Memory {
+        Memory
+    }
+}
+
+impl<T: Drop> From<AllocFailed<T>> for Memory {
+    fn from(_error: AllocFailed<T>) -> Memory {
+        Memory
+    }
+}

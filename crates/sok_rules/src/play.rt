@@ -1,0 +1,42 @@
+//! Replaying a list of letters.
+
+ghost use Rattle.std.specs.Prelude.{MatchResult};
+
+use crate::cell::Dir;
+use crate::fault::PlayFault;
+use crate::level::Level;
+use crate::scene::Scene;
+use std::alloc::Global;
+
+/// What became of a list of letters that was played to its end.
+#[derive(Clone, Copy, Debug, PartialEq, Eq)]
+pub struct Tally {
+    /// Whether all boxes stand on goals at the end.
+    pub solved: bool,
+    /// How many letters pushed a box.
+    pub pushes: u64,
+    /// How many letters there were, pushes included.
+    pub moves: u64,
+}
+
+ghost use Rattle.sok_rules.specs.Replay.{IsTally, IsReplayFault};
+
+/// Plays a list of letters of any length from the start of a level. The last position alone says
+/// whether it solves. Refused where a letter is not legal, with the place of the first such letter.
+pub fn replay(alloc: Global, level: &Level, dirs: &[Dir]) -> Result<Tally, PlayFault>
+    ensures { MatchResult result (IsTally level.now dirs.now) (IsReplayFault level.now dirs.now) }
+{
+    let mut scene = Scene::new(alloc, level)?;
+    let mut pushes = 0;
+    for (at, dir) in dirs.iter().enumerate() {
+        match scene.step(*dir) {
+            Some(pushed) => pushes += u64::from(pushed),
+            None => return Err(PlayFault::Blocked(at)),
+        }
+    }
+    Ok(Tally {
+        solved: scene.is_solved(),
+        pushes,
+        moves: dirs.len() as u64,
+    })
+}
