@@ -1,0 +1,92 @@
+-- The blocks of a collection, from the slices that it keeps.
+use Rattle.std.proofs.Common.{ℕ, ◌≡◌, ◌<◌, ◌≤◌, ◌+◌, List, [], ◌∷◌, ◌++◌, Option, Some, None, true, false, zero, suc, map, option_map, slice_get, length, sym, ap, ◌∙◌, refl, subst, arith, add-one, take, true≢false, ◌-◌}
+use Rattle.std.proofs.lemmas.Option.{slice_get-map}
+use Rattle.std.proofs.lemmas.List.{append_assoc, append-nil, length-append}
+use Rattle.std.specs.Option.{SomeIff}
+use Rattle.std.specs.Str.Lines.{lines}
+use Rattle.sok_text.specs.Lines.{StartsWith, Passes}
+use Rattle.sok_text.specs.Collections.{Part, Parts, blocks_from, block_at, parts_of}
+use Rattle.sok_text.proofs.Runs.{lines-Passes, take-Passes, length-Passes}
+use Rattle.sok_text.proofs.Lines.{lines-first}
+use Rattle.sok_text.proofs.Cutting.{parts_of-notes, notes-board, boards-more}
+
+pub length-blocks_from : (notes : List (List ℕ)) (parts : List Part) → length (blocks_from notes parts) ≡ length parts
+length-blocks_from notes [] = refl
+length-blocks_from notes (part ∷ parts) = ap suc (length-blocks_from part.after parts)
+
+board-blocks_from : (notes : List (List ℕ)) (parts : List Part) (i : ℕ) → option_map (λ block. block.board) (slice_get (blocks_from notes parts) i) ≡ option_map (λ part. part.board) (slice_get parts i)
+board-blocks_from notes [] i = refl
+board-blocks_from notes (part ∷ parts) zero = refl
+board-blocks_from notes (part ∷ parts) (suc i) = board-blocks_from part.after parts i
+
+board-part : {X : Type 0} (part : X → Part) (o : Option X) → option_map (λ p. p.board) (option_map part o) ≡ option_map (λ x. (part x).board) o
+board-part part None = refl
+board-part part (Some x) = refl
+
+-- a board, counted from 1, of parts that are kept in another form
+pub board-block_at : {X : Type 0} (part : X → Part) (notes : List (List ℕ)) (parts : List X) (n i : ℕ) (o : Option X) → n ≡ i + 1 → slice_get parts i ≡ o
+    → option_map (λ block. block.board) (block_at (blocks_from notes (map part parts)) n) ≡ option_map (λ x. (part x).board) o
+board-block_at part notes parts n i o counted there =
+    ap (λ k. option_map (λ block. block.board) (block_at (blocks_from notes (map part parts)) k)) (counted ∙ add-one i)
+    ∙ board-blocks_from notes (map part parts) i ∙ ap (option_map (λ p. p.board)) (slice_get-map part parts i ∙ ap (option_map part) there) ∙ board-part part o
+
+-- the notes before the first board
+pub parts_of-start : (text rest : List ℕ) (passed : Passes false text rest) → StartsWith true (lines rest)
+    → parts_of (lines text) ≡ record { notes = lines passed.front; boards = (parts_of (lines rest)).boards }
+parts_of-start text rest passed starts =
+    ap parts_of (lines-Passes false text rest passed) ∙ parts_of-notes (lines passed.front) (lines rest) passed.same
+    ∙ ap (λ notes. record { notes = lines passed.front ++ notes; boards = (parts_of (lines rest)).boards }) (notes-board (lines rest) starts)
+    ∙ ap (λ notes. record { notes = notes; boards = (parts_of (lines rest)).boards }) (append-nil (lines passed.front))
+
+-- a text that begins with one kind has lines of it before the other kind
+some_of_kind : (whole front rest : List (List ℕ)) → whole ≡ front ++ rest → 0 < length whole → StartsWith true whole → StartsWith false rest → 0 < length front
+some_of_kind whole [] [] same some board note = absurd (omega (arith, ap length same))
+some_of_kind whole [] (line ∷ rest) same some board note = absurd (true≢false (sym (subst (StartsWith true) same board) ∙ note))
+some_of_kind whole (line ∷ front) rest same some board note = omega arith
+
+has_lines : (text : List ℕ) → 0 < length text → 0 < length (lines text)
+has_lines text some = omega (arith, ap length (lines-first text some))
+
+has_bytes : (text : List ℕ) → 0 < length (lines text) → 0 < length text
+has_bytes [] some = absurd (omega arith)
+has_bytes (byte ∷ text) some = omega arith
+
+-- a board and the notes after it are passed
+pub board_passed : (here behind : List ℕ) (board : Passes true here behind) → 0 < length here → StartsWith true (lines here) → StartsWith false (lines behind) → 0 < length (lines board.front)
+board_passed here behind board some starts ends =
+    some_of_kind (lines here) (lines board.front) (lines behind) (lines-Passes true here behind board) (has_lines here some) starts ends
+
+pub length-board_passed : (here behind next : List ℕ) (board : Passes true here behind) → Passes false behind next → 0 < length here → StartsWith true (lines here) → StartsWith false (lines behind)
+    → length next < length here
+length-board_passed here behind next board after some starts ends =
+    let full = has_bytes board.front (board_passed here behind board some starts ends) in
+    omega (arith, ap length board.whole, length-append board.front behind, length-Passes false behind next after)
+
+boards-passed : (here behind next : List ℕ) (board : Passes true here behind) (after : Passes false behind next) → 0 < length here
+    → StartsWith true (lines here) → StartsWith false (lines behind) → StartsWith true (lines next)
+    → (parts_of (lines here)).boards ≡ record { board = lines board.front; after = lines after.front } ∷ (parts_of (lines next)).boards
+boards-passed here behind next board after some starts ends on =
+    let rest = lines-Passes false behind next after in
+    ap (λ ls. (parts_of ls).boards) (lines-Passes true here behind board ∙ ap (λ ls. lines board.front ++ ls) rest)
+    ∙ boards-more (lines board.front) (lines after.front) (lines next) (board_passed here behind board some starts ends) board.same after.same
+    (subst (StartsWith false) rest ends) on
+
+-- one more board is kept, by the slices of its lines and of the notes after it
+pub parts_of-more : (whole : Parts) (notes : List (List ℕ)) (done : List Part) (here behind next board after : List ℕ) (b : Passes true here behind) (a : Passes false behind next) → 0 < length here
+    → StartsWith true (lines here) → StartsWith false (lines behind) → StartsWith true (lines next)
+    → board ≡ take (length here - length behind) here → after ≡ take (length behind - length next) behind
+    → whole ≡ record { notes = notes; boards = done ++ (parts_of (lines here)).boards }
+    → whole ≡ record { notes = notes; boards = (done ++ record { board = lines board; after = lines after } ∷ []) ++ (parts_of (lines next)).boards }
+parts_of-more whole notes done here behind next board after b a some starts ends on is_board is_after so_far =
+    let same_board = is_board ∙ take-Passes true here behind b in
+    let same_after = is_after ∙ take-Passes false behind next a in
+    let boards = boards-passed here behind next b a some starts ends on
+    ∙ (λ i. record { board = lines (sym same_board i); after = lines (sym same_after i) } ∷ (parts_of (lines next)).boards) in
+    so_far ∙ ap (λ bs. record { notes = notes; boards = done ++ bs }) boards
+    ∙ ap (λ bs. record { notes = notes; boards = bs }) (sym (append_assoc done (record { board = lines board; after = lines after } ∷ []) (parts_of (lines next)).boards))
+
+-- what `checked_sub` tells
+pub one_less : (o : Option ℕ) (n i : ℕ) → SomeIff o (1 ≤ n) (n - 1) → o ≡ Some i → n ≡ i + 1
+one_less o n i told there =
+    let some : (1 ≤ n) × (i ≡ n - 1) = subst (λ p. SomeIff p (1 ≤ n) (n - 1)) there told in
+    omega (arith, some.0, some.1)

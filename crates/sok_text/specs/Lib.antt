@@ -1,0 +1,5 @@
+pub mod Collections
+pub mod Lines
+pub mod Lurd
+pub mod Titles
+pub mod Xsb

@@ -1,0 +1,36 @@
+-- Lines of one kind, and reading a text line by line.
+use Rattle.std.specs.Prelude.{ℕ, ◌≡◌, List, [], ◌∷◌, ◌++◌, ◌⊎◌, Bool, All, if◌then◌else◌, ◌==◌, length, nat_lt}
+use Rattle.std.specs.List.{position_or_len, before_first, after_first}
+use Rattle.std.specs.Str.Lines.{lines, strip_carriage_return}
+use Rattle.sok_text.specs.Xsb.{is_board_line}
+
+abbrev pub is_newline : ℕ → Bool
+is_newline c = c == 10
+
+-- the first line of a text, without its end
+unfoldable pub first_line : List ℕ → List ℕ
+first_line text = if nat_lt (position_or_len is_newline text) (length text) then strip_carriage_return (before_first is_newline text) else text
+
+-- the text behind its first line
+unfoldable pub after_line : List ℕ → List ℕ
+after_line text = after_first is_newline text
+
+-- only board lines (true), or only notes (false)
+abbrev pub AreOf : Bool → List (List ℕ) → Type 0
+AreOf kind ls = All (λ line. is_board_line line ≡ kind) ls
+
+-- the first line, if there is one, is of a kind
+abbrev pub StartsWith : Bool → List (List ℕ) → Type 0
+StartsWith kind [] = Unit {0}
+StartsWith kind (line ∷ ls) = is_board_line line ≡ kind
+
+-- a text can be cut into lines up to a place and from there on
+abbrev pub IsLineEnd : List ℕ → List ℕ → Type 0
+IsLineEnd front rest = (rest ≡ []) ⊎ ((more : List ℕ) → lines (front ++ more) ≡ lines front ++ lines more)
+
+-- between two places in a text stand whole lines of one kind
+pub record Passes (kind : Bool) (from to : List ℕ) : Type 0 where
+  pub front : List ℕ
+  pub whole : from ≡ front ++ to
+  pub cut : IsLineEnd front to
+  pub same : AreOf kind (lines front)

@@ -1,0 +1,44 @@
+-- Titles of levels, which the notes around a board give.
+use Rattle.std.specs.Prelude.{ℕ, List, [], ◌∷◌, Option, Some, None, Bool, not, ◌||◌, if◌then◌else◌, ◌==◌, nat_eq, length, map, find, codes, drop, reverse}
+use Rattle.std.specs.List.{list_all, starts_with}
+use Rattle.std.specs.Option.{option_and_then}
+use Rattle.sok_text.specs.Collections.{Block}
+
+abbrev pub is_space : ℕ → Bool
+is_space c = c == 32 || c == 9
+
+-- without the spaces and tabs at its front
+abbrev pub trimmed_front : List ℕ → List ℕ
+trimmed_front [] = []
+trimmed_front (c ∷ text) = if is_space c then trimmed_front text else c ∷ text
+
+-- without the spaces and tabs at both ends
+abbrev pub trimmed_text : List ℕ → List ℕ
+trimmed_text text = reverse (trimmed_front (reverse (trimmed_front text)))
+
+-- an empty title is no title
+abbrev pub some_text : List ℕ → Option (List ℕ)
+some_text [] = None
+some_text (c ∷ text) = Some (c ∷ text)
+
+-- the text of a line behind a mark at its front
+abbrev pub text_behind : List ℕ → List ℕ → Option (List ℕ)
+text_behind mark line = if starts_with nat_eq line mark then some_text (trimmed_text (drop (length mark) line)) else None
+
+-- the last note that is not blank, if it begins with a semicolon and has text behind that
+abbrev pub title_before : List (List ℕ) → Option (List ℕ)
+title_before notes = option_and_then (text_behind (codes ";")) (find (λ line. not (list_all is_space line)) (reverse notes))
+
+-- the first of these that is there
+abbrev pub first_text : List (Option (List ℕ)) → Option (List ℕ)
+first_text [] = None
+first_text (Some text ∷ rest) = Some text
+first_text (None ∷ rest) = first_text rest
+
+-- the first note that begins with `Title:` and has text behind that
+abbrev pub title_after : List (List ℕ) → Option (List ℕ)
+title_after notes = first_text (map (text_behind (codes "Title:")) notes)
+
+-- a level's title: one after its board comes before one before it
+abbrev pub title_of : Block → Option (List ℕ)
+title_of block = first_text (title_after block.after ∷ title_before block.before ∷ [])

@@ -1,0 +1,123 @@
+//! Collections: the levels of a text that has notes around them.
+
+ghost use Rattle.std.specs.Prelude.{◌≡◌, ◌⊎◌, ℕ, List, Err, IfOk, length, map, option_map};
+ghost use Rattle.std.specs.List.{filter_map};
+ghost use Rattle.std.specs.Str.Lines.{lines};
+ghost use Rattle.sok_rules.specs.Levels.{cells_of, level_of};
+ghost use Rattle.sok_rules.specs.declared.fault.LevelFault.TheVariants as fault;
+ghost use Rattle.sok_text.specs.Xsb.{cell_of};
+ghost use Rattle.sok_text.specs.Collections.{blocks_of, block_at, level_at, Parts, IsCut, parts_of};
+
+use crate::line::{before, cut_line, pass, place_at};
+use crate::xsb::cell_of;
+use sok_rules::cell::Cell;
+use sok_rules::fault::{LevelFault, Memory};
+use sok_rules::level::{LIMIT, Level};
+use std::alloc::{AllocError, Global};
+use std::marker::Model;
+
+/// The levels of a text, in order. It keeps slices of the text, and makes a level when it is asked
+/// for. It is seen as the list of its blocks: a board's lines, with the notes before and after.
+#[derive(Drop)]
+pub struct Collection<'a> {
+    notes: &'a [u8],
+    parts: Vec<Part<'a>>,
+}
+
+/// The lines of a board, and the notes up to the next board.
+#[derive(Clone, Copy)]
+struct Part<'a> {
+    board: &'a [u8],
+    after: &'a [u8],
+}
+
+impl<'a> Model for Collection<'a> {
+    ghost use Rattle.std.specs.Prelude.{List, map};
+    ghost use Rattle.std.specs.Str.Lines.{lines};
+    ghost use Rattle.sok_text.specs.Collections.{Block, blocks_from};
+
+    ghost Value = { List Block };
+
+    ghost view = { λ c. blocks_from (lines c.notes.now) (map (λ part. record { board = lines part.board.now; after = lines part.after.now }) c.parts.items) };
+}
+
+impl<'a> Collection<'a> {
+    /// Reads a text in one pass. A line that has only characters of XSB, and a wall among them, is a
+    /// board line, and a level is a run of such lines, as long as it can be. Every other line is a
+    /// note, and may hold any bytes. A line ends with LF, CR LF or the end of the text.
+    #[tactic(auto, unfolding(crate::specs::Collections::blocks_of))]
+    pub fn read(alloc: Global, text: &'a [u8]) -> Result<Collection<'a>, Memory>
+        ensures { IfOk result (λ collection. collection ≡ blocks_of text.now) }
+    {
+        let first = pass(false, place_at(text));
+        let notes = before(text, first.rest);
+        let mut parts = Vec::new(alloc);
+        let mut here = first;
+        while !here.rest.is_empty() {
+            let behind = pass(true, here);
+            let next = pass(false, behind);
+            let board = before(here.rest, behind.rest);
+            let after = before(behind.rest, next.rest);
+            parts.push(Part { board, after })?;
+            here = next;
+        }
+        Ok(Collection { notes, parts })
+    }
+
+    /// How many levels there are.
+    pub fn len(&self) -> usize
+        ensures { result ≡ length self.now }
+    {
+        self.parts.len()
+    }
+
+    /// Makes the n-th level, counted from 1. `NoSuchLevel` comes first, and then the faults of
+    /// `Level::new`. A faulty level leaves the others readable.
+    #[tactic(auto, unfolding(crate::specs::Collections::level_at))]
+    pub fn level(&self, alloc: Global, n: usize) -> Result<Level, LevelFault>
+        ensures { (result ≡ Err fault.Memory) ⊎ (result ≡ level_at self.now n) }
+    {
+        match self.board(n) {
+            Some(board) => Level::new(rows_of(alloc, board)?),
+            None => Err(LevelFault::NoSuchLevel),
+        }
+    }
+
+    /// The text of the n-th board.
+    fn board(&self, n: usize) -> Option<&'a [u8]>
+        ensures { option_map (λ board. lines board.now) result
+            ≡ option_map (λ block. block.board) (block_at self.now n) }
+    {
+        let part = self.parts.get(n.checked_sub(1)?)?;
+        Some(part.board)
+    }
+}
+
+/// The cells of each line of a board, up to the row that is one too many.
+fn rows_of(alloc: Global, board: &[u8]) -> Result<Vec<Vec<Cell>>, AllocError>
+    ensures { IfOk result
+        (λ rows. level_of (cells_of rows.items) ≡ level_of (map (filter_map cell_of) (lines board.now))) }
+{
+    let mut rows = Vec::new(alloc);
+    let mut rest = board;
+    while !rest.is_empty() && rows.len() <= LIMIT {
+        let (line, next) = cut_line(rest);
+        rows.push(row_of(alloc, line)?)?;
+        rest = next;
+    }
+    Ok(rows)
+}
+
+/// The cells of a line.
+fn row_of(alloc: Global, line: &[u8]) -> Result<Vec<Cell>, AllocError>
+    ensures { IfOk result (λ row. row.items ≡ filter_map cell_of line.now) }
+{
+    line.iter().filter_map(|byte| cell_of(*byte)).collect(alloc)
+}
+
+/// Cutting lines into notes and boards loses none of them, takes board lines alone into boards, and
+/// makes each board as long as it can be. No other cut does so.
+pub fn boards_are_maximal_runs()
+    ensures cut { (ls : List (List ℕ)) → IsCut ls (parts_of ls) }
+    ensures only { (ls : List (List ℕ)) (parts : Parts) → IsCut ls parts → parts ≡ parts_of ls }
+{}

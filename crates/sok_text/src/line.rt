@@ -1,0 +1,79 @@
+//! The lines of a text, and runs of board lines and of notes.
+
+ghost use Rattle.std.specs.Prelude.{◌≡◌, ◌≤◌, ◌-◌, ◌==◌, position, length, take, not};
+ghost use Rattle.std.specs.Str.Lines.{lines, strip_carriage_return};
+ghost use Rattle.sok_text.specs.Lines.{first_line, after_line, StartsWith, Passes};
+ghost use Rattle.sok_text.specs.Xsb.{is_board_line};
+
+use crate::xsb::is_board_line;
+
+/// A place in a text at the start of a line, and what is known of that line.
+#[derive(Clone, Copy)]
+pub(crate) struct Place<'a> {
+    /// The text from the line on.
+    pub(crate) rest: &'a [u8],
+    /// The text behind the line.
+    next: &'a [u8],
+    is_board: bool,
+    ghost behind: { next.now ≡ after_line rest.now },
+    ghost kind: { is_board ≡ is_board_line (first_line rest.now) },
+}
+
+/// Looks at the first line of a text.
+pub(crate) fn place_at(text: &[u8]) -> Place<'_>
+    ensures { result.rest.now ≡ text.now }
+{
+    let (line, next) = cut_line(text);
+    Place {
+        rest: text,
+        next,
+        is_board: is_board_line(line),
+    }
+}
+
+/// Passes the board lines that a text begins with, or its notes.
+pub(crate) fn pass<'a>(boards: bool, from: Place<'a>) -> Place<'a>
+    ensures passes { Passes boards from.entry.rest.now result.rest.now }
+    ensures ends { StartsWith (not boards) (lines result.rest.now) }
+{
+    let mut here = from;
+    while !here.rest.is_empty() && here.is_board == boards {
+        here = place_at(here.next);
+    }
+    here
+}
+
+/// The part of a text before a rest of it.
+pub(crate) fn before<'a>(text: &'a [u8], rest: &[u8]) -> &'a [u8]
+    requires { length rest.now ≤ length text.now }
+    ensures { result.now ≡ take (length text.now - length rest.now) text.now }
+{
+    &text[..text.len() - rest.len()]
+}
+
+/// The first line of a text without its end, and the text behind it.
+pub(crate) fn cut_line(text: &[u8]) -> (&[u8], &[u8])
+    ensures line { result.0.now ≡ first_line text.now }
+    ensures rest { result.1.now ≡ after_line text.now }
+{
+    match line_end(text) {
+        Some(end) => (without_return(&text[..end]), &text[end + 1..]),
+        None => (text, &text[text.len()..]),
+    }
+}
+
+fn line_end(text: &[u8]) -> Option<usize>
+    ensures { result ≡ position (λ byte. byte == 10) text.now }
+{
+    text.iter().position(|byte| *byte == b'\n')
+}
+
+/// A line without the one carriage return at its end, if it has one.
+fn without_return(line: &[u8]) -> &[u8]
+    ensures { result.now ≡ strip_carriage_return line.now }
+{
+    match line {
+        [front @ .., b'\r'] => front,
+        _ => line,
+    }
+}

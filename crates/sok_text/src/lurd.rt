@@ -1,0 +1,102 @@
+//! LURD: the letters of a text (Sokoban Wiki, "Level format", "Solution").
+
+ghost use Rattle.std.specs.Prelude.{◌≡◌, ◌⊎◌, ℕ, List, MatchResult};
+ghost use Rattle.sok_rules.specs.declared.cell.Dir.{Dir};
+ghost use Rattle.sok_text.specs.Lurd.{is_blank, direction, Spells, GoesWrong, lurd_fault_number};
+ghost use Rattle.sok_text.specs.declared.lurd.LurdFault.{LurdFault};
+ghost use Rattle.sok_text.specs.declared.lurd.LurdFault.TheVariants as lurd;
+
+use sok_rules::cell::Dir;
+use std::alloc::{AllocError, AllocFailed, Global};
+
+/// The most letters of a text.
+pub const LIMIT: usize = 1_000_000;
+
+/// Why a text is no list of letters.
+#[derive(Clone, Copy, Debug, PartialEq, Eq)]
+pub enum LurdFault {
+    /// The place, in bytes from 0, of the first byte that is neither a letter nor a blank.
+    BadLetter(usize),
+    /// There are more than 1,000,000 letters.
+    TooLong,
+    /// Memory was refused.
+    Memory,
+}
+
+impl LurdFault {
+    /// The number by which the fault is printed.
+    pub fn number(&self) -> u8
+        ensures { result ≡ lurd_fault_number self.now }
+    {
+        match self {
+            LurdFault::BadLetter(_) => 11,
+            LurdFault::TooLong => 14,
+            LurdFault::Memory => 40,
+        }
+    }
+}
+
+impl From<AllocError> for LurdFault {
+    ghost from_gives = { λ _ fault. fault ≡ lurd.Memory };
+
+    fn from(_error: AllocError) -> LurdFault {
+        LurdFault::Memory
+    }
+}
+
+impl<T: Drop> From<AllocFailed<T>> for LurdFault {
+    ghost from_gives = { λ _ fault. fault ≡ lurd.Memory };
+
+    fn from(_error: AllocFailed<T>) -> LurdFault {
+        LurdFault::Memory
+    }
+}
+
+/// Reads a list of letters: `l`, `u`, `r` and `d` in either case, with spaces, tabs and ends of
+/// lines anywhere. Of a text that is none the fault is the one that comes first in it: a byte that
+/// is neither letter nor blank, or the letter that is one too many.
+pub fn read_lurd(alloc: Global, text: &[u8]) -> Result<Vec<Dir>, LurdFault>
+    ensures { MatchResult result (λ letters. Spells text.now letters.items)
+        (λ fault. (fault ≡ lurd.Memory) ⊎ GoesWrong text.now fault) }
+{
+    let mut letters = Vec::new(alloc);
+    for (at, byte) in text.iter().enumerate() {
+        if is_blank(*byte) {
+            continue;
+        }
+        let Some(dir) = direction(*byte) else {
+            return Err(LurdFault::BadLetter(at));
+        };
+        if letters.len() >= LIMIT {
+            return Err(LurdFault::TooLong);
+        }
+        letters.push(dir)?;
+    }
+    Ok(letters)
+}
+
+fn is_blank(byte: u8) -> bool
+    ensures { result ≡ is_blank byte }
+{
+    byte == b' ' || byte == b'\t' || byte == b'\n' || byte == b'\r'
+}
+
+/// The direction that a letter stands for, in either case.
+fn direction(letter: u8) -> Option<Dir>
+    ensures { result ≡ direction letter }
+{
+    match letter {
+        b'L' | b'l' => Some(Dir::Left),
+        b'U' | b'u' => Some(Dir::Up),
+        b'R' | b'r' => Some(Dir::Right),
+        b'D' | b'd' => Some(Dir::Down),
+        _ => None,
+    }
+}
+
+/// A text spells one list of letters at most, or goes wrong in one way, and never both.
+pub fn texts_have_one_reading()
+    ensures spelled { (text : List ℕ) (v w : List Dir) → Spells text v → Spells text w → v ≡ w }
+    ensures wrong { (text : List ℕ) (f g : LurdFault) → GoesWrong text f → GoesWrong text g → f ≡ g }
+    ensures apart { (text : List ℕ) (w : List Dir) (f : LurdFault) → Spells text w → GoesWrong text f → ⊥ }
+{}
