@@ -4,6 +4,8 @@
 //! |---|---|
 //! | `levels` | which rows are a level |
 //! | `replays` | what replaying a text tells |
+//! | `sessions` | play letter by letter, with undo and redo |
+//! | `text` | collections and texts of letters, read from bytes |
 //! | `sketch` | boards and texts for these tests |
 #![tactic(auto)]
 
@@ -12,4 +14,8 @@ mod levels;
 #[cfg(test)]
 mod replays;
 #[cfg(test)]
+mod sessions;
+#[cfg(test)]
 mod sketch;
+#[cfg(test)]
+mod text;

@@ -1,10 +1,14 @@
+pub mod Backs
 pub mod Grid
 pub mod Man
+pub mod Places
 pub mod Proper
 pub mod Replays
 pub mod Rows
 pub mod Runs
 pub mod Scenes
+pub mod Seen
+pub mod Sessions
 pub mod Spots
 pub mod Steps
 pub mod Walking

@@ -1,5 +1,5 @@
 -- The one man of a proper level, where he is found.
-use Rattle.std.proofs.Common.{Vec, ℕ, ◌≡◌, ◌<◌, refl, sym, ap, ◌∙◌, inl, inr, List, [], length, get_or, Bool, true, false, true≢false, Some, None, if◌then◌else◌, position, count_by, sum_by, ◌*◌, ◌≤◌, arith, subst}
+use Rattle.std.proofs.Common.{Vec, ℕ, ◌≡◌, ◌<◌, refl, sym, ap, ◌∙◌, inl, inr, List, [], length, get_or, Bool, true, false, true≢false, Some, None, if◌then◌else◌, position, unwrap_or, count_by, sum_by, ◌*◌, ◌≤◌, arith, subst}
 use Rattle.std.proofs.lemmas.Bool.{cases_Bool}
 use Rattle.std.proofs.lemmas.List.{length-map}
 use Rattle.std.proofs.lemmas.List.Folds.{list_any_at, list_any_none}
@@ -8,13 +8,17 @@ use Rattle.std.specs.List.{list_any}
 use Rattle.sok_rules.specs.declared.cell.Cell.{Cell}
 use Rattle.sok_rules.specs.declared.cell.Cell.TheVariants.{Wall}
 use Rattle.sok_rules.specs.declared.cell.Spot.{Spot}
-use Rattle.sok_rules.specs.Squares.{Rows, holds, is_astray, is_man, same_spot}
+use Rattle.sok_rules.specs.Squares.{Rows, holds, is_astray, is_man, places, same_spot}
+use Rattle.sok_rules.specs.Play.{start}
 use Rattle.sok_rules.specs.Levels.{cells_of, count_in, IsProper}
 use Rattle.sok_rules.specs.Scene.{IsScene, with_cell}
 use Rattle.sok_rules.proofs.Grid.{IsWithin, IsWithin-from_holds, holds-within, holds-with_cell, count_in-holds, count_in-none, count_in-with_cell, row-cells_of}
 use Rattle.sok_rules.proofs.Proper.{position-none, count_by-few}
 use Rattle.sok_rules.proofs.Rows.{list_any-cells_of, sum_by-cells_of}
+use Rattle.sok_rules.proofs.Places.{find-list_any, list_any-places}
+use Rattle.sok_rules.proofs.Scenes.{man_stands}
 use Rattle.sok_rules.proofs.Spots.{same_spot-is}
+use Rattle.sok_rules.proofs.Steps.{IsStanding}
 
 -- what is counted once stands nowhere else
 pub only_one : (test : Cell → Bool) (rows : Rows) (one : Spot) → test Wall ≡ false → count_in test rows ≡ 1 → holds test rows one ≡ true → (s : Spot) → holds test rows s ≡ same_spot one s
@@ -90,3 +94,27 @@ IsScene-from_IsProper rows man astray proper there counted = record {
   man_is = only_one is_man rows man refl proper.one_man there;
   astray_are = counted;
 }
+
+-- the start of a level shows its man
+man_seen : (rows : Rows) → 0 < count_in is_man rows → holds is_man rows (start rows).man ≡ true
+unfolding start
+man_seen rows some = elim (cases_Bool (list_any (holds is_man rows) (places rows))) [
+  | inl found ↦
+      let first = find-list_any (holds is_man rows) (places rows) found in
+      ap (λ o. holds is_man rows (unwrap_or o (record { row = 0; col = 0 }))) first.1 ∙ first.2
+  | inr none ↦ absurd (omega (
+    arith,
+    some,
+    count_in-none is_man rows (λ s. elim (cases_Bool (holds is_man rows s)) [
+      | inr fails ↦ fails
+      | inl seen ↦ absurd (true≢false (sym (list_any-places (holds is_man rows) rows s (IsWithin-from_holds is_man rows s seen) seen) ∙ none))
+    ]),
+  ))
+]
+
+-- where he may stand
+pub IsStanding-start : (rows : Rows) → IsProper rows → IsStanding rows (start rows)
+unfolding start
+IsStanding-start rows proper =
+    let stands = man_stands rows (start rows).man (man_seen rows (omega (arith, proper.one_man))) in
+    record { on_open = stands.0; no_box = stands.1 }

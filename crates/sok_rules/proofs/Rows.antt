@@ -1,7 +1,7 @@
 -- Rows of cells: floor dropped at their ends, tests and counts over them.
 use Rattle.std.proofs.Common.{Vec, take, get_or, length, ◌<◌, ◌≤◌, arith, sym, ℕ, ◌≡◌, ◌≢◌, refl, ap, ◌∙◌, List, [], ◌∷◌, ◌++◌, Bool, map, set, drop, sum_by, position, if◌then◌else◌, nat_lt, not, count_by, ◌||◌, ◌+◌}
-use Rattle.std.proofs.lemmas.List.{take_more, length-map, map-append, map-set, take_all, drop_all, append-nil}
-use Rattle.std.proofs.Math.Seq.{take-append_seam}
+use Rattle.std.proofs.lemmas.List.{take_more, drop_more, get_or_default, append_assoc, length-take-le, length-map, map-append, map-set, take_all, drop_all, append-nil}
+use Rattle.std.proofs.Math.Seq.{take-append_seam, set-append_seam, map-set_same}
 use Rattle.std.proofs.Math.ListN.{get_or-map}
 use Rattle.std.proofs.lemmas.List.Edits.{map_over_more}
 use Rattle.std.specs.List.{list_any, prefix_len, fold}
@@ -111,3 +111,36 @@ cells_of_copied_more rows copy i row new within so_far there same =
     map-append (λ (r : Vec Cell _). r.items) copy (new ∷ []) ∙ ap (λ front. front ++ new.items ∷ []) so_far
     ∙ ap (λ cells. take i (cells_of rows) ++ cells ∷ []) (same ∙ ap (λ (r : Vec Cell _). r.items) there ∙ sym (get_or-map (λ (r : Vec Cell _). r.items) rows i row))
     ∙ sym (take_more (cells_of rows) i row.items inside)
+
+-- one more row is written over
+pub cells_of_copied_over_more : {A : Type 0} (old : Rows) (rows cells : List (Vec Cell A)) (at : ℕ) (row new : Vec Cell A) → at < length rows → at < length old
+    → cells_of cells ≡ take at (cells_of rows) ++ drop at old → row ≡ get_or rows at row → new.items ≡ row.items → cells_of (set cells at new) ≡ take (at + 1) (cells_of rows) ++ drop (at + 1) old
+cells_of_copied_over_more old rows cells at row new within within_old so_far there same =
+    let r = cells_of rows in
+    let inside : at < length r = omega (arith, within, length-map rows (λ (v : Vec Cell _). v.items)) in
+    let size : length (take at r) ≡ at = length-take-le at r (omega (arith, inside)) in
+    let is : new.items ≡ get_or r at row.items = same ∙ ap (λ (v : Vec Cell _). v.items) there ∙ sym (get_or-map (λ (v : Vec Cell _). v.items) rows at row) in
+    map-set (λ (v : Vec Cell _). v.items) cells at new ∙ ap (λ xs. set xs at new.items) (so_far ∙ ap (λ back. take at r ++ back) (drop_more old at [] within_old))
+    ∙ ap (λ n. set (take at r ++ (get_or old at [] ∷ drop (at + 1) old)) n new.items) (sym size) ∙ set-append_seam (take at r) (get_or old at []) (drop (at + 1) old) new.items
+    ∙ ap (λ line. take at r ++ (line ∷ drop (at + 1) old)) is ∙ sym (append_assoc (take at r) (get_or r at row.items ∷ []) (drop (at + 1) old))
+    ∙ ap (λ front. front ++ drop (at + 1) old) (sym (take_more r at row.items inside))
+
+length-at : {A : Type 0} (cells : List (Vec Cell A)) (at : ℕ) (row : Vec Cell A) → row ≡ get_or cells at row → length (get_or (cells_of cells) at row.items) ≡ length row.items
+length-at cells at row there = ap length (get_or-map (λ (v : Vec Cell _). v.items) cells at row) ∙ ap (λ (v : Vec Cell _). length v.items) (sym there)
+
+-- rows of the same lengths
+pub same_length-cells_of : {A : Type 0} (rows cells : List (Vec Cell A)) (at : ℕ) (row old : Vec Cell A) → map (λ line. length line) (cells_of cells) ≡ map (λ line. length line) (cells_of rows)
+    → row ≡ get_or rows at row → old ≡ get_or cells at old → at < length rows → length old.items ≡ length row.items
+same_length-cells_of rows cells at row old shape there was within =
+    let size : List Cell → ℕ = λ line. length line in
+    let inside : at < length (map size (cells_of rows)) = omega (arith, within, length-map (cells_of rows) size, length-map rows (λ (v : Vec Cell _). v.items)) in
+    sym (length-at cells at old was) ∙ sym (get_or-map size (cells_of cells) at old.items) ∙ ap (λ sizes. get_or sizes at (length old.items)) shape
+    ∙ get_or_default (map size (cells_of rows)) at (length old.items) (length row.items) inside ∙ get_or-map size (cells_of rows) at row.items ∙ length-at rows at row there
+
+-- stay so where one is written over by one of its length
+pub shape-set : {A : Type 0} (rows : Rows) (cells : List (Vec Cell A)) (at : ℕ) (old new : Vec Cell A) → map (λ line. length line) (cells_of cells) ≡ map (λ line. length line) rows
+    → old ≡ get_or cells at old → length new.items ≡ length old.items → map (λ line. length line) (cells_of (set cells at new)) ≡ map (λ line. length line) rows
+shape-set rows cells at old new shape was same =
+    let size : List Cell → ℕ = λ line. length line in
+    ap (map size) (map-set (λ (v : Vec Cell _). v.items) cells at new)
+    ∙ map-set_same size (cells_of cells) at new.items old.items (same ∙ sym (length-at cells at old was)) ∙ shape

@@ -1,5 +1,5 @@
 -- Runs of lists that are joined, and what every run keeps.
-use Rattle.std.proofs.Common.{ℕ, ◌≡◌, ◌<◌, ◌+◌, refl, ap, ◌∙◌, subst, List, [], ◌∷◌, ◌++◌, Some, None, true, false, length, take, get_or, arith}
+use Rattle.std.proofs.Common.{ℕ, ◌≡◌, ◌<◌, ◌≤◌, ◌+◌, refl, ap, ◌∙◌, subst, List, [], ◌∷◌, ◌++◌, Some, None, Bool, true, false, length, take, get_or, arith}
 use Rattle.std.proofs.lemmas.List.{take_more}
 use Rattle.std.proofs.lemmas.Option.{same_Some, none-some, option_and_then_some}
 use Rattle.std.specs.Option.{option_and_then, option_map_or}
@@ -24,6 +24,10 @@ pushes-append rows (d ∷ w) v x y = elim (step rows d x) as (λ o. option_and_t
       | None ↦ λ e. absurd (none-some y e)
       | Some a ↦ λ e. let rest = pushes-append rows w v a.position y e in omega (arith, rest)
     ]
+
+one_if-le : (b : Bool) → one_if b ≤ 1
+one_if-le true = omega arith
+one_if-le false = omega arith
 
 -- one more letter of a list
 pub run-take_more : (rows : Rows) (x y : Position) (w : List Dir) (at : ℕ) (other : Dir) → at < length w → run rows x (take at w) ≡ Some y
@@ -63,3 +67,11 @@ box_is_open ManOn e = refl
 pub HasOpenBoxes-start : (rows : Rows) → HasOpenBoxes rows (start rows)
 unfolding start holds
 HasOpenBoxes-start rows = λ s. elim (cell_at rows s) as (λ o. option_map_or is_box o false ≡ true → option_map_or is_open o false ≡ true) [ None ↦ λ e. e | Some cell ↦ box_is_open cell ]
+
+-- no more pushes than letters
+pub pushes-le-length : (rows : Rows) (w : List Dir) (x : Position) → pushes rows x w ≤ length w
+pushes-le-length rows [] x = omega arith
+pushes-le-length rows (d ∷ w) x = elim (step rows d x) as (λ o. option_map_or (λ after. one_if after.pushed + pushes rows after.position w) o 0 ≤ length (d ∷ w)) [
+  | None ↦ omega arith
+  | Some a ↦ let rest = pushes-le-length rows w a.position in let one = one_if-le a.pushed in omega (arith, rest, one)
+]

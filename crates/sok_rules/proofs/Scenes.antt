@@ -1,10 +1,8 @@
 -- Scenes: what letting another one stand on a square leaves, and the position that a scene shows.
-use Rattle.std.proofs.Common.{ℕ, ◌≡◌, ◌<◌, ◌≤◌, ◌+◌, ◌*◌, ◌&&◌, refl, sym, ap, ◌∙◌, inl, inr, List, [], ◌∷◌, length, get_or, Bool, true, false, true≢false, not, Some, None, if◌then◌else◌, find, unwrap_or, All, arith, zero-add, add-zero, zero, suc, ◌||◌}
+use Rattle.std.proofs.Common.{ℕ, ◌≡◌, ◌<◌, ◌≤◌, ◌+◌, ◌*◌, ◌&&◌, refl, sym, ap, ◌∙◌, inl, inr, List, [], length, get_or, Bool, true, false, true≢false, not, Some, None, if◌then◌else◌, All, arith, subst}
 use Rattle.std.proofs.lemmas.Bool.{cases_Bool}
 use Rattle.std.proofs.lemmas.List.{length-map}
 use Rattle.std.proofs.lemmas.Option.{same_Some}
-use Rattle.std.proofs.lemmas.List.Folds.{list_any-append}
-use Rattle.std.specs.List.{list_any}
 use Rattle.std.specs.Option.{option_map_or}
 use Rattle.std.proofs.Math.ListN.{get_or-map}
 use Rattle.sok_rules.specs.declared.cell.Cell.{Cell}
@@ -13,12 +11,13 @@ use Rattle.sok_rules.specs.declared.cell.Dir.{Dir}
 use Rattle.sok_rules.specs.declared.cell.Spot.{Spot}
 use Rattle.sok_rules.specs.declared.scene.Occupant.{Occupant}
 use Rattle.sok_rules.specs.declared.scene.Occupant.TheVariants.{Nobody, Man, Box}
-use Rattle.sok_rules.specs.Squares.{Rows, cell_at, holds, is_astray, is_box, is_goal, is_man, is_open, next, places, places_from, places_in_row, same_spot}
+use Rattle.sok_rules.specs.Squares.{Rows, cell_at, holds, is_astray, is_box, is_goal, is_man, is_open, next, same_spot}
 use Rattle.sok_rules.specs.Levels.{count_in}
 use Rattle.sok_rules.specs.Play.{AllOnGoals, start, moved}
 use Rattle.sok_rules.specs.Scene.{standing, with_cell, with_occupant, SameGround, IsScene, NoneBeside}
 use Rattle.sok_rules.proofs.Grid.{IsWithin, IsWithin-from_holds, holds-with_cell, shape-with_cell, count_in-with_cell, count_in-holds, count_in-none}
 use Rattle.sok_rules.proofs.Proper.{count_by-few}
+use Rattle.sok_rules.proofs.Places.{start-scene}
 use Rattle.sok_rules.proofs.Spots.{same_spot-is, same_spot-refl, same_spot-sym}
 
 is_open-standing : (who : Occupant) (goal : Bool) → is_open (standing who goal) ≡ true
@@ -142,60 +141,6 @@ few_columns-SameGround old new ground few = λ k row within.
     sym (get_or-map size new k row) ∙ ap (λ sizes. get_or sizes k (length row)) ground.shape ∙ get_or-map size old k row in
     omega (arith, same, few k row there)
 
-or_true : (b : Bool) → (b || true) ≡ true
-or_true true = refl
-or_true false = refl
-
--- a place that passes a test is found among the places
-list_any-places_in_row : (test : Spot → Bool) (r c k : ℕ) (cells : List Cell) → k < length cells → test (record { row = r; col = c + k }) ≡ true → list_any test (places_in_row r c cells) ≡ true
-unfolding places_in_row
-list_any-places_in_row test r c k [] within e = absurd (omega (arith, within))
-list_any-places_in_row test r c zero (cell ∷ cells) within e =
-    ap (λ b. b || list_any test (places_in_row r (c + 1) cells)) (ap (λ n. test (record { row = r; col = n })) (sym (add-zero c)) ∙ e)
-list_any-places_in_row test r c (suc k) (cell ∷ cells) within e =
-    let further : c + suc k ≡ (c + 1) + k = omega arith in
-    let rest = list_any-places_in_row test r (c + 1) k cells (omega (arith, within)) (ap (λ n. test (record { row = r; col = n })) (sym further) ∙ e) in
-    ap (λ b. test (record { row = r; col = c }) || b) rest ∙ or_true (test (record { row = r; col = c }))
-
-list_any-places_from : (test : Spot → Bool) (r k col : ℕ) (rows : Rows) → k < length rows → col < length (get_or rows k []) → test (record { row = r + k; col = col }) ≡ true
-    → list_any test (places_from r rows) ≡ true
-unfolding places_from
-list_any-places_from test r k col [] within_row within_col e = absurd (omega (arith, within_row))
-list_any-places_from test r zero col (row ∷ rows) within_row within_col e =
-    list_any-append test (places_in_row r 0 row) (places_from (r + 1) rows)
-    ∙ ap (λ b. b || list_any test (places_from (r + 1) rows))
-    (list_any-places_in_row test r 0 col row within_col (ap (λ n. test (record { row = r; col = n })) (zero-add col) ∙ ap (λ n. test (record { row = n; col = col })) (sym (add-zero r)) ∙ e))
-list_any-places_from test r (suc k) col (row ∷ rows) within_row within_col e =
-    let further : r + suc k ≡ (r + 1) + k = omega arith in
-    let rest = list_any-places_from test (r + 1) k col rows (omega (arith, within_row)) within_col (ap (λ n. test (record { row = n; col = col })) (sym further) ∙ e) in
-    list_any-append test (places_in_row r 0 row) (places_from (r + 1) rows) ∙ ap (λ b. list_any test (places_in_row r 0 row) || b) rest ∙ or_true (list_any test (places_in_row r 0 row))
-
-pub list_any-places : (test : Spot → Bool) (rows : Rows) (s : Spot) → IsWithin rows s → test s ≡ true → list_any test (places rows) ≡ true
-unfolding places
-list_any-places test rows s within e = list_any-places_from test 0 s.row s.col rows within.row within.col (ap (λ r. test (record { row = r; col = s.col })) (zero-add s.row) ∙ e)
-
--- what is found among some passes, if any does
-find-list_any : {X : Type 0} (test : X → Bool) (xs : List X) → list_any test xs ≡ true → (x : X) × (find test xs ≡ Some x) × (test x ≡ true)
-find-list_any test [] e = absurd (true≢false (sym e))
-find-list_any test (x ∷ xs) e = elim (cases_Bool (test x)) [
-  | inl passes ↦ (x, ap (λ b. if b then Some x else find test xs) passes, passes)
-  | inr fails ↦
-      let found = find-list_any test xs (ap (λ b. b || list_any test xs) (sym fails) ∙ e) in
-      (found.0, ap (λ b. if b then Some x else find test xs) fails ∙ found.1, found.2)
-]
-
--- the man of the start is the one who is seen
-pub man-start : (rows : Rows) (man : Spot) → ((s : Spot) → holds is_man rows s ≡ same_spot man s) → (start rows).man ≡ man
-unfolding start
-man-start rows man man_is =
-    let seen : holds is_man rows man ≡ true = man_is man ∙ same_spot-refl man in
-    let found = find-list_any (holds is_man rows) (places rows) (list_any-places (holds is_man rows) rows man (IsWithin-from_holds is_man rows man seen) seen) in
-    ap (λ o. unwrap_or o (record { row = 0; col = 0 })) found.1 ∙ sym (same_spot-is man found.0 (sym (man_is found.0) ∙ found.2))
-
-pub start-scene : (rows : Rows) (man : Spot) → ((s : Spot) → holds is_man rows s ≡ same_spot man s) → start rows ≡ record { man = man; boxes = holds is_box rows }
-unfolding start
-start-scene rows man man_is = let m = man-start rows man man_is in λ i. record { man = m i; boxes = holds is_box rows }
-
 -- the man stands on an open square without a box
 man_cell : (cell : Cell) → is_man cell ≡ true → (is_open cell ≡ true) × (is_box cell ≡ false)
 man_cell Wall e = absurd (true≢false (sym e))
@@ -223,6 +168,10 @@ answer_stays answers t s b same = elim (cases_Bool (same_spot t s)) [
 chosen : (b : Bool) → (if b then true else false) ≡ b
 chosen true = refl
 chosen false = refl
+
+none_either : (b : Bool) → (if b then false else false) ≡ false
+none_either true = refl
+none_either false = refl
 
 flipped : (b : Bool) → ◌≡◌ {A = ℕ} (if not b then 1 else 0) (if b then 0 else 1)
 flipped true = refl
@@ -290,48 +239,54 @@ walks rows man to astray scene opened free =
       counted = omega (arith, counted, not_there, gone.astray_stay);
     }
 
--- the man pushes a box from one square on to another, which is open and has none
-pub pushes_box : (rows : Rows) (man from to : Spot) (astray after : ℕ) → IsScene rows man astray
-    → holds is_open rows from ≡ true → holds is_box rows from ≡ true → holds is_open rows to ≡ true → holds is_box rows to ≡ false → same_spot from to ≡ false
+-- a box goes from one square to another, which is open and has none, and the man to one where no box is then
+pub shifts : (rows : Rows) (man from to next_man : Spot) (astray after : ℕ) → IsScene rows man astray
+    → holds is_open rows from ≡ true → holds is_box rows from ≡ true → holds is_open rows to ≡ true → holds is_box rows to ≡ false
+    → holds is_open rows next_man ≡ true → moved (holds is_box rows) from to next_man ≡ false
     → after + (if holds is_goal rows from then 0 else 1) ≡ astray + (if holds is_goal rows to then 0 else 1)
-    → LeadsTo rows (with_occupant (with_occupant (with_occupant rows man Nobody) from Man) to Box) from (moved (holds is_box rows) from to) after
+    → LeadsTo rows (with_occupant (with_occupant (with_occupant (with_occupant rows man Nobody) from Nobody) to Box) next_man Man) next_man (moved (holds is_box rows) from to) after
 unfolding moved
-pushes_box rows man from to astray after scene from_open box_there to_open to_free apart balance =
+shifts rows man from to next_man astray after scene from_open box_there to_open to_free man_open man_free balance =
     let gone = leaves rows man astray scene in
     let rest = with_occupant rows man Nobody in
     let from_open' : holds is_open rest from ≡ true = gone.ground.opened from ∙ from_open in
-    let there = with_occupant rest from Man in
-    let ground = SameGround-trans rows rest there gone.ground (SameGround-with_occupant rest from Man from_open') in
-    let to_open' : holds is_open there to ≡ true = ground.opened to ∙ to_open in
-    let taken = count_astray-with_occupant rest from Man from_open' in
-    let given = count_astray-with_occupant there to Box to_open' in
+    let lifted = with_occupant rest from Nobody in
+    let lifted_ground = SameGround-trans rows rest lifted gone.ground (SameGround-with_occupant rest from Nobody from_open') in
+    let to_open' : holds is_open lifted to ≡ true = lifted_ground.opened to ∙ to_open in
+    let set_down = with_occupant lifted to Box in
+    let ground = SameGround-trans rows lifted set_down lifted_ground (SameGround-with_occupant lifted to Box to_open') in
+    let man_open' : holds is_open set_down next_man ≡ true = ground.opened next_man ∙ man_open in
+    let apart : same_spot from to ≡ false = elim (cases_Bool (same_spot from to)) [
+      | inr e ↦ e
+      | inl e ↦ absurd (true≢false (sym box_there ∙ ap (holds is_box rows) (same_spot-is from to e) ∙ to_free))
+    ] in
+    let lifted_boxes = λ (s : Spot). holds_box-with_occupant rest from s Nobody from_open' ∙ ap (λ b. if same_spot from s then false else b) (gone.boxes s) in
+    let boxes = λ (s : Spot). holds_box-with_occupant lifted to s Box to_open' ∙ ap (λ b. if same_spot to s then true else b) (lifted_boxes s)
+    ∙ (λ i. if same_spot-sym to s i then true else if same_spot-sym from s i then false else holds is_box rows s) in
+    let taken = count_astray-with_occupant rest from Nobody from_open' in
+    let given = count_astray-with_occupant lifted to Box to_open' in
+    let entered = count_astray-with_occupant set_down next_man Man man_open' in
     let box_goes : holds is_astray rest from ≡ not (holds is_goal rows from) =
     holds_astray-is rest from ∙ (λ i. (gone.boxes from ∙ box_there) i && not (gone.ground.goals from i)) in
-    let to_free' : holds is_box there to ≡ false =
-    holds_box-with_occupant rest from to Man from_open' ∙ ap (λ b. if b then false else holds is_box rest to) apart ∙ gone.boxes to ∙ to_free in
-    let none_there = ap {B = ℕ} (λ b. if b then 1 else 0) (no_astray there to to_free') in
+    let none_at_to = ap {B = ℕ} (λ b. if b then 1 else 0) (no_astray lifted to (lifted_boxes to ∙ ap (λ b. if b then false else holds is_box rows to) apart ∙ to_free)) in
+    let none_at_man = ap {B = ℕ} (λ b. if b then 1 else 0) (no_astray set_down next_man (boxes next_man ∙ man_free)) in
     let one_goes = ap {B = ℕ} (λ b. if b then 1 else 0) box_goes ∙ flipped (holds is_goal rows from) in
-    let one_comes = ap {B = ℕ} (λ b. if not b then 1 else 0) (ground.goals to) ∙ flipped (holds is_goal rows to) in
+    let one_comes = ap {B = ℕ} (λ b. if not b then 1 else 0) (lifted_ground.goals to) ∙ flipped (holds is_goal rows to) in
     record {
-      ground = SameGround-trans rows there (with_occupant there to Box) ground (SameGround-with_occupant there to Box to_open');
-      boxes_are = λ s. holds_box-with_occupant there to s Box to_open' ∙ ap (λ b. if same_spot to s then true else b)
-          (holds_box-with_occupant rest from s Man from_open' ∙ ap (λ b. if same_spot from s then false else b) (gone.boxes s))
-          ∙ (λ i. if same_spot-sym to s i then true else if same_spot-sym from s i then false else holds is_box rows s);
-      man_is = λ s. holds_man-with_occupant there to s Box to_open' ∙ ap (λ b. if same_spot to s then false else b)
-          (holds_man-with_occupant rest from s Man from_open' ∙ ap (λ b. if same_spot from s then true else b) (gone.no_man s) ∙ chosen (same_spot from s))
-          ∙ answer_stays (same_spot from) to s false apart;
-      counted = omega (arith, taken, given, one_goes, one_comes, none_there, gone.astray_stay, balance);
+      ground = SameGround-trans rows set_down (with_occupant set_down next_man Man) ground (SameGround-with_occupant set_down next_man Man man_open');
+      boxes_are = λ s. holds_box-with_occupant set_down next_man s Man man_open' ∙ answer_stays (holds is_box set_down) next_man s false (boxes next_man ∙ man_free) ∙ boxes s;
+      man_is = λ s. holds_man-with_occupant set_down next_man s Man man_open' ∙ ap (λ b. if same_spot next_man s then true else b)
+          (holds_man-with_occupant lifted to s Box to_open' ∙ ap (λ b. if same_spot to s then false else b)
+          (holds_man-with_occupant rest from s Nobody from_open' ∙ ap (λ b. if same_spot from s then false else b) (gone.no_man s) ∙ none_either (same_spot from s)) ∙ none_either (same_spot to s))
+          ∙ chosen (same_spot next_man s);
+      counted = omega (arith, taken, given, entered, one_goes, one_comes, none_at_to, none_at_man, gone.astray_stay, balance);
     }
 
 pub man_open : (rows : Rows) (man : Spot) (astray : ℕ) → IsScene rows man astray → holds is_open rows man ≡ true
 man_open rows man astray scene = (man_stands rows man (scene.man_is man ∙ same_spot-refl man)).0
 
--- an open square stays open, and a goal a goal
-pub still_open : (rows new : Rows) (t s : Spot) (who : Occupant) → new ≡ with_occupant rows t who → holds is_open rows t ≡ true → holds is_open rows s ≡ true → holds is_open new s ≡ true
-still_open rows new t s who is there opened = ap (λ (r : Rows). holds is_open r s) is ∙ (SameGround-with_occupant rows t who there).opened s ∙ opened
-
-pub still_goal : (rows new : Rows) (t s : Spot) (who : Occupant) → new ≡ with_occupant rows t who → holds is_open rows t ≡ true → holds is_goal new s ≡ holds is_goal rows s
-still_goal rows new t s who is there = ap (λ (r : Rows). holds is_goal r s) is ∙ (SameGround-with_occupant rows t who there).goals s
+pub man_free : (rows : Rows) (man : Spot) (astray : ℕ) → IsScene rows man astray → holds is_box rows man ≡ false
+man_free rows man astray scene = (man_stands rows man (scene.man_is man ∙ same_spot-refl man)).1
 
 -- a solved scene has no box off a goal
 pub solved-from_none : (rows : Rows) (man : Spot) (astray : ℕ) → IsScene rows man astray → astray ≡ 0 → AllOnGoals rows (start rows)
@@ -374,3 +329,8 @@ some_astray rows man from astray scene boxed false off_goal =
 -- the position that a scene shows, by its man
 pub start-IsScene : (rows : Rows) (man : Spot) (astray : ℕ) → IsScene rows man astray → start rows ≡ record { man = man; boxes = holds is_box rows }
 start-IsScene rows man astray scene = start-scene rows man scene.man_is
+
+-- one more stands elsewhere, on the ground of a scene
+pub SameGround-after : (now rows new : Rows) (t : Spot) (who : Occupant) → SameGround now rows → new ≡ with_occupant rows t who → holds is_open now t ≡ true → SameGround now new
+SameGround-after now rows new t who ground is opened =
+    subst (SameGround now) (sym is) (SameGround-trans now rows (with_occupant rows t who) ground (SameGround-with_occupant rows t who (ground.opened t ∙ opened)))

@@ -124,16 +124,17 @@ pub record IsStanding (rows : Rows) (x : Position) : Type 0 where
   pub on_open : holds is_open rows x.man ≡ true
   pub no_box : x.boxes x.man ≡ false
 
-no_box_behind : (boxes : Spot → Bool) (q t : Spot) → same_spot q t ≡ false → moved boxes q t q ≡ false
+-- the square that a box has left
+pub moved-from : (boxes : Spot → Bool) (q t : Spot) → same_spot q t ≡ false → moved boxes q t q ≡ false
 unfolding moved
-no_box_behind boxes q t apart = ap (λ b. if b then true else if same_spot q q then false else boxes q) apart ∙ ap (λ b. if b then false else boxes q) (same_spot-refl q)
+moved-from boxes q t apart = ap (λ b. if b then true else if same_spot q q then false else boxes q) apart ∙ ap (λ b. if b then false else boxes q) (same_spot-refl q)
 
 -- after any letter the man stands where he may
 pub IsStanding-step : (rows : Rows) (d : Dir) (x : Position) (a : After) → step rows d x ≡ Some a → IsStanding rows a.position
 IsStanding-step rows d x a e = elim (step_cases rows d x a e) [
   | inl walk ↦ subst (λ (y : After). IsStanding rows y.position) (sym walk.leads) (record { on_open = walk.to_open; no_box = walk.to_free })
   | inr push ↦ subst (λ (y : After). IsStanding rows y.position) (sym push.leads)
-      (record { on_open = push.from_open; no_box = no_box_behind x.boxes push.from push.to (apart_next d push.from push.to push.beyond) })
+      (record { on_open = push.from_open; no_box = moved-from x.boxes push.from push.to (apart_next d push.from push.to push.beyond) })
 ]
 
 -- a letter without a push is undone by the opposite letter

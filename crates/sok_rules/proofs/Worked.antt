@@ -9,7 +9,7 @@ use Rattle.sok_rules.specs.Squares.{Rows, holds, is_goal, places, places_from, p
 use Rattle.sok_rules.specs.Play.{AllOnGoals, Position, Solves, moved, pushes, run, start}
 use Rattle.sok_rules.proofs.Grid.{IsWithin-from_holds}
 use Rattle.sok_rules.proofs.Runs.{HasOpenBoxes-run, HasOpenBoxes-start}
-use Rattle.sok_rules.proofs.Scenes.{list_any-places}
+use Rattle.sok_rules.proofs.Places.{list_any-places}
 
 abbrev pub end_of : Rows → List Dir → Position
 end_of rows w = unwrap_or (run rows (start rows) w) (start rows)

@@ -1,7 +1,9 @@
 pub mod Faults
+pub mod Kept
 pub mod Levels
 pub mod Play
 pub mod Replay
 pub mod Scene
+pub mod Session
 pub mod Squares
 pub mod States

@@ -7,7 +7,7 @@ use Rattle.sok_rules.specs.declared.cell.Spot.{Spot}
 use Rattle.sok_rules.specs.declared.scene.Occupant.{Occupant}
 use Rattle.sok_rules.specs.declared.scene.Occupant.TheVariants.{Nobody, Man, Box}
 use Rattle.sok_rules.specs.Levels.{count_in}
-use Rattle.sok_rules.specs.Play.{start, step}
+use Rattle.sok_rules.specs.Play.{Position, start, step}
 use Rattle.sok_rules.specs.Squares.{Rows, holds, is_astray, is_box, is_goal, is_man, is_open, next, same_spot}
 
 -- the cell that shows who stands on floor, or on a goal
@@ -54,3 +54,9 @@ pub record IsBeside (now : Rows) (s : Spot) (d : Dir) (seen : Spot × Bool) : Ty
 -- the square beside is a wall, or lies in no row
 abbrev pub NoneBeside : Rows → Spot → Dir → Type 0
 NoneBeside now s d = (t : Spot) → next d s ≡ Some t → holds is_open now t ≡ false
+
+-- the letter has led from the position, in which the man stood where he may, to the scene
+pub record CameBy (now : Rows) (d : Dir) (pushed : Bool) (x : Position) : Type 0 where
+  pub man_open : holds is_open now x.man ≡ true
+  pub man_free : x.boxes x.man ≡ false
+  pub led : step now d x ≡ Some (record { position = start now; pushed = pushed })

@@ -1,7 +1,7 @@
 //! What stands on a square, the four directions, and squares by row and column.
 
 ghost use Rattle.std.specs.Prelude.{◌≡◌, ◌+◌, ◌<◌, ◌^◌};
-ghost use Rattle.sok_rules.specs.Squares.{is_wall, is_box, is_astray, is_goal, is_man, next};
+ghost use Rattle.sok_rules.specs.Squares.{is_wall, is_box, is_astray, is_goal, is_man, next, opposite};
 
 /// What stands on a square of a level's text.
 #[derive(Clone, Copy, Debug, PartialEq, Eq)]
@@ -62,6 +62,19 @@ pub enum Dir {
     Up,
     Right,
     Down,
+}
+
+impl Dir {
+    pub fn opposite(self) -> Dir
+        ensures { result ≡ opposite self }
+    {
+        match self {
+            Dir::Left => Dir::Right,
+            Dir::Up => Dir::Down,
+            Dir::Right => Dir::Left,
+            Dir::Down => Dir::Up,
+        }
+    }
 }
 
 /// A square, by its row and column, both counted from 0 at the top left.

@@ -48,7 +48,8 @@ impl Level {
 
     /// A level with the same rows.
     pub fn copy(&self, alloc: Global) -> Result<Level, Memory>
-        ensures { IfOk result (λ level. level ≡ self.now) }
+        ensures same { IfOk result (λ level. level ≡ self.now) }
+        ensures proper { IsProper self.now }
     {
         let rows = copy_rows(alloc, &self.rows)?;
         Ok(Level { rows })

@@ -6,6 +6,7 @@
 //! | `fault` | why rows are no level, and why letters cannot be played |
 //! | `level` | rows of cells that are a level |
 //! | `play` | replaying a list of letters |
+//! | `session` | play letter by letter, with undo and redo |
 //! | `scene` | a level's cells as they stand in the middle of play (private) |
 #![tactic(auto)]
 
@@ -14,3 +15,4 @@ pub mod fault;
 pub mod level;
 pub mod play;
 mod scene;
+pub mod session;

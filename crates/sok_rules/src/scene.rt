@@ -1,10 +1,10 @@
 //! A level's cells as they stand in the middle of play.
 
-ghost use Rattle.std.specs.Prelude.{◌≡◌, ◌↔◌, IsTrue, IfOk, IsSomeAnd, MatchOption, position, None, true, false, if◌then◌else◌, ◌≤◌, ◌<◌, ◌^◌, ◌+◌};
+ghost use Rattle.std.specs.Prelude.{◌≡◌, ◌↔◌, IsTrue, IfOk, IsSomeAnd, length, map, MatchOption, position, None, true, false, if◌then◌else◌, ◌≤◌, ◌<◌, ◌^◌, ◌+◌};
 ghost use Rattle.sok_rules.specs.Levels.{cells_of, IsProper};
 ghost use Rattle.sok_rules.specs.Squares.{cell_at, holds, is_box, is_goal, is_man, is_open, same_spot};
 ghost use Rattle.std.specs.List.{list_any};
-ghost use Rattle.sok_rules.specs.Play.{start, step, moved, AllOnGoals};
+ghost use Rattle.sok_rules.specs.Play.{Position, start, step, moved, AllOnGoals};
 
 use crate::cell::{Cell, Dir, Spot};
 use crate::fault::Memory;
@@ -43,24 +43,34 @@ impl Model for Scene {
 }
 
 impl Scene {
-    ghost use Rattle.sok_rules.specs.Scene.{SameGround, Steps, IsBeside, NoneBeside};
+    ghost use Rattle.sok_rules.specs.Scene.{SameGround, Steps, CameBy, IsBeside, NoneBeside};
 
     /// The start of a level.
     pub(crate) fn new(alloc: Global, level: &Level) -> Result<Scene, Memory>
         ensures { IfOk result (λ scene. scene ≡ level.now) }
     {
         let rows = level.rows();
+        let (man, astray) = look_over(rows);
         let cells = copy_rows(alloc, rows)?;
-        let astray = census_of(rows).astray;
-        match man_in(rows) {
-            Some(man) => Ok(Scene { cells, man, astray }),
-            None => unreachable!(),
-        }
+        Ok(Scene { cells, man, astray })
+    }
+
+    /// Goes back to the start of the level that it began with.
+    pub(crate) fn restore(&mut self, level: &Level)
+        requires { SameGround level.now self.old }
+        ensures { self.new ≡ level.now }
+    {
+        let rows = level.rows();
+        let (man, astray) = look_over(rows);
+        copy_over(&mut self.cells, rows);
+        self.man = man;
+        self.astray = astray;
     }
 
     /// The cell of a square, as it stands now.
     pub(crate) fn cell(&self, spot: Spot) -> Option<Cell>
-        ensures { result ≡ cell_at self.now spot }
+        ensures cell { result ≡ cell_at self.now spot }
+        ensures one_man { (s : Spot) → holds is_man self.now s ≡ same_spot (start self.now).man s }
     {
         cell_in(&self.cells, spot)
     }
@@ -86,8 +96,24 @@ impl Scene {
         if is_held {
             return None;
         }
-        self.push(ahead, beyond);
+        self.shift(ahead, beyond, ahead);
         Some(true)
+    }
+
+    /// Takes the last letter back: the man walks back, and a box that he pushed follows him.
+    pub(crate) fn back(&mut self, dir: Dir, pushed: bool)
+        requires { (x : Position) × CameBy self.old dir pushed x }
+        ensures ground { SameGround self.old self.new }
+        ensures position { (x : Position) → CameBy self.old dir pushed x → start self.new ≡ x }
+    {
+        let man = self.man;
+        let behind = man.next(dir.opposite()).unwrap();
+        if pushed {
+            let ahead = man.next(dir).unwrap();
+            self.shift(ahead, man, behind);
+        } else {
+            self.walk(behind);
+        }
     }
 
     /// The square beside an open one, and whether a box stands there. None at a wall.
@@ -117,20 +143,22 @@ impl Scene {
         self.man = to;
     }
 
-    /// The man enters a square, whose box goes on to another one.
-    fn push(&mut self, from: Spot, to: Spot)
+    /// A box goes from one square to another, and the man to a third.
+    fn shift(&mut self, from: Spot, to: Spot, man: Spot)
         requires from_open { holds is_open self.old from ≡ true }
         requires box_there { holds is_box self.old from ≡ true }
         requires to_open { holds is_open self.old to ≡ true }
         requires to_free { holds is_box self.old to ≡ false }
-        requires apart { same_spot from to ≡ false }
+        requires man_open { holds is_open self.old man ≡ true }
+        requires man_free { moved (holds is_box self.old) from to man ≡ false }
         ensures ground { SameGround self.old self.new }
-        ensures position { start self.new ≡ record { man = from; boxes = moved (holds is_box self.old) from to } }
+        ensures position { start self.new ≡ record { man = man; boxes = moved (holds is_box self.old) from to } }
     {
         put(&mut self.cells, self.man, Occupant::Nobody);
-        let left_goal = put(&mut self.cells, from, Occupant::Man);
+        let left_goal = put(&mut self.cells, from, Occupant::Nobody);
         let meets_goal = put(&mut self.cells, to, Occupant::Box);
-        self.man = from;
+        put(&mut self.cells, man, Occupant::Man);
+        self.man = man;
         self.astray = astray_after(self.astray, left_goal, meets_goal);
     }
 }
@@ -166,7 +194,7 @@ impl Occupant {
     }
 }
 
-ghost use Rattle.sok_rules.specs.Scene.{with_occupant};
+ghost use Rattle.sok_rules.specs.Scene.{with_occupant, IsScene};
 
 /// Lets another one stand on a square, and answers whether it is a goal.
 fn put(cells: &mut Vec<Vec<Cell>>, spot: Spot, who: Occupant) -> bool
@@ -179,6 +207,24 @@ fn put(cells: &mut Vec<Vec<Cell>>, spot: Spot, who: Occupant) -> bool
     let goal = cell.is_goal();
     row[spot.col as usize] = who.on(goal);
     goal
+}
+
+/// Writes cells over others, row by row.
+fn copy_over(cells: &mut Vec<Vec<Cell>>, rows: &[Vec<Cell>])
+    requires { map (λ row. length row) (cells_of cells.old.items) ≡ map (λ row. length row) (cells_of rows.now) }
+    ensures { cells_of cells.new.items ≡ cells_of rows.now }
+{
+    for (place, row) in rows.iter().enumerate() {
+        cells[place].copy_from_slice(row);
+    }
+}
+
+/// Where the player of a level stands, and how many boxes stand off goals.
+fn look_over(rows: &[Vec<Cell>]) -> (Spot, usize)
+    requires { IsProper (cells_of rows.now) }
+    ensures { IsScene (cells_of rows.now) result.0 result.1 }
+{
+    (man_in(rows).unwrap(), census_of(rows).astray)
 }
 
 /// The square of the player.

@@ -3,7 +3,8 @@ use Rattle.sok_rules.specs.Squares.{holds, is_box}
 use Rattle.sok_rules.specs.Play.{Position, start, step}
 use Rattle.sok_rules.specs.Scene.{IsScene, Steps}
 use Rattle.sok_rules.proofs.Scenes.{man_open, start-IsScene}
-use Rattle.sok_rules.proofs.Steps.{step-wall, step-walk, step-box_at_wall, step-box}
+use Rattle.sok_rules.proofs.Spots.{apart_next}
+use Rattle.sok_rules.proofs.Steps.{moved-from, step-wall, step-walk, step-box_at_wall, step-box}
 use Rattle.sok_rules.proofs.scene.Scene.step.Goals as goal
 
 pub open_beside-requires : goal.open_beside-requires
@@ -58,9 +59,13 @@ returns c =
     let ahead = c.in_ok-ahead.ensures in
     let beyond = c.in_ok-beyond.ensures in
     record {
-      ground = c.push.ensures.ground;
+      ground = c.shift.ensures.ground;
       leads = ap (step now c.args.dir) (start-IsScene now _ _ scene)
           ∙ step-box now c.args.dir (record { man = c.self.inside.man; boxes = holds is_box now }) c.in_ok-ahead.ahead c.in_ok-beyond.beyond false ahead.is_next ahead.opened
           (ahead.box_there ∙ c.if-not-has_box.false) beyond.is_next beyond.opened (beyond.box_there ∙ c.if-is_held.false)
-          ∙ ap (λ (x : Position). Some (record { position = x; pushed = true })) (sym c.push.ensures.position);
+          ∙ ap (λ (x : Position). Some (record { position = x; pushed = true })) (sym c.shift.ensures.position);
     }
+
+pub shift-requires-clause-man_free : goal.shift-requires-clause-man_free
+shift-requires-clause-man_free c =
+    moved-from (holds is_box c.args.self.now) c.in_ok-ahead.ahead c.in_ok-beyond.beyond (apart_next c.args.dir c.in_ok-ahead.ahead c.in_ok-beyond.beyond c.in_ok-beyond.ensures.is_next)

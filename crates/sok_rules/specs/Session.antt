@@ -1,0 +1,71 @@
+-- A play session: the letters played, and those undone.
+use Rattle.std.specs.Prelude.{◌≡◌, ◌<◌, List, [], ◌∷◌, ◌++◌, Option, Bool, not, if◌then◌else◌, IsNone, IsSomeAnd, length, option_map}
+use Rattle.sok_rules.specs.declared.cell.Cell.{Cell}
+use Rattle.sok_rules.specs.declared.cell.Cell.TheVariants.{Wall, Floor, Goal, BoxOff, BoxOn, ManOff, ManOn}
+use Rattle.sok_rules.specs.declared.cell.Dir.{Dir}
+use Rattle.sok_rules.specs.declared.cell.Spot.{Spot}
+use Rattle.sok_rules.specs.declared.fault.PlayFault.{PlayFault}
+use Rattle.sok_rules.specs.declared.fault.PlayFault.TheVariants.{Blocked, TooLong, Memory}
+use Rattle.sok_rules.specs.Squares.{Rows, cell_at, is_goal, is_open, same_spot}
+use Rattle.sok_rules.specs.Play.{Position, run, start, step}
+
+-- played is in order of play, and undone has the letter that redo plays next at its front
+pub record Letters : Type 0 where
+  pub rows : Rows
+  pub played : List Dir
+  pub undone : List Dir
+
+-- where the played letters lead
+abbrev pub position_of : Letters → Option Position
+position_of letters = run letters.rows (start letters.rows) letters.played
+
+-- a level before any letter
+abbrev pub begun : Rows → Letters
+begun rows = record { rows = rows; played = []; undone = [] }
+
+-- what a step that succeeds leaves
+abbrev pub stepped : Letters → Dir → Letters
+stepped old d = record old { played = old.played ++ d ∷ []; undone = [] }
+
+-- the letter is legal after those played, and pushes or not
+pub record StepsOn (old : Letters) (d : Dir) (new : Letters) (pushed : Bool) : Type 0 where
+  pub after : new ≡ stepped old d
+  pub few : length old.played < 1000000
+  pub legal : IsSomeAnd (position_of old) (λ x. IsSomeAnd (step old.rows d x) (λ a. a.pushed ≡ pushed))
+
+-- why a letter is not played
+abbrev pub IsStepFault : Letters → Dir → PlayFault → Type 0
+IsStepFault old d TooLong = length old.played ≡ 1000000
+IsStepFault old d (Blocked at) = (length old.played < 1000000) × (at ≡ length old.played) × IsNone (position_of (stepped old d))
+IsStepFault old d Memory = length old.played < 1000000
+
+-- a step that is refused changes nothing
+pub record StaysAt (old : Letters) (d : Dir) (new : Letters) (fault : PlayFault) : Type 0 where
+  pub unchanged : new ≡ old
+  pub cause : IsStepFault old d fault
+
+-- the last letter played becomes the first of those undone
+pub record Undoes (old new : Letters) : Type 0 where
+  pub rows : new.rows ≡ old.rows
+  pub d : Dir
+  pub played : old.played ≡ new.played ++ d ∷ []
+  pub undone : new.undone ≡ d ∷ old.undone
+
+-- the first letter undone is played again
+pub record Redoes (old new : Letters) : Type 0 where
+  pub rows : new.rows ≡ old.rows
+  pub d : Dir
+  pub undone : old.undone ≡ d ∷ new.undone
+  pub played : new.played ≡ old.played ++ d ∷ []
+
+-- what shows at a cell, where a box or the man may stand now
+abbrev pub seen : Cell → Bool → Bool → Cell
+seen cell box_there man_there =
+    if not (is_open cell) then Wall
+    else if box_there then (if is_goal cell then BoxOn else BoxOff)
+    else if man_there then (if is_goal cell then ManOn else ManOff)
+    else if is_goal cell then Goal else Floor
+
+-- what shows at a square in a position, if a row has the square
+abbrev pub cell_in_play : Rows → Position → Spot → Option Cell
+cell_in_play rows x s = option_map (λ cell. seen cell (x.boxes s) (same_spot x.man s)) (cell_at rows s)

@@ -1,0 +1,169 @@
+//! Play letter by letter, with undo and redo.
+
+ghost use Rattle.std.specs.Prelude.{◌≡◌, ◌↔◌, ◌≤◌, [], IsTrue, IfOk, IsSomeAnd, MatchBool, MatchResult, length};
+ghost use Rattle.sok_rules.specs.Play.{start, pushes, Solves};
+
+use crate::cell::{Cell, Dir, Spot};
+use crate::fault::{Memory, PlayFault};
+use crate::level::Level;
+use crate::scene::Scene;
+use std::alloc::Global;
+use std::marker::Model;
+
+/// The most letters that a session plays.
+pub const LIMIT: usize = 1_000_000;
+
+/// A level in play. It is seen as the level's rows, the letters played, and those undone.
+#[derive(Drop)]
+pub struct Session {
+    level: Level,
+    scene: Scene,
+    /// The letters played, and then those undone.
+    letters: Vec<Dir>,
+    /// Which of the letters push.
+    pushed: Vec<bool>,
+    /// How many letters are played.
+    played: usize,
+    /// How many of the letters played push.
+    pushes: u64,
+}
+
+impl Model for Session {
+    ghost use Rattle.std.specs.Prelude.{take, drop};
+    ghost use Rattle.sok_rules.specs.Session.{Letters};
+
+    ghost Value = { Letters };
+
+    ghost use Rattle.sok_rules.specs.Kept.{IsSession};
+
+    ghost view = { λ s. record { rows = s.level; played = take s.played s.letters.items; undone = drop s.played s.letters.items } };
+
+    ghost invariant = { λ s. IsSession s.level s.scene s.letters.items s.pushed.items s.played s.pushes };
+}
+
+impl Session {
+    ghost use Rattle.sok_rules.specs.Session.{begun, cell_in_play, position_of, Redoes, StaysAt, StepsOn, Undoes};
+
+    /// A level before any letter.
+    pub fn new(alloc: Global, level: &Level) -> Result<Session, Memory>
+        ensures { IfOk result (λ session. session ≡ begun level.now) }
+    {
+        Ok(Session {
+            level: level.copy(alloc)?,
+            scene: Scene::new(alloc, level)?,
+            letters: Vec::new(alloc),
+            pushed: Vec::new(alloc),
+            played: 0,
+            pushes: 0,
+        })
+    }
+
+    /// Plays a letter, and answers whether it pushed. Refused are, in this order, a letter past
+    /// 1,000,000 and one that is not legal, with the number of letters played so far. A letter that
+    /// is played drops those undone, and a refused one changes nothing.
+    pub fn step(&mut self, dir: Dir) -> Result<bool, PlayFault>
+        ensures { MatchResult result (StepsOn self.old dir self.new) (StaysAt self.old dir self.new) }
+    {
+        if self.played == LIMIT {
+            return Err(PlayFault::TooLong);
+        }
+        self.letters.reserve(1)?;
+        self.pushed.reserve(1)?;
+        match self.scene.step(dir) {
+            None => Err(PlayFault::Blocked(self.played)),
+            Some(pushed) => {
+                put_after(&mut self.letters, self.played, dir);
+                put_after(&mut self.pushed, self.played, pushed);
+                self.played += 1;
+                self.pushes += u64::from(pushed);
+                Ok(pushed)
+            }
+        }
+    }
+
+    /// Takes back the last letter played. False, with no change, where none is.
+    pub fn undo(&mut self) -> bool
+        ensures { MatchBool result (Undoes self.old self.new) ((self.old.played ≡ []) × (self.new ≡ self.old)) }
+    {
+        if self.played == 0 {
+            return false;
+        }
+        let last = self.played - 1;
+        let pushed = self.pushed[last];
+        self.scene.back(self.letters[last], pushed);
+        self.played = last;
+        self.pushes -= u64::from(pushed);
+        true
+    }
+
+    /// Plays the first letter undone again. False, with no change, where none is.
+    pub fn redo(&mut self) -> bool
+        ensures { MatchBool result (Redoes self.old self.new) ((self.old.undone ≡ []) × (self.new ≡ self.old)) }
+    {
+        if self.played == self.letters.len() {
+            return false;
+        }
+        let pushed = self.scene.step(self.letters[self.played]).unwrap();
+        self.played += 1;
+        self.pushes += u64::from(pushed);
+        true
+    }
+
+    /// Goes back to the start, with no letter played and none undone.
+    pub fn reset(&mut self)
+        ensures { self.new ≡ begun self.old.rows }
+    {
+        self.scene.restore(&self.level);
+        self.letters.clear();
+        self.pushed.clear();
+        self.played = 0;
+        self.pushes = 0;
+    }
+
+    /// Whether all boxes stand on goals now.
+    pub fn solved(&self) -> bool
+        ensures { IsTrue result ↔ Solves self.now.rows self.now.played }
+    {
+        self.scene.is_solved()
+    }
+
+    /// How many of the letters played push.
+    pub fn pushes(&self) -> u64
+        ensures { result ≡ pushes self.now.rows (start self.now.rows) self.now.played }
+    {
+        self.pushes
+    }
+
+    /// How many letters are played, pushes included.
+    pub fn moves(&self) -> u64
+        ensures { result ≡ length self.now.played }
+    {
+        self.played as u64
+    }
+
+    /// The letters played, in order.
+    pub fn dirs(&self) -> &[Dir]
+        ensures { result.now ≡ self.now.played }
+    {
+        &self.letters[..self.played]
+    }
+
+    /// What stands on a square now, and None where no row has the square.
+    pub fn cell(&self, spot: Spot) -> Option<Cell>
+        ensures { IsSomeAnd (position_of self.now) (λ x. result ≡ cell_in_play self.now.rows x spot) }
+    {
+        self.scene.cell(spot)
+    }
+}
+
+ghost use Rattle.std.specs.Prelude.{◌∷◌, ◌++◌, ◌<◌, take, vec_len, vec_capacity};
+
+/// Drops all behind a place, and puts an item there.
+fn put_after<T: Drop>(items: &mut Vec<T>, place: usize, item: T)
+    requires within { place ≤ vec_len items.old }
+    requires room { vec_len items.old < vec_capacity items.old }
+    ensures { items.new.items ≡ take place items.old.items ++ item ∷ [] }
+{
+    items.truncate(place);
+    items.push_reserved(item);
+}
