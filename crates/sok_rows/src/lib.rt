@@ -2,6 +2,7 @@
 //!
 //! | Module | What it tests |
 //! |---|---|
+//! | `board` | which levels a solver accepts, and their square numbers |
 //! | `levels` | which rows are a level |
 //! | `replays` | what replaying a text tells |
 //! | `sessions` | play letter by letter, with undo and redo |
@@ -9,6 +10,8 @@
 //! | `sketch` | boards and texts for these tests |
 #![tactic(auto)]
 
+#[cfg(test)]
+mod board;
 #[cfg(test)]
 mod levels;
 #[cfg(test)]

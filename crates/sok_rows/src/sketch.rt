@@ -9,11 +9,18 @@ use std::alloc::{AllocError, Global};
 pub fn rows(alloc: Global, board: &str) -> Result<Vec<Vec<Cell>>, AllocError> {
     let mut rows = Vec::new(alloc);
     for line in board.split('/') {
-        let mut row = Vec::new(alloc);
-        for symbol in line.bytes() {
-            row.push(cell(symbol))?;
+        rows.push(row(alloc, line)?)?;
+    }
+    Ok(rows)
+}
+
+/// Rows that repeat: how often, and the row.
+pub fn repeated(alloc: Global, runs: &[(usize, &str)]) -> Result<Vec<Vec<Cell>>, AllocError> {
+    let mut rows = Vec::new(alloc);
+    for (count, line) in runs {
+        for _ in 0..*count {
+            rows.push(row(alloc, line)?)?;
         }
-        rows.push(row)?;
     }
     Ok(rows)
 }
@@ -30,6 +37,10 @@ pub fn row_of(alloc: Global, cell: Cell, length: usize) -> Result<Vec<Cell>, All
 /// The level of a board.
 pub fn level(alloc: Global, board: &str) -> Result<Level, LevelFault> {
     Level::new(rows(alloc, board)?)
+}
+
+fn row(alloc: Global, line: &str) -> Result<Vec<Cell>, AllocError> {
+    line.bytes().map(cell).collect(alloc)
 }
 
 fn cell(symbol: u8) -> Cell {

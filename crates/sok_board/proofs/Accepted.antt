@@ -1,0 +1,203 @@
+-- What makes a level accepted, and what contradicts it.
+use Rattle.std.proofs.Common.{ℕ, ◌≡◌, ◌<◌, ◌↔◌, inl, inr, refl, sym, ap, ◌∙◌, subst, List, [], ◌∷◌, Bool, true, false, true≢false, Option, Some, None, Result, Ok, Err, IsTrue, IsSome, IsNone, IfSome, IsOk, IfOk, IfErr, All, Contains, arith, length, get_or, not, ◌&&◌, is_some, AllPairs, ◌||◌, zero, suc}
+use Rattle.std.specs.Option.{option_and_then, option_map_or}
+use Rattle.std.proofs.lemmas.Bool.{cases_Bool}
+use Rattle.std.proofs.lemmas.List.Elements.{All-weaker, All-contains}
+use Rattle.std.proofs.lemmas.List.Folds.{list_any_at, Any-from_list_any}
+use Rattle.sok_rules.specs.declared.cell.Cell.{Cell}
+use Rattle.sok_rules.specs.declared.cell.Dir.{Dir}
+use Rattle.sok_rules.specs.declared.cell.Dir.TheVariants.{Left, Up, Right, Down}
+use Rattle.sok_rules.specs.declared.cell.Spot.{Spot}
+use Rattle.sok_rules.specs.Squares.{Rows, cell_at, holds, is_box, is_goal, is_open, is_wall, next, same_spot}
+use Rattle.sok_rules.specs.Levels.{IsProper}
+use Rattle.sok_board.specs.Area.{Numbered, Before, InArea, IsArea, IsAccepted, number_of, spot_of, is_among, is_decoration, goals_of, boxes_of}
+use Rattle.sok_board.specs.Refusals.{IsStray, IsRefused, IsAcceptable, lies_beside, has_gap}
+use Rattle.sok_board.specs.declared.fault.BoardFault.{BoardFault}
+use Rattle.sok_board.specs.declared.fault.BoardFault.TheVariants as fault
+use Rattle.sok_board.specs.Tables.{IsWithin}
+use Rattle.sok_rules.proofs.Spots.{same_spot-is, same_spot-refl}
+use Rattle.sok_board.proofs.AreaLaws.{spot_of-number_of, number-InArea, InArea-spot_of, InArea-next}
+use Rattle.sok_board.proofs.Lists.{AllPairs-head, AllPairs-tail, Contains-cons}
+use Rattle.sok_board.proofs.Numbering.{spot_of-get_or}
+use Rattle.sok_board.proofs.Refusals.{before_asym}
+use Rattle.sok_board.proofs.Inside.{IsWithin-InArea, InArea-open, holds-Some, not-is_wall}
+
+pub IsWithin-area : (rows : Rows) (squares : List Spot) → IsProper rows → IsArea rows squares → All IsWithin squares
+IsWithin-area rows squares proper area = All-weaker (InArea rows) IsWithin (IsWithin-InArea rows proper) squares area.inside
+
+InArea-some : (b : Numbered) → IsArea b.rows b.area → (s : Spot) (o : Option ℕ) → number_of b s ≡ o → IsSome o → InArea b.rows s
+InArea-some b area s None is some = absurd (true≢false (sym some))
+InArea-some b area s (Some n) is some =
+    let (within, there) = spot_of-number_of b s n is in
+    subst (InArea b.rows) there (InArea-spot_of b area n within)
+
+-- the squares with a number are those of the area
+pub IsSome-number_of : (b : Numbered) → IsArea b.rows b.area → (s : Spot) → IsSome (number_of b s) ↔ InArea b.rows s
+IsSome-number_of b area s = (
+  InArea-some b area s (number_of b s) refl,
+  λ inside. let (n, is, _, _) = number-InArea b area s inside in ap is_some is,
+)
+
+pub is_among-InArea : (b : Numbered) → IsArea b.rows b.area → (s : Spot) → InArea b.rows s → is_among b.area s ≡ true
+is_among-InArea b area s inside =
+    let (k, within, is) = area.whole s inside in
+    list_any_at (same_spot s) b.area k s within (ap (same_spot s) is ∙ same_spot-refl s)
+
+both : (p q : Bool) → (p && q) ≡ true → (p ≡ true) × (q ≡ true)
+both true true e = (refl, refl)
+both true false e = absurd (true≢false (sym e))
+both false q e = absurd (true≢false (sym e))
+
+not_from : (b : Bool) → not b ≡ true → b ≡ false
+not_from true e = absurd (true≢false (sym e))
+not_from false e = refl
+
+-- a decoration is a box outside the area
+pub decoration-outside : (b : Numbered) → IsArea b.rows b.area → (s : Spot) → IsTrue (is_decoration b s) → (holds is_box b.rows s ≡ true) × (InArea b.rows s → ⊥)
+decoration-outside b area s e =
+    let (box, apart) = both (holds is_box b.rows s) (not (is_among b.area s)) e in
+    (box, λ inside. true≢false (sym (is_among-InArea b area s inside) ∙ not_from (is_among b.area s) apart))
+
+-- without strays each decoration is on a goal
+pub decorations-tidy : (b : Numbered) → IsArea b.rows b.area → ((s : Spot) → IsStray b.rows s → ⊥) → (s : Spot) → IsTrue (is_decoration b s) → IsTrue (holds is_goal b.rows s)
+decorations-tidy b area tidy s e =
+    let (box, out) = decoration-outside b area s e in
+    elim (cases_Bool (holds is_goal b.rows s)) [ inl on ↦ on | inr off ↦ absurd (tidy s (box, out, off)) ]
+
+-- a square among those of an area is in the area
+pub InArea-is_among : (b : Numbered) → IsArea b.rows b.area → (s : Spot) → is_among b.area s ≡ true → InArea b.rows s
+InArea-is_among b area s among =
+    let (k, x, within, is, same) = Any-from_list_any (same_spot s) b.area among in
+    subst (InArea b.rows) (is ∙ sym (same_spot-is s x same)) (area.inside k x within)
+
+same_heads : (x y : Spot) (xs ys : List Spot) → All (Before x) xs → All (Before y) ys → Contains (y ∷ ys) x → Contains (x ∷ xs) y → x ≡ y
+same_heads x y xs ys after_x after_y (zero, _, is) there = sym is
+same_heads x y xs ys after_x after_y (suc j, _, _) (zero, _, is) = is
+same_heads x y xs ys after_x after_y (suc j, far, is) (suc k, there, same) =
+    let above : Before y x = subst (Before y) is (after_y j x (omega (arith, far))) in
+    let below : Before x y = subst (Before x) same (after_x k y (omega (arith, there))) in
+    absurd (before_asym x y below above)
+
+-- a square after the first is not the first
+among_rest : (x y s : Spot) (xs ys : List Spot) → x ≡ y → All (Before x) xs → Contains xs s → Contains (y ∷ ys) s → Contains ys s
+among_rest x y s xs ys same after_x (k, within, there) (zero, _, is) =
+    let above : Before x s = subst (Before x) there (after_x k s within) in
+    let itself : Before s s = subst (λ t. Before t s) (same ∙ is) above in
+    absurd (before_asym s s itself itself)
+among_rest x y s xs ys same after_x among (suc j, far, is) = (j, omega (arith, far), is)
+
+-- lists in reading order with the same squares are the same
+same_ordered : (xs ys : List Spot) → AllPairs Before xs → AllPairs Before ys → ((s : Spot) → Contains xs s → Contains ys s) → ((s : Spot) → Contains ys s → Contains xs s) → xs ≡ ys
+same_ordered [] [] rising_xs rising_ys to from = refl
+same_ordered [] (y ∷ ys) rising_xs rising_ys to from = absurd (let past = (from y (0, omega arith, refl)).1 in omega (arith, past))
+same_ordered (x ∷ xs) [] rising_xs rising_ys to from = absurd (let past = (to x (0, omega arith, refl)).1 in omega (arith, past))
+same_ordered (x ∷ xs) (y ∷ ys) rising_xs rising_ys to from =
+    let same : x ≡ y = same_heads x y xs ys (AllPairs-head Before x xs rising_xs) (AllPairs-head Before y ys rising_ys) (to x (0, omega arith, refl)) (from y (0, omega arith, refl)) in
+    let rest : xs ≡ ys = same_ordered xs ys (AllPairs-tail Before x xs rising_xs) (AllPairs-tail Before y ys rising_ys)
+    (λ s among. among_rest x y s xs ys same (AllPairs-head Before x xs rising_xs) among (to s (Contains-cons x s xs among)))
+    (λ s among. among_rest y x s ys xs (sym same) (AllPairs-head Before y ys rising_ys) among (from s (Contains-cons y s ys among))) in
+    λ i. same i ∷ rest i
+
+-- a level has one area
+pub IsArea-unique : (rows : Rows) (xs ys : List Spot) → IsArea rows xs → IsArea rows ys → xs ≡ ys
+IsArea-unique rows xs ys one two =
+    same_ordered xs ys one.in_order two.in_order (λ s among. two.whole s (All-contains (InArea rows) xs s one.inside among)) (λ s among. one.whole s (All-contains (InArea rows) ys s two.inside among))
+
+abbrev with_area : Rows → List Spot → Numbered
+with_area rows area = record { rows = rows; area = area }
+
+has_gap-enclosed : (rows : Rows) (s : Spot) → ((d : Dir) → lies_beside rows s d ≡ true) → has_gap rows s ≡ false
+unfolding has_gap
+has_gap-enclosed rows s lies = λ i. not (lies Left i) || (not (lies Up i) || (not (lies Right i) || (not (lies Down i) || false)))
+
+-- a box outside the area is a decoration
+outside-decoration : (b : Numbered) → IsArea b.rows b.area → (s : Spot) → holds is_box b.rows s ≡ true → (InArea b.rows s → ⊥) → IsTrue (is_decoration b s)
+outside-decoration b area s box out = elim (cases_Bool (is_among b.area s)) [
+  | inl among ↦ absurd (out (InArea-is_among b area s among))
+  | inr apart ↦ λ i. box i && not (apart i)
+]
+
+-- an accepted level is refused for no cause but memory
+refused_for_memory : (rows : Rows) (cause : BoardFault) → IsRefused rows cause → (area : List Spot) → IsAccepted (with_area rows area) → cause ≡ fault.Memory
+refused_for_memory rows (fault.NotEnclosed s) ((inside, gap), _) area accepted = absurd (true≢false (sym gap ∙ has_gap-enclosed rows s (λ d. accepted.enclosed s d inside)))
+refused_for_memory rows fault.TooLarge (_, (other, is, many)) area accepted =
+    let same = ap length (IsArea-unique rows other area is accepted.numbered) in
+    let few = accepted.few_squares in
+    absurd (omega (arith, same, few, many))
+refused_for_memory rows (fault.BoxOutside s) (_, _, ((box, out, off), _)) area accepted =
+    absurd (true≢false (sym (accepted.decorations s (outside-decoration (with_area rows area) accepted.numbered s box out)) ∙ off))
+refused_for_memory rows fault.TooManyBoxes (other, is, (_, many)) area accepted =
+    let same = ap (λ squares. length (boxes_of (with_area rows squares))) (IsArea-unique rows other area is accepted.numbered) in
+    let few = accepted.few_boxes in
+    absurd (omega (arith, same, few, many))
+refused_for_memory rows fault.TooFewGoals (other, is, (_, _, few)) area accepted =
+    let boxes = ap (λ squares. length (boxes_of (with_area rows squares))) (IsArea-unique rows other area is accepted.numbered) in
+    let goals = ap (λ squares. length (goals_of (with_area rows squares))) (IsArea-unique rows other area is accepted.numbered) in
+    let enough = accepted.enough_goals in
+    absurd (omega (arith, boxes, goals, few, enough))
+refused_for_memory rows fault.Memory refused area accepted = refl
+
+-- where memory suffices, a board is made exactly of the levels that are acceptable
+pub made_exactly : (rows : Rows) (r : Result Numbered BoardFault) → IfOk r (λ b. b.rows ≡ rows) → IfOk r IsAccepted → IfErr r (IsRefused rows)
+    → (r ≡ Err fault.Memory → ⊥) → IsOk r ↔ IsAcceptable rows
+made_exactly rows (Ok b) same accepted _ _ = (λ _. (b.area, subst (λ of. IsAccepted (with_area of b.area)) same accepted), λ _. refl)
+made_exactly rows (Err cause) _ _ refused ample = (
+  λ e. absurd (true≢false (sym e)),
+  λ (area, accepted). absurd (ample (ap Err (refused_for_memory rows cause refused area accepted))),
+)
+
+wall_here : (b : Numbered) → IsAccepted b → IsProper b.rows → (s t : Spot) (d : Dir) (cell : Cell) → cell_at b.rows t ≡ Some cell → InArea b.rows s → next d s ≡ Some t
+    → IsNone (number_of b t) ↔ IsTrue (holds is_wall b.rows t)
+wall_here b accepted proper s t d cell at inside beside = elim (cases_Bool (is_wall cell)) [
+  | inl wall ↦
+      let closed : holds is_open b.rows t ≡ false = holds-Some is_open b.rows t cell at ∙ sym (not-is_wall cell) ∙ ap not wall in (
+        λ _. holds-Some is_wall b.rows t cell at ∙ wall,
+        λ _. elim (cases_Bool (is_some (number_of b t))) [
+          | inr none ↦ none
+          | inl some ↦ absurd (true≢false (sym (InArea-open b.rows proper t ((IsSome-number_of b accepted.numbered t).0 some)) ∙ closed))
+        ],
+      )
+  | inr free ↦
+      let opened : holds is_open b.rows t ≡ true = holds-Some is_open b.rows t cell at ∙ sym (not-is_wall cell) ∙ ap not free in
+      let some = (IsSome-number_of b accepted.numbered t).1 (InArea-next b.rows d s t inside beside opened) in (
+        λ none. absurd (true≢false (sym some ∙ none)),
+        λ wall. absurd (true≢false (sym wall ∙ holds-Some is_wall b.rows t cell at ∙ free)),
+      )
+]
+
+wall_at : (b : Numbered) → IsAccepted b → IsProper b.rows → (s t : Spot) (d : Dir) (o : Option Cell) → cell_at b.rows t ≡ o → InArea b.rows s → next d s ≡ Some t → IsSome o
+    → IsNone (number_of b t) ↔ IsTrue (holds is_wall b.rows t)
+wall_at b accepted proper s t d None at inside beside some = absurd (true≢false (sym some))
+wall_at b accepted proper s t d (Some cell) at inside beside some = wall_here b accepted proper s t d cell at inside beside
+
+-- the square beside one of the area has no number exactly where a wall stands
+pub wall_beside : (b : Numbered) → IsAccepted b → IsProper b.rows → (s : Spot) (d : Dir) (o : Option Spot) → InArea b.rows s → next d s ≡ o
+    → IsNone (option_and_then (number_of b) o) ↔ IsTrue (option_map_or (holds is_wall b.rows) o false)
+wall_beside b accepted proper s d None inside beside =
+    absurd (true≢false (sym (subst (λ o. IsTrue (option_map_or (λ t. is_some (cell_at b.rows t)) o false)) beside (accepted.enclosed s d inside))))
+wall_beside b accepted proper s d (Some t) inside beside =
+    wall_at b accepted proper s t d (cell_at b.rows t) refl inside beside (subst (λ o. IsTrue (option_map_or (λ t. is_some (cell_at b.rows t)) o false)) beside (accepted.enclosed s d inside))
+
+-- the square that a list of an area's squares has at a number
+pub spot_read : (b c : Numbered) (n : ℕ) (x : Spot) → b ≡ c → n < length c.area → x ≡ get_or b.area n x → x ≡ spot_of c n
+spot_read b c n x same within is =
+    let inside : n < length b.area = let long = ap (λ (a : Numbered). length a.area) same in omega (arith, within, long) in
+    is ∙ sym (spot_of-get_or b.rows b.area n x inside) ∙ ap (λ a. spot_of a n) same
+
+pub IsWithin-spot_of : (b : Numbered) → IsAccepted b → IsProper b.rows → (n : ℕ) → n < length b.area → IsWithin (spot_of b n)
+IsWithin-spot_of b accepted proper n within = IsWithin-InArea b.rows proper (spot_of b n) (InArea-spot_of b accepted.numbered n within)
+
+pub wall_beside_number : (b : Numbered) → IsAccepted b → IsProper b.rows → (n : ℕ) (d : Dir) (x : Spot) (o : Option Spot) → n < length b.area → x ≡ spot_of b n → next d x ≡ o
+    → IsNone (option_and_then (number_of b) o) ↔ IsTrue (option_map_or (holds is_wall b.rows) (next d (spot_of b n)) false)
+wall_beside_number b accepted proper n d x o within is beside =
+    let there : next d (spot_of b n) ≡ o = ap (next d) (sym is) ∙ beside in
+    subst (λ q. IsNone (option_and_then (number_of b) o) ↔ IsTrue (option_map_or (holds is_wall b.rows) q false)) (sym there)
+    (wall_beside b accepted proper (spot_of b n) d o (InArea-spot_of b accepted.numbered n within) there)
+
+found_number : (b : Numbered) (s : Spot) (o : Option ℕ) → number_of b s ≡ o → IfSome o (λ n. (n < length b.area) × (spot_of b n ≡ s))
+found_number b s None is = tt
+found_number b s (Some n) is = spot_of-number_of b s n is
+
+-- the number of a square is a number of the area, and leads back to the square
+pub IfSome-number_of : (b : Numbered) (s : Spot) → IfSome (number_of b s) (λ n. (n < length b.area) × (spot_of b n ≡ s))
+IfSome-number_of b s = found_number b s (number_of b s) refl

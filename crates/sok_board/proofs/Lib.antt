@@ -1,0 +1,11 @@
+pub mod Accepted
+pub mod AreaLaws
+pub mod Confined
+pub mod Floods
+pub mod Inside
+pub mod Lists
+pub mod Numbering
+pub mod Positions
+pub mod ReadingOrder
+pub mod Refusals
+pub mod Tables

@@ -1,0 +1,24 @@
+use Rattle.std.proofs.Common.{◌<◌, None, Some, ap, ◌∙◌, arith, get_or, length, set}
+use Rattle.std.proofs.lemmas.List.{get_or_default, length-set}
+use Rattle.sok_rules.specs.declared.cell.Spot.{Spot}
+use Rattle.sok_board.specs.Tables.{entry}
+use Rattle.sok_board.proofs.AreaLaws.{origin}
+use Rattle.sok_board.proofs.Numbering.{numbers_more}
+use Rattle.sok_board.proofs.Tables.{entry-blank}
+use Rattle.sok_board.proofs.area.numbers.Goals as goal
+
+pub loop-number-init : goal.loop-number-init
+loop-number-init c = (c.in_ok-numbers.ensures.count, λ s. entry-blank None c.in_ok-numbers.numbers.items c.in_ok-numbers.ensures.blank s)
+
+pub loop-number-preserved : goal.loop-number-preserved
+loop-number-preserved c =
+    let squares = c.args.squares.now in
+    let numbers = c.loop-number.numbers.items in
+    let n = c.loop-number.number in
+    let x : Spot = get_or squares n origin in
+    let inside : n < length squares = omega arith in
+    let whole = c.loop-number.invariant.0 in (
+      length-set numbers c.place.result (Some n) ∙ whole,
+      λ s. ap (λ place. entry None (set numbers place (Some n)) s) c.place.ensures
+          ∙ numbers_more squares numbers n x c.requires.within c.requires.in_order inside (get_or_default squares n x origin inside) whole c.loop-number.invariant.1 s,
+    )

@@ -1,0 +1,21 @@
+use Rattle.std.proofs.Common.{ap, ◌∙◌, subst, sym}
+use Rattle.sok_board.specs.Area.{number_of}
+use Rattle.sok_board.specs.Boards.{IsNumbering}
+use Rattle.sok_board.specs.Tables.{IsWithin}
+use Rattle.sok_board.proofs.Accepted.{spot_read, IsWithin-spot_of}
+use Rattle.sok_board.proofs.AreaLaws.{number_of-spot_of}
+use Rattle.sok_board.proofs.board.Board.spot.Goals as goal
+
+pub returns-clause-inverse : goal.returns-clause-inverse
+returns-clause-inverse c =
+    let b = c.args.self.now in
+    let kept = subst (λ a. IsNumbering a c.self.inside.numbering) c.self.view_is c.self.invariant in
+    let is = spot_read (record { rows = c.self.inside.level; area = c.self.inside.squares.items }) b c.args.square c.index.result.now c.self.view_is c.requires c.index.ensures in
+    ap (number_of b) is ∙ number_of-spot_of b kept.accepted.numbered c.args.square c.requires
+
+pub returns-clause-within : goal.returns-clause-within
+returns-clause-within c =
+    let b = c.args.self.now in
+    let kept = subst (λ a. IsNumbering a c.self.inside.numbering) c.self.view_is c.self.invariant in
+    let is = spot_read (record { rows = c.self.inside.level; area = c.self.inside.squares.items }) b c.args.square c.index.result.now c.self.view_is c.requires c.index.ensures in
+    subst IsWithin (sym is) (IsWithin-spot_of b kept.accepted kept.proper c.args.square c.requires)

@@ -1,0 +1,146 @@
+//! An accepted level with its squares.
+
+ghost use Rattle.std.specs.Prelude.{◌≡◌, ◌<◌, ◌↔◌, IfOk, IfErr, IfSome, IsOk, IsNone, IsTrue, Some, All, false, length};
+ghost use Rattle.std.specs.List.Sorted.{IsStrictlyIncreasing};
+ghost use Rattle.std.specs.Option.{option_map_or};
+ghost use Rattle.sok_rules.specs.Levels.{IsProper};
+ghost use Rattle.sok_rules.specs.Play.{start};
+ghost use Rattle.sok_rules.specs.Squares.{holds, is_wall, next};
+ghost use Rattle.sok_board.specs.Area.{IsAccepted, number_of, spot_of, beside, goals_of, boxes_of, position_of};
+ghost use Rattle.sok_board.specs.Refusals.{IsRefused, IsAcceptable};
+ghost use Rattle.sok_board.specs.Tables.{IsWithin};
+ghost use Rattle.sok_board.specs.declared.fault.BoardFault.TheVariants as fault;
+
+use crate::area::{self, Sq};
+use crate::fault::BoardFault;
+use crate::places::places;
+use crate::survey::{self, Numbering};
+use crate::table;
+use sok_rules::cell::{Dir, Spot};
+use sok_rules::level::Level;
+use std::alloc::Global;
+use std::marker::Model;
+
+/// A level with its area: the squares, apart from walls, to which the player could walk if there
+/// were no boxes. They are numbered row by row and from left to right, from 0. A board is seen as
+/// the rows of its level and the squares of the area in order.
+#[derive(Debug, Drop)]
+pub struct Board {
+    level: Level,
+    squares: Vec<Spot>,
+    numbering: Numbering,
+}
+
+impl Model for Board {
+    ghost use Rattle.sok_board.specs.Area.{Numbered};
+    ghost use Rattle.sok_board.specs.Boards.{IsNumbering};
+
+    ghost Value = { Numbered };
+
+    ghost view = { λ board. record { rows = board.level; area = board.squares.items } };
+
+    ghost invariant = { λ board. IsNumbering (record { rows = board.level; area = board.squares.items }) board.numbering };
+}
+
+impl Board {
+    /// Makes a board of a level, of which it keeps a copy. Refused are, in this order: an area of
+    /// which a square has a neighbour in no row (the first such square, row by row), an area of
+    /// more than 1,024 squares, a box outside the area and off a goal (the first such box), more
+    /// than 128 boxes in the area, and fewer goals than boxes there.
+    pub fn new(alloc: Global, level: &Level) -> Result<Board, BoardFault>
+        ensures rows { IfOk result (λ board. board.rows ≡ level.now) }
+        ensures accepted { IfOk result IsAccepted }
+        ensures refused { IfErr result (IsRefused level.now) }
+        ensures exact { (result ≡ Err fault.Memory → ⊥) → (IsOk result ↔ IsAcceptable level.now) }
+    {
+        board_of(alloc, level)
+    }
+
+    /// The level, as `new` was given it.
+    pub fn level(&self) -> &Level
+        ensures level { result.now ≡ self.now.rows }
+        ensures proper { IsProper self.now.rows }
+        ensures accepted { IsAccepted self.now }
+    {
+        &self.level
+    }
+
+    /// How many squares the area has.
+    pub fn squares(&self) -> usize
+        ensures count { result ≡ length self.now.area }
+        ensures accepted { IsAccepted self.now }
+    {
+        self.squares.len()
+    }
+
+    /// The squares of the area that are goals, rising.
+    pub fn goals(&self) -> &[Sq]
+        ensures goals { result.now ≡ goals_of self.now }
+        ensures rising { IsStrictlyIncreasing result.now }
+        ensures exist { All (λ goal. goal < length self.now.area) result.now }
+    {
+        &self.numbering.goals
+    }
+
+    /// The square on which the player starts, and those on which the area's boxes start, rising.
+    pub fn start(&self) -> (Sq, &[Sq])
+        ensures player { Some result.0 ≡ number_of self.now (start self.now.rows).man }
+        ensures boxes { result.1.now ≡ boxes_of self.now }
+        ensures rising { IsStrictlyIncreasing result.1.now }
+        ensures position { position_of self.now result.0 result.1.now ≡ start self.now.rows }
+        ensures player_exists { result.0 < length self.now.area }
+        ensures boxes_exist { All (λ square. square < length self.now.area) result.1.now }
+    {
+        (self.numbering.player, &self.numbering.boxes)
+    }
+
+    /// The number of a square, and None outside the area.
+    pub fn square(&self, spot: Spot) -> Option<Sq>
+        ensures number { result ≡ number_of self.now spot }
+        ensures inverse { IfSome result
+            (λ square. (square < length self.now.area) × (spot_of self.now square ≡ spot)) }
+    {
+        table::entry(&self.numbering.numbers, spot, None)
+    }
+
+    /// The square of the area beside one in a direction, and None at a wall.
+    pub fn neighbour(&self, square: Sq, dir: Dir) -> Option<Sq>
+        requires { square < length self.now.area }
+        ensures beside { result ≡ beside self.now square dir }
+        ensures wall { IsNone result
+            ↔ IsTrue (option_map_or (holds is_wall self.now.rows) (next dir (spot_of self.now square)) false) }
+        ensures exists { IfSome result (λ neighbour. neighbour < length self.now.area) }
+    {
+        match self.squares[square as usize].next(dir) {
+            Some(beside) => table::entry(&self.numbering.numbers, beside, None),
+            None => None,
+        }
+    }
+
+    /// Where a square of the area lies.
+    pub fn spot(&self, square: Sq) -> Spot
+        requires { square < length self.now.area }
+        ensures spot { result ≡ spot_of self.now square }
+        ensures inverse { number_of self.now result ≡ Some square }
+        ensures within { IsWithin result }
+    {
+        self.squares[square as usize]
+    }
+}
+
+/// The board of a level, or the first cause for which there is none.
+fn board_of(alloc: Global, level: &Level) -> Result<Board, BoardFault>
+    ensures rows { IfOk result (λ board. board.rows ≡ level.now) }
+    ensures accepted { IfOk result IsAccepted }
+    ensures refused { IfErr result (IsRefused level.now) }
+{
+    let spots = places(alloc, level.rows())?;
+    let squares = area::squares(alloc, level, &spots)?;
+    let numbering = survey::number(alloc, level, &spots, &squares)?;
+    let level = level.copy(alloc)?;
+    Ok(Board {
+        level,
+        squares,
+        numbering,
+    })
+}

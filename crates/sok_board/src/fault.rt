@@ -1,0 +1,66 @@
+//! Why a level is not accepted.
+
+ghost use Rattle.std.specs.Prelude.{◌≡◌};
+ghost use Rattle.sok_board.specs.Faults.{board_fault_number};
+ghost use Rattle.sok_board.specs.declared.fault.BoardFault.TheVariants as board;
+
+use sok_rules::cell::Spot;
+use sok_rules::fault::Memory;
+use std::alloc::{AllocError, AllocFailed};
+
+/// Why no board is made of a level.
+#[derive(Clone, Copy, Debug, PartialEq, Eq)]
+pub enum BoardFault {
+    /// The first square of the area, row by row, that has a neighbour in no row.
+    NotEnclosed(Spot),
+    /// The first box, row by row, that stands outside the area and off a goal.
+    BoxOutside(Spot),
+    /// The area has fewer goals than boxes.
+    TooFewGoals,
+    /// The area has more than 1,024 squares.
+    TooLarge,
+    /// The area has more than 128 boxes.
+    TooManyBoxes,
+    /// Memory was refused.
+    Memory,
+}
+
+impl BoardFault {
+    /// The number by which the fault is printed.
+    pub fn number(&self) -> u8
+        ensures { result ≡ board_fault_number self.now }
+    {
+        match self {
+            BoardFault::NotEnclosed(_) => 6,
+            BoardFault::BoxOutside(_) => 7,
+            BoardFault::TooFewGoals => 8,
+            BoardFault::TooLarge => 9,
+            BoardFault::TooManyBoxes => 10,
+            BoardFault::Memory => 40,
+        }
+    }
+}
+
+impl From<AllocError> for BoardFault {
+    ghost from_gives = { λ _ fault. fault ≡ board.Memory };
+
+    fn from(_error: AllocError) -> BoardFault {
+        BoardFault::Memory
+    }
+}
+
+impl<T: Drop> From<AllocFailed<T>> for BoardFault {
+    ghost from_gives = { λ _ fault. fault ≡ board.Memory };
+
+    fn from(_error: AllocFailed<T>) -> BoardFault {
+        BoardFault::Memory
+    }
+}
+
+impl From<Memory> for BoardFault {
+    ghost from_gives = { λ _ fault. fault ≡ board.Memory };
+
+    fn from(_error: Memory) -> BoardFault {
+        BoardFault::Memory
+    }
+}

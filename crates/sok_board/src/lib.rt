@@ -1,0 +1,26 @@
+//! The squares of a level in which play takes place, numbered row by row.
+//!
+//! | Module | What it holds |
+//! |---|---|
+//! | `area` | the squares of an area, their numbers, and those of goals and boxes |
+//! | `board` | an accepted level with its squares |
+//! | `cells` | what stands on a level's squares |
+//! | `fault` | why a level is not accepted |
+//! | `flood` | the flood that finds the squares of an area |
+//! | `law` | play stays inside the area and leaves what stands outside it |
+//! | `places` | the squares of a level's text in reading order |
+//! | `refusal` | the squares for which a level is not accepted |
+//! | `survey` | the tests by which a level is accepted, in the order of refusal |
+//! | `table` | tables with an entry for each square |
+#![tactic(auto)]
+
+pub mod area;
+pub mod board;
+mod cells;
+pub mod fault;
+mod flood;
+pub mod law;
+mod places;
+mod refusal;
+mod survey;
+mod table;

@@ -1,0 +1,67 @@
+//! The tests by which a level is accepted, in the order of refusal, and what they find.
+
+ghost use Rattle.std.specs.Prelude.{◌≡◌, IfOk, IfErr};
+ghost use Rattle.sok_rules.specs.Squares.{places};
+ghost use Rattle.sok_rules.specs.Levels.{IsProper};
+ghost use Rattle.sok_board.specs.Area.{IsArea};
+ghost use Rattle.sok_board.specs.Boards.{IsNumbering};
+ghost use Rattle.sok_board.specs.Refusals.{IsRefused};
+
+use crate::area::{BOX_LIMIT, SQUARE_LIMIT, Sq, boxes, goals, numbers};
+use crate::fault::BoardFault;
+use crate::places::man;
+use crate::refusal::{first_leak, first_stray};
+use crate::table;
+use sok_rules::cell::Spot;
+use sok_rules::level::Level;
+use std::alloc::Global;
+
+/// The numbers of squares in a table, those of the goals and of the boxes, rising, and that of the
+/// player.
+#[derive(Debug, Drop)]
+pub(crate) struct Numbering {
+    pub(crate) numbers: Vec<Option<Sq>>,
+    pub(crate) goals: Vec<Sq>,
+    pub(crate) player: Sq,
+    pub(crate) boxes: Vec<Sq>,
+}
+
+/// The numbering of a level with these squares, if the level is accepted.
+pub(crate) fn number(
+    alloc: Global,
+    level: &Level,
+    spots: &[Spot],
+    squares: &[Spot],
+) -> Result<Numbering, BoardFault>
+    requires proper { IsProper level.now }
+    requires places { spots.now ≡ places level.now }
+    requires area { IsArea level.now squares.now }
+    ensures accepted { IfOk result (IsNumbering (record { rows = level.now; area = squares.now })) }
+    ensures refused { IfErr result (IsRefused level.now) }
+{
+    if let Some(spot) = first_leak(level, squares) {
+        return Err(BoardFault::NotEnclosed(spot));
+    }
+    if squares.len() > SQUARE_LIMIT {
+        return Err(BoardFault::TooLarge);
+    }
+    let numbers = numbers(alloc, squares)?;
+    if let Some(spot) = first_stray(level, spots, &numbers) {
+        return Err(BoardFault::BoxOutside(spot));
+    }
+    let boxes = boxes(alloc, level, squares)?;
+    if boxes.len() > BOX_LIMIT {
+        return Err(BoardFault::TooManyBoxes);
+    }
+    let goals = goals(alloc, level, squares)?;
+    if goals.len() < boxes.len() {
+        return Err(BoardFault::TooFewGoals);
+    }
+    let player = table::entry(&numbers, man(level, spots), None).unwrap();
+    Ok(Numbering {
+        numbers,
+        goals,
+        player,
+        boxes,
+    })
+}

@@ -1,0 +1,46 @@
+//! Tables with an entry for each square of 64 rows and 64 columns.
+
+ghost use Rattle.std.specs.Prelude.{◌≡◌, IfOk, All, length};
+ghost use Rattle.sok_board.specs.Tables.{place_of, entry};
+
+use sok_rules::cell::Spot;
+use sok_rules::fault::Memory;
+use std::alloc::Global;
+
+/// The columns of a table, and its rows.
+pub(crate) const SIDE: usize = 64;
+
+/// The places of a table.
+pub(crate) const PLACES: usize = 4096;
+
+/// The place of a square's entry.
+pub(crate) fn place(spot: Spot) -> usize
+    ensures { result ≡ place_of spot }
+{
+    spot.row as usize * SIDE + spot.col as usize
+}
+
+/// The entry of a square, or the other value where the table has no place for the square.
+pub(crate) fn entry<T: Copy>(table: &[T], spot: Spot, other: T) -> T
+    ensures { result ≡ entry other table.now spot }
+{
+    if spot.col as usize >= SIDE {
+        return other;
+    }
+    match table.get(place(spot)) {
+        Some(value) => *value,
+        None => other,
+    }
+}
+
+/// A table with one value at each of its places.
+pub(crate) fn blank<T: Copy>(alloc: Global, places: usize, value: T) -> Result<Vec<T>, Memory>
+    ensures count { IfOk result (λ table. length table.items ≡ places) }
+    ensures blank { IfOk result (λ table. All (λ x. x ≡ value) table.items) }
+{
+    let mut table = Vec::with_capacity(alloc, places)?;
+    for _ in 0..places {
+        table.push(value)?;
+    }
+    Ok(table)
+}
