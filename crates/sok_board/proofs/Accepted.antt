@@ -1,7 +1,7 @@
 -- What makes a level accepted, and what contradicts it.
-use Rattle.std.proofs.Common.{ℕ, ◌≡◌, ◌<◌, ◌↔◌, inl, inr, refl, sym, ap, ◌∙◌, subst, List, [], ◌∷◌, Bool, true, false, true≢false, Option, Some, None, Result, Ok, Err, IsTrue, IsSome, IsNone, IfSome, IsOk, IfOk, IfErr, All, Contains, arith, length, get_or, not, ◌&&◌, is_some, AllPairs, ◌||◌, zero, suc}
+use Rattle.std.proofs.Common.{ℕ, ◌≡◌, ◌<◌, ◌↔◌, inl, inr, refl, sym, ap, ◌∙◌, subst, List, [], ◌∷◌, true, false, true≢false, Option, Some, None, Result, Ok, Err, IsTrue, IsSome, IsNone, IfSome, IsOk, IfOk, IfErr, All, Contains, arith, length, get_or, not, ◌&&◌, is_some, AllPairs, ◌||◌, zero, suc}
 use Rattle.std.specs.Option.{option_and_then, option_map_or}
-use Rattle.std.proofs.lemmas.Bool.{cases_Bool}
+use Rattle.std.proofs.lemmas.Bool.{cases_Bool, not-true}
 use Rattle.std.proofs.lemmas.List.Elements.{All-weaker, All-contains}
 use Rattle.std.proofs.lemmas.List.Folds.{list_any_at, Any-from_list_any}
 use Rattle.sok_rules.specs.declared.cell.Cell.{Cell}
@@ -20,7 +20,9 @@ use Rattle.sok_board.proofs.AreaLaws.{spot_of-number_of, number-InArea, InArea-s
 use Rattle.sok_board.proofs.Lists.{AllPairs-head, AllPairs-tail, Contains-cons}
 use Rattle.sok_board.proofs.Numbering.{spot_of-get_or}
 use Rattle.sok_board.proofs.Refusals.{before_asym}
-use Rattle.sok_board.proofs.Inside.{IsWithin-InArea, InArea-open, holds-Some, not-is_wall}
+use Rattle.sok_rules.proofs.Grid.{holds-some, is_open-is}
+use Rattle.sok_rules.proofs.Steps.{both}
+use Rattle.sok_board.proofs.Inside.{IsWithin-InArea, InArea-open}
 
 pub IsWithin-area : (rows : Rows) (squares : List Spot) → IsProper rows → IsArea rows squares → All IsWithin squares
 IsWithin-area rows squares proper area = All-weaker (InArea rows) IsWithin (IsWithin-InArea rows proper) squares area.inside
@@ -43,20 +45,11 @@ is_among-InArea b area s inside =
     let (k, within, is) = area.whole s inside in
     list_any_at (same_spot s) b.area k s within (ap (same_spot s) is ∙ same_spot-refl s)
 
-both : (p q : Bool) → (p && q) ≡ true → (p ≡ true) × (q ≡ true)
-both true true e = (refl, refl)
-both true false e = absurd (true≢false (sym e))
-both false q e = absurd (true≢false (sym e))
-
-not_from : (b : Bool) → not b ≡ true → b ≡ false
-not_from true e = absurd (true≢false (sym e))
-not_from false e = refl
-
 -- a decoration is a box outside the area
 pub decoration-outside : (b : Numbered) → IsArea b.rows b.area → (s : Spot) → IsTrue (is_decoration b s) → (holds is_box b.rows s ≡ true) × (InArea b.rows s → ⊥)
 decoration-outside b area s e =
     let (box, apart) = both (holds is_box b.rows s) (not (is_among b.area s)) e in
-    (box, λ inside. true≢false (sym (is_among-InArea b area s inside) ∙ not_from (is_among b.area s) apart))
+    (box, λ inside. true≢false (sym (is_among-InArea b area s inside) ∙ not-true (is_among b.area s) apart))
 
 -- without strays each decoration is on a goal
 pub decorations-tidy : (b : Numbered) → IsArea b.rows b.area → ((s : Spot) → IsStray b.rows s → ⊥) → (s : Spot) → IsTrue (is_decoration b s) → IsTrue (holds is_goal b.rows s)
@@ -150,18 +143,18 @@ wall_here : (b : Numbered) → IsAccepted b → IsProper b.rows → (s t : Spot)
     → IsNone (number_of b t) ↔ IsTrue (holds is_wall b.rows t)
 wall_here b accepted proper s t d cell at inside beside = elim (cases_Bool (is_wall cell)) [
   | inl wall ↦
-      let closed : holds is_open b.rows t ≡ false = holds-Some is_open b.rows t cell at ∙ sym (not-is_wall cell) ∙ ap not wall in (
-        λ _. holds-Some is_wall b.rows t cell at ∙ wall,
+      let closed : holds is_open b.rows t ≡ false = holds-some is_open b.rows t cell at ∙ is_open-is cell ∙ ap not wall in (
+        λ _. holds-some is_wall b.rows t cell at ∙ wall,
         λ _. elim (cases_Bool (is_some (number_of b t))) [
           | inr none ↦ none
           | inl some ↦ absurd (true≢false (sym (InArea-open b.rows proper t ((IsSome-number_of b accepted.numbered t).0 some)) ∙ closed))
         ],
       )
   | inr free ↦
-      let opened : holds is_open b.rows t ≡ true = holds-Some is_open b.rows t cell at ∙ sym (not-is_wall cell) ∙ ap not free in
+      let opened : holds is_open b.rows t ≡ true = holds-some is_open b.rows t cell at ∙ is_open-is cell ∙ ap not free in
       let some = (IsSome-number_of b accepted.numbered t).1 (InArea-next b.rows d s t inside beside opened) in (
         λ none. absurd (true≢false (sym some ∙ none)),
-        λ wall. absurd (true≢false (sym wall ∙ holds-Some is_wall b.rows t cell at ∙ free)),
+        λ wall. absurd (true≢false (sym wall ∙ holds-some is_wall b.rows t cell at ∙ free)),
       )
 ]
 

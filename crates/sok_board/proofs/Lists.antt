@@ -1,7 +1,5 @@
 -- Lists: pairs over an append, and what a filter keeps.
-use Rattle.std.proofs.Common.{ℕ, ◌≡◌, ◌<◌, inl, inr, sym, ap, subst, ◌∙◌, List, [], ◌∷◌, ◌++◌, Bool, true, false, Some, None, All, AllPairs, Contains, arith, length, get_or, filter, cond, zero, suc, find}
-use Rattle.std.proofs.lemmas.Bool.{cases_Bool}
-use Rattle.std.proofs.lemmas.Option.{none-some, same_Some}
+use Rattle.std.proofs.Common.{◌≡◌, ap, subst, ◌∙◌, List, [], ◌∷◌, ◌++◌, Bool, true, false, All, AllPairs, Contains, arith, filter, cond, zero, suc}
 use Rattle.std.proofs.lemmas.List.Kept.{AllPairs-cons}
 use Rattle.std.proofs.lemmas.List.Elements.{All-append, All-tail, All-head, All-contains, Contains-push}
 use Rattle.std.proofs.lemmas.List.{get_or_append_left, length-append}
@@ -38,31 +36,3 @@ Contains-filter p (x ∷ xs) y (zero, within, is) passes =
 Contains-filter p (x ∷ xs) y (suc k, within, is) passes =
     let rest = Contains-filter p xs y (k, omega (arith, within), is) passes in
     elim (p x) as (λ b. Contains (cond b (x ∷ filter p xs) (filter p xs)) y) [ true ↦ Contains-cons x y (filter p xs) rest | false ↦ rest ]
-
-find-before : {X : Type 0} (p : X → Bool) (y : X) (ys : List X) (i : ℕ) → p y ≡ false → ((k : ℕ) (d : X) → k < i → p (get_or ys k d) ≡ false)
-    → (k : ℕ) (d : X) → k < suc i → p (get_or (y ∷ ys) k d) ≡ false
-find-before p y ys i fails before zero d below = fails
-find-before p y ys i fails before (suc k) d below = before k d (omega (arith, below))
-
--- the element that a search finds, at its place, and those before it
-pub find-Some : {X : Type 0} (p : X → Bool) (xs : List X) (x : X) → find p xs ≡ Some x
-    → (i : ℕ) × (i < length xs) × (get_or xs i x ≡ x) × (p x ≡ true) × ((k : ℕ) (d : X) → k < i → p (get_or xs k d) ≡ false)
-find-Some p [] x = λ e. absurd (none-some x e)
-find-Some {X} p (y ∷ ys) x = elim (cases_Bool (p y)) [
-  | inl passes ↦ λ e. let same : y ≡ x = same_Some y x (ap (λ b. cond b (Some y) (find p ys)) (sym passes) ∙ e) in
-      (0, omega arith, same, ap p (sym same) ∙ passes, λ k d below. absurd (omega (arith, below)))
-  | inr fails ↦ λ e. let (i, within, is, at, before) = find-Some p ys x (ap (λ b. cond b (Some y) (find p ys)) (sym fails) ∙ e) in
-      (suc i, omega (arith, within), is, at, find-before p y ys i fails before)
-]
-
-find-None_cases : {X : Type 0} (p : X → Bool) (y : X) (ys : List X) (x : X) → p y ≡ false → (Contains ys x → p x ≡ false) → Contains (y ∷ ys) x → p x ≡ false
-find-None_cases p y ys x fails rest (zero, within, is) = ap p (sym is) ∙ fails
-find-None_cases p y ys x fails rest (suc k, within, is) = rest (k, omega (arith, within), is)
-
--- where a search finds nothing, each element fails
-pub find-None : {X : Type 0} (p : X → Bool) (xs : List X) (x : X) → find p xs ≡ None → Contains xs x → p x ≡ false
-find-None p [] x = λ e among. absurd (omega (arith, among.1))
-find-None p (y ∷ ys) x = elim (cases_Bool (p y)) [
-  | inl passes ↦ λ e _. absurd (none-some y (sym e ∙ ap (λ b. cond b (Some y) (find p ys)) passes))
-  | inr fails ↦ λ e among. find-None_cases p y ys x fails (find-None p ys x (ap (λ b. cond b (Some y) (find p ys)) (sym fails) ∙ e)) among
-]

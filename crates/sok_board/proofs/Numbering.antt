@@ -18,7 +18,8 @@ use Rattle.sok_board.specs.Floods.{MarksArea}
 use Rattle.sok_board.specs.Tables.{IsWithin, place_of, entry}
 use Rattle.sok_rules.proofs.Spots.{same_spot-is, same_spot-refl}
 use Rattle.sok_board.proofs.AreaLaws.{before_apart, spot_of-at, origin}
-use Rattle.sok_board.proofs.Inside.{InArea-open, holds-cell}
+use Rattle.sok_rules.proofs.Grid.{cell-from_holds}
+use Rattle.sok_board.proofs.Inside.{InArea-open}
 use Rattle.sok_board.proofs.Lists.{Contains-filter}
 use Rattle.sok_board.proofs.ReadingOrder.{Contains-places, in_order-places}
 use Rattle.sok_board.proofs.Tables.{entry-set_same, entry-set_other}
@@ -29,7 +30,7 @@ IsArea-marked rows marks proper exact = record {
   inside = All-weaker (λ (s : Spot). entry false marks s ≡ true) (InArea rows) (λ s e. (exact s).0 e) (filter (λ s. entry false marks s) (places rows))
       (filter_passes (λ (s : Spot). entry false marks s) (places rows));
   whole = λ s inside.
-      let (cell, at, _) = holds-cell is_open rows s (InArea-open rows proper s inside) in
+      let (cell, at, _) = cell-from_holds is_open rows s (InArea-open rows proper s inside) in
       Contains-filter (λ s. entry false marks s) (places rows) s (Contains-places rows s cell at) ((exact s).1 inside);
   in_order = AllPairs-filter Before (λ s. entry false marks s) (places rows) (in_order-places rows);
 }

@@ -1,6 +1,6 @@
 -- The first square of a cause, and no square of a cause.
 use Rattle.std.proofs.Common.{ℕ, ◌≡◌, ◌<◌, ◌≤◌, ◌↔◌, inl, inr, refl, sym, ap, ◌∙◌, subst, List, [], ◌∷◌, Bool, true, false, true≢false, IsTrue, All, AllPairs, Contains, arith, length, get_or, take, not, ◌&&◌, nat_lt}
-use Rattle.std.proofs.lemmas.Bool.{cases_Bool}
+use Rattle.std.proofs.lemmas.Bool.{cases_Bool, not-true}
 use Rattle.std.proofs.lemmas.Bool.Decides.{nat_tests}
 use Rattle.std.proofs.lemmas.List.{length-take-le, get_or-take, take_all, get_or_default}
 use Rattle.std.proofs.lemmas.List.Elements.{All-contains}
@@ -11,7 +11,7 @@ use Rattle.sok_rules.specs.declared.cell.Spot.{Spot}
 use Rattle.sok_rules.specs.Squares.{Rows, holds, is_box, is_goal, places}
 use Rattle.sok_board.specs.Area.{InArea, IsArea, IsEnclosed, Before}
 use Rattle.sok_board.specs.Refusals.{lies_beside, has_gap, is_stray, IsFirst, IsLeak, IsStray}
-use Rattle.sok_board.proofs.Inside.{holds-cell}
+use Rattle.sok_rules.proofs.Grid.{cell-from_holds}
 use Rattle.sok_board.proofs.ReadingOrder.{Contains-places, in_order-places}
 
 pub before_asym : (a b : Spot) → Before a b → Before b a → ⊥
@@ -92,21 +92,17 @@ is_stray-from rows inside exact s (box, out, off) = elim (cases_Bool (inside s))
   | inr without ↦ is_stray-box rows (inside s) s without box ∙ ap not off
 ]
 
-not_from : (b : Bool) → not b ≡ true → b ≡ false
-not_from true e = absurd (true≢false (sym e))
-not_from false e = refl
-
 from_is_stray : (rows : Rows) (inside : Spot → Bool) → ((s : Spot) → IsTrue (inside s) ↔ InArea rows s) → (s : Spot) → is_stray rows (inside s) s ≡ true → IsStray rows s
 from_is_stray rows inside exact s passes = elim (cases_Bool (inside s)) [
   | inl within ↦ absurd (true≢false (sym passes ∙ is_stray-inside rows (inside s) s within))
   | inr without ↦ elim (cases_Bool (holds is_box rows s)) [
     | inr other ↦ absurd (true≢false (sym passes ∙ is_stray-other rows (inside s) s without other))
-    | inl box ↦ (box, (λ within. true≢false (sym ((exact s).1 within) ∙ without)), not_from (holds is_goal rows s) (sym (is_stray-box rows (inside s) s without box) ∙ passes))
+    | inl box ↦ (box, (λ within. true≢false (sym ((exact s).1 within) ∙ without)), not-true (holds is_goal rows s) (sym (is_stray-box rows (inside s) s without box) ∙ passes))
   ]
 ]
 
 box_among : (rows : Rows) (s : Spot) → IsStray rows s → Contains (places rows) s
-box_among rows s stray = let (cell, at, _) = holds-cell is_box rows s stray.0 in Contains-places rows s cell at
+box_among rows s stray = let (cell, at, _) = cell-from_holds is_box rows s stray.0 in Contains-places rows s cell at
 
 pub first_stray-some : (rows : Rows) (inside : Spot → Bool) (i : ℕ) (x : Spot) → ((s : Spot) → IsTrue (inside s) ↔ InArea rows s) → i < length (places rows) → get_or (places rows) i x ≡ x
     → All (λ s. is_stray rows (inside s) s ≡ false) (take i (places rows)) → is_stray rows (inside x) x ≡ true → IsFirst (IsStray rows) x

@@ -1,5 +1,5 @@
 -- The one man of a proper level, where he is found.
-use Rattle.std.proofs.Common.{Vec, ℕ, ◌≡◌, ◌<◌, refl, sym, ap, ◌∙◌, inl, inr, List, [], length, get_or, Bool, true, false, true≢false, Some, None, if◌then◌else◌, position, unwrap_or, count_by, sum_by, ◌*◌, ◌≤◌, arith, subst}
+use Rattle.std.proofs.Common.{Vec, ℕ, ◌≡◌, ◌<◌, refl, sym, ap, ◌∙◌, inl, inr, List, [], length, get_or, Bool, true, false, true≢false, Some, None, if◌then◌else◌, position, find, unwrap_or, count_by, sum_by, ◌*◌, ◌≤◌, arith, subst}
 use Rattle.std.proofs.lemmas.Bool.{cases_Bool}
 use Rattle.std.proofs.lemmas.List.{length-map}
 use Rattle.std.proofs.lemmas.List.Folds.{list_any_at, list_any_none}
@@ -95,13 +95,10 @@ IsScene-from_IsProper rows man astray proper there counted = record {
   astray_are = counted;
 }
 
--- the start of a level shows its man
-man_seen : (rows : Rows) → 0 < count_in is_man rows → holds is_man rows (start rows).man ≡ true
-unfolding start
-man_seen rows some = elim (cases_Bool (list_any (holds is_man rows) (places rows))) [
-  | inl found ↦
-      let first = find-list_any (holds is_man rows) (places rows) found in
-      ap (λ o. holds is_man rows (unwrap_or o (record { row = 0; col = 0 }))) first.1 ∙ first.2
+-- the man of a level, who is met first in reading order
+found_man : (rows : Rows) → 0 < count_in is_man rows → (s : Spot) × (find (holds is_man rows) (places rows) ≡ Some s) × (holds is_man rows s ≡ true)
+found_man rows some = elim (cases_Bool (list_any (holds is_man rows) (places rows))) [
+  | inl found ↦ find-list_any (holds is_man rows) (places rows) found
   | inr none ↦ absurd (omega (
     arith,
     some,
@@ -112,9 +109,22 @@ man_seen rows some = elim (cases_Bool (list_any (holds is_man rows) (places rows
   ))
 ]
 
+pub find-man : (rows : Rows) → IsProper rows → find (holds is_man rows) (places rows) ≡ Some (start rows).man
+unfolding start
+find-man rows proper =
+    let found = found_man rows (omega (arith, proper.one_man)) in
+    found.1 ∙ sym (ap (λ o. Some (unwrap_or o (record { row = 0; col = 0 }))) found.1)
+
+-- the start of a level shows its man
+pub holds-man : (rows : Rows) → IsProper rows → holds is_man rows (start rows).man ≡ true
+unfolding start
+holds-man rows proper =
+    let found = found_man rows (omega (arith, proper.one_man)) in
+    ap (λ o. holds is_man rows (unwrap_or o (record { row = 0; col = 0 }))) found.1 ∙ found.2
+
 -- where he may stand
 pub IsStanding-start : (rows : Rows) → IsProper rows → IsStanding rows (start rows)
 unfolding start
 IsStanding-start rows proper =
-    let stands = man_stands rows (start rows).man (man_seen rows (omega (arith, proper.one_man))) in
+    let stands = man_stands rows (start rows).man (holds-man rows proper) in
     record { on_open = stands.0; no_box = stands.1 }

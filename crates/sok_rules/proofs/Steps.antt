@@ -1,6 +1,6 @@
 -- What a letter does, by what stands ahead; and what a legal letter was.
 use Rattle.std.proofs.Common.{◌≡◌, ◌⊎◌, refl, sym, ap, ◌∙◌, inl, inr, Bool, true, false, true≢false, not, ◌&&◌, Option, Some, None, if◌then◌else◌, subst}
-use Rattle.std.proofs.lemmas.Bool.{cases_Bool}
+use Rattle.std.proofs.lemmas.Bool.{cases_Bool, not-true}
 use Rattle.std.proofs.lemmas.Option.{same_Some, none-some, option_and_then_some, cond_some}
 use Rattle.std.specs.Option.{option_and_then}
 use Rattle.sok_rules.specs.declared.cell.Dir.{Dir}
@@ -65,14 +65,11 @@ pub record IsPush (rows : Rows) (d : Dir) (x : Position) (a : After) : Type 0 wh
   pub to_free : x.boxes to ≡ false
   pub leads : a ≡ record { position = record { man = from; boxes = moved x.boxes from to }; pushed = true }
 
-both : (p q : Bool) → (p && q) ≡ true → (p ≡ true) × (q ≡ true)
+-- a conjunction and its parts
+pub both : (p q : Bool) → (p && q) ≡ true → (p ≡ true) × (q ≡ true)
 both true true e = (refl, refl)
 both true false e = absurd (true≢false (sym e))
 both false q e = absurd (true≢false (sym e))
-
-not_true : (p : Bool) → not p ≡ true → p ≡ false
-not_true true e = absurd (true≢false (sym e))
-not_true false e = refl
 
 -- a legal letter walks or pushes
 pub step_cases : (rows : Rows) (d : Dir) (x : Position) (a : After) → step rows d x ≡ Some a → IsWalk rows d x a ⊎ IsPush rows d x a
@@ -99,7 +96,7 @@ step_cases rows d x a e = option_and_then_some (enter rows d x) (next d x.man) a
               box_there = boxed;
               beyond = beyond;
               to_open = tests.0;
-              to_free = not_true (x.boxes t) tests.1;
+              to_free = not-true (x.boxes t) tests.1;
               leads = sym passed.1;
             }))
       ]

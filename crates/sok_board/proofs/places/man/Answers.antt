@@ -2,7 +2,7 @@ use Rattle.std.proofs.Common.{◌≡◌, Some, IsSome, ap, sym, ◌∙◌, subst
 use Rattle.std.proofs.lemmas.Option.{same_Some}
 use Rattle.sok_rules.specs.Play.{start}
 use Rattle.sok_rules.specs.Squares.{holds, is_man}
-use Rattle.sok_board.proofs.Inside.{find-man}
+use Rattle.sok_rules.proofs.Man.{find-man}
 use Rattle.sok_board.proofs.places.man.Goals as goal
 
 found : (c : goal.After-first_man) → c.first_man.result ≡ Some (start c.args.level.now).man
