@@ -55,6 +55,9 @@ legal_letter rows y d rest = elim (step rows d y) as (λ o. IsSome (option_and_t
   | Some a ↦ λ _. (a, refl)
 ]
 
+at_seam : {X : Type 0} (front : List X) (x : X) (rest all : List X) (at : ℕ) (none : X) → all ≡ front ++ (x ∷ rest) → length front ≡ at → get_or all at none ≡ x
+at_seam front x rest all at none is length_front = ap (λ xs. get_or xs at none) is ∙ ap (λ n. get_or (front ++ (x ∷ rest)) n none) (sym length_front) ∙ get_or-append_seam front x rest none
+
 pub IsLetter-at : (rows : Rows) (w : List Dir) (x y : Position) (at : ℕ) (other : Dir) (none : Bool) → at < length w → IsSome (run rows x w) → run rows x (take at w) ≡ Some y
     → (a : After) × IsLetter rows y (get_or w at other) (get_or (pushing rows x w) at none) a
 IsLetter-at rows w x y at other none within legal so_far =
@@ -65,16 +68,9 @@ IsLetter-at rows w x y at other none within legal so_far =
     let ran : run rows x w ≡ run rows y (d ∷ rest) = ap (run rows x) split ∙ run-append rows front (d ∷ rest) x ∙ ap (option_and_then (λ z. run rows z (d ∷ rest))) so_far in
     let letter = legal_letter rows y d rest (subst IsSome ran legal) in
     let length_front : length (pushing rows x front) ≡ at = length-pushing rows front x y so_far ∙ length-take-le at w (omega (arith, within)) in
-    let flags : pushing rows x w ≡ pushing rows x front ++ (letter.0.pushed ∷ pushing rows letter.0.position rest) =
-    ap (pushing rows x) split ∙ pushing-append rows front (d ∷ rest) x y so_far
-    ∙ ap (λ o. pushing rows x front ++ option_map_or (λ (after : After). after.pushed ∷ pushing rows after.position rest) o []) letter.1 in (
-      letter.0,
-      record {
-        leads = letter.1;
-        pushed_is = ap (λ flag. get_or flag at none) flags ∙ ap (λ n. get_or (pushing rows x front ++ (letter.0.pushed ∷ pushing rows letter.0.position rest)) n none) (sym length_front)
-            ∙ get_or-append_seam (pushing rows x front) letter.0.pushed (pushing rows letter.0.position rest) none;
-      },
-    )
+    let head : pushing rows y (d ∷ rest) ≡ letter.0.pushed ∷ pushing rows letter.0.position rest = ap (λ o. option_map_or (λ (one : After). one.pushed ∷ pushing rows one.position rest) o []) letter.1 in
+    let flags = ap (pushing rows x) split ∙ pushing-append rows front (d ∷ rest) x y so_far ∙ ap (λ flags. pushing rows x front ++ flags) head in
+    (letter.0, record { leads = letter.1; pushed_is = at_seam (pushing rows x front) letter.0.pushed (pushing rows letter.0.position rest) (pushing rows x w) at none flags length_front })
 
 -- a session after one more letter
 pub IsSession-stepped : (rows scene new : Rows) (letters : List Dir) (pushed : List Bool) (played count : ℕ) (d : Dir) (p : Bool)
