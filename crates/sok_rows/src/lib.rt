@@ -7,6 +7,7 @@
 //! | `replays` | what replaying a text tells |
 //! | `sessions` | play letter by letter, with undo and redo |
 //! | `text` | collections and texts of letters, read from bytes |
+//! | `tool` | the program over memory |
 //! | `sketch` | boards and texts for these tests |
 #![tactic(auto)]
 
@@ -22,3 +23,5 @@ mod sessions;
 mod sketch;
 #[cfg(test)]
 mod text;
+#[cfg(test)]
+mod tool;

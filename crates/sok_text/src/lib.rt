@@ -9,6 +9,6 @@
 #![tactic(auto)]
 
 pub mod collection;
-mod line;
+pub mod line;
 pub mod lurd;
 pub mod xsb;

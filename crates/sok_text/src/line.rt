@@ -51,8 +51,9 @@ pub(crate) fn before<'a>(text: &'a [u8], rest: &[u8]) -> &'a [u8]
     &text[..text.len() - rest.len()]
 }
 
-/// The first line of a text without its end, and the text behind it.
-pub(crate) fn cut_line(text: &[u8]) -> (&[u8], &[u8])
+/// The first line of a text without its end, and the text behind it. LF ends a line, and one CR
+/// before that LF belongs to the end.
+pub fn cut_line(text: &[u8]) -> (&[u8], &[u8])
     ensures line { result.0.now ≡ first_line text.now }
     ensures rest { result.1.now ≡ after_line text.now }
 {

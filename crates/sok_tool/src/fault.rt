@@ -1,0 +1,187 @@
+//! Why the program ends without an answer.
+
+ghost use Rattle.std.specs.Prelude.{◌≡◌};
+ghost use Rattle.sok_tool.specs.Faults.{tool_fault_number, tool_fault_status, of_input, of_level, of_lurd, of_play};
+ghost use Rattle.sok_tool.specs.declared.fault.ToolFault.TheVariants as tool;
+
+use crate::input::InputFault;
+use crate::output::WriteFailed;
+use sok_rules::fault::{LevelFault, Memory, PlayFault};
+use sok_text::lurd::LurdFault;
+use std::alloc::{AllocError, AllocFailed};
+use thiserror::Error;
+
+/// Why the program ends without an answer. It is displayed as `fault`, its number, its name and its
+/// arguments, each after one space.
+#[derive(Clone, Copy, Debug, PartialEq, Eq, Error)]
+pub enum ToolFault {
+    /// A row of the level has more than 64 cells.
+    #[error("fault 1 TooWide")]
+    TooWide,
+    /// The level has more than 64 rows.
+    #[error("fault 2 TooTall")]
+    TooTall,
+    #[error("fault 3 NoPlayer")]
+    NoPlayer,
+    #[error("fault 4 ManyPlayers")]
+    ManyPlayers,
+    #[error("fault 5 NoBox")]
+    NoBox,
+    /// The place, in bytes from 0, of the first byte of the text that is neither a letter nor a blank.
+    #[error("fault 11 BadLetter {0}")]
+    BadLetter(usize),
+    /// The place, in letters from 0, of the first letter that is not legal.
+    #[error("fault 12 Blocked {0}")]
+    Blocked(usize),
+    /// The text has more than 1,000,000 letters.
+    #[error("fault 14 TooLong")]
+    TooLong,
+    /// The collection has no level of this number.
+    #[error("fault 15 NoSuchLevel")]
+    NoSuchLevel,
+    /// The first row without a wall, counted from 0. No level of a collection has such a row.
+    #[error("fault 17 NoWall {0}")]
+    NoWall(u32),
+    /// Memory was refused.
+    #[error("fault 40 Memory")]
+    Memory,
+    /// A read failed, for any cause.
+    #[error("fault 50 ReadFailed")]
+    ReadFailed,
+    /// A write failed, for any cause.
+    #[error("fault 51 WriteFailed")]
+    WriteFailed,
+    /// An input has more than 16,777,216 bytes.
+    #[error("fault 52 TooMuch")]
+    TooMuch,
+}
+
+impl ToolFault {
+    /// The number by which the fault is printed.
+    pub fn number(&self) -> u8
+        ensures { result ≡ tool_fault_number self.now }
+    {
+        match self {
+            ToolFault::TooWide => 1,
+            ToolFault::TooTall => 2,
+            ToolFault::NoPlayer => 3,
+            ToolFault::ManyPlayers => 4,
+            ToolFault::NoBox => 5,
+            ToolFault::BadLetter(_) => 11,
+            ToolFault::Blocked(_) => 12,
+            ToolFault::TooLong => 14,
+            ToolFault::NoSuchLevel => 15,
+            ToolFault::NoWall(_) => 17,
+            ToolFault::Memory => 40,
+            ToolFault::ReadFailed => 50,
+            ToolFault::WriteFailed => 51,
+            ToolFault::TooMuch => 52,
+        }
+    }
+
+    /// The exit status: 3 where the input is at fault, 5 where a device is, and 6 for memory.
+    pub fn status(&self) -> u8
+        ensures { result ≡ tool_fault_status self.now }
+    {
+        match self {
+            ToolFault::TooWide
+            | ToolFault::TooTall
+            | ToolFault::NoPlayer
+            | ToolFault::ManyPlayers
+            | ToolFault::NoBox
+            | ToolFault::BadLetter(_)
+            | ToolFault::Blocked(_)
+            | ToolFault::TooLong
+            | ToolFault::NoSuchLevel
+            | ToolFault::NoWall(_)
+            | ToolFault::TooMuch => 3,
+            ToolFault::ReadFailed | ToolFault::WriteFailed => 5,
+            ToolFault::Memory => 6,
+        }
+    }
+}
+
+impl From<LevelFault> for ToolFault {
+    ghost from_gives = { λ from fault. fault ≡ of_level from };
+
+    fn from(fault: LevelFault) -> ToolFault {
+        match fault {
+            LevelFault::TooWide => ToolFault::TooWide,
+            LevelFault::TooTall => ToolFault::TooTall,
+            LevelFault::NoPlayer => ToolFault::NoPlayer,
+            LevelFault::ManyPlayers => ToolFault::ManyPlayers,
+            LevelFault::NoBox => ToolFault::NoBox,
+            LevelFault::NoSuchLevel => ToolFault::NoSuchLevel,
+            LevelFault::NoWall(row) => ToolFault::NoWall(row),
+            LevelFault::Memory => ToolFault::Memory,
+        }
+    }
+}
+
+impl From<LurdFault> for ToolFault {
+    ghost from_gives = { λ from fault. fault ≡ of_lurd from };
+
+    fn from(fault: LurdFault) -> ToolFault {
+        match fault {
+            LurdFault::BadLetter(at) => ToolFault::BadLetter(at),
+            LurdFault::TooLong => ToolFault::TooLong,
+            LurdFault::Memory => ToolFault::Memory,
+        }
+    }
+}
+
+impl From<PlayFault> for ToolFault {
+    ghost from_gives = { λ from fault. fault ≡ of_play from };
+
+    fn from(fault: PlayFault) -> ToolFault {
+        match fault {
+            PlayFault::Blocked(at) => ToolFault::Blocked(at),
+            PlayFault::TooLong => ToolFault::TooLong,
+            PlayFault::Memory => ToolFault::Memory,
+        }
+    }
+}
+
+impl From<InputFault> for ToolFault {
+    ghost from_gives = { λ from fault. fault ≡ of_input from };
+
+    fn from(fault: InputFault) -> ToolFault {
+        match fault {
+            InputFault::Memory => ToolFault::Memory,
+            InputFault::ReadFailed => ToolFault::ReadFailed,
+            InputFault::TooMuch => ToolFault::TooMuch,
+        }
+    }
+}
+
+impl From<WriteFailed> for ToolFault {
+    ghost from_gives = { λ _ fault. fault ≡ tool.WriteFailed };
+
+    fn from(_failed: WriteFailed) -> ToolFault {
+        ToolFault::WriteFailed
+    }
+}
+
+impl From<Memory> for ToolFault {
+    ghost from_gives = { λ _ fault. fault ≡ tool.Memory };
+
+    fn from(_error: Memory) -> ToolFault {
+        ToolFault::Memory
+    }
+}
+
+impl From<AllocError> for ToolFault {
+    ghost from_gives = { λ _ fault. fault ≡ tool.Memory };
+
+    fn from(_error: AllocError) -> ToolFault {
+        ToolFault::Memory
+    }
+}
+
+impl<T: Drop> From<AllocFailed<T>> for ToolFault {
+    ghost from_gives = { λ _ fault. fault ≡ tool.Memory };
+
+    fn from(_error: AllocFailed<T>) -> ToolFault {
+        ToolFault::Memory
+    }
+}

@@ -1,0 +1,50 @@
+//! Reading all of an input.
+
+ghost use Rattle.std.specs.Prelude.{◌<◌, ◌≤◌, ◌≡◌, IfOk, IfSome, IsErrOf, length};
+ghost use Rattle.sok_tool.specs.declared.input.InputFault.TheVariants as fault;
+
+use std::alloc::{AllocError, Global};
+use std::io::Read;
+
+/// Why an input is not read.
+#[derive(Clone, Copy, Debug, PartialEq, Eq)]
+pub(crate) enum InputFault {
+    Memory,
+    ReadFailed,
+    TooMuch,
+}
+
+impl From<AllocError> for InputFault {
+    ghost from_gives = { λ _ e. e ≡ fault.Memory };
+
+    fn from(_error: AllocError) -> InputFault {
+        InputFault::Memory
+    }
+}
+
+/// Reads to the end of the input. A read that fails, for any cause, is `ReadFailed` at once. A byte
+/// past the limit is `TooMuch`, after which some more bytes may have been read.
+pub(crate) fn read_at_most<R: Read>(
+    alloc: Global,
+    reader: &mut R,
+    limit: usize,
+) -> Result<Vec<u8>, InputFault>
+    ensures all { IfOk result (λ v. IfSome (R.remaining reader.old) (λ input. v.items ≡ input)) }
+    ensures within { IfOk result (λ v. length v.items ≤ limit) }
+    ensures much { IsErrOf result InputFault.TooMuch
+        → IfSome (R.remaining reader.old) (λ input. limit < length input) }
+{
+    let mut bytes = Vec::new(alloc);
+    let mut buffer = [0u8; 4096];
+    'input: while bytes.len() <= limit {
+        let count = match reader.read(&mut buffer) {
+            Ok(count) => count,
+            Err(_) => return Err(InputFault::ReadFailed),
+        };
+        if count == 0 {
+            return Ok(bytes);
+        }
+        bytes.extend_from_slice(&buffer[..count])?;
+    }
+    Err(InputFault::TooMuch)
+}
