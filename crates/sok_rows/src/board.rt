@@ -112,6 +112,14 @@ fn box_on_a_goal_outside_is_decoration(rt: HostRuntime) -> Result<(), Fail> {
 }
 
 #[test]
+fn no_box_in_the_area_is_accepted(rt: HostRuntime) -> Result<(), Fail> {
+    let board = board(rt.alloc(), "#####/#@#*#/#####")??;
+    assert_squares(&rt, &board, &[(1, 1)]);
+    assert_start(&rt, &board, 0, &[], &[]);
+    Ok(())
+}
+
+#[test]
 fn refused_levels(rt: HostRuntime) -> Result<(), Fail> {
     let open = board(rt.alloc(), "#####/#@$./#####")?;
     let fault = open.err().ok_or("accepted")?;
