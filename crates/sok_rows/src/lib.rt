@@ -4,6 +4,7 @@
 //! |---|---|
 //! | `board` | which levels a solver accepts, and their square numbers |
 //! | `levels` | which rows are a level |
+//! | `pushing` | how far a box is from each goal, and where it is stuck |
 //! | `replays` | what replaying a text tells |
 //! | `sessions` | play letter by letter, with undo and redo |
 //! | `text` | collections and texts of letters, read from bytes |
@@ -15,6 +16,8 @@
 mod board;
 #[cfg(test)]
 mod levels;
+#[cfg(test)]
+mod pushing;
 #[cfg(test)]
 mod replays;
 #[cfg(test)]

@@ -1,0 +1,4 @@
+pub mod Filled
+pub mod Pulls
+pub mod Pushes
+pub mod Searches

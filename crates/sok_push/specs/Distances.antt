@@ -1,0 +1,29 @@
+-- The distances of a board's squares to its goals, goal by goal.
+use Rattle.std.specs.Prelude.{ℕ, ◌≡◌, ◌<◌, ◌≤◌, ◌+◌, ◌*◌, List, Option, None, IfSome, length, slice_index, slice_index_or}
+use Rattle.sok_board.specs.Area.{Numbered, IsAccepted, goals_of}
+use Rattle.sok_push.specs.Pushing.{TellsDistance}
+
+-- a board, and for each of its goals in turn an entry for each of its squares
+pub record Distances : Type 0 where
+  pub board : Numbered
+  pub entries : List (Option ℕ)
+
+-- the square of a goal, by the goal's index
+abbrev pub goal_at : Numbered → ℕ → ℕ
+goal_at b goal = slice_index (goals_of b) goal
+
+-- the entry of a goal, by its index, and a square
+abbrev pub distance_at : Distances → ℕ → ℕ → Option ℕ
+distance_at t goal square = slice_index_or t.entries (goal * length t.board.area + square) None
+
+-- an entry for each square and each of the first goals; each tells the distance, which is at most the number of squares
+pub record IsFilled (goals : ℕ) (t : Distances) : Type 0 where
+  pub whole : length t.entries ≡ goals * length t.board.area
+  pub exact : (goal square : ℕ) → goal < goals → square < length t.board.area → TellsDistance t.board (goal_at t.board goal) square (distance_at t goal square)
+  pub bounded : (goal square : ℕ) → goal < goals → square < length t.board.area → IfSome (distance_at t goal square) (λ pushes. pushes ≤ length t.board.area)
+
+-- what tables keep of an accepted level: how many goals it has, and an entry for each goal and square
+pub record IsKept (goals : ℕ) (t : Distances) : Type 0 where
+  pub accepted : IsAccepted t.board
+  pub count : goals ≡ length (goals_of t.board)
+  pub filled : IsFilled goals t

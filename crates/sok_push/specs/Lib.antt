@@ -1,0 +1,4 @@
+pub mod Distances
+pub mod Pushes
+pub mod Pushing
+pub mod Searches

@@ -1,0 +1,13 @@
+//! How many pushes a box needs to each goal when no other box is in its way, and from where it
+//! reaches none.
+//!
+//! | Module | What it holds |
+//! |---|---|
+//! | `law` | a push by the rules is a push of a box without others |
+//! | `search` | the search outwards from a goal |
+//! | `tables` | the distances of a board's squares to its goals |
+#![tactic(auto)]
+
+pub mod law;
+mod search;
+pub mod tables;

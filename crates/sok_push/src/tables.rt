@@ -1,0 +1,103 @@
+//! The distances of a board's squares to its goals.
+
+ghost use Rattle.std.specs.Prelude.{◌≡◌, ◌<◌, ◌≤◌, ◌↔◌, IfOk, IfSome, IsTrue, length};
+ghost use Rattle.sok_board.specs.Area.{goals_of};
+ghost use Rattle.sok_push.specs.Pushing.{IsStuck, TellsDistance};
+ghost use Rattle.sok_push.specs.Distances.{goal_at, distance_at, IsFilled};
+
+use crate::search::{Search, search_from};
+use sok_board::area::Sq;
+use sok_board::board::Board;
+use sok_rules::cell::Spot;
+use sok_rules::fault::Memory;
+use sok_rules::level::Level;
+use std::alloc::Global;
+use std::marker::Model;
+
+/// The distance of each square of a board to each goal: the fewest pushes that bring a box from
+/// the square to the goal when no other box is in its way. Tables are seen as the board that they
+/// were made of, and the entries, goal by goal.
+#[derive(Debug, Drop)]
+pub struct Tables {
+    level: Level,
+    squares: Vec<Spot>,
+    goals: usize,
+    entries: Vec<Option<u16>>,
+}
+
+impl Model for Tables {
+    ghost use Rattle.sok_push.specs.Distances.{Distances, IsKept};
+
+    ghost Value = { Distances };
+
+    ghost view = { λ tables. record { board = record { rows = tables.level; area = tables.squares.items }; entries = tables.entries.items } };
+
+    ghost invariant = { λ tables. IsKept tables.goals (record { board = record { rows = tables.level; area = tables.squares.items }; entries = tables.entries.items }) };
+}
+
+impl Tables {
+    /// Makes the tables of a board: a breadth first search from each goal, by pushes in reverse.
+    /// It refuses only for want of memory.
+    pub fn new(alloc: Global, board: &Board) -> Result<Tables, Memory>
+        ensures board { IfOk result (λ tables. tables.board ≡ board.now) }
+    {
+        let level = board.level().copy(alloc)?;
+        let squares = spots(alloc, board)?;
+        let entries = entries(alloc, board)?;
+        Ok(Tables {
+            level,
+            squares,
+            goals: board.goals().len(),
+            entries,
+        })
+    }
+
+    /// The fewest pushes from a square to a goal, by the goal's index among the board's goals, when
+    /// no other box is in the way. None where no pushes lead there.
+    pub fn dist(&self, goal: usize, square: Sq) -> Option<u16>
+        requires goal { goal < length (goals_of self.now.board) }
+        requires square { square < length self.now.board.area }
+        ensures entry { result ≡ distance_at self.now goal square }
+        ensures exact { TellsDistance self.now.board (goal_at self.now.board goal) square result }
+        ensures bounded { IfSome result (λ pushes. pushes ≤ length self.now.board.area) }
+    {
+        self.entries[goal * self.squares.len() + square as usize]
+    }
+
+    /// Whether a box on a square reaches no goal, even with no other box in its way.
+    pub fn stuck(&self, square: Sq) -> bool
+        requires { square < length self.now.board.area }
+        ensures { IsTrue result ↔ IsStuck self.now.board square }
+    {
+        for goal in 0..self.goals {
+            if self.dist(goal, square).is_some() {
+                return false;
+            }
+        }
+        true
+    }
+}
+
+/// Where the squares of a board lie.
+fn spots(alloc: Global, board: &Board) -> Result<Vec<Spot>, Memory>
+    ensures { IfOk result (λ spots. spots.items ≡ board.now.area) }
+{
+    let mut spots = Vec::with_capacity(alloc, board.squares())?;
+    for square in 0..board.squares() {
+        spots.push(board.spot(square as Sq))?;
+    }
+    Ok(spots)
+}
+
+/// The distances from each goal in turn.
+fn entries(alloc: Global, board: &Board) -> Result<Vec<Option<u16>>, Memory>
+    ensures { IfOk result (λ entries. IsFilled (length (goals_of board.now)) (record { board = board.now; entries = entries.items })) }
+{
+    let mut entries = Vec::new(alloc);
+    let mut search = Search::new(alloc, board.squares())?;
+    for goal in board.goals() {
+        search = search_from(board, *goal, search)?;
+        entries.extend_from_slice(&search.distances)?;
+    }
+    Ok(entries)
+}
