@@ -1,4 +1,5 @@
 pub mod Filled
 pub mod Pulls
 pub mod Pushes
+pub mod PushingLaws
 pub mod Searches

@@ -1,40 +1,33 @@
 -- A push by the rules is a lone push of its box.
-use Rattle.std.proofs.Common.{ℕ, ◌≡◌, ◌<◌, inl, inr, sym, ap, ◌∙◌, List, Bool, true, false, true≢false, Some, All, Contains, arith, length, get_or, map, ◌||◌}
+use Rattle.std.proofs.Common.{ℕ, ◌≡◌, ◌<◌, inl, inr, sym, ap, ◌∙◌, List, Bool, true, false, true≢false, All, Contains, arith, length, get_or, map, ◌||◌}
 use Rattle.std.proofs.lemmas.Bool.{cases_Bool}
 use Rattle.std.proofs.lemmas.Option.{same_Some}
 use Rattle.std.proofs.lemmas.List.{get_or-map, length-map}
 use Rattle.std.proofs.lemmas.List.Folds.{Any-from_list_any}
-use Rattle.std.specs.Option.{option_and_then}
 use Rattle.sok_rules.specs.declared.cell.Dir.{Dir}
-use Rattle.sok_rules.specs.Squares.{same_spot, opposite}
+use Rattle.sok_rules.specs.Squares.{same_spot}
 use Rattle.sok_rules.specs.Play.{Position, After, moved}
-use Rattle.sok_rules.proofs.Spots.{next-opposite, same_spot-is}
+use Rattle.sok_rules.proofs.Spots.{same_spot-is}
 use Rattle.sok_rules.proofs.Steps.{IsPush, push_step}
-use Rattle.sok_board.specs.Area.{Numbered, IsArea, InArea, spot_of, number_of, position_of, beside, is_among, is_decoration}
-use Rattle.sok_board.proofs.AreaLaws.{number-InArea, number_of-spot_of, InArea-next, InArea-spot_of}
+use Rattle.sok_board.specs.Area.{Numbered, IsArea, InArea, spot_of, number_of, position_of, is_among, is_decoration}
+use Rattle.sok_board.proofs.AreaLaws.{number_of-spot_of, InArea-spot_of}
 use Rattle.sok_board.proofs.Accepted.{decoration-outside}
-use Rattle.sok_push.specs.Pushes.{IsLonePush, PushesAlone, PushesKnownBoxes}
-use Rattle.sok_push.proofs.Pulls.{beside-is}
+use Rattle.sok_push.specs.Pushes.{MovesAlone, PushesAlone, PushesKnownBoxes}
+use Rattle.sok_push.proofs.PushingLaws.{lone_push-push}
 
-lone_push-step : (b : Numbered) → IsArea b.rows b.area → (d : Dir) (x : Position) (a : After) → InArea b.rows x.man → IsPush b.rows d x a → IsLonePush b d x a.position
+lone_push-step : (b : Numbered) → IsArea b.rows b.area → (d : Dir) (x : Position) (a : After) → InArea b.rows x.man → IsPush b.rows d x a → MovesAlone b d x a.position
 lone_push-step b area d x a inside push =
-    let q_inside = InArea-next b.rows d x.man push.from inside push.ahead push.from_open in
-    let t_inside = InArea-next b.rows d push.from push.to q_inside push.beyond push.to_open in
-    let (k, k_is, _, _) = number-InArea b area x.man inside in
-    let (n, _, n_within, n_spot) = number-InArea b area push.from q_inside in
-    let (m, m_is, m_within, m_spot) = number-InArea b area push.to t_inside in
-    let back : beside b n (opposite d) ≡ Some k = beside-is b (opposite d) n push.from x.man k n_spot (next-opposite d x.man push.from push.ahead) k_is in
-    let on : beside b n d ≡ Some m = beside-is b d n push.from push.to m n_spot push.beyond m_is in
+    let lone = lone_push-push b area d x.man push.from push.to inside push.ahead push.from_open push.beyond push.to_open in
     record {
-      from = n;
-      to = m;
-      alone = ap (option_and_then (λ _. beside b n d)) back ∙ on;
-      box_there = ap x.boxes n_spot ∙ push.box_there;
-      free = ap x.boxes m_spot ∙ push.to_free;
-      man = ap (λ (y : After). y.position.man) push.leads ∙ sym n_spot;
-      boxes = ap (λ (y : After). y.position.boxes) push.leads ∙ (λ i. moved x.boxes (sym n_spot i) (sym m_spot i));
-      from_exists = n_within;
-      to_exists = m_within;
+      from = lone.from;
+      to = lone.to;
+      alone = lone.goes;
+      box_there = ap x.boxes lone.from_spot ∙ push.box_there;
+      free = ap x.boxes lone.to_spot ∙ push.to_free;
+      man = ap (λ (y : After). y.position.man) push.leads ∙ sym lone.from_spot;
+      boxes = ap (λ (y : After). y.position.boxes) push.leads ∙ (λ i. moved x.boxes (sym lone.from_spot i) (sym lone.to_spot i));
+      from_exists = lone.from_within;
+      to_exists = lone.to_within;
     }
 
 pub pushes-alone : (b : Numbered) → IsArea b.rows b.area → PushesAlone b

@@ -6,7 +6,7 @@ use Rattle.sok_board.specs.Area.{Numbered, InArea, spot_of, position_of}
 use Rattle.sok_push.specs.Pushing.{lone_push}
 
 -- a push from one position to another moves a box by a lone push, and the man follows it
-pub record IsLonePush (b : Numbered) (d : Dir) (x y : Position) : Type 0 where
+pub record MovesAlone (b : Numbered) (d : Dir) (x y : Position) : Type 0 where
   pub from : ℕ
   pub to : ℕ
   pub alone : lone_push b d from ≡ Some to
@@ -19,10 +19,10 @@ pub record IsLonePush (b : Numbered) (d : Dir) (x y : Position) : Type 0 where
 
 -- so it is of each push with the man in the area
 abbrev pub PushesAlone : Numbered → Type 0
-PushesAlone b = (x : Position) (d : Dir) (after : After) → InArea b.rows x.man → step b.rows d x ≡ Some after → after.pushed ≡ true → IsLonePush b d x after.position
+PushesAlone b = (x : Position) (d : Dir) (after : After) → InArea b.rows x.man → step b.rows d x ≡ Some after → after.pushed ≡ true → MovesAlone b d x after.position
 
 -- where the boxes of the area are known, the box that is pushed is one of them
 abbrev pub PushesKnownBoxes : Numbered → Type 0
 PushesKnownBoxes b =
     (player : ℕ) (boxes : List ℕ) (d : Dir) (after : After) → player < length b.area → All (λ n. n < length b.area) boxes → step b.rows d (position_of b player boxes) ≡ Some after → after.pushed ≡ true
-    → (push : IsLonePush b d (position_of b player boxes) after.position) × Contains boxes push.from
+    → (push : MovesAlone b d (position_of b player boxes) after.position) × Contains boxes push.from
