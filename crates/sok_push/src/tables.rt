@@ -15,8 +15,8 @@ use std::alloc::Global;
 use std::marker::Model;
 
 /// The distance of each square of a board to each goal: the fewest pushes that bring a box from
-/// the square to the goal when no other box is in its way. Tables are seen as the board that they
-/// were made of, and the entries, goal by goal.
+/// the square to the goal when no other box is in its way and the player can come to each side of
+/// it. Tables are seen as the board that they were made of, and the entries, goal by goal.
 #[derive(Debug, Drop)]
 pub struct Tables {
     level: Level,
@@ -53,7 +53,7 @@ impl Tables {
     }
 
     /// The fewest pushes from a square to a goal, by the goal's index among the board's goals, when
-    /// no other box is in the way. None where no pushes lead there.
+    /// no other box is in the way and the player can come to each side. None where none lead there.
     pub fn dist(&self, goal: usize, square: Sq) -> Option<u16>
         requires goal { goal < length (goals_of self.now.board) }
         requires square { square < length self.now.board.area }
