@@ -14,7 +14,7 @@ use Rattle.sok_board.specs.Area.{Numbered, Before, InArea, IsArea, IsAccepted, n
 use Rattle.sok_board.specs.Refusals.{IsStray, IsRefused, IsAcceptable, lies_beside, has_gap}
 use Rattle.sok_board.specs.declared.fault.BoardFault.{BoardFault}
 use Rattle.sok_board.specs.declared.fault.BoardFault.TheVariants as fault
-use Rattle.sok_board.specs.Tables.{IsWithin}
+use Rattle.sok_board.specs.Tables.{HasPlace}
 use Rattle.sok_rules.proofs.Spots.{same_spot-is, same_spot-refl}
 use Rattle.sok_board.proofs.AreaLaws.{spot_of-number_of, number-InArea, InArea-spot_of, InArea-next}
 use Rattle.sok_board.proofs.Lists.{AllPairs-head, AllPairs-tail, Contains-cons}
@@ -22,10 +22,10 @@ use Rattle.sok_board.proofs.Numbering.{spot_of-get_or}
 use Rattle.sok_board.proofs.Refusals.{before_asym}
 use Rattle.sok_rules.proofs.Grid.{holds-some, is_open-is}
 use Rattle.sok_rules.proofs.Steps.{both}
-use Rattle.sok_board.proofs.Inside.{IsWithin-InArea, InArea-open}
+use Rattle.sok_board.proofs.Inside.{HasPlace-InArea, InArea-open}
 
-pub IsWithin-area : (rows : Rows) (squares : List Spot) → IsProper rows → IsArea rows squares → All IsWithin squares
-IsWithin-area rows squares proper area = All-weaker (InArea rows) IsWithin (IsWithin-InArea rows proper) squares area.inside
+pub HasPlace-area : (rows : Rows) (squares : List Spot) → IsProper rows → IsArea rows squares → All HasPlace squares
+HasPlace-area rows squares proper area = All-weaker (InArea rows) HasPlace (HasPlace-InArea rows proper) squares area.inside
 
 InArea-some : (b : Numbered) → IsArea b.rows b.area → (s : Spot) (o : Option ℕ) → number_of b s ≡ o → IsSome o → InArea b.rows s
 InArea-some b area s None is some = absurd (true≢false (sym some))
@@ -177,8 +177,8 @@ spot_read b c n x same within is =
     let inside : n < length b.area = let long = ap (λ (a : Numbered). length a.area) same in omega (arith, within, long) in
     is ∙ sym (spot_of-get_or b.rows b.area n x inside) ∙ ap (λ a. spot_of a n) same
 
-pub IsWithin-spot_of : (b : Numbered) → IsAccepted b → IsProper b.rows → (n : ℕ) → n < length b.area → IsWithin (spot_of b n)
-IsWithin-spot_of b accepted proper n within = IsWithin-InArea b.rows proper (spot_of b n) (InArea-spot_of b accepted.numbered n within)
+pub HasPlace-spot_of : (b : Numbered) → IsAccepted b → IsProper b.rows → (n : ℕ) → n < length b.area → HasPlace (spot_of b n)
+HasPlace-spot_of b accepted proper n within = HasPlace-InArea b.rows proper (spot_of b n) (InArea-spot_of b accepted.numbered n within)
 
 pub wall_beside_number : (b : Numbered) → IsAccepted b → IsProper b.rows → (n : ℕ) (d : Dir) (x : Spot) (o : Option Spot) → n < length b.area → x ≡ spot_of b n → next d x ≡ o
     → IsNone (option_and_then (number_of b) o) ↔ IsTrue (option_map_or (holds is_wall b.rows) (next d (spot_of b n)) false)

@@ -1,7 +1,7 @@
 -- Squares of an area and their numbers.
 use Rattle.std.proofs.Common.{ℕ, ◌≡◌, ◌<◌, inl, inr, refl, sym, ◌∙◌, ap, subst, List, [], ◌∷◌, ◌++◌, Some, None, true, false, arith, length, get_or, if◌then◌else◌, cond, nat_lt}
 use Rattle.std.proofs.lemmas.Bool.Decides.{nat_tests}
-use Rattle.std.proofs.lemmas.Option.{unwrap_or-slice_get}
+use Rattle.std.proofs.lemmas.Option.{same_Some, unwrap_or-slice_get}
 use Rattle.std.proofs.lemmas.List.Quantifiers.{position-Some}
 use Rattle.std.proofs.lemmas.List.{get_or_default}
 use Rattle.std.proofs.lemmas.List.Sums.{position_or_len_is}
@@ -39,6 +39,10 @@ number_of-spot_of b area n within =
     (λ _. ap (same_spot (spot_of b n)) (sym at) ∙ same_spot-refl (spot_of b n)) in
     let found : nat_lt n (length b.area) ≡ true = grind (arith, nat_tests, within) in
     ap (λ k. cond (nat_lt k (length b.area)) (Some k) None) first ∙ ap (λ t. cond t (Some n) None) found
+
+-- squares of the area are told apart by their numbers
+pub same_number : (b : Numbered) → IsArea b.rows b.area → (n m : ℕ) → n < length b.area → m < length b.area → spot_of b n ≡ spot_of b m → n ≡ m
+same_number b area n m n_within m_within same = same_Some n m (sym (number_of-spot_of b area n n_within) ∙ ap (number_of b) same ∙ number_of-spot_of b area m m_within)
 
 -- a square of the area has a number
 pub number-InArea : (b : Numbered) → IsArea b.rows b.area → (s : Spot) → InArea b.rows s → (n : ℕ) × (number_of b s ≡ Some n) × (n < length b.area) × (spot_of b n ≡ s)

@@ -13,11 +13,11 @@ use Rattle.sok_rules.specs.Squares.{Rows, holds, is_open, next, same_spot}
 use Rattle.sok_rules.specs.Levels.{IsProper}
 use Rattle.sok_rules.specs.Play.{start}
 use Rattle.sok_board.specs.Area.{InArea, stroll}
-use Rattle.sok_board.specs.Tables.{IsWithin, place_of}
+use Rattle.sok_board.specs.Tables.{HasPlace, place_of}
 use Rattle.sok_board.specs.Floods.{Met, IsFlooding, MarksArea, is_met, meet, meet_beside, meet_around}
 use Rattle.sok_rules.proofs.Spots.{same_spot-is}
 use Rattle.sok_board.proofs.AreaLaws.{InArea-next, InArea-man}
-use Rattle.sok_board.proofs.Inside.{IsWithin-holds, IsWithin-InArea, if_some}
+use Rattle.sok_board.proofs.Inside.{HasPlace-holds, HasPlace-InArea, if_some}
 use Rattle.sok_board.proofs.Lists.{All-split}
 use Rattle.sok_board.proofs.Tables.{entry-set_same, entry-set_other, entry-within, entry-blank}
 
@@ -82,24 +82,24 @@ Grows-trans rows s a b c first second = record {
   less = let one = first.less in let two = second.less in omega (arith, one, two);
 }
 
-is_met-added_same : (t : Spot) (met : Met) → IsWithin t → length met.marks ≡ 4096 → is_met (added t met) t ≡ true
+is_met-added_same : (t : Spot) (met : Met) → HasPlace t → length met.marks ≡ 4096 → is_met (added t met) t ≡ true
 is_met-added_same t met within whole = entry-set_same false true met.marks t within.col (let row = within.row in let col = within.col in omega (arith, row, col, whole))
 
-is_met-added_cases : (t : Spot) (met : Met) → IsWithin t → (x : Spot) → (t ≡ x) ⊎ (is_met (added t met) x ≡ is_met met x)
+is_met-added_cases : (t : Spot) (met : Met) → HasPlace t → (x : Spot) → (t ≡ x) ⊎ (is_met (added t met) x ≡ is_met met x)
 is_met-added_cases t met within x = elim (cases_Bool (same_spot t x)) [
   | inl same ↦ inl (same_spot-is t x same)
   | inr apart ↦ inr (entry-set_other false true met.marks t x within.col apart)
 ]
 
 -- an unmarked square has an entry
-unmet_place : (t : Spot) (met : Met) → IsWithin t → length met.marks ≡ 4096 → is_met met t ≡ false → get_or met.marks (place_of t) false ≡ false
+unmet_place : (t : Spot) (met : Met) → HasPlace t → length met.marks ≡ 4096 → is_met met t ≡ false → get_or met.marks (place_of t) false ≡ false
 unmet_place t met within whole unmet = sym (entry-within false met.marks t within.col) ∙ unmet
 
 -- what a mark counts among the unmarked
 abbrev unmarked : Bool → ℕ
 unmarked b = cond (not b) 1 0
 
-left_of-added : (t : Spot) (met : Met) → IsWithin t → length met.marks ≡ 4096 → is_met met t ≡ false → left_of (added t met) + 1 ≡ left_of met
+left_of-added : (t : Spot) (met : Met) → HasPlace t → length met.marks ≡ 4096 → is_met met t ≡ false → left_of (added t met) + 1 ≡ left_of met
 unfolding left_of
 left_of-added t met within whole unmet =
     let row = within.row in
@@ -111,7 +111,7 @@ left_of-added t met within whole unmet =
     let pushed = length-append met.pending (t ∷ []) in
     omega (arith, sum, one, pushed)
 
-Grows-added : (rows : Rows) (s t : Spot) (met : Met) → IsNeighbour rows s t → IsWithin t → length met.marks ≡ 4096 → is_met met t ≡ false → Grows rows s met (added t met)
+Grows-added : (rows : Rows) (s t : Spot) (met : Met) → IsNeighbour rows s t → HasPlace t → length met.marks ≡ 4096 → is_met met t ≡ false → Grows rows s met (added t met)
 Grows-added rows s t met neighbour within whole unmet =
     let more : (x : Spot) → is_met met x ≡ true → is_met (added t met) x ≡ true = λ x e. elim (is_met-added_cases t met within x) [
       | inl same ↦ subst (λ y. is_met (added t met) y ≡ true) same (is_met-added_same t met within whole)
@@ -149,7 +149,7 @@ Reaches-met rows s t d met beside there_already = record {
 
 Reaches-added : (rows : Rows) (s t : Spot) (d : Dir) (met : Met) → IsProper rows → length met.marks ≡ 4096 → next d s ≡ Some t → holds is_open rows t ≡ true → is_met met t ≡ false → Reaches rows s d met (added t met)
 Reaches-added rows s t d met proper whole beside opened unmet =
-    let within = IsWithin-holds is_open rows t proper opened in
+    let within = HasPlace-holds is_open rows t proper opened in
     record {
       grows = Grows-added rows s t met (record { dir = d; beside = beside; opened = opened }) within whole unmet;
       reaches = λ u there _. ap (is_met (added t met)) (same_Some u t (sym there ∙ beside)) ∙ is_met-added_same t met within whole;
@@ -249,8 +249,8 @@ IsFlooding-more rows s rest met after flooding last around =
       closed = λ x d t e beside opened. closed-more rows s rest met after flooding last around x d t beside opened (around.grows.new x e);
     }
 
-pub IsWithin-last : (rows : Rows) (met : Met) (rest : List Spot) (s : Spot) → IsProper rows → IsFlooding rows met → met.pending ≡ rest ++ s ∷ [] → IsWithin s
-IsWithin-last rows met rest s proper flooding last = IsWithin-InArea rows proper s (flooding.sound s (last_met rows met rest s flooding last))
+pub HasPlace-last : (rows : Rows) (met : Met) (rest : List Spot) (s : Spot) → IsProper rows → IsFlooding rows met → met.pending ≡ rest ++ s ∷ [] → HasPlace s
+HasPlace-last rows met rest s proper flooding last = HasPlace-InArea rows proper s (flooding.sound s (last_met rows met rest s flooding last))
 
 surrounds-last : (rows : Rows) (met after : Met) (rest : List Spot) (s : Spot) → IsProper rows → IsFlooding rows met → after ≡ meet_around rows s (without_last met rest)
     → Surrounds rows s (without_last met rest) after
@@ -272,7 +272,7 @@ less-meet_around rows met after rest s proper flooding last is =
     omega (arith, less, longer, pushed)
 
 -- a flood that has met the man alone
-pub IsFlooding-start : (rows : Rows) (marks : List Bool) → IsWithin (start rows).man → length marks ≡ 4096 → All (λ b. b ≡ false) marks
+pub IsFlooding-start : (rows : Rows) (marks : List Bool) → HasPlace (start rows).man → length marks ≡ 4096 → All (λ b. b ≡ false) marks
     → IsFlooding rows (added (start rows).man (record { marks = marks; pending = [] }))
 IsFlooding-start rows marks within whole blank =
     let man = (start rows).man in

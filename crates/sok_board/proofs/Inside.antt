@@ -11,11 +11,11 @@ use Rattle.sok_rules.proofs.Grid.{cell-from_holds}
 use Rattle.sok_rules.proofs.Man.{holds-man}
 use Rattle.sok_rules.proofs.Scenes.{man_stands}
 use Rattle.sok_board.specs.Area.{InArea, stroll}
-use Rattle.sok_board.specs.Tables.{IsWithin}
+use Rattle.sok_board.specs.Tables.{HasPlace}
 
 -- a level has cells in 64 rows and 64 columns only
-pub IsWithin-cell : (rows : Rows) (s : Spot) (cell : Cell) → IsProper rows → cell_at rows s ≡ Some cell → IsWithin s
-IsWithin-cell rows s cell proper at = option_and_then_some (λ row. slice_get row s.col) (slice_get rows s.row) cell at (λ row found here.
+pub HasPlace-cell : (rows : Rows) (s : Spot) (cell : Cell) → IsProper rows → cell_at rows s ≡ Some cell → HasPlace s
+HasPlace-cell rows s cell proper at = option_and_then_some (λ row. slice_get row s.col) (slice_get rows s.row) cell at (λ row found here.
     let inside = slice_get_within rows s.row row found in
     let few = proper.few_rows in
     let short = proper.few_columns s.row [] inside in
@@ -23,8 +23,8 @@ IsWithin-cell rows s cell proper at = option_and_then_some (λ row. slice_get ro
     let beside = slice_get_within row s.col cell here in
     record { row = omega (arith, inside, few); col = omega (arith, short, same, beside) })
 
-pub IsWithin-holds : (test : Cell → Bool) (rows : Rows) (s : Spot) → IsProper rows → holds test rows s ≡ true → IsWithin s
-IsWithin-holds test rows s proper e = let (cell, at, _) = cell-from_holds test rows s e in IsWithin-cell rows s cell proper at
+pub HasPlace-holds : (test : Cell → Bool) (rows : Rows) (s : Spot) → IsProper rows → holds test rows s ≡ true → HasPlace s
+HasPlace-holds test rows s proper e = let (cell, at, _) = cell-from_holds test rows s e in HasPlace-cell rows s cell proper at
 
 pub if_some : {X : Type 0} (b : Bool) (o : Option X) (x : X) → (if b then o else None) ≡ Some x → (b ≡ true) × (o ≡ Some x)
 if_some true o x e = (refl, e)
@@ -40,8 +40,8 @@ stroll-open rows (d ∷ w) s t opened leads = option_and_then_some (λ q. if hol
 pub InArea-open : (rows : Rows) → IsProper rows → (s : Spot) → InArea rows s → holds is_open rows s ≡ true
 InArea-open rows proper s (w, leads) = stroll-open rows w (start rows).man s (man_stands rows (start rows).man (holds-man rows proper)).0 leads
 
-pub IsWithin-InArea : (rows : Rows) → IsProper rows → (s : Spot) → InArea rows s → IsWithin s
-IsWithin-InArea rows proper s inside = IsWithin-holds is_open rows s proper (InArea-open rows proper s inside)
+pub HasPlace-InArea : (rows : Rows) → IsProper rows → (s : Spot) → InArea rows s → HasPlace s
+HasPlace-InArea rows proper s inside = HasPlace-holds is_open rows s proper (InArea-open rows proper s inside)
 
-pub IsWithin-man : (rows : Rows) → IsProper rows → IsWithin (start rows).man
-IsWithin-man rows proper = IsWithin-holds is_man rows (start rows).man proper (holds-man rows proper)
+pub HasPlace-man : (rows : Rows) → IsProper rows → HasPlace (start rows).man
+HasPlace-man rows proper = HasPlace-holds is_man rows (start rows).man proper (holds-man rows proper)

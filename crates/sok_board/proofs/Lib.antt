@@ -1,5 +1,6 @@
 pub mod Accepted
 pub mod AreaLaws
+pub mod Beside
 pub mod Confined
 pub mod Floods
 pub mod Inside

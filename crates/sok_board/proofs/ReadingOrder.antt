@@ -106,5 +106,5 @@ unfolding places
 places_from_none rows = refl
 
 -- the cells of a row that is a vector
-pub row-cells_of : {A : Type 0} (rows : List (Vec Cell A)) (i : ℕ) (row : Vec Cell A) → row ≡ get_or rows i row → row.items ≡ get_or (cells_of rows) i row.items
-row-cells_of rows i row is = ap (λ (r : Vec Cell _). r.items) is ∙ sym (get_or-map (λ (r : Vec Cell _). r.items) rows i row)
+pub cells_of-row : {A : Type 0} (rows : List (Vec Cell A)) (i : ℕ) (row : Vec Cell A) → row ≡ get_or rows i row → row.items ≡ get_or (cells_of rows) i row.items
+cells_of-row rows i row is = ap (λ (r : Vec Cell _). r.items) is ∙ sym (get_or-map (λ (r : Vec Cell _). r.items) rows i row)

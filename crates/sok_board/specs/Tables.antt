@@ -3,7 +3,7 @@ use Rattle.std.specs.Prelude.{ℕ, ◌+◌, ◌*◌, ◌<◌, List, nat_lt, if�
 use Rattle.sok_rules.specs.declared.cell.Spot.{Spot}
 
 -- a square for which such a table has a place
-pub record IsWithin (s : Spot) : Type 0 where
+pub record HasPlace (s : Spot) : Type 0 where
   pub row : s.row < 64
   pub col : s.col < 64
 

@@ -5,7 +5,7 @@ ghost use Rattle.sok_rules.specs.Squares.{places, same_spot};
 ghost use Rattle.sok_rules.specs.Levels.{IsProper};
 ghost use Rattle.sok_rules.specs.declared.cell.Spot.{Spot};
 ghost use Rattle.sok_board.specs.Area.{IsArea, Before, goals_of, boxes_of};
-ghost use Rattle.sok_board.specs.Tables.{IsWithin, entry};
+ghost use Rattle.sok_board.specs.Tables.{HasPlace, entry};
 
 use crate::cells::{is_box_at, is_goal_at};
 use crate::flood::mark_area;
@@ -50,7 +50,7 @@ fn marked(alloc: Global, spots: &[Spot], marks: &[bool]) -> Result<Vec<Spot>, Me
 /// A table of the squares' numbers.
 pub(crate) fn numbers(alloc: Global, squares: &[Spot]) -> Result<Vec<Option<Sq>>, Memory>
     requires few { length squares.now ≤ 1024 }
-    requires within { All IsWithin squares.now }
+    requires within { All HasPlace squares.now }
     requires in_order { AllPairs Before squares.now }
     ensures { IfOk result
         (λ numbers. (s : Spot) → entry None numbers.items s ≡ position (same_spot s) squares.now) }

@@ -8,7 +8,7 @@ ghost use Rattle.sok_rules.specs.Play.{start};
 ghost use Rattle.sok_rules.specs.Squares.{holds, is_wall, next};
 ghost use Rattle.sok_board.specs.Area.{IsAccepted, number_of, spot_of, beside, goals_of, boxes_of, position_of};
 ghost use Rattle.sok_board.specs.Refusals.{IsRefused, IsAcceptable};
-ghost use Rattle.sok_board.specs.Tables.{IsWithin};
+ghost use Rattle.sok_board.specs.Tables.{HasPlace};
 ghost use Rattle.sok_board.specs.declared.fault.BoardFault.TheVariants as fault;
 
 use crate::area::{self, Sq};
@@ -122,7 +122,7 @@ impl Board {
         requires { square < length self.now.area }
         ensures spot { result ≡ spot_of self.now square }
         ensures inverse { number_of self.now result ≡ Some square }
-        ensures within { IsWithin result }
+        ensures within { HasPlace result }
     {
         self.squares[square as usize]
     }

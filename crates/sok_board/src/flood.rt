@@ -3,7 +3,7 @@
 ghost use Rattle.std.specs.Prelude.{◌≡◌, IfOk, length};
 ghost use Rattle.sok_rules.specs.Levels.{IsProper};
 ghost use Rattle.sok_rules.specs.Play.{start};
-ghost use Rattle.sok_board.specs.Tables.{IsWithin};
+ghost use Rattle.sok_board.specs.Tables.{HasPlace};
 ghost use Rattle.sok_board.specs.Floods.{met_of, meet, meet_beside, meet_around, IsFlooding, MarksArea};
 
 use crate::cells::is_open_at;
@@ -41,7 +41,7 @@ fn meet(level: &Level, spot: Spot, mut flood: Flood) -> Result<Flood, Memory>
 fn meet_beside(level: &Level, spot: Spot, dir: Dir, flood: Flood) -> Result<Flood, Memory>
     requires proper { IsProper level.now }
     requires whole { length flood.marks.items ≡ 4096 }
-    requires within { IsWithin spot }
+    requires within { HasPlace spot }
     ensures { IfOk result (λ after. met_of after ≡ meet_beside level.now spot dir (met_of flood)) }
 {
     match spot.next(dir) {
@@ -54,7 +54,7 @@ fn meet_beside(level: &Level, spot: Spot, dir: Dir, flood: Flood) -> Result<Floo
 fn meet_around(level: &Level, spot: Spot, flood: Flood) -> Result<Flood, Memory>
     requires proper { IsProper level.now }
     requires whole { length flood.marks.items ≡ 4096 }
-    requires within { IsWithin spot }
+    requires within { HasPlace spot }
     ensures { IfOk result (λ after. met_of after ≡ meet_around level.now spot (met_of flood)) }
 {
     let flood = meet_beside(level, spot, Dir::Left, flood)?;

@@ -7,7 +7,7 @@ ghost use Rattle.sok_rules.specs.Levels.{IsProper};
 ghost use Rattle.sok_rules.specs.declared.cell.Spot.{Spot};
 ghost use Rattle.sok_board.specs.Area.{IsArea, InArea, IsEnclosed};
 ghost use Rattle.sok_board.specs.Refusals.{lies_beside, has_gap, is_stray, IsFirst, IsLeak, IsStray};
-ghost use Rattle.sok_board.specs.Tables.{IsWithin, entry};
+ghost use Rattle.sok_board.specs.Tables.{HasPlace, entry};
 
 use crate::area::Sq;
 use crate::cells::{is_box_at, is_goal_at};
@@ -31,7 +31,7 @@ pub(crate) fn first_leak(level: &Level, squares: &[Spot]) -> Option<Spot>
 
 /// Whether a neighbour lies in no row.
 fn has_gap(level: &Level, spot: Spot) -> bool
-    requires { IsWithin spot }
+    requires { HasPlace spot }
     ensures { result ≡ has_gap level.now spot }
 {
     has_gap_among(level, spot, &[Dir::Left, Dir::Up, Dir::Right, Dir::Down])
@@ -39,7 +39,7 @@ fn has_gap(level: &Level, spot: Spot) -> bool
 
 /// Whether the neighbour in one of some directions lies in no row.
 fn has_gap_among(level: &Level, spot: Spot, dirs: &[Dir]) -> bool
-    requires { IsWithin spot }
+    requires { HasPlace spot }
     ensures { result ≡ list_any (λ dir. not (lies_beside level.now spot dir)) dirs.now }
 {
     dirs.iter().any(|dir| !lies_beside(level, spot, *dir))
@@ -47,7 +47,7 @@ fn has_gap_among(level: &Level, spot: Spot, dirs: &[Dir]) -> bool
 
 /// Whether the neighbour in a direction lies in some row.
 fn lies_beside(level: &Level, spot: Spot, dir: Dir) -> bool
-    requires { IsWithin spot }
+    requires { HasPlace spot }
     ensures { result ≡ lies_beside level.now spot dir }
 {
     match spot.next(dir) {

@@ -1,7 +1,6 @@
 -- A push by the rules is a lone push of its box.
 use Rattle.std.proofs.Common.{ℕ, ◌≡◌, ◌<◌, inl, inr, sym, ap, ◌∙◌, List, Bool, true, false, true≢false, All, Contains, arith, length, get_or, map, ◌||◌}
 use Rattle.std.proofs.lemmas.Bool.{cases_Bool}
-use Rattle.std.proofs.lemmas.Option.{same_Some}
 use Rattle.std.proofs.lemmas.List.{get_or-map, length-map}
 use Rattle.std.proofs.lemmas.List.Folds.{Any-from_list_any}
 use Rattle.sok_rules.specs.declared.cell.Dir.{Dir}
@@ -9,8 +8,8 @@ use Rattle.sok_rules.specs.Squares.{same_spot}
 use Rattle.sok_rules.specs.Play.{Position, After, moved}
 use Rattle.sok_rules.proofs.Spots.{same_spot-is}
 use Rattle.sok_rules.proofs.Steps.{IsPush, push_step}
-use Rattle.sok_board.specs.Area.{Numbered, IsArea, InArea, spot_of, number_of, position_of, is_among, is_decoration}
-use Rattle.sok_board.proofs.AreaLaws.{number_of-spot_of, InArea-spot_of}
+use Rattle.sok_board.specs.Area.{Numbered, IsArea, InArea, spot_of, position_of, is_among, is_decoration}
+use Rattle.sok_board.proofs.AreaLaws.{InArea-spot_of, same_number}
 use Rattle.sok_board.proofs.Accepted.{decoration-outside}
 use Rattle.sok_push.specs.Pushes.{MovesAlone, PushesAlone, PushesKnownBoxes}
 use Rattle.sok_push.proofs.PushingLaws.{lone_push-push}
@@ -36,10 +35,6 @@ pushes-alone b area x d after inside leads pushed = lone_push-step b area d x af
 either : (p q : Bool) → (p || q) ≡ true → q ≡ false → p ≡ true
 either true q e fails = e
 either false q e fails = absurd (true≢false (sym e ∙ fails))
-
--- squares of the area are told apart by their numbers
-same_number : (b : Numbered) → IsArea b.rows b.area → (n m : ℕ) → n < length b.area → m < length b.area → spot_of b n ≡ spot_of b m → n ≡ m
-same_number b area n m n_within m_within same = same_Some n m (sym (number_of-spot_of b area n n_within) ∙ ap (number_of b) same ∙ number_of-spot_of b area m m_within)
 
 -- a box on a square of the area is one of those that are known
 pub known_box : (b : Numbered) → IsArea b.rows b.area → (player : ℕ) (boxes : List ℕ) → All (λ n. n < length b.area) boxes → (n : ℕ) → n < length b.area → (position_of b player boxes).boxes (spot_of b n) ≡ true → Contains boxes n

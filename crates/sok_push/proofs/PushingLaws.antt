@@ -7,8 +7,8 @@ use Rattle.sok_rules.specs.Squares.{holds, is_open, next, opposite}
 use Rattle.sok_rules.proofs.Spots.{next-opposite}
 use Rattle.sok_board.specs.Area.{Numbered, IsArea, InArea, spot_of, number_of, beside}
 use Rattle.sok_board.proofs.AreaLaws.{number-InArea, InArea-next}
+use Rattle.sok_board.proofs.Beside.{beside-is}
 use Rattle.sok_push.specs.Pushing.{lone_push}
-use Rattle.sok_push.proofs.Pulls.{beside-is}
 
 -- the squares of a push, by their numbers
 pub record IsLonePush (b : Numbered) (d : Dir) (man q t : Spot) : Type 0 where

@@ -31,6 +31,12 @@ moved_back : (f : ℕ → Spot) (o : Option ℕ) (q : Spot) {P : Type 0} → opt
 moved_back f None q e k = absurd (none-some q e)
 moved_back f (Some c) q e k = k c refl (same_Some (f c) q e)
 
+pub opposite-twice : (d : Dir) → opposite (opposite d) ≡ d
+opposite-twice Left = refl
+opposite-twice Up = refl
+opposite-twice Right = refl
+opposite-twice Down = refl
+
 -- one step back along the opposite direction
 pub next-opposite : (d : Dir) (s q : Spot) → next d s ≡ Some q → next (opposite d) q ≡ Some s
 next-opposite Left s q e = moved_back (λ c. record s { col = c }) (before s.col) q e (λ c b f.

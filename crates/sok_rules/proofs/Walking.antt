@@ -26,7 +26,8 @@ quiet_step {P} rows d w x y = elim (step rows d x) as (λ o. option_and_then (λ
 pub boxes-step : (rows : Rows) (d : Dir) (x : Position) (a : After) → step rows d x ≡ Some a → a.pushed ≡ false → a.position.boxes ≡ x.boxes
 boxes-step rows d x a e unpushed = ap (λ (y : After). y.position.boxes) (walk_step rows d x a e unpushed).leads
 
-boxes-run : (rows : Rows) (w : List Dir) (x y : Position) → run rows x w ≡ Some y → pushes rows x w ≡ 0 → y.boxes ≡ x.boxes
+-- nor does a list without a push
+pub boxes-run : (rows : Rows) (w : List Dir) (x y : Position) → run rows x w ≡ Some y → pushes rows x w ≡ 0 → y.boxes ≡ x.boxes
 boxes-run rows [] x y e z = ap (λ (p : Position). p.boxes) (sym (same_Some x y e))
 boxes-run rows (d ∷ w) x y e z = quiet_step rows d w x y e z (λ a s unpushed r n. boxes-run rows w a.position y r n ∙ boxes-step rows d x a s unpushed)
 

@@ -1,13 +1,13 @@
 use Rattle.std.proofs.Common.{◌∷◌, [], ap, sym, ◌∙◌, subst, arith, set, true}
 use Rattle.sok_board.specs.Floods.{IsFlooding}
-use Rattle.sok_board.specs.Tables.{IsWithin, place_of}
+use Rattle.sok_board.specs.Tables.{HasPlace, place_of}
 use Rattle.sok_board.proofs.Floods.{IsFlooding-start}
-use Rattle.sok_board.proofs.Inside.{IsWithin-man}
+use Rattle.sok_board.proofs.Inside.{HasPlace-man}
 use Rattle.sok_board.proofs.flood.begun.Goals as goal
 
 pub index_mut-requires : goal.index_mut-requires
 index_mut-requires c =
-    let within = subst IsWithin (sym c.requires.man) (IsWithin-man c.args.level.now c.requires.proper) in
+    let within = subst HasPlace (sym c.requires.man) (HasPlace-man c.args.level.now c.requires.proper) in
     let whole = c.in_ok-marks.ensures.count in
     omega (arith, within.row, within.col, whole)
 
@@ -16,4 +16,4 @@ returns c =
     let place = sym (c.place.ensures ∙ ap place_of c.requires.man) in
     let pending = sym (c.in_ok-pending.ensures.items ∙ ap (λ s. s ∷ []) c.requires.man) in
     subst (IsFlooding c.args.level.now) (λ i. record { marks = set c.in_ok-marks.marks.items (place i) true; pending = pending i })
-    (IsFlooding-start c.args.level.now c.in_ok-marks.marks.items (IsWithin-man c.args.level.now c.requires.proper) c.in_ok-marks.ensures.count c.in_ok-marks.ensures.blank)
+    (IsFlooding-start c.args.level.now c.in_ok-marks.marks.items (HasPlace-man c.args.level.now c.requires.proper) c.in_ok-marks.ensures.count c.in_ok-marks.ensures.blank)

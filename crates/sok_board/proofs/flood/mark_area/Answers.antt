@@ -1,12 +1,12 @@
 use Rattle.std.proofs.Common.{arith}
 use Rattle.std.proofs.lemmas.List.{nil_from_length}
 use Rattle.sok_board.specs.Floods.{met_of}
-use Rattle.sok_board.proofs.Floods.{IsWithin-last, IsFlooding-meet_around, less-meet_around, MarksArea-from_flooding}
+use Rattle.sok_board.proofs.Floods.{HasPlace-last, IsFlooding-meet_around, less-meet_around, MarksArea-from_flooding}
 use Rattle.sok_board.proofs.flood.mark_area.Goals as goal
 
 pub meet_around-requires-clause-within : goal.meet_around-requires-clause-within
 meet_around-requires-clause-within c =
-    IsWithin-last c.args.level.now (met_of c.loop-spot.flood) c.pop.new.self.items c.in-Some.spot c.requires.proper c.loop-spot.invariant c.in-Some.ensures.items
+    HasPlace-last c.args.level.now (met_of c.loop-spot.flood) c.pop.new.self.items c.in-Some.spot c.requires.proper c.loop-spot.invariant c.in-Some.ensures.items
 
 pub loop-spot-smaller : goal.loop-spot-smaller
 loop-spot-smaller c =

@@ -2,7 +2,7 @@ use Rattle.std.proofs.Common.{ap, sym, ◌∙◌, arith, false, true, set}
 use Rattle.sok_rules.specs.Squares.{is_open}
 use Rattle.sok_board.specs.Floods.{met_of}
 use Rattle.sok_board.specs.Tables.{entry}
-use Rattle.sok_board.proofs.Inside.{IsWithin-holds}
+use Rattle.sok_board.proofs.Inside.{HasPlace-holds}
 use Rattle.sok_board.proofs.Floods.{meet-wall, meet-met, meet-new}
 use Rattle.sok_board.proofs.flood.meet.Goals as goal
 
@@ -16,7 +16,7 @@ returns-then-entry c =
 
 pub index_mut-requires : goal.index_mut-requires
 index_mut-requires c =
-    let within = IsWithin-holds is_open c.args.level.now c.args.spot c.requires.proper (sym c.if-not-is_open_at.ensures) in
+    let within = HasPlace-holds is_open c.args.level.now c.args.spot c.requires.proper (sym c.if-not-is_open_at.ensures) in
     omega (arith, within.row, within.col)
 
 pub returns : goal.returns

@@ -4,7 +4,7 @@ use Rattle.std.proofs.lemmas.List.Elements.{All-more}
 use Rattle.sok_rules.specs.declared.cell.Spot.{Spot}
 use Rattle.sok_board.specs.Refusals.{has_gap}
 use Rattle.sok_board.proofs.AreaLaws.{origin}
-use Rattle.sok_board.proofs.Inside.{IsWithin-InArea}
+use Rattle.sok_board.proofs.Inside.{HasPlace-InArea}
 use Rattle.sok_board.proofs.Refusals.{first_leak-some, first_leak-none}
 use Rattle.sok_board.proofs.refusal.first_leak.Goals as goal
 
@@ -12,7 +12,7 @@ pub has_gap-requires : goal.has_gap-requires
 has_gap-requires c =
     let i = c.loop-spot.spot-index in
     let s : Spot = get_or c.args.squares.now i origin in
-    IsWithin-InArea c.args.level.now c.requires.proper s (c.requires.area.inside i origin (omega arith))
+    HasPlace-InArea c.args.level.now c.requires.proper s (c.requires.area.inside i origin (omega arith))
 
 pub returns-then-has_gap : goal.returns-then-has_gap
 returns-then-has_gap c =

@@ -2,12 +2,12 @@ use Rattle.std.proofs.Common.{◌↔◌, None, IsSome, ap, sym, ◌∙◌, subst
 use Rattle.sok_rules.specs.Play.{start}
 use Rattle.sok_board.specs.Area.{Numbered, InArea}
 use Rattle.sok_board.specs.Tables.{entry}
-use Rattle.sok_board.proofs.Accepted.{IsWithin-area, IsSome-number_of, decorations-tidy}
+use Rattle.sok_board.proofs.Accepted.{HasPlace-area, IsSome-number_of, decorations-tidy}
 use Rattle.sok_board.proofs.AreaLaws.{InArea-man}
 use Rattle.sok_board.proofs.survey.number.Goals as goal
 
 pub numbers-requires-clause-within : goal.numbers-requires-clause-within
-numbers-requires-clause-within c = IsWithin-area c.args.level.now c.args.squares.now c.requires.proper c.requires.area
+numbers-requires-clause-within c = HasPlace-area c.args.level.now c.args.squares.now c.requires.proper c.requires.area
 
 pub first_stray-requires-clause-numbers : goal.first_stray-requires-clause-numbers
 first_stray-requires-clause-numbers c =

@@ -3,8 +3,8 @@ use Rattle.std.specs.Option.{option_and_then, option_map_or}
 use Rattle.sok_rules.specs.Squares.{holds, is_wall, next}
 use Rattle.sok_board.specs.Area.{number_of, spot_of}
 use Rattle.sok_board.specs.Boards.{IsNumbering}
-use Rattle.sok_board.specs.Tables.{IsWithin, entry}
-use Rattle.sok_board.proofs.Accepted.{spot_read, IsWithin-spot_of, wall_beside_number}
+use Rattle.sok_board.specs.Tables.{HasPlace, entry}
+use Rattle.sok_board.proofs.Accepted.{spot_read, HasPlace-spot_of, wall_beside_number}
 use Rattle.sok_board.proofs.board.Board.neighbour.Goals as goal
 
 pub next-requires-clause-row : goal.next-requires-clause-row
@@ -12,7 +12,7 @@ next-requires-clause-row c =
     let b = c.args.self.now in
     let kept = subst (λ a. IsNumbering a c.self.inside.numbering) c.self.view_is c.self.invariant in
     let is = spot_read (record { rows = c.self.inside.level; area = c.self.inside.squares.items }) b c.args.square c.index.result.now c.self.view_is c.requires c.index.ensures in
-    let within = subst IsWithin (sym is) (IsWithin-spot_of b kept.accepted kept.proper c.args.square c.requires) in
+    let within = subst HasPlace (sym is) (HasPlace-spot_of b kept.accepted kept.proper c.args.square c.requires) in
     omega (arith, within.row)
 
 pub next-requires-clause-col : goal.next-requires-clause-col
@@ -20,7 +20,7 @@ next-requires-clause-col c =
     let b = c.args.self.now in
     let kept = subst (λ a. IsNumbering a c.self.inside.numbering) c.self.view_is c.self.invariant in
     let is = spot_read (record { rows = c.self.inside.level; area = c.self.inside.squares.items }) b c.args.square c.index.result.now c.self.view_is c.requires c.index.ensures in
-    let within = subst IsWithin (sym is) (IsWithin-spot_of b kept.accepted kept.proper c.args.square c.requires) in
+    let within = subst HasPlace (sym is) (HasPlace-spot_of b kept.accepted kept.proper c.args.square c.requires) in
     omega (arith, within.col)
 
 pub returns-in-Some-clause-beside : goal.returns-in-Some-clause-beside

@@ -1,8 +1,8 @@
 use Rattle.std.proofs.Common.{ap, ◌∙◌, subst, sym}
 use Rattle.sok_board.specs.Area.{number_of}
 use Rattle.sok_board.specs.Boards.{IsNumbering}
-use Rattle.sok_board.specs.Tables.{IsWithin}
-use Rattle.sok_board.proofs.Accepted.{spot_read, IsWithin-spot_of}
+use Rattle.sok_board.specs.Tables.{HasPlace}
+use Rattle.sok_board.proofs.Accepted.{spot_read, HasPlace-spot_of}
 use Rattle.sok_board.proofs.AreaLaws.{number_of-spot_of}
 use Rattle.sok_board.proofs.board.Board.spot.Goals as goal
 
@@ -18,4 +18,4 @@ returns-clause-within c =
     let b = c.args.self.now in
     let kept = subst (λ a. IsNumbering a c.self.inside.numbering) c.self.view_is c.self.invariant in
     let is = spot_read (record { rows = c.self.inside.level; area = c.self.inside.squares.items }) b c.args.square c.index.result.now c.self.view_is c.requires c.index.ensures in
-    subst IsWithin (sym is) (IsWithin-spot_of b kept.accepted kept.proper c.args.square c.requires)
+    subst HasPlace (sym is) (HasPlace-spot_of b kept.accepted kept.proper c.args.square c.requires)
