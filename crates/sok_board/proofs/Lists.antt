@@ -1,7 +1,7 @@
 -- Lists: pairs over an append, and what a filter keeps.
-use Rattle.std.proofs.Common.{◌≡◌, ap, subst, ◌∙◌, List, [], ◌∷◌, ◌++◌, Bool, true, false, All, AllPairs, Contains, arith, filter, cond, zero, suc}
+use Rattle.std.proofs.Common.{◌≡◌, ◌⊎◌, inl, inr, ap, subst, ◌∙◌, List, [], ◌∷◌, ◌++◌, Bool, true, false, All, AllPairs, Contains, arith, filter, cond, zero, suc}
 use Rattle.std.proofs.lemmas.List.Kept.{AllPairs-cons}
-use Rattle.std.proofs.lemmas.List.Elements.{All-append, All-tail, All-head, All-contains, Contains-push}
+use Rattle.std.proofs.lemmas.List.Elements.{All-append, All-tail, All-head, All-contains, All-contains_itself, All-filter, filter_passes, Contains-push}
 use Rattle.std.proofs.lemmas.List.{get_or_append_left, length-append}
 
 pub AllPairs-head : {X : Type 0} (R : X → X → Type 0) (x : X) (xs : List X) → AllPairs R (x ∷ xs) → All (R x) xs
@@ -18,6 +18,10 @@ AllPairs-append {X} R (x ∷ xs) ys first second across =
 
 pub Contains-cons : {X : Type 0} (x y : X) (xs : List X) → Contains xs y → Contains (x ∷ xs) y
 Contains-cons x y xs (k, within, is) = (suc k, omega (arith, within), is)
+
+pub Contains-cons_cases : {X : Type 0} (x y : X) (xs : List X) → Contains (x ∷ xs) y → (x ≡ y) ⊎ Contains xs y
+Contains-cons_cases x y xs (zero, within, is) = inl is
+Contains-cons_cases x y xs (suc k, within, is) = inr (k, omega (arith, within), is)
 
 -- the last element, and those before it
 pub All-split : {X : Type 0} (P : X → Type 0) (xs : List X) (x : X) → All P (xs ++ x ∷ []) → All P xs × P x
@@ -36,3 +40,10 @@ Contains-filter p (x ∷ xs) y (zero, within, is) passes =
 Contains-filter p (x ∷ xs) y (suc k, within, is) passes =
     let rest = Contains-filter p xs y (k, omega (arith, within), is) passes in
     elim (p x) as (λ b. Contains (cond b (x ∷ filter p xs) (filter p xs)) y) [ true ↦ Contains-cons x y (filter p xs) rest | false ↦ rest ]
+
+-- and nothing else
+pub Contains-from_filter : {X : Type 0} (p : X → Bool) (xs : List X) (y : X) → Contains (filter p xs) y → Contains xs y × (p y ≡ true)
+Contains-from_filter {X} p xs y there = (
+  All-contains (Contains xs) (filter p xs) y (All-filter p (Contains xs) xs (All-contains_itself xs)) there,
+  All-contains (λ (x : X). p x ≡ true) (filter p xs) y (filter_passes p xs) there,
+)

@@ -1,5 +1,5 @@
 -- The position for which the numbers of a board's player and boxes stand.
-use Rattle.std.proofs.Common.{ℕ, ◌≡◌, ◌<◌, ◌+◌, inl, inr, refl, sym, ap, ◌∙◌, List, Bool, true, false, true≢false, Some, Contains, arith, length, get_or, map, not, ◌&&◌, ◌||◌}
+use Rattle.std.proofs.Common.{ℕ, ◌≡◌, ◌<◌, ◌+◌, inl, inr, refl, sym, ap, ◌∙◌, List, Bool, true, false, true≢false, Some, All, Contains, arith, length, get_or, map, not, ◌&&◌, ◌||◌}
 use Rattle.std.specs.List.{range_with_len}
 use Rattle.std.proofs.lemmas.Bool.{cases_Bool}
 use Rattle.std.proofs.lemmas.List.{length-map, get_or-map}
@@ -10,14 +10,14 @@ use Rattle.sok_rules.specs.declared.cell.Spot.{Spot}
 use Rattle.sok_rules.specs.Squares.{holds, is_box, same_spot}
 use Rattle.sok_rules.specs.Play.{start}
 use Rattle.sok_board.specs.Area.{Numbered, InArea, IsArea, number_of, spot_of, is_among, is_decoration, boxes_of, position_of}
-use Rattle.sok_board.proofs.Accepted.{InArea-is_among}
+use Rattle.sok_board.proofs.Accepted.{InArea-is_among, decoration-outside}
 use Rattle.sok_rules.proofs.Spots.{same_spot-is, same_spot-refl}
-use Rattle.sok_board.proofs.AreaLaws.{origin, spot_of-number_of, number-InArea}
+use Rattle.sok_board.proofs.AreaLaws.{origin, spot_of-number_of, number-InArea, InArea-spot_of, same_number}
 use Rattle.sok_board.proofs.Confined.{start-boxes}
 use Rattle.sok_board.proofs.Lists.{Contains-filter}
 
 -- a square is among those of some numbers, if one of them is its number
-among_numbers : (b : Numbered) (numbers : List ℕ) (n : ℕ) → Contains numbers n → is_among (map (spot_of b) numbers) (spot_of b n) ≡ true
+pub among_numbers : (b : Numbered) (numbers : List ℕ) (n : ℕ) → Contains numbers n → is_among (map (spot_of b) numbers) (spot_of b n) ≡ true
 among_numbers b numbers n (k, within, is) =
     let there = get_or-map (spot_of b) numbers k n origin within ∙ ap (spot_of b) is in
     list_any_at (same_spot (spot_of b n)) (map (spot_of b) numbers) k origin (omega (arith, within, length-map numbers (spot_of b)))
@@ -63,3 +63,20 @@ pub position_of-start : (b : Numbered) → IsArea b.rows b.area → (player : �
 position_of-start b area player is =
     let (_, there) = spot_of-number_of b (start b.rows).man player (sym is) in
     λ i. record { man = there i; boxes = λ s. (all_boxes b area s ∙ sym (start-boxes b.rows s)) i }
+
+either : (p q : Bool) → (p || q) ≡ true → q ≡ false → p ≡ true
+either true q e fails = e
+either false q e fails = absurd (true≢false (sym e ∙ fails))
+
+-- a box on a square of the area is one of those that are known
+pub known_box : (b : Numbered) → IsArea b.rows b.area → (player : ℕ) (boxes : List ℕ) → All (λ n. n < length b.area) boxes → (n : ℕ) → n < length b.area → (position_of b player boxes).boxes (spot_of b n) ≡ true → Contains boxes n
+known_box b area player boxes exist n within there =
+    let plain : is_decoration b (spot_of b n) ≡ false = elim (cases_Bool (is_decoration b (spot_of b n))) [
+      | inl decoration ↦ absurd ((decoration-outside b area (spot_of b n) decoration).1 (InArea-spot_of b area n within))
+      | inr plain ↦ plain
+    ] in
+    let among : is_among (map (spot_of b) boxes) (spot_of b n) ≡ true = either (is_among (map (spot_of b) boxes) (spot_of b n)) (is_decoration b (spot_of b n)) there plain in
+    let (k, s, below, at, same) = Any-from_list_any (same_spot (spot_of b n)) (map (spot_of b) boxes) among in
+    let within_boxes : k < length boxes = let long = length-map boxes (spot_of b) in omega (arith, below, long) in
+    let spot_is : spot_of b n ≡ spot_of b (get_or boxes k n) = same_spot-is (spot_of b n) s same ∙ sym at ∙ get_or-map (spot_of b) boxes k n s within_boxes in
+    (k, within_boxes, sym (same_number b area n (get_or boxes k n) within (exist k n within_boxes) spot_is))

@@ -68,6 +68,7 @@ impl Board {
     /// How many squares the area has.
     pub fn squares(&self) -> usize
         ensures count { result ≡ length self.now.area }
+        ensures proper { IsProper self.now.rows }
         ensures accepted { IsAccepted self.now }
     {
         self.squares.len()

@@ -1,0 +1,22 @@
+-- Sets of boxes, as the rising lists of their squares' numbers.
+use Rattle.std.specs.Prelude.{ℕ, ◌≡◌, ◌≤◌, ◌↔◌, ◌⊎◌, List, [], ◌∷◌, ◌==◌, not, filter, nat_lt, if◌then◌else◌, Contains, length}
+use Rattle.std.specs.List.Sorted.{IsStrictlyIncreasing}
+
+-- at most 128 squares, rising
+pub record IsBoxList (boxes : List ℕ) : Type 0 where
+  pub rising : IsStrictlyIncreasing boxes
+  pub few : length boxes ≤ 128
+
+-- the squares of one set without from and with to
+abbrev pub IsMoved : List ℕ → ℕ → ℕ → List ℕ → Type 0
+IsMoved boxes from to after = (s : ℕ) → Contains after s ↔ ((s ≡ to) ⊎ (Contains boxes s × (s ≡ from → ⊥)))
+
+-- what is still to be put after to has been: the squares other than from
+abbrev pub without : ℕ → List ℕ → List ℕ
+without from boxes = filter (λ s. not (s == from)) boxes
+
+-- what is still to be put of a rising list without from and with to
+unfoldable pub put_in_order : ℕ → ℕ → List ℕ → List ℕ
+put_in_order from to [] = to ∷ []
+put_in_order from to (s ∷ boxes) =
+    if nat_lt to s then to ∷ without from (s ∷ boxes) else if s == from then put_in_order from to boxes else s ∷ put_in_order from to boxes

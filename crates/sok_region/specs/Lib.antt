@@ -1,0 +1,5 @@
+pub mod BoxSets
+pub mod Floods
+pub mod Regions
+pub mod States
+pub mod Trails
