@@ -1,7 +1,7 @@
 //! The distances of a board's squares to its goals.
 
 ghost use Rattle.std.specs.Prelude.{◌≡◌, ◌<◌, ◌≤◌, ◌↔◌, IfOk, IfSome, IsTrue, length};
-ghost use Rattle.sok_board.specs.Area.{goals_of};
+ghost use Rattle.sok_board.specs.Area.{IsAccepted, goals_of};
 ghost use Rattle.sok_push.specs.Pushing.{IsStuck, TellsDistance};
 ghost use Rattle.sok_push.specs.Distances.{goal_at, distance_at, IsFilled};
 
@@ -50,6 +50,14 @@ impl Tables {
             goals: board.goals().len(),
             entries,
         })
+    }
+
+    /// How many goals the board has.
+    pub fn goals(&self) -> usize
+        ensures count { result ≡ length (goals_of self.now.board) }
+        ensures accepted { IsAccepted self.now.board }
+    {
+        self.goals
     }
 
     /// The fewest pushes from a square to a goal, by the goal's index among the board's goals, when

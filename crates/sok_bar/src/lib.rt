@@ -1,0 +1,24 @@
+//! Why a position needs many pushes, or has no solution: reasons for barring it.
+//!
+//! | Module | What it holds |
+//! |---|---|
+//! | `bar` | what a reason promises |
+//! | `bound` | prices that bound the pushes from below |
+//! | `crowd` | boxes that share too few goals |
+//! | `frozen` | boxes that hold each other for ever |
+//! | `held` | which boxes are held along both axes |
+//! | `law` | nothing solves from a position with a jam |
+//! | `members` | lists of members of a box list |
+//! | `rest` | what is still to be shown of a position |
+//! | `spent` | no more pushes are asked for |
+#![tactic(auto)]
+
+pub mod bar;
+pub mod bound;
+pub mod crowd;
+pub mod frozen;
+mod held;
+pub mod law;
+mod members;
+pub mod rest;
+pub mod spent;

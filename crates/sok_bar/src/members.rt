@@ -1,0 +1,42 @@
+//! Lists of members of a list of boxes, by their indices in it.
+
+ghost use Rattle.std.specs.Prelude.{◌≡◌, ◌<◌, ◌≤◌, ◌↔◌, All, IsTrue, length};
+ghost use Rattle.std.specs.List.Sorted.{IsStrictlyIncreasing};
+ghost use Rattle.sok_price.specs.Prices.{AreMembers, IsMember};
+
+use sok_board::area::Sq;
+
+/// Whether the numbers are indices of boxes, each above the one before.
+pub(crate) fn are_members(boxes: &[Sq], members: &[u32]) -> bool
+    ensures { IsTrue result ↔ AreMembers boxes.now members.now }
+{
+    rises(members)
+        && members
+            .iter()
+            .all(|member| (*member as usize) < boxes.len())
+}
+
+/// Whether each number is above the one before.
+fn rises(members: &[u32]) -> bool
+    ensures { IsTrue result ↔ IsStrictlyIncreasing members.now }
+{
+    for i in 1..members.len() {
+        if members[i - 1] >= members[i] {
+            return false;
+        }
+    }
+    true
+}
+
+/// Whether a member stands on a square.
+pub(crate) fn is_member(boxes: &[Sq], members: &[u32], square: Sq) -> bool
+    requires rising { IsStrictlyIncreasing boxes.now }
+    requires few { length boxes.now ≤ 128 }
+    requires listed { AreMembers boxes.now members.now }
+    ensures { IsTrue result ↔ IsMember boxes.now members.now square }
+{
+    match boxes.binary_search(&square) {
+        Ok(index) => members.binary_search(&(index as u32)).is_ok(),
+        Err(_) => false,
+    }
+}

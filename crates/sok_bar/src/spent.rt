@@ -1,0 +1,36 @@
+//! The reason that no more pushes are asked for.
+
+ghost use Rattle.std.specs.Prelude.{◌↔◌, IfOk, IsOkAnd, IsTrue};
+ghost use Rattle.sok_bar.specs.Rests.{IsBarred};
+ghost use Rattle.sok_bar.specs.Bars.{BarsSpent};
+
+use crate::bar::Bar;
+use crate::rest::Rest;
+use sok_board::area::Sq;
+use sok_board::board::Board;
+use sok_push::tables::Tables;
+use sok_region::box_set::BoxSet;
+use sok_rules::fault::Memory;
+use std::alloc::Global;
+
+/// The pushes that are asked for are spent: each list of letters has at least 0.
+#[derive(Clone, Copy, Debug, PartialEq, Eq)]
+pub struct Spent;
+
+impl Bar for Spent {
+    /// True for at least 0 pushes, and for nothing else. It takes no memory.
+    fn holds(
+        &self,
+        _alloc: Global,
+        board: &Board,
+        _tables: &Tables,
+        boxes: &BoxSet,
+        player: Sq,
+        rest: Rest,
+    ) -> Result<bool, Memory>
+        ensures law { IfOk result (λ holds. IsTrue holds → IsBarred board.now player boxes.now rest) }
+        ensures exact { IsOkAnd result (λ holds. IsTrue holds ↔ BarsSpent rest) }
+    {
+        Ok(matches!(rest, Rest::AtLeast(0)))
+    }
+}

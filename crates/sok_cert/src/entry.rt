@@ -1,0 +1,79 @@
+//! The positions of a certificate, each with the reason why it may stand.
+
+ghost use Rattle.std.specs.Prelude.{◌≡◌, IfOk};
+
+use std::alloc::{AllocError, Global};
+use std::marker::Model;
+
+/// Positions with what shows that the claim holds from each of them.
+#[derive(Debug, Drop)]
+pub struct Cert {
+    pub entries: Vec<Entry>,
+}
+
+/// A position: the player and the boxes, by numbers of squares, with the pushes that were made before
+/// it. A well-formed entry has its boxes in rising order.
+#[derive(Debug, Drop)]
+pub struct Entry {
+    pub depth: u32,
+    pub player: u32,
+    pub boxes: Numbers,
+    pub reason: Reason,
+}
+
+/// Why a position may stand in a certificate.
+#[derive(Debug, Drop)]
+pub enum Reason {
+    /// Every push leads to another entry.
+    Expanded,
+    /// As many pushes as the claim says were made already.
+    Spent,
+    /// Prices show how many more pushes there must be: `u` of the boxes and `v` of the goals, both in
+    /// rising order of squares.
+    Bound { u: Numbers, v: Numbers },
+    /// Some boxes have too few goals within their reach. Members are indices, from 0, in the list of
+    /// the boxes.
+    Crowd { members: Numbers },
+    /// Some boxes block one another for ever. Members as in a crowd.
+    Frozen { members: Numbers },
+}
+
+/// Numbers in order. They are seen as a list.
+#[derive(Debug, Drop)]
+pub struct Numbers {
+    items: Vec<u32>,
+}
+
+impl Model for Numbers {
+    ghost use Rattle.std.specs.Prelude.{ℕ, List};
+
+    ghost Value = { List ℕ };
+
+    ghost view = { λ numbers. numbers.items.items };
+}
+
+impl Numbers {
+    /// A copy of a slice.
+    pub fn copied(alloc: Global, numbers: &[u32]) -> Result<Numbers, AllocError>
+        ensures { IfOk result (λ list. list ≡ numbers.now) }
+    {
+        Ok(Numbers {
+            items: Vec::from_slice(alloc, numbers)?,
+        })
+    }
+
+    /// The numbers, with no copy made.
+    pub fn as_slice(&self) -> &[u32]
+        ensures { result.now ≡ self.now }
+    {
+        self.items.as_slice()
+    }
+}
+
+impl From<Vec<u32>> for Numbers {
+    ghost from_gives = { λ items numbers. numbers ≡ items.items };
+
+    fn from(items: Vec<u32>) -> Numbers {
+        Numbers { items }
+    }
+}

@@ -1,0 +1,95 @@
+-- One round of a search: a nearest goal, the prices raised to it, and what is told of it.
+use Rattle.std.proofs.Common.{ℕ, ◌≡◌, ◌<◌, ◌≤◌, ◌-◌, ◌∙◌, refl, sym, ap, subst, List, Option, Some, None, Bool, true, arith, length, get_or, set}
+use Rattle.sok_price.specs.declared.costs.Costs.{Costs}
+use Rattle.sok_price.specs.declared.search.Branch.{Branch}
+use Rattle.sok_price.specs.declared.slacks.Slack.{Slack}
+use Rattle.sok_price.specs.declared.slacks.Near.{Near}
+use Rattle.sok_price.specs.Costs.{cost_of, AreCosts}
+use Rattle.sok_price.specs.Matchings.{Costing, IsTight, TellsTaker}
+use Rattle.sok_price.specs.Searches.{Growth, IsGrowing, IsReached, IsRaised, joined}
+use Rattle.sok_price.specs.Slacks.{IsNearest}
+use Rattle.sok_price.specs.Trees.{branch_at, is_marked, count_of}
+use Rattle.sok_price.proofs.Joining.{IsJoining}
+use Rattle.sok_price.proofs.Marks.{count_of-set, count_of-lt}
+use Rattle.sok_price.proofs.Raising.{AreRaised, IsGrowing-raised, tight-near}
+
+-- a nearest goal of lists that are the same
+pub nearest-same : (taken taken' : List Bool) (slacks slacks' : List (Option Slack)) (goals : ℕ) (near : Near) → taken' ≡ taken → slacks' ≡ slacks → length slacks ≡ goals → IsNearest taken' slacks' (length slacks') near → IsNearest taken slacks goals near
+nearest-same taken taken' slacks slacks' goals near taken_is slacks_is long nearest =
+    subst (λ n. IsNearest taken slacks n near) long
+    (subst (λ (s : List (Option Slack)). IsNearest taken s (length s) near) slacks_is (subst (λ (t : List Bool). IsNearest t slacks' (length slacks') near) taken_is nearest))
+
+-- its slack is small
+pub amount-small : (costs : Costs) (g : Growth) (near : Near) → AreCosts costs → IsGrowing (cost_of costs) costs.members costs.goals costs.members g → IsNearest g.taken g.slacks costs.goals near → near.slack.amount ≤ 525312
+amount-small costs g near are growing nearest =
+    let is = growing.slack near.goal near.slack nearest.free nearest.slack in
+    let exact = is.exact in
+    let short = are.short (branch_at g.branches near.slack.from).member near.goal is.pushes is.way in
+    let low = growing.near.goals near.goal nearest.free in
+    omega (arith, exact, short, low)
+
+pub are-raised : (costs : Costs) (g : Growth) (near : Near) (after : Growth) → AreCosts costs → IsGrowing (cost_of costs) costs.members costs.goals costs.members g → IsNearest g.taken g.slacks costs.goals near → IsRaised near.slack.amount g after
+    → AreRaised (cost_of costs) costs.members costs.goals g near after
+are-raised costs g near after are growing nearest raised = record { short = are.short; growing = growing; nearest = nearest; raised = raised }
+
+from-raised : (cost : Costing) (members goals : ℕ) (g : Growth) (near : Near) (after : Growth) → AreRaised cost members goals g near after → near.slack.from < length after.branches
+from-raised cost members goals g near after are =
+    let is = are.growing.slack near.goal near.slack are.nearest.free are.nearest.slack in
+    let within = is.within in
+    let long = ap (λ (h : Growth). length h.branches) are.raised.same in
+    omega (arith, within, long)
+
+tight-raised : (cost : Costing) (members goals : ℕ) (g : Growth) (near : Near) (after : Growth) → AreRaised cost members goals g near after → IsTight cost after.u after.v (branch_at after.branches near.slack.from).member near.goal
+tight-raised cost members goals g near after are =
+    subst (λ (branches : List Branch). IsTight cost after.u after.v (branch_at branches near.slack.from).member near.goal) (sym (ap (λ (h : Growth). h.branches) are.raised.same)) (tight-near cost members goals g near after are)
+
+-- a goal that no box has is reached
+pub IsReached-raised : (cost : Costing) (members goals : ℕ) (g : Growth) (near : Near) (after : Growth) → AreRaised cost members goals g near after → get_or after.takers near.goal None ≡ None → IsReached cost after near
+IsReached-raised cost members goals g near after are none =
+    let growing = IsGrowing-raised cost members goals g near after are in
+    let within = are.nearest.within in
+    let v_long = growing.matched.a_price_a_goal in
+    let takers_long = growing.roomy.takers in
+    record {
+      within = omega (arith, within, v_long);
+      free = subst (TellsTaker after.goal_of (length after.goal_of) near.goal) none (growing.tells near.goal (omega (arith, within, takers_long)));
+      from = from-raised cost members goals g near after are;
+      tight = tight-raised cost members goals g near after are;
+    }
+
+-- a goal that a box has joins, with the box
+pub IsJoining-raised : (cost : Costing) (members goals : ℕ) (g : Growth) (near : Near) (after : Growth) (member : ℕ) → AreRaised cost members goals g near after → get_or after.takers near.goal None ≡ Some member → IsJoining cost members goals after near member
+IsJoining-raised cost members goals g near after member are has =
+    let growing = IsGrowing-raised cost members goals g near after are in
+    let within = are.nearest.within in
+    let takers_long = growing.roomy.takers in
+    let tells = subst (TellsTaker after.goal_of (length after.goal_of) near.goal) has (growing.tells near.goal (omega (arith, within, takers_long))) in
+    record {
+      short = are.short;
+      growing = growing;
+      earlier = tells.0;
+      has = tells.1;
+      within = within;
+      free = ap (λ (h : Growth). is_marked h.taken near.goal) are.raised.same ∙ are.nearest.free;
+      from = from-raised cost members goals g near after are;
+      tight = tight-raised cost members goals g near after are;
+    }
+
+pub joined-goal_of : (near : Near) (member : ℕ) (g : Growth) → (joined near member g).goal_of ≡ g.goal_of
+unfolding joined
+joined-goal_of near member g = refl
+
+joined-taken : (near : Near) (member : ℕ) (g : Growth) → (joined near member g).taken ≡ set g.taken near.goal true
+unfolding joined
+joined-taken near member g = refl
+
+-- fewer goals are outside the tree
+pub fewer-joined : (cost : Costing) (members goals : ℕ) (g : Growth) (near : Near) (member : ℕ) → IsJoining cost members goals g near member → goals - count_of (joined near member g).taken < goals - count_of g.taken
+fewer-joined cost members goals g near member is =
+    let within = is.within in
+    let long = is.growing.roomy.taken in
+    let inside : near.goal < length g.taken = omega (arith, within, long) in
+    let counted = count_of-set g.taken near.goal inside is.free in
+    let room = count_of-lt g.taken near.goal inside is.free in
+    let same = ap count_of (joined-taken near member g) in
+    omega (arith, counted, room, same, long)

@@ -1,0 +1,17 @@
+pub mod Answering
+pub mod AssignmentLaws
+pub mod Beginning
+pub mod CarriedLaws
+pub mod CostRows
+pub mod CrowdLaws
+pub mod DualityLaws
+pub mod Finishing
+pub mod Growing
+pub mod Joining
+pub mod Listing
+pub mod Looking
+pub mod Marks
+pub mod Raising
+pub mod Rematching
+pub mod States
+pub mod Sums

@@ -1,0 +1,9 @@
+pub mod Costs
+pub mod Laws
+pub mod Marked
+pub mod Matches
+pub mod Matchings
+pub mod Prices
+pub mod Searches
+pub mod Slacks
+pub mod Trees

@@ -1,0 +1,49 @@
+-- Prices of boxes and goals, and a goal of its own for each of the first boxes.
+use Rattle.std.specs.Prelude.{ℕ, ◌≡◌, ◌≢◌, ◌≤◌, ◌<◌, ◌+◌, List, Option, Some, None, All, AllPairs, Contains, length, slice_index, slice_index_or}
+
+-- what each box, by its index, costs at each goal, by its index
+abbrev pub Costing : Type 0
+Costing = ℕ → ℕ → Option ℕ
+
+-- the price of a box is that of a goal and the cost of the way there
+pub record IsTight (cost : Costing) (u v : List ℕ) (member goal : ℕ) : Type 0 where
+  pub pushes : ℕ
+  pub way : cost member goal ≡ Some pushes
+  pub exact : slice_index u member ≡ slice_index v goal + pushes
+
+-- no box costs more than a goal and the way there
+abbrev pub AreFair : Costing → List ℕ → List ℕ → Type 0
+AreFair cost u v = (member goal pushes : ℕ) → member < length u → goal < length v → cost member goal ≡ Some pushes → slice_index u member ≤ slice_index v goal + pushes
+
+-- the goals that boxes have lie at exact prices
+abbrev pub AreTight : Costing → List ℕ → List ℕ → List ℕ → Type 0
+AreTight cost u v goal_of = (member : ℕ) → member < length goal_of → IsTight cost u v member (slice_index goal_of member)
+
+-- prices are fair everywhere, exact on the pairs that are matched, and 0 at goals that are not
+pub record IsMatched (cost : Costing) (members goals : ℕ) (u v goal_of : List ℕ) : Type 0 where
+  pub a_price_a_box : length u ≡ members
+  pub a_price_a_goal : length v ≡ goals
+  pub exist : All (λ goal. goal < goals) goal_of
+  pub apart : AllPairs ◌≢◌ goal_of
+  pub fair : AreFair cost u v
+  pub exact : AreTight cost u v goal_of
+  pub idle : (goal : ℕ) → goal < goals → (Contains goal_of goal → ⊥) → slice_index v goal ≡ 0
+
+-- prices between two searches
+pub record AreLow (u v : List ℕ) : Type 0 where
+  pub boxes : All (λ price. price ≤ 262144) u
+  pub goals : All (λ price. price ≤ 262144) v
+
+-- prices at all times
+pub record AreHigh (u v : List ℕ) : Type 0 where
+  pub boxes : All (λ price. price ≤ 524288) u
+  pub goals : All (λ price. price ≤ 524288) v
+
+-- what is told of a goal: which of the boxes before an end has it, and None where none does
+abbrev pub TellsTaker : List ℕ → ℕ → ℕ → Option ℕ → Type 0
+TellsTaker goal_of end goal None = (member : ℕ) → member < end → slice_index goal_of member ≢ goal
+TellsTaker goal_of end goal (Some member) = (member < end) × (slice_index goal_of member ≡ goal)
+
+-- of each goal it is told which box has it
+abbrev pub TellTakers : List ℕ → List (Option ℕ) → Type 0
+TellTakers goal_of takers = (goal : ℕ) → goal < length takers → TellsTaker goal_of (length goal_of) goal (slice_index_or takers goal None)

@@ -1,0 +1,124 @@
+-- A search for a goal for one more box: a tree of boxes and goals that grows from the box, while prices rise.
+use Rattle.std.specs.Prelude.{ℕ, ◌≡◌, ◌≢◌, ◌≤◌, ◌<◌, ◌+◌, ◌-◌, List, [], ◌∷◌, ◌++◌, Option, Some, None, Bool, true, false, All, AllPairs, Contains, length, replicate, slice_index, slice_set, if◌then◌else◌}
+use Rattle.sok_price.specs.declared.search.Branch.{Branch}
+use Rattle.sok_price.specs.declared.search.Search.{Search}
+use Rattle.sok_price.specs.declared.search.Found.{Found}
+use Rattle.sok_price.specs.declared.search.Found.TheVariants.{Whole, Short}
+use Rattle.sok_price.specs.declared.slacks.Slack.{Slack}
+use Rattle.sok_price.specs.declared.slacks.Near.{Near}
+use Rattle.sok_price.specs.Matchings.{Costing, IsTight, AreTight, IsMatched, AreLow, AreHigh, TellTakers}
+use Rattle.sok_price.specs.Slacks.{lowered}
+use Rattle.sok_price.specs.Trees.{branch_at, is_marked, slack_at, IsTree, GoesTight, IsMet, AreMarked, IsSlack, BoundsSlack, AreNear}
+
+-- prices of boxes and goals, the goals of the first boxes, and a search for a goal for the next box
+pub record Growth : Type 0 where
+  pub u : List ℕ
+  pub v : List ℕ
+  pub goal_of : List ℕ
+  pub branches : List Branch
+  pub met : List Bool
+  pub taken : List Bool
+  pub slacks : List (Option Slack)
+  pub takers : List (Option ℕ)
+
+abbrev pub growth_of : Search → Growth
+growth_of search = record {
+  u = search.u.items;
+  v = search.v.items;
+  goal_of = search.goal_of.items;
+  branches = search.branches.items;
+  met = search.met.items;
+  taken = search.taken.items;
+  slacks = search.slacks.items;
+  takers = search.takers.items;
+}
+
+-- scratch lists with an entry for each box or goal
+pub record IsRoomy (members goals : ℕ) (g : Growth) : Type 0 where
+  pub met : length g.met ≡ members
+  pub taken : length g.taken ≡ goals
+  pub slacks : length g.slacks ≡ goals
+  pub takers : length g.takers ≡ goals
+
+-- a search for a goal for the next box, of whose tree each box but one is looked at
+pub record IsGrowing (cost : Costing) (members goals unseen : ℕ) (g : Growth) : Type 0 where
+  pub matched : IsMatched cost members goals g.u g.v g.goal_of
+  pub roomy : IsRoomy members goals g
+  pub few : members ≤ 128
+  pub more : length g.goal_of < members
+  pub tells : TellTakers g.goal_of g.takers
+  pub marked : AreMarked g.goal_of g.met g.taken
+  pub tree : IsTree g.goal_of g.branches
+  pub met : IsMet g.met g.branches
+  pub tight : GoesTight cost g.u g.v g.branches
+  pub slack : (goal : ℕ) (slack : Slack) → is_marked g.taken goal ≡ false → slack_at g.slacks goal ≡ Some slack → IsSlack cost g.u g.v g.branches goal slack
+  pub bounds : (member goal pushes : ℕ) → member ≢ unseen → is_marked g.met member ≡ true → goal < goals → is_marked g.taken goal ≡ false → cost member goal ≡ Some pushes → BoundsSlack g.u g.v g.slacks member goal pushes
+  pub near : AreNear g.u g.v g.goal_of g.met g.taken
+  pub high : AreHigh g.u g.v
+
+-- the box that joined a tree last
+abbrev pub newest : Growth → ℕ
+newest g = (branch_at g.branches (length g.branches - 1)).member
+
+-- a search that has begun: a tree of the next box alone, of which nothing is looked at
+pub record IsBegun (g after : Growth) : Type 0 where
+  pub same : after ≡ record after { u = g.u; v = g.v; goal_of = g.goal_of }
+  pub branches : after.branches ≡ record { member = length g.goal_of; goal = 0; parent = 0 } ∷ []
+  pub met : after.met ≡ slice_set (replicate (length g.met) false) (length g.goal_of) true
+  pub taken : after.taken ≡ replicate (length g.taken) false
+  pub slacks : after.slacks ≡ replicate (length g.slacks) None
+  pub whole : length after.takers ≡ length g.takers
+  pub tells : TellTakers g.goal_of after.takers
+
+-- a search after the prices of its tree are raised
+pub record IsRaised (by : ℕ) (g after : Growth) : Type 0 where
+  pub same : after ≡ record g { u = after.u; v = after.v; slacks = after.slacks }
+  pub u_whole : length after.u ≡ length g.u
+  pub v_whole : length after.v ≡ length g.v
+  pub slacks_whole : length after.slacks ≡ length g.slacks
+  pub u_raised : (member : ℕ) → slice_index after.u member ≡ slice_index g.u member + (if is_marked g.met member then by else 0)
+  pub v_raised : (goal : ℕ) → slice_index after.v goal ≡ slice_index g.v goal + (if is_marked g.taken goal then by else 0)
+  pub slack : (goal : ℕ) → slack_at after.slacks goal ≡ lowered by (slack_at g.slacks goal)
+
+-- a goal and the box that has it join a tree
+unfoldable pub joined : Near → ℕ → Growth → Growth
+joined near member g = record g {
+  branches = g.branches ++ record { member = member; goal = near.goal; parent = near.slack.from } ∷ [];
+  met = slice_set g.met member true;
+  taken = slice_set g.taken near.goal true;
+}
+
+-- a goal that no box has lies at an exact price from a box of a tree
+pub record IsReached (cost : Costing) (g : Growth) (near : Near) : Type 0 where
+  pub within : near.goal < length g.v
+  pub free : (member : ℕ) → member < length g.goal_of → slice_index g.goal_of member ≢ near.goal
+  pub from : near.slack.from < length g.branches
+  pub tight : IsTight cost g.u g.v (branch_at g.branches near.slack.from).member near.goal
+
+-- no goal outside a tree has a slack, so none is reached by its boxes
+abbrev pub IsClosed : Growth → Type 0
+IsClosed g = (goal : ℕ) → goal < length g.v → is_marked g.taken goal ≡ false → slack_at g.slacks goal ≡ None
+
+-- how a search ends: at a goal that no box has, or where there is no way on
+abbrev pub TellsEnd : Costing → Growth → Option Near → Type 0
+TellsEnd cost g None = IsClosed g
+TellsEnd cost g (Some near) = IsReached cost g near
+
+-- goals of the boxes, the next box among them, that lie at exact prices
+pub record IsRematched (cost : Costing) (g : Growth) (goal_of : List ℕ) : Type 0 where
+  pub more : length goal_of ≡ length g.goal_of + 1
+  pub apart : AllPairs ◌≢◌ goal_of
+  pub kept : (goal : ℕ) → Contains g.goal_of goal → Contains goal_of goal
+  pub exist : All (λ goal. goal < length g.v) goal_of
+  pub exact : AreTight cost g.u g.v goal_of
+
+-- prices and goals of the first boxes, with room for a search for the next
+pub record IsReady (cost : Costing) (members goals : ℕ) (g : Growth) : Type 0 where
+  pub matched : IsMatched cost members goals g.u g.v g.goal_of
+  pub low : AreLow g.u g.v
+  pub roomy : IsRoomy members goals g
+
+-- how it ends for all boxes: with a goal for each, or with a tree of boxes that reach too few
+abbrev pub TellsFound : Costing → ℕ → ℕ → Found → Type 0
+TellsFound cost members goals (Whole search) = IsReady cost members goals (growth_of search) × (length search.goal_of.items ≡ members)
+TellsFound cost members goals (Short search) = IsGrowing cost members goals members (growth_of search) × IsClosed (growth_of search)

@@ -1,0 +1,111 @@
+//! The least assignment of goals to boxes.
+
+ghost use Rattle.std.specs.Prelude.{ℕ, ◌≡◌, ◌<◌, ◌≤◌, ◌+◌, ◌^◌, All, IfOk, false, length, sum, slice_index_or};
+ghost use Rattle.sok_board.specs.Area.{IsAccepted, goals_of};
+ghost use Rattle.sok_price.specs.Matches.{IsMatch, HasPrices};
+ghost use Rattle.sok_price.specs.Marked.{ListsMarked};
+
+use crate::costs::Costs;
+use crate::search::{Found, Search, match_all};
+use sok_board::area::Sq;
+use sok_push::tables::Tables;
+use sok_region::box_set::BoxSet;
+use sok_rules::fault::Memory;
+use std::alloc::Global;
+
+/// What is found of boxes and goals.
+#[derive(Debug, Drop)]
+pub enum Match {
+    /// A goal of its own for each box, by its index among the board's goals, such that their
+    /// distances add up to the total; and prices of the boxes and of all goals, from 0 to
+    /// 1,000,000, that prove that no assignment costs less (Egerváry's theorem). The total is the
+    /// sum of the boxes' prices less that of the goals'.
+    Prices {
+        u: Vec<u32>,
+        v: Vec<u32>,
+        total: u32,
+        goal_of: Vec<usize>,
+    },
+    /// Boxes by their indices, rising, that reach fewer goals than they are (Hall's condition).
+    Crowd {
+        members: Vec<usize>,
+    },
+}
+
+/// Which goal each box could go to, so that the distances add up to the least, with prices that
+/// prove it; or a crowd, where there is no such goal for each. It is the shortest augmenting path
+/// method for the assignment problem (Kuhn, Munkres), box by box, with prices from 0 that are fair
+/// everywhere, exact on matched pairs and 0 at unmatched goals; it takes at most boxes squared
+/// times goals steps. The boxes are on squares of the board of which the tables were made. It
+/// refuses only for want of memory.
+pub fn assign(alloc: Global, tables: &Tables, boxes: &BoxSet) -> Result<Match, Memory>
+    requires { All (λ square. square < length tables.now.board.area) boxes.now }
+    ensures { IfOk result (IsMatch tables.now.board boxes.now) }
+{
+    assign_to(alloc, tables, tables.goals(), boxes.list())
+}
+
+/// What the boxes cost less what the goals cost.
+fn total(u: &[u32], v: &[u32]) -> u32
+    requires small { sum u.now < 2 ^ 32 }
+    requires covered { sum v.now ≤ sum u.now }
+    ensures { result + sum v.now ≡ sum u.now }
+{
+    u.iter().sum::<u32>() - v.iter().sum::<u32>()
+}
+
+/// The indices of the marks that are set, rising.
+fn marked(alloc: Global, marks: &[bool]) -> Result<Vec<usize>, Memory>
+    ensures { IfOk result (λ members. ListsMarked marks.now (length marks.now) members.items) }
+{
+    let mut members = Vec::new(alloc);
+    for (member, mark) in marks.iter().enumerate() {
+        if *mark {
+            members.push(member)?;
+        }
+    }
+    Ok(members)
+}
+
+/// The least assignment of the goals of a board to boxes on some squares, or a crowd of them.
+fn assign_to(alloc: Global, tables: &Tables, goals: usize, boxes: &[Sq]) -> Result<Match, Memory>
+    requires accepted { IsAccepted tables.now.board }
+    requires goals { goals ≡ length (goals_of tables.now.board) }
+    requires exist { All (λ square. square < length tables.now.board.area) boxes.now }
+    requires few { length boxes.now ≤ 128 }
+    ensures { IfOk result (IsMatch tables.now.board boxes.now) }
+{
+    let costs = Costs::of(alloc, tables, goals, boxes)?;
+    let search = Search::new(alloc, boxes.len(), goals)?;
+    match match_all(&costs, search)? {
+        Found::Whole(search) => Ok(priced(search)),
+        Found::Short(search) => Ok(Match::Crowd {
+            members: marked(alloc, &search.met)?,
+        }),
+    }
+}
+
+/// The prices and goals of a search that has a goal for each box.
+fn priced(search: Search) -> Match
+    requires small { sum search.u.items < 2 ^ 32 }
+    requires covered { sum search.v.items ≤ sum search.u.items }
+    ensures { HasPrices search result }
+{
+    let total = total(&search.u, &search.v);
+    let Search {
+        u,
+        v,
+        goal_of,
+        branches: _,
+        met: _,
+        taken: _,
+        slacks: _,
+        takers: _,
+    } = search;
+    Match::Prices {
+        u,
+        v,
+        total,
+        goal_of,
+    }
+}

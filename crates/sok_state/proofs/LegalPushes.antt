@@ -1,0 +1,142 @@
+-- Which pushes are legal from some position of a state, and where they lead.
+use Rattle.std.proofs.Common.{ℕ, ◌≡◌, ◌<◌, refl, sym, ap, ◌∙◌, subst, List, true, false, true≢false, Some, Contains, Result, Ok, Err, IfOk, length}
+use Rattle.std.specs.List.Sorted.{IsStrictlyIncreasing}
+use Rattle.std.proofs.lemmas.Option.{same_Some, option_and_then_some}
+use Rattle.std.proofs.lemmas.List.Elements.{All-contains}
+use Rattle.sok_rules.specs.declared.cell.Dir.{Dir}
+use Rattle.sok_rules.specs.Squares.{next, opposite, same_spot}
+use Rattle.sok_rules.specs.Levels.{IsProper}
+use Rattle.sok_rules.specs.Play.{After, Position, moved}
+use Rattle.sok_rules.specs.States.{Same}
+use Rattle.sok_rules.proofs.Spots.{next-opposite, opposite-twice, apart_next, same_spot-refl}
+use Rattle.sok_rules.proofs.Steps.{push_step, step-box}
+use Rattle.sok_rules.proofs.Walking.{boxes-Same}
+use Rattle.sok_board.specs.Area.{Numbered, IsArea, InArea, spot_of, number_of, position_of, beside}
+use Rattle.sok_board.proofs.AreaLaws.{InArea-next, InArea-spot_of, number-InArea, spot_of-number_of}
+use Rattle.sok_board.proofs.Beside.{beside-is, beside-within}
+use Rattle.sok_board.proofs.Confined.{confines-play}
+use Rattle.sok_board.proofs.Inside.{InArea-open}
+use Rattle.sok_board.proofs.Positions.{known_box}
+use Rattle.sok_region.specs.BoxSets.{IsMoved}
+use Rattle.sok_region.specs.Regions.{IsPlaced, IsRegion}
+use Rattle.sok_state.specs.declared.key.Key.{Key}
+use Rattle.sok_state.specs.declared.push.Push.{Push}
+use Rattle.sok_state.specs.Keys.{IsKeyOf}
+use Rattle.sok_state.specs.Listing.{IsClear}
+use Rattle.sok_state.specs.Pushes.{LeadsTo, IsLegal}
+use Rattle.sok_state.proofs.Placed.{box_there, no_box}
+use Rattle.sok_state.proofs.Moves.{boxes_moved, IsPlaced-moved}
+use Rattle.sok_state.proofs.States.{key_position}
+
+-- the square beside a numbered one
+beside-next : (b : Numbered) (d : Dir) (n m : ℕ) → beside b n d ≡ Some m → next d (spot_of b n) ≡ Some (spot_of b m)
+beside-next b d n m is = option_and_then_some (number_of b) (next d (spot_of b n)) m is (λ s ahead number. ahead ∙ ap Some (sym (spot_of-number_of b s m number).1))
+
+-- a number beside a square, and one that is beside it
+next_behind : (b : Numbered) (d : Dir) (n m : ℕ) → beside b n (opposite d) ≡ Some m → next d (spot_of b m) ≡ Some (spot_of b n)
+next_behind b d n m is = ap (λ e. next e (spot_of b m)) (sym (opposite-twice d)) ∙ next-opposite (opposite d) (spot_of b n) (spot_of b m) (beside-next b (opposite d) n m is)
+
+-- the man comes behind the box, and it can go ahead
+pub record IsFree (b : Numbered) (key : Key) (region : List ℕ) (push : Push) : Type 0 where
+  pub behind : ℕ
+  pub behind_is : beside b push.from (opposite push.dir) ≡ Some behind
+  pub comes : Contains region behind
+  pub onward : IsClear b key push
+
+module _ (b : Numbered) (area : IsArea b.rows b.area) (proper : IsProper b.rows) (key : Key) (region : List ℕ) (is : IsRegion b key.boxes key.least region) where
+  -- such a push of a box is legal
+  pub legal-free : (push : Push) → Contains key.boxes push.from → IsFree b key region push → IsLegal b key push
+  legal-free push among free =
+      let exists : push.from < length b.area = All-contains (λ n. n < length b.area) key.boxes push.from is.placed.boxes_exist among in
+      let there = (is.exact free.behind).0 free.comes in
+      let ahead_exists = beside-within b push.dir push.from free.onward.ahead free.onward.ahead_is in
+      let before : Position = position_of b free.behind key.boxes in
+      record {
+        after = record { man = spot_of b push.from; boxes = moved before.boxes (spot_of b push.from) (spot_of b free.onward.ahead) };
+        leads = record {
+          before = before;
+          same = there.1;
+          steps = step-box b.rows push.dir before (spot_of b push.from) (spot_of b free.onward.ahead) false (next_behind b push.dir push.from free.behind free.behind_is)
+              (InArea-open b.rows proper (spot_of b push.from) (InArea-spot_of b area push.from exists)) (box_there b free.behind key.boxes push.from among)
+              (beside-next b push.dir push.from free.onward.ahead free.onward.ahead_is) (InArea-open b.rows proper (spot_of b free.onward.ahead) (InArea-spot_of b area free.onward.ahead ahead_exists))
+              (no_box b area free.behind key.boxes is.placed.boxes_exist free.onward.ahead ahead_exists free.onward.clear);
+          man = refl;
+          exists = exists;
+        };
+      }
+
+-- a legal push is one of a box that can go ahead
+pub clear-legal : (b : Numbered) → IsArea b.rows b.area → (key : Key) → IsPlaced b key.boxes key.least → (push : Push) → IsLegal b key push → Contains key.boxes push.from × IsClear b key push
+clear-legal b area key placed push legal =
+    let after = legal.after in
+    let leads = legal.leads in
+    let kept = boxes-Same b.rows (key_position b key) leads.before leads.same in
+    let pushed = push_step b.rows push.dir leads.before (record { position = after; pushed = true }) leads.steps refl in
+    let from_is : pushed.from ≡ spot_of b push.from = ap (λ (y : After). y.position.man) (sym pushed.leads) ∙ leads.man in
+    let from_inside = subst (InArea b.rows) (sym from_is) (InArea-spot_of b area push.from leads.exists) in
+    let (ahead, ahead_number, ahead_exists, ahead_spot) = number-InArea b area pushed.to (InArea-next b.rows push.dir pushed.from pushed.to from_inside pushed.beyond pushed.to_open) in
+    let boxed : (key_position b key).boxes (spot_of b push.from) ≡ true = (λ i. sym kept i (sym from_is i)) ∙ pushed.box_there in
+    let free_ahead : leads.before.boxes (spot_of b ahead) ≡ false = ap leads.before.boxes ahead_spot ∙ pushed.to_free in (
+      known_box b area key.least key.boxes placed.boxes_exist push.from leads.exists boxed,
+      record {
+        ahead = ahead;
+        ahead_is = beside-is b push.dir push.from pushed.from pushed.to ahead (sym from_is) pushed.beyond ahead_number;
+        clear = λ on. true≢false (sym (box_there b key.least key.boxes ahead on) ∙ (λ i. sym kept i (spot_of b ahead)) ∙ free_ahead);
+      },
+    )
+
+-- and the man comes behind it
+pub free-legal : (b : Numbered) → IsArea b.rows b.area → (key : Key) (region : List ℕ) → IsRegion b key.boxes key.least region → (push : Push) → IsLegal b key push → IsFree b key region push
+free-legal b area key region is push legal =
+    let after = legal.after in
+    let leads = legal.leads in
+    let kept = boxes-Same b.rows (key_position b key) leads.before leads.same in
+    let pushed = push_step b.rows push.dir leads.before (record { position = after; pushed = true }) leads.steps refl in
+    let from_is : pushed.from ≡ spot_of b push.from = ap (λ (y : After). y.position.man) (sym pushed.leads) ∙ leads.man in
+    let man_inside = (confines-play b.rows (key_position b key) leads.before leads.same.0 (InArea-spot_of b area key.least is.placed.player_exists) leads.same.1).man in
+    let (behind, behind_number, behind_exists, behind_spot) = number-InArea b area leads.before.man man_inside in
+    let stands : leads.before ≡ position_of b behind key.boxes = λ i. record { man = sym behind_spot i; boxes = kept i } in
+    record {
+      behind = behind;
+      behind_is = beside-is b (opposite push.dir) push.from pushed.from leads.before.man behind (sym from_is) (next-opposite push.dir leads.before.man pushed.from pushed.ahead) behind_number;
+      comes = (is.exact behind).1 (behind_exists, subst (Same b.rows (key_position b key)) stands leads.same);
+      onward = (clear-legal b area key is.placed push legal).1;
+    }
+
+-- the position to which a push leads, by the numbers of its boxes
+pub LeadsTo-position : (b : Numbered) → IsArea b.rows b.area → (key : Key) (push : Push) (ahead : ℕ) (boxes : List ℕ) (after : Position) → IsPlaced b key.boxes key.least
+    → beside b push.from push.dir ≡ Some ahead → IsMoved key.boxes push.from ahead boxes → LeadsTo b key push after → position_of b push.from boxes ≡ after
+LeadsTo-position b area key push ahead boxes after placed ahead_is moves leads =
+    let kept = boxes-Same b.rows (key_position b key) leads.before leads.same in
+    let pushed = push_step b.rows push.dir leads.before (record { position = after; pushed = true }) leads.steps refl in
+    let from_is : pushed.from ≡ spot_of b push.from = ap (λ (y : After). y.position.man) (sym pushed.leads) ∙ leads.man in
+    let beyond : next push.dir pushed.from ≡ Some (spot_of b ahead) = ap (next push.dir) from_is ∙ beside-next b push.dir push.from ahead ahead_is in
+    let to_is : pushed.to ≡ spot_of b ahead = same_Some pushed.to (spot_of b ahead) (sym pushed.beyond ∙ beyond) in
+    let new : moved (key_position b key).boxes (spot_of b push.from) (spot_of b ahead) ≡ (position_of b push.from boxes).boxes =
+    boxes_moved b area key.least push.from key.boxes boxes push.from ahead placed.boxes_exist leads.exists (beside-within b push.dir push.from ahead ahead_is) moves in
+    let came : after.boxes ≡ moved (key_position b key).boxes (spot_of b push.from) (spot_of b ahead) =
+    ap (λ (y : After). y.position.boxes) pushed.leads ∙ (λ i. moved (kept i) (from_is i) (to_is i)) in
+    λ i. record { man = sym leads.man i; boxes = sym (came ∙ new) i }
+
+-- a square and the one beside it have different numbers
+pub beside-apart : (b : Numbered) (d : Dir) (n m : ℕ) → beside b n d ≡ Some m → n ≡ m → ⊥
+beside-apart b d n m is same =
+    let apart = apart_next d (spot_of b n) (spot_of b m) (beside-next b d n m is) in
+    true≢false (sym (same_spot-refl (spot_of b n)) ∙ ap (λ k. same_spot (spot_of b n) (spot_of b k)) same ∙ apart)
+
+-- the square ahead is the one that is clear
+pub clear_ahead : (b : Numbered) (key : Key) (push : Push) → IsClear b key push → (ahead : ℕ) → beside b push.from push.dir ≡ Some ahead → Contains key.boxes ahead → ⊥
+clear_ahead b key push clear ahead is = subst (λ n. Contains key.boxes n → ⊥) (same_Some clear.ahead ahead (sym clear.ahead_is ∙ is)) clear.clear
+
+-- after a legal push the man stands where the box stood, and the boxes are one rising list
+pub IsPlaced-after : (b : Numbered) → IsArea b.rows b.area → (key : Key) → IsPlaced b key.boxes key.least → (push : Push) (ahead : ℕ) (boxes : List ℕ) → IsLegal b key push
+    → beside b push.from push.dir ≡ Some ahead → IsMoved key.boxes push.from ahead boxes → IsStrictlyIncreasing boxes → IsPlaced b boxes push.from
+IsPlaced-after b area key placed push ahead boxes legal ahead_is moves rising =
+    IsPlaced-moved b area key.least push.from key.boxes boxes push.from ahead placed.boxes_exist legal.leads.exists (beside-within b push.dir push.from ahead ahead_is) moves
+    (beside-apart b push.dir push.from ahead ahead_is) rising
+
+-- the key of the position with these numbers is that of each position to which the push leads
+pub keys_after : {E : Type 0} (b : Numbered) (key : Key) (push : Push) (boxes : List ℕ) (r : Result Key E) → IfOk r (IsKeyOf b (position_of b push.from boxes))
+    → ((after : Position) → LeadsTo b key push after → position_of b push.from boxes ≡ after) → IfOk r (λ next. (after : Position) → LeadsTo b key push after → IsKeyOf b after next)
+keys_after b key push boxes (Ok next) is leads = λ after led. subst (λ x. IsKeyOf b x next) (leads after led) is
+keys_after b key push boxes (Err fault) is leads = tt

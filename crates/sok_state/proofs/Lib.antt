@@ -1,0 +1,6 @@
+pub mod Keyed
+pub mod Placed
+pub mod Moves
+pub mod States
+pub mod LegalPushes
+pub mod Listed

@@ -1,0 +1,87 @@
+-- Boxes after a push, by their numbers.
+use Rattle.std.proofs.Common.{ℕ, ◌≡◌, ◌<◌, inl, inr, refl, sym, ap, ◌∙◌, subst, List, Bool, true, false, true≢false, All, length, get_or, if◌then◌else◌}
+use Rattle.std.specs.Cmp.{both_ways}
+use Rattle.std.proofs.lemmas.Bool.{cases_Bool}
+use Rattle.std.proofs.lemmas.List.Elements.{All-contains, Contains-get_or}
+use Rattle.std.specs.List.Sorted.{IsStrictlyIncreasing}
+use Rattle.sok_rules.specs.declared.cell.Spot.{Spot}
+use Rattle.sok_rules.specs.Squares.{same_spot}
+use Rattle.sok_rules.specs.Play.{moved}
+use Rattle.sok_rules.proofs.Spots.{same_spot-is, same_spot-refl}
+use Rattle.sok_board.specs.Area.{Numbered, IsArea, InArea, spot_of, position_of, is_decoration}
+use Rattle.sok_board.proofs.Accepted.{decoration-outside}
+use Rattle.sok_board.proofs.AreaLaws.{InArea-spot_of, same_number}
+use Rattle.sok_region.specs.BoxSets.{IsMoved}
+use Rattle.sok_region.specs.Regions.{IsPlaced}
+use Rattle.sok_state.proofs.Placed.{box_there, box_cases, decoration_there}
+
+moved-to : (boxes : Spot → Bool) (from to s : Spot) → same_spot s to ≡ true → moved boxes from to s ≡ true
+unfolding moved
+moved-to boxes from to s there = ap (λ b. if b then true else if same_spot s from then false else boxes s) there
+
+moved-from : (boxes : Spot → Bool) (from to s : Spot) → same_spot s to ≡ false → same_spot s from ≡ true → moved boxes from to s ≡ false
+unfolding moved
+moved-from boxes from to s elsewhere left =
+    ap (λ b. if b then true else if same_spot s from then false else boxes s) elsewhere ∙ ap (λ b. if b then false else boxes s) left
+
+moved-other : (boxes : Spot → Bool) (from to s : Spot) → same_spot s to ≡ false → same_spot s from ≡ false → moved boxes from to s ≡ boxes s
+unfolding moved
+moved-other boxes from to s elsewhere stays =
+    ap (λ b. if b then true else if same_spot s from then false else boxes s) elsewhere ∙ ap (λ b. if b then false else boxes s) stays
+
+-- where a box stands that was there, or has come
+moved-there : (boxes : Spot → Bool) (from to s : Spot) → boxes s ≡ true → (s ≡ from → ⊥) → moved boxes from to s ≡ true
+moved-there boxes from to s there other = elim (cases_Bool (same_spot s to)) [
+  | inl come ↦ moved-to boxes from to s come
+  | inr elsewhere ↦ elim (cases_Bool (same_spot s from)) [
+    | inl left ↦ absurd (other (same_spot-is s from left))
+    | inr stays ↦ moved-other boxes from to s elsewhere stays ∙ there
+  ]
+]
+
+module _ (b : Numbered) (area : IsArea b.rows b.area) (player other : ℕ) (boxes after : List ℕ) (from to : ℕ) (exist : All (λ n. n < length b.area) boxes)
+    (from_exists : from < length b.area) (to_exists : to < length b.area) (moves : IsMoved boxes from to after) where
+  forth : (s : Spot) → moved (position_of b player boxes).boxes (spot_of b from) (spot_of b to) s ≡ true → (position_of b other after).boxes s ≡ true
+  forth s there = elim (cases_Bool (same_spot s (spot_of b to))) [
+    | inl come ↦ subst (λ t. (position_of b other after).boxes t ≡ true) (sym (same_spot-is s (spot_of b to) come)) (box_there b other after to ((moves to).1 (inl refl)))
+    | inr elsewhere ↦ elim (cases_Bool (same_spot s (spot_of b from))) [
+      | inl left ↦ absurd (true≢false (sym there ∙ moved-from (position_of b player boxes).boxes (spot_of b from) (spot_of b to) s elsewhere left))
+      | inr stays ↦ elim (box_cases b player boxes s (sym (moved-other (position_of b player boxes).boxes (spot_of b from) (spot_of b to) s elsewhere stays) ∙ there)) [
+        | inr decoration ↦ decoration_there b other after s decoration
+        | inl (n, among, is) ↦
+            let differs : n ≡ from → ⊥ = λ same. true≢false (sym (same_spot-refl s) ∙ ap (same_spot s) (is ∙ ap (spot_of b) same) ∙ stays) in
+            subst (λ t. (position_of b other after).boxes t ≡ true) (sym is) (box_there b other after n ((moves n).1 (inr (among, differs))))
+      ]
+    ]
+  ]
+
+  outside : (s : Spot) (n : ℕ) → n < length b.area → is_decoration b s ≡ true → s ≡ spot_of b n → ⊥
+  outside s n within decoration is = (decoration-outside b area s decoration).1 (subst (InArea b.rows) (sym is) (InArea-spot_of b area n within))
+
+  back : (s : Spot) → (position_of b other after).boxes s ≡ true → moved (position_of b player boxes).boxes (spot_of b from) (spot_of b to) s ≡ true
+  back s there = elim (box_cases b other after s there) [
+    | inr decoration ↦ moved-there (position_of b player boxes).boxes (spot_of b from) (spot_of b to) s (decoration_there b player boxes s decoration) (outside s from from_exists decoration)
+    | inl (n, among, is) ↦ elim ((moves n).0 among) [
+      | inl come ↦ moved-to (position_of b player boxes).boxes (spot_of b from) (spot_of b to) s (ap (same_spot s) (sym (is ∙ ap (spot_of b) come)) ∙ same_spot-refl s)
+      | inr (was, differs) ↦
+          let within = All-contains (λ n. n < length b.area) boxes n exist was in
+          moved-there (position_of b player boxes).boxes (spot_of b from) (spot_of b to) s (ap (position_of b player boxes).boxes is ∙ box_there b player boxes n was)
+          (λ same. differs (same_number b area n from within from_exists (sym is ∙ same)))
+    ]
+  ]
+
+  -- the boxes of the new numbers are the old ones with one moved
+  pub boxes_moved : moved (position_of b player boxes).boxes (spot_of b from) (spot_of b to) ≡ (position_of b other after).boxes
+  boxes_moved = λ i s. both_ways (moved (position_of b player boxes).boxes (spot_of b from) (spot_of b to) s) ((position_of b other after).boxes s) (forth s) (back s) i
+
+  -- with the man where the box stood they make a position
+  pub IsPlaced-moved : (from ≡ to → ⊥) → IsStrictlyIncreasing after → IsPlaced b after from
+  IsPlaced-moved apart rising = record {
+    rising = rising;
+    boxes_exist = λ k d within. elim ((moves (get_or after k d)).0 (Contains-get_or after k d within)) [
+      | inl come ↦ subst (λ m. m < length b.area) (sym come) to_exists
+      | inr (was, _) ↦ All-contains (λ n. n < length b.area) boxes (get_or after k d) exist was
+    ];
+    player_exists = from_exists;
+    free = λ among. elim ((moves from).0 among) [ inl same ↦ apart same | inr (_, differs) ↦ differs refl ];
+  }

@@ -1,0 +1,4 @@
+pub mod Keys
+pub mod Listing
+pub mod Pushes
+pub mod Tables

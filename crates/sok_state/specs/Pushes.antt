@@ -1,0 +1,33 @@
+-- The pushes that are legal from some position of a state.
+use Rattle.std.specs.Prelude.{ℕ, ◌≡◌, ◌<◌, ◌⊎◌, Some, true, length}
+use Rattle.sok_rules.specs.declared.cell.Dir.{Dir}
+use Rattle.sok_rules.specs.declared.cell.Dir.TheVariants.{Left, Up, Right, Down}
+use Rattle.sok_rules.specs.Play.{Position, step}
+use Rattle.sok_rules.specs.States.{Same}
+use Rattle.sok_board.specs.Area.{Numbered, spot_of, position_of}
+use Rattle.sok_state.specs.declared.key.Key.{Key}
+use Rattle.sok_state.specs.declared.push.Push.{Push}
+
+-- the push is legal from a position of the state and leads to another: the man ends where the box stood
+pub record LeadsTo (b : Numbered) (key : Key) (push : Push) (after : Position) : Type 0 where
+  pub before : Position
+  pub same : Same b.rows (position_of b key.least key.boxes) before
+  pub steps : step b.rows push.dir before ≡ Some (record { position = after; pushed = true })
+  pub man : after.man ≡ spot_of b push.from
+  pub exists : push.from < length b.area
+
+-- the push is legal from some position of the state
+pub record IsLegal (b : Numbered) (key : Key) (push : Push) : Type 0 where
+  pub after : Position
+  pub leads : LeadsTo b key push after
+
+-- left, up, right, down
+abbrev pub rank : Dir → ℕ
+rank Left = 0
+rank Up = 1
+rank Right = 2
+rank Down = 3
+
+-- by the squares of the boxes, and for one box by the directions
+abbrev pub Precedes : Push → Push → Type 0
+Precedes p q = (p.from < q.from) ⊎ ((p.from ≡ q.from) × (rank p.dir < rank q.dir))

@@ -1,0 +1,90 @@
+//! The key of a state.
+
+ghost use Rattle.std.specs.Prelude.{◌≡◌, ◌==◌, ◌&&◌, ◌++◌, IfOk};
+ghost use Rattle.sok_board.specs.Area.{position_of};
+ghost use Rattle.sok_region.specs.Regions.{IsPlaced};
+ghost use Rattle.sok_state.specs.Keys.{IsKey, IsKeyOf, TellsState};
+ghost use Rattle.std.specs.Hash as fed;
+ghost use Rattle.std.specs.Cmp.Rules.{comparing, hashing};
+ghost use Rattle.std.proofs.Common.{rules};
+ghost use lib.Pointwise.{pointwise};
+
+use sok_board::area::Sq;
+use sok_board::board::Board;
+use sok_region::box_set::BoxSet;
+use sok_region::region::Region;
+use sok_rules::fault::Memory;
+use std::alloc::Global;
+use std::hash::{Hash, Hasher};
+
+/// A state: the squares of its boxes, and the least square that the player can walk to. Positions
+/// of a board are the same state exactly where their keys are equal.
+#[derive(Debug, Drop)]
+pub struct Key {
+    pub boxes: BoxSet,
+    pub least: Sq,
+}
+
+impl Key {
+    /// The key of the state in which boxes stand on some squares and the player on another. It
+    /// refuses only for want of memory.
+    pub fn of(alloc: Global, board: &Board, boxes: &BoxSet, player: Sq) -> Result<Key, Memory>
+        requires { IsPlaced board.now boxes.now player }
+        ensures boxes { IfOk result (λ key. key.boxes ≡ boxes.now) }
+        ensures key { IfOk result (IsKeyOf board.now (position_of board.now player boxes.now)) }
+        ensures of_board { IfOk result (IsKey board.now) }
+        ensures tells { IfOk result (TellsState board.now player boxes.now) }
+    {
+        key_of(alloc, board, boxes.copy(alloc)?, player)
+    }
+
+    /// A copy of the key.
+    pub fn copy(&self, alloc: Global) -> Result<Key, Memory>
+        ensures { IfOk result (λ key. key ≡ self.now) }
+    {
+        Ok(Key {
+            boxes: self.boxes.copy(alloc)?,
+            least: self.least,
+        })
+    }
+}
+
+/// The key with these boxes.
+pub(crate) fn key_of(alloc: Global, board: &Board, boxes: BoxSet, player: Sq) -> Result<Key, Memory>
+    requires { IsPlaced board.now boxes player }
+    ensures boxes { IfOk result (λ key. key.boxes ≡ boxes) }
+    ensures key { IfOk result (IsKeyOf board.now (position_of board.now player boxes)) }
+    ensures of_board { IfOk result (IsKey board.now) }
+    ensures tells { IfOk result (TellsState board.now player boxes) }
+{
+    // The clauses of `level` tell that a board's level is accepted.
+    let _level = board.level();
+    let region = Region::of(alloc, board, &boxes, player)?;
+    let least = region.least();
+    Ok(Key { boxes, least })
+}
+
+impl PartialEq for Key {
+    ghost eq = { λ a b. (a.least == b.least) && pointwise ◌==◌ a.boxes b.boxes };
+
+    ghost laws = { Prim.search (comparing, rules) };
+
+    fn eq(&self, other: &Key) -> bool {
+        self.least == other.least && self.boxes.list() == other.boxes.list()
+    }
+}
+
+impl Eq for Key {
+    ghost laws = { Prim.search (comparing, rules) };
+}
+
+impl Hash for Key {
+    ghost hash_input = { λ key. fed.u16 key.least ++ fed.slice fed.u16 key.boxes };
+
+    ghost respects_eq = { Prim.search (hashing, rules) };
+
+    fn hash<H: Hasher>(&self, state: &mut H) {
+        self.least.hash(state);
+        self.boxes.list().hash(state);
+    }
+}

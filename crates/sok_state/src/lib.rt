@@ -1,0 +1,16 @@
+//! States: positions that differ by walking alone, known by a key.
+//!
+//! | Module | What it holds |
+//! |---|---|
+//! | `key` | the boxes of a state, and the least square that the player can walk to |
+//! | `law` | keys tell states apart |
+//! | `legal` | the pushes that are legal from a state, and the states that they lead to |
+//! | `push` | a push, by the square of its box and its direction |
+//! | `table` | keys in the order of their insertion, with depths |
+#![tactic(auto)]
+
+pub mod key;
+pub mod law;
+pub mod legal;
+pub mod push;
+pub mod table;
