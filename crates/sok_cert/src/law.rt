@@ -1,6 +1,9 @@
-//! Laws of certificates' texts.
+//! Laws of certificates and of their texts.
 
 ghost use Rattle.std.specs.Prelude.{◌≡◌, ℕ, List};
+ghost use Rattle.sok_rules.specs.Levels.{IsProper};
+ghost use Rattle.sok_board.specs.Area.{IsAccepted, Numbered};
+ghost use Rattle.sok_cert.specs.Closed.{ShowsClaims};
 ghost use Rattle.sok_cert.specs.Text.{Fits, Spells, text_of};
 ghost use Rattle.sok_cert.specs.Reading.{GoesWrong};
 ghost use Rattle.sok_cert.specs.declared.claim.Claim.{Claim};
@@ -18,4 +21,12 @@ pub fn texts_have_one_reading()
     ensures spelled { (text : List ℕ) (c d : Claim) (es fs : List Entry) → Spells text c es → Spells text d fs → (c ≡ d) × (es ≡ fs) }
     ensures wrong { (text : List ℕ) (f g : CertFault) → GoesWrong text f → GoesWrong text g → f ≡ g }
     ensures apart { (text : List ℕ) (claim : Claim) (entries : List Entry) (fault : CertFault) → Spells text claim entries → GoesWrong text fault → ⊥ }
+{}
+
+/// A closed certificate shows its claim. One of its positions is the start, at depth 0, and each of
+/// them is barred with a reason, or has a box off a goal and every push from it, after any walk,
+/// leads to one of them, at most one deeper. Then no text of letters solves the level with fewer
+/// pushes than are claimed, or none solves it at all.
+pub fn closed_certificates_are_true()
+    ensures { (b : Numbered) → IsAccepted b → IsProper b.rows → ShowsClaims b }
 {}

@@ -1,17 +1,18 @@
 -- One round of a search: a nearest goal, the prices raised to it, and what is told of it.
 use Rattle.std.proofs.Common.{ℕ, ◌≡◌, ◌<◌, ◌≤◌, ◌-◌, ◌∙◌, refl, sym, ap, subst, List, Option, Some, None, Bool, true, arith, length, get_or, set}
+use Rattle.std.proofs.lemmas.List.{get_or_default}
 use Rattle.sok_price.specs.declared.costs.Costs.{Costs}
 use Rattle.sok_price.specs.declared.search.Branch.{Branch}
 use Rattle.sok_price.specs.declared.slacks.Slack.{Slack}
 use Rattle.sok_price.specs.declared.slacks.Near.{Near}
 use Rattle.sok_price.specs.Costs.{cost_of, AreCosts}
 use Rattle.sok_price.specs.Matchings.{Costing, IsTight, TellsTaker}
-use Rattle.sok_price.specs.Searches.{Growth, IsGrowing, IsReached, IsRaised, joined}
+use Rattle.sok_price.specs.Searches.{Growth, IsGrowing, IsNext, IsReached, IsRaised, joined}
 use Rattle.sok_price.specs.Slacks.{IsNearest}
 use Rattle.sok_price.specs.Trees.{branch_at, is_marked, count_of}
 use Rattle.sok_price.proofs.Joining.{IsJoining}
 use Rattle.sok_price.proofs.Marks.{count_of-set, count_of-lt}
-use Rattle.sok_price.proofs.Raising.{AreRaised, IsGrowing-raised, tight-near}
+use Rattle.sok_price.proofs.Raising.{AreRaised, AreShort, IsGrowing-raised, tight-near}
 
 -- a nearest goal of lists that are the same
 pub nearest-same : (taken taken' : List Bool) (slacks slacks' : List (Option Slack)) (goals : ℕ) (near : Near) → taken' ≡ taken → slacks' ≡ slacks → length slacks ≡ goals → IsNearest taken' slacks' (length slacks') near → IsNearest taken slacks goals near
@@ -43,37 +44,57 @@ tight-raised : (cost : Costing) (members goals : ℕ) (g : Growth) (near : Near)
 tight-raised cost members goals g near after are =
     subst (λ (branches : List Branch). IsTight cost after.u after.v (branch_at branches near.slack.from).member near.goal) (sym (ap (λ (h : Growth). h.branches) are.raised.same)) (tight-near cost members goals g near after are)
 
--- a goal that no box has is reached
-pub IsReached-raised : (cost : Costing) (members goals : ℕ) (g : Growth) (near : Near) (after : Growth) → AreRaised cost members goals g near after → get_or after.takers near.goal None ≡ None → IsReached cost after near
-IsReached-raised cost members goals g near after are none =
-    let growing = IsGrowing-raised cost members goals g near after are in
+-- the goal that the prices were raised to is next
+pub IsNext-raised : (cost : Costing) (members goals : ℕ) (g : Growth) (near : Near) (after : Growth) → AreRaised cost members goals g near after → IsNext cost after near
+IsNext-raised cost members goals g near after are =
     let within = are.nearest.within in
-    let v_long = growing.matched.a_price_a_goal in
-    let takers_long = growing.roomy.takers in
+    let v_long = (IsGrowing-raised cost members goals g near after are).matched.a_price_a_goal in
     record {
       within = omega (arith, within, v_long);
-      free = subst (TellsTaker after.goal_of (length after.goal_of) near.goal) none (growing.tells near.goal (omega (arith, within, takers_long)));
+      outside = ap (λ (h : Growth). is_marked h.taken near.goal) are.raised.same ∙ are.nearest.free;
       from = from-raised cost members goals g near after are;
       tight = tight-raised cost members goals g near after are;
     }
 
--- a goal that a box has joins, with the box
-pub IsJoining-raised : (cost : Costing) (members goals : ℕ) (g : Growth) (near : Near) (after : Growth) (member : ℕ) → AreRaised cost members goals g near after → get_or after.takers near.goal None ≡ Some member → IsJoining cost members goals after near member
-IsJoining-raised cost members goals g near after member are has =
-    let growing = IsGrowing-raised cost members goals g near after are in
-    let within = are.nearest.within in
+-- a next goal that no box has is reached
+pub IsReached-next : (cost : Costing) (members goals : ℕ) (g : Growth) (near : Near) → IsGrowing cost members goals members g → IsNext cost g near → get_or g.takers near.goal None ≡ None → IsReached cost g near
+IsReached-next cost members goals g near growing next none =
+    let within = next.within in
+    let v_long = growing.matched.a_price_a_goal in
     let takers_long = growing.roomy.takers in
-    let tells = subst (TellsTaker after.goal_of (length after.goal_of) near.goal) has (growing.tells near.goal (omega (arith, within, takers_long))) in
     record {
-      short = are.short;
+      within = within;
+      free = subst (TellsTaker g.goal_of (length g.goal_of) near.goal) none (growing.tells near.goal (omega (arith, within, v_long, takers_long)));
+      from = next.from;
+      tight = next.tight;
+    }
+
+-- a next goal that a box has joins, with the box
+pub IsJoining-next : (cost : Costing) (members goals : ℕ) (g : Growth) (near : Near) (member : ℕ) → AreShort cost → IsGrowing cost members goals members g → IsNext cost g near → get_or g.takers near.goal None ≡ Some member
+    → IsJoining cost members goals g near member
+IsJoining-next cost members goals g near member short growing next has =
+    let within = next.within in
+    let v_long = growing.matched.a_price_a_goal in
+    let takers_long = growing.roomy.takers in
+    let tells = subst (TellsTaker g.goal_of (length g.goal_of) near.goal) has (growing.tells near.goal (omega (arith, within, v_long, takers_long))) in
+    record {
+      short = short;
       growing = growing;
       earlier = tells.0;
       has = tells.1;
-      within = within;
-      free = ap (λ (h : Growth). is_marked h.taken near.goal) are.raised.same ∙ are.nearest.free;
-      from = from-raised cost members goals g near after are;
-      tight = tight-raised cost members goals g near after are;
+      within = omega (arith, within, v_long);
+      free = next.outside;
+      from = next.from;
+      tight = next.tight;
     }
+
+-- what is kept of the next goal's taker, from the entry that is read
+pub taker-next : (cost : Costing) (members goals : ℕ) (g : Growth) (near : Near) (entry taker : Option ℕ) → IsGrowing cost members goals members g → IsNext cost g near → entry ≡ get_or g.takers near.goal entry → entry ≡ taker → get_or g.takers near.goal None ≡ taker
+taker-next cost members goals g near entry taker growing next read is =
+    let within = next.within in
+    let v_long = growing.matched.a_price_a_goal in
+    let takers_long = growing.roomy.takers in
+    get_or_default g.takers near.goal None entry (omega (arith, within, v_long, takers_long)) ∙ sym read ∙ is
 
 pub joined-goal_of : (near : Near) (member : ℕ) (g : Growth) → (joined near member g).goal_of ≡ g.goal_of
 unfolding joined

@@ -29,12 +29,12 @@ pub record IsMatched (cost : Costing) (members goals : ℕ) (u v goal_of : List 
   pub exact : AreTight cost u v goal_of
   pub idle : (goal : ℕ) → goal < goals → (Contains goal_of goal → ⊥) → slice_index v goal ≡ 0
 
--- prices between two searches
+-- prices between two searches: those of a tree are at most 1,024 apart for each of its goals, and the goal at the end costs nothing
 pub record AreLow (u v : List ℕ) : Type 0 where
   pub boxes : All (λ price. price ≤ 262144) u
   pub goals : All (λ price. price ≤ 262144) v
 
--- prices at all times
+-- prices at all times: while a tree grows they are as much above the price of the goal that it reached last
 pub record AreHigh (u v : List ℕ) : Type 0 where
   pub boxes : All (λ price. price ≤ 524288) u
   pub goals : All (λ price. price ≤ 524288) v

@@ -99,6 +99,18 @@ pub record IsReached (cost : Costing) (g : Growth) (near : Near) : Type 0 where
 abbrev pub IsClosed : Growth → Type 0
 IsClosed g = (goal : ℕ) → goal < length g.v → is_marked g.taken goal ≡ false → slack_at g.slacks goal ≡ None
 
+-- a goal outside a tree lies at an exact price from a box of it
+pub record IsNext (cost : Costing) (g : Growth) (near : Near) : Type 0 where
+  pub within : near.goal < length g.v
+  pub outside : is_marked g.taken near.goal ≡ false
+  pub from : near.slack.from < length g.branches
+  pub tight : IsTight cost g.u g.v (branch_at g.branches near.slack.from).member near.goal
+
+-- what is told of the goals outside a tree: the next one to be reached, and None where none is
+abbrev pub TellsNext : Costing → Growth → Option Near → Type 0
+TellsNext cost g None = IsClosed g
+TellsNext cost g (Some near) = IsNext cost g near
+
 -- how a search ends: at a goal that no box has, or where there is no way on
 abbrev pub TellsEnd : Costing → Growth → Option Near → Type 0
 TellsEnd cost g None = IsClosed g

@@ -1,6 +1,6 @@
 //! The least assignment of goals to boxes.
 
-ghost use Rattle.std.specs.Prelude.{ℕ, ◌≡◌, ◌<◌, ◌≤◌, ◌+◌, ◌^◌, All, IfOk, false, length, sum, slice_index_or};
+ghost use Rattle.std.specs.Prelude.{◌≡◌, ◌<◌, ◌≤◌, ◌+◌, ◌^◌, All, IfOk, length, sum};
 ghost use Rattle.sok_board.specs.Area.{IsAccepted, goals_of};
 ghost use Rattle.sok_price.specs.Matches.{IsMatch, HasPrices};
 ghost use Rattle.sok_price.specs.Marked.{ListsMarked};

@@ -1,9 +1,9 @@
 //! The search for a goal for one more box.
 
-ghost use Rattle.std.specs.Prelude.{ℕ, ◌≡◌, ◌<◌, ◌≤◌, ◌+◌, [], All, IfOk, IfSome, IfNone, Some, None, false, length, replicate, slice_index, slice_index_or, if◌then◌else◌};
+ghost use Rattle.std.specs.Prelude.{ℕ, ◌≡◌, ◌<◌, ◌≤◌, ◌+◌, [], All, IfOk, Some, None, false, length, replicate, slice_index, slice_index_or, if◌then◌else◌};
 ghost use Rattle.sok_price.specs.Costs.{cost_of, AreCosts};
-ghost use Rattle.sok_price.specs.Matchings.{Costing, AreHigh, AreTight, IsMatched, TellTakers};
-ghost use Rattle.sok_price.specs.Searches.{growth_of, newest, joined, IsBegun, IsGrowing, IsRaised, IsReached, IsRematched, TellsEnd, IsReady, TellsFound};
+ghost use Rattle.sok_price.specs.Matchings.{Costing, AreHigh, IsMatched, TellTakers};
+ghost use Rattle.sok_price.specs.Searches.{growth_of, newest, joined, IsBegun, IsGrowing, IsRaised, IsReached, IsRematched, TellsEnd, TellsNext, IsReady, TellsFound};
 ghost use Rattle.sok_price.specs.Trees.{GoesTight, IsTree};
 
 use crate::costs::Costs;
@@ -147,7 +147,7 @@ fn raise_to(near: Near, mut search: Search) -> Search
     requires met { length search.met.items ≡ length search.u.items }
     requires taken { length search.taken.items ≡ length search.v.items }
     requires high { AreHigh search.u.items search.v.items }
-    requires small { near.slack.amount ≤ 525312 }
+    requires small { near.slack.amount ≤ 524288 + 1024 }
     ensures { IsRaised near.slack.amount (growth_of search) (growth_of result) }
 {
     let by = near.slack.amount;
@@ -155,6 +155,23 @@ fn raise_to(near: Near, mut search: Search) -> Search
     raise(&mut search.v, &search.taken, by);
     lower(&mut search.slacks, by);
     search
+}
+
+/// Looks on from the tree, and raises its prices until the nearest goal outside it is reached. None
+/// where none is.
+fn widen(costs: &Costs, search: Search) -> (Search, Option<Near>)
+    requires costs { AreCosts costs.now }
+    requires growing { IsGrowing (cost_of costs.now) costs.now.members costs.now.goals (newest (growth_of search)) (growth_of search) }
+    ensures growing { IsGrowing (cost_of costs.now) costs.now.members costs.now.goals costs.now.members (growth_of result.0) }
+    ensures next { TellsNext (cost_of costs.now) (growth_of result.0) result.1 }
+    ensures goals { result.0.goal_of.items ≡ search.goal_of.items }
+    ensures taken { result.0.taken.items ≡ search.taken.items }
+{
+    let search = look_on(costs, search);
+    match nearest(&search.taken, &search.slacks) {
+        None => (search, None),
+        Some(near) => (raise_to(near, search), Some(near)),
+    }
 }
 
 /// Takes a goal that was reached, and the box that has it, into the tree.
@@ -184,16 +201,14 @@ pub(crate) fn grow(costs: &Costs, mut search: Search) -> Result<(Search, Option<
     ensures same { IfOk result (λ grown. grown.0.goal_of.items ≡ search.goal_of.items) }
 {
     'growing: loop {
-        search = look_on(costs, search);
-        match nearest(&search.taken, &search.slacks) {
+        let (widened, next) = widen(costs, search);
+        search = widened;
+        match next {
             None => return Ok((search, None)),
-            Some(near) => {
-                search = raise_to(near, search);
-                match search.takers[near.goal] {
-                    None => return Ok((search, Some(near))),
-                    Some(member) => search = join(near, member, search)?,
-                }
-            }
+            Some(near) => match search.takers[near.goal] {
+                None => return Ok((search, Some(near))),
+                Some(member) => search = join(near, member, search)?,
+            },
         }
     }
 }

@@ -1,6 +1,6 @@
 //! How much the prices of a tree may rise before a goal joins it.
 
-ghost use Rattle.std.specs.Prelude.{ℕ, ◌≡◌, ◌<◌, ◌≤◌, ◌+◌, ◌*◌, List, Option, Bool, All, IfSome, None, false, length, slice_index, slice_index_or};
+ghost use Rattle.std.specs.Prelude.{ℕ, ◌≡◌, ◌<◌, ◌≤◌, ◌+◌, List, Option, Bool, All, IfSome, None, false, length, slice_index, slice_index_or};
 ghost use Rattle.sok_price.specs.Costs.{cost_of, AreCosts};
 ghost use Rattle.sok_price.specs.Slacks.{closer, lowered, smaller, TellsNearest};
 

@@ -16,7 +16,8 @@ const CORRIDOR: &[u8] =
     b"sokoban-certificate 1\npushes 6\nx 0 4 1 5\nx 1 5 1 6\nb 2 6 1 7 4 0\nend\n";
 
 /// Entries of each form, of positions with up to three boxes.
-const ALL_FORMS: &[u8] = b"sokoban-certificate 1\nunsolvable\nx 0 12 2 1 3\ns 7 0 0\nb 0 0 2 8 10 1 1 0 0 0\nb 3 1 1 2 4\nc 0 12 2 1 3 2 0 1\nf 1000000 0 3 0 4 1000000 0\nend\n";
+const ALL_FORMS: &[u8] =
+    b"sokoban-certificate 1\nunsolvable\nx 0 12 2 1 3\ns 7 0 0\nb 0 0 2 8 10 1 1 0 0 0\nb 3 1 1 2 4\nc 0 12 2 1 3 2 0 1\nf 1000000 0 3 0 4 1000000 0\nend\n";
 
 /// The bytes that are written of a certificate that is read.
 fn written(rt: &impl Abort, alloc: Global, text: &[u8]) -> Result<Vec<u8>, Fail> {
@@ -68,7 +69,11 @@ fn corridor_cut_at_each_length(rt: HostRuntime) -> Result<(), Fail> {
             30..=67 => Some(CertFault::Truncated),
             _ => None,
         };
-        assert_eq!(rt; read(rt.alloc(), &CORRIDOR[..length]).err(), fault, "cut at {length}");
+        assert_eq!(rt;
+            read(rt.alloc(), &CORRIDOR[..length]).err(),
+            fault,
+            "cut at {length}"
+        );
     }
     Ok(())
 }
@@ -146,7 +151,11 @@ fn headers_of_another_form(rt: HostRuntime) {
         b"sokoban-certificate 1\nUnsolvable\nend\n",
         b"sokoban-certificate 1\nend\n",
     ] {
-        assert_eq!(rt; read(rt.alloc(), text).err(), Some(CertFault::Header), "in {text:?}");
+        assert_eq!(rt;
+            read(rt.alloc(), text).err(),
+            Some(CertFault::Header),
+            "in {text:?}"
+        );
     }
 }
 
@@ -183,7 +192,11 @@ fn lines_that_are_no_entries(rt: HostRuntime) -> Result<(), Fail> {
         b"end \n",
         b"End\n",
     ] {
-        assert_eq!(rt; fault_behind(rt.alloc(), line)?, Some(CertFault::Line(3)), "in {line:?}");
+        assert_eq!(rt;
+            fault_behind(rt.alloc(), line)?,
+            Some(CertFault::Line(3)),
+            "in {line:?}"
+        );
     }
     Ok(())
 }
@@ -213,12 +226,7 @@ fn first_fault_of_the_lines(rt: HostRuntime) -> Result<(), Fail> {
 }
 
 /// A certificate of one entry, with no claim of truth.
-fn single(
-    alloc: Global,
-    depth: u32,
-    boxes: &[u32],
-    reason: Reason,
-) -> Result<Cert, AllocError> {
+fn single(alloc: Global, depth: u32, boxes: &[u32], reason: Reason) -> Result<Cert, AllocError> {
     let mut entries = Vec::new(alloc);
     entries.push(Entry {
         depth,
@@ -235,7 +243,12 @@ fn numbers_past_the_limit_do_not_fit(rt: HostRuntime) -> Result<(), Fail> {
     let most = 1_000_000;
     let claim = Claim::Pushes(most);
     assert!(rt; fits(&claim, &single(alloc, most, &[most], Reason::Spent)?));
-    assert!(rt; !fits(&Claim::Pushes(most + 1), &single(alloc, 0, &[], Reason::Spent)?));
+    assert!(rt;
+        !fits(
+            &Claim::Pushes(most + 1),
+            &single(alloc, 0, &[], Reason::Spent)?
+        )
+    );
     assert!(rt; !fits(&claim, &single(alloc, most + 1, &[], Reason::Expanded)?));
     assert!(rt; !fits(&claim, &single(alloc, 0, &[0, most + 1], Reason::Expanded)?));
     for (u, v, fit) in [
@@ -253,7 +266,10 @@ fn numbers_past_the_limit_do_not_fit(rt: HostRuntime) -> Result<(), Fail> {
     }
     for (member, fit) in [(most, true), (most + 1, false)] {
         let members = Numbers::copied(alloc, &[member])?;
-        assert_eq!(rt; fits(&claim, &single(alloc, 0, &[3], Reason::Crowd { members })?), fit);
+        assert_eq!(rt;
+            fits(&claim, &single(alloc, 0, &[3], Reason::Crowd { members })?),
+            fit
+        );
     }
     Ok(())
 }
@@ -288,6 +304,9 @@ fn sixteen_mebibytes_of_entries(rt: HostRuntime) -> Result<(), Fail> {
     text.extend_from_slice(b"end\n")?;
     let (_claim, cert) = read(rt.alloc(), &text)?;
     assert_eq!(rt; cert.entries.len(), times);
-    assert_eq!(rt; written(&rt, rt.alloc(), &text)?.as_slice(), text.as_slice());
+    assert_eq!(rt;
+        written(&rt, rt.alloc(), &text)?.as_slice(),
+        text.as_slice()
+    );
     Ok(())
 }

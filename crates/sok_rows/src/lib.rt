@@ -4,6 +4,7 @@
 //! |---|---|
 //! | `board` | which levels a solver accepts, and their square numbers |
 //! | `certificates` | texts of certificates, read and written |
+//! | `checks` | certificates of worked levels, judged by the checker |
 //! | `levels` | which rows are a level |
 //! | `prices` | which goal each box could go to at the least cost |
 //! | `pushing` | how far a box is from each goal, and where it is stuck |
@@ -21,6 +22,8 @@
 mod board;
 #[cfg(test)]
 mod certificates;
+#[cfg(test)]
+mod checks;
 #[cfg(test)]
 mod levels;
 #[cfg(test)]

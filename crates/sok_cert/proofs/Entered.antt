@@ -1,0 +1,126 @@
+-- One entry more in the table.
+use Rattle.std.proofs.Common.{ℕ, ◌≡◌, ◌<◌, ◌+◌, ◌∙◌, ◌≢◌, inl, inr, refl, sym, ap, subst, List, [], ◌∷◌, ◌++◌, Some, None, Option, true, false, true≢false, is_some, MatchOption, All, AllPairs, Contains, arith, length, get_or, slice_get}
+use Rattle.std.specs.Map.{keys_of, values_of}
+use Rattle.std.proofs.lemmas.Bool.{cases_eq}
+use Rattle.std.proofs.lemmas.Option.{same_Some, slice_get_within, slice_get-get_or}
+use Rattle.std.proofs.lemmas.List.{get_or_default, get_or_push, length-append, length-map, map-append}
+use Rattle.sok_rules.specs.Levels.{IsProper}
+use Rattle.sok_board.specs.Area.{Numbered, IsArea}
+use Rattle.sok_board.proofs.Lists.{AllPairs-append}
+use Rattle.sok_region.proofs.Floods.{slice_get-append}
+use Rattle.sok_state.specs.declared.key.Key.{Key}
+use Rattle.sok_state.specs.Keys.{IsKeyOf}
+use Rattle.sok_state.specs.Tables.{Entries, Inserts, IsAt}
+use Rattle.sok_state.proofs.Placed.{IsStanding-placed}
+use Rattle.sok_state.proofs.States.{keys_equal, Same-keys}
+use Rattle.sok_cert.specs.declared.claim.Claim.{Claim}
+use Rattle.sok_cert.specs.declared.entry.Entry.{Entry}
+use Rattle.sok_cert.specs.Closed.{IsPosition, place_of}
+use Rattle.sok_cert.specs.Lookup.{IsEntered, IsTableOf}
+use Rattle.sok_cert.specs.Refusals.{AreFine, IsFine, IsNew, IsRepeated}
+use Rattle.sok_cert.proofs.Looking.{Contains-at}
+
+-- an entry whose key stands in the table repeats the one there
+pub IsRepeated-found : (b : Numbered) (claim : Claim) (entries : List Entry) (i : ℕ) (table : Entries) (e : Entry) (key : Key) (place : ℕ) → IsArea b.rows b.area → IsProper b.rows → i < length entries
+    → AreFine b claim entries i → IsTableOf b entries i table → IsPosition b e → IsKeyOf b (place_of b e) key → IsAt table key place → IsRepeated b entries i e
+IsRepeated-found b claim entries i table e key place area proper exists fine entered position is at =
+    let listed_keys = length-map table (λ (entry : Key × ℕ). entry.0) in
+    let key_within = slice_get_within (keys_of table) place key at in
+    let count = entered.count in
+    let within : place < i = omega (arith, key_within, listed_keys, count) in
+    let f = get_or entries place e in
+    let there : slice_get entries place ≡ Some f = slice_get-get_or entries place e (omega (arith, within, exists)) in
+    let entry = entered.entered place f within there in
+    let f_is : IsKeyOf b (place_of b f) key = subst (IsKeyOf b (place_of b f)) (same_Some entry.key key (sym entry.there ∙ at)) entry.is in
+    record {
+      position = position;
+      place = place;
+      earlier = f;
+      before = within;
+      there = there;
+      same = Same-keys b (place_of b f) (place_of b e) key (IsStanding-placed b area proper e.player e.boxes position.placed) f_is is;
+    }
+
+-- one whose key does not is new
+pub IsNew-absent : (b : Numbered) (claim : Claim) (entries : List Entry) (i : ℕ) (table : Entries) (e : Entry) (key : Key) → IsArea b.rows b.area → IsProper b.rows
+    → AreFine b claim entries i → IsTableOf b entries i table → IsKeyOf b (place_of b e) key → (Contains (keys_of table) key → ⊥) → IsNew b entries i e
+IsNew-absent b claim entries i table e key area proper fine entered is absent j f below there same =
+    let entry = entered.entered j f below there in
+    let stands = IsStanding-placed b area proper f.player f.boxes (fine j f below there).position.placed in
+    let equal : entry.key ≡ key = keys_equal b area (place_of b f) (place_of b e) entry.key key stands entry.is is same in
+    absent (subst (Contains (keys_of table)) equal (Contains-at (keys_of table) entry.key j entry.there))
+
+pub AreFine-more : (b : Numbered) (claim : Claim) (entries : List Entry) (i : ℕ) (e : Entry) → slice_get entries i ≡ Some e → AreFine b claim entries i → IsFine b claim entries i e → AreFine b claim entries (i + 1)
+AreFine-more b claim entries i e there fine one j f below f_there = elim (cases_eq j i) [
+  | inl last ↦
+      let is : e ≡ f = same_Some e f (sym there ∙ ap (slice_get entries) (sym last) ∙ f_there) in
+      subst (λ n. IsFine b claim entries n f) (sym last) (subst (IsFine b claim entries i) is one)
+  | inr other ↦ fine j f (omega (arith, below, other)) f_there
+]
+
+slice_get-last : {X : Type 0} (xs : List X) (x : X) → slice_get (xs ++ x ∷ []) (length xs) ≡ Some x
+slice_get-last xs x =
+    let longer = length-append xs (x ∷ []) in
+    slice_get-get_or (xs ++ x ∷ []) (length xs) x (omega (arith, longer)) ∙ ap Some (get_or_push xs x x (length xs) refl)
+
+entered-more : (b : Numbered) (table more : Entries) (i : ℕ) (e : Entry) → IsEntered b table i e → IsEntered b (table ++ more) i e
+entered-more b table more i e entry = record {
+  key = entry.key;
+  there = ap (λ keys. slice_get keys i) (map-append (λ (one : Key × ℕ). one.0) table more) ∙ slice_get-append (keys_of table) (keys_of more) i entry.key entry.there;
+  depth = ap (λ depths. slice_get depths i) (map-append (λ (one : Key × ℕ). one.1) table more) ∙ slice_get-append (values_of table) (values_of more) i e.depth entry.depth;
+  is = entry.is;
+}
+
+differs : (table : Entries) (key : Key) → (Contains (keys_of table) key → ⊥) → All (λ k. All (λ other. k ≢ other) (key ∷ [])) (keys_of table)
+differs table key absent = λ k d within n other_d n_within same.
+    let first : n ≡ 0 = omega (arith, n_within) in
+    absent (k, within, get_or_default (keys_of table) k key d within ∙ same ∙ ap (λ m. get_or (key ∷ []) m other_d) first)
+
+-- the key of an entry goes last
+pub IsTableOf-more : (b : Numbered) (entries : List Entry) (i : ℕ) (table after : Entries) (e : Entry) (key : Key) (index : ℕ) → slice_get entries i ≡ Some e → IsTableOf b entries i table → IsKeyOf b (place_of b e) key
+    → (Contains (keys_of table) key → ⊥) → Inserts table key e.depth index after → IsTableOf b entries (i + 1) after
+IsTableOf-more b entries i table after e key index there entered is absent (inl stays) = absurd (absent (Contains-at (keys_of table) key index stays.there))
+IsTableOf-more b entries i table after e key index there entered is absent (inr last) =
+    let entry : Key × ℕ = (key, e.depth) in
+    let more : Entries = entry ∷ [] in
+    let keys : keys_of (table ++ more) ≡ keys_of table ++ key ∷ [] = map-append (λ (one : Key × ℕ). one.0) table more in
+    let depths : values_of (table ++ more) ≡ values_of table ++ e.depth ∷ [] = map-append (λ (one : Key × ℕ). one.1) table more in
+    let longer = length-append table more in
+    let count = entered.count in
+    let key_count = length-map table (λ (one : Key × ℕ). one.0) in
+    let depth_count = length-map table (λ (one : Key × ℕ). one.1) in
+    subst (IsTableOf b entries (i + 1)) (sym last.more) (record {
+      count = omega (arith, longer, count);
+      distinct = subst (AllPairs (λ k other. k ≢ other)) (sym keys)
+          (AllPairs-append (λ k other. k ≢ other) (keys_of table) (key ∷ []) entered.distinct (λ n m d below within. absurd (omega (arith, below, within))) (differs table key absent));
+      entered = λ j f below f_there. elim (cases_eq j i) [
+        | inr other ↦ entered-more b table more j f (entered.entered j f (omega (arith, below, other)) f_there)
+        | inl same ↦
+            let f_is : e ≡ f = same_Some e f (sym there ∙ ap (slice_get entries) (sym same) ∙ f_there) in
+            let key_last : j ≡ length (keys_of table) = omega (arith, same, count, key_count) in
+            let depth_last : j ≡ length (values_of table) = omega (arith, same, count, depth_count) in
+            subst (IsEntered b (table ++ more) j) f_is (record {
+              key = key;
+              there = ap (λ some. slice_get some j) keys ∙ ap (slice_get (keys_of table ++ key ∷ [])) key_last ∙ slice_get-last (keys_of table) key;
+              depth = ap (λ some. slice_get some j) depths ∙ ap (slice_get (values_of table ++ e.depth ∷ [])) depth_last ∙ slice_get-last (values_of table) e.depth;
+              is = is;
+            })
+      ];
+    })
+
+-- a table without an entry
+pub IsTableOf-none : (b : Numbered) (entries : List Entry) → IsTableOf b entries 0 []
+IsTableOf-none b entries = record {
+  count = refl;
+  distinct = λ i j d below within. absurd (omega (arith, within));
+  entered = λ i e below. absurd (omega (arith, below));
+}
+
+-- what a look-up tells, by whether it found a place
+pub present : (N : Type 0) (S : ℕ → Type 0) (o : Option ℕ) → MatchOption o N S → is_some o ≡ true → (i : ℕ) × S i
+present N S None told found = absurd (true≢false (sym found))
+present N S (Some i) told found = (i, told)
+
+pub missing : (N : Type 0) (S : ℕ → Type 0) (o : Option ℕ) → MatchOption o N S → is_some o ≡ false → N
+missing N S None told found = told
+missing N S (Some i) told found = absurd (true≢false found)

@@ -1,0 +1,20 @@
+-- What is found of one entry that is a position.
+use Rattle.std.specs.Prelude.{ℕ, ◌≡◌, ◌<◌, List, false, IsTrue, length, slice_index}
+use Rattle.sok_rules.specs.Squares.{holds, is_goal}
+use Rattle.sok_rules.specs.Play.{AllOnGoals}
+use Rattle.sok_board.specs.Area.{Numbered, spot_of}
+use Rattle.sok_cert.specs.declared.claim.Claim.{Claim}
+use Rattle.sok_cert.specs.declared.entry.Entry.{Entry}
+use Rattle.sok_cert.specs.declared.judging.Verdict.{Verdict}
+use Rattle.sok_cert.specs.declared.judging.Verdict.TheVariants.{Fine, Solved, Unreasoned}
+use Rattle.sok_cert.specs.Closed.{IsReasoned, Bars, is_expanded, place_of, rest_of}
+
+-- it may stand; it is expanded, with all boxes on goals; or it has another reason, which does not bar
+abbrev pub IsJudged : Numbered → Claim → Entry → Verdict → Type 0
+IsJudged b claim e Fine = IsReasoned b claim e
+IsJudged b claim e Solved = IsTrue (is_expanded e.reason) × AllOnGoals b.rows (place_of b e)
+IsJudged b claim e Unreasoned = (is_expanded e.reason ≡ false) × (Bars b e.boxes e.reason (rest_of claim e.depth) → ⊥)
+
+-- squares that are goals
+abbrev pub AreGoals : Numbered → List ℕ → Type 0
+AreGoals b squares = (k : ℕ) → k < length squares → IsTrue (holds is_goal b.rows (spot_of b (slice_index squares k)))

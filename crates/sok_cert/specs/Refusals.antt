@@ -1,0 +1,89 @@
+-- Why a list of entries is not closed: the first fault, entry by entry, and then those of all entries.
+use Rattle.std.specs.Prelude.{ℕ, ◌≡◌, ◌<◌, ◌≤◌, ◌+◌, List, Some, true, false, IsTrue, Contains, length, slice_get}
+use Rattle.sok_rules.specs.Play.{Position, step, AllOnGoals}
+use Rattle.sok_rules.specs.States.{Same}
+use Rattle.sok_board.specs.Area.{Numbered, spot_of}
+use Rattle.sok_state.specs.declared.push.Push.{Push}
+use Rattle.sok_state.specs.Pushes.{Precedes}
+use Rattle.sok_cert.specs.declared.claim.Claim.{Claim}
+use Rattle.sok_cert.specs.declared.entry.Entry.{Entry}
+use Rattle.sok_cert.specs.declared.fault.CertFault.{CertFault}
+use Rattle.sok_cert.specs.declared.fault.CertFault.TheVariants as fault
+use Rattle.sok_cert.specs.Closed.{IsPosition, IsReasoned, IsStarter, Bars, is_expanded, place_of, rest_of}
+
+-- no entry before a place is of the entry's state
+abbrev pub IsNew : Numbered → List Entry → ℕ → Entry → Type 0
+IsNew b entries i e = (j : ℕ) (f : Entry) → j < i → slice_get entries j ≡ Some f → Same b.rows (place_of b f) (place_of b e) → ⊥
+
+-- an entry without a fault of its own
+pub record IsFine (b : Numbered) (claim : Claim) (entries : List Entry) (i : ℕ) (e : Entry) : Type 0 where
+  pub position : IsPosition b e
+  pub new : IsNew b entries i e
+  pub reasoned : IsReasoned b claim e
+
+-- so are all entries before a place
+abbrev pub AreFine : Numbered → Claim → List Entry → ℕ → Type 0
+AreFine b claim entries n = (i : ℕ) (e : Entry) → i < n → slice_get entries i ≡ Some e → IsFine b claim entries i e
+
+-- the first entry with a fault of its own
+pub record IsFaulty (b : Numbered) (claim : Claim) (entries : List Entry) (i : ℕ) (Fault : Entry → Type 0) : Type 0 where
+  pub entry : Entry
+  pub there : slice_get entries i ≡ Some entry
+  pub before : AreFine b claim entries i
+  pub fault : Fault entry
+
+-- an earlier entry of the entry's state
+pub record IsRepeated (b : Numbered) (entries : List Entry) (i : ℕ) (e : Entry) : Type 0 where
+  pub position : IsPosition b e
+  pub place : ℕ
+  pub earlier : Entry
+  pub before : place < i
+  pub there : slice_get entries place ≡ Some earlier
+  pub same : Same b.rows (place_of b earlier) (place_of b e)
+
+-- expanded, with all boxes on goals
+pub record IsSolved (b : Numbered) (entries : List Entry) (i : ℕ) (e : Entry) : Type 0 where
+  pub position : IsPosition b e
+  pub new : IsNew b entries i e
+  pub expanded : IsTrue (is_expanded e.reason)
+  pub solved : AllOnGoals b.rows (place_of b e)
+
+-- not expanded, with a reason that does not bar
+pub record IsUnreasoned (b : Numbered) (claim : Claim) (entries : List Entry) (i : ℕ) (e : Entry) : Type 0 where
+  pub position : IsPosition b e
+  pub new : IsNew b entries i e
+  pub barring : is_expanded e.reason ≡ false
+  pub fails : Bars b e.boxes e.reason (rest_of claim e.depth) → ⊥
+
+-- a push that is legal from a position of an expanded entry's state, and leads to no entry at most one deeper
+pub record IsOpen (b : Numbered) (entries : List Entry) (e : Entry) (push : Push) : Type 0 where
+  pub expanded : IsTrue (is_expanded e.reason)
+  pub exists : push.from < length b.area
+  pub before : Position
+  pub after : Position
+  pub walked : Same b.rows (place_of b e) before
+  pub steps : step b.rows push.dir before ≡ Some (record { position = after; pushed = true })
+  pub man : after.man ≡ spot_of b push.from
+  pub unfollowed : (f : Entry) → Contains entries f → f.depth ≤ e.depth + 1 → Same b.rows after (place_of b f) → ⊥
+
+-- the first open push: none of an entry before, and none before it of the same entry
+pub record IsFirstOpen (b : Numbered) (entries : List Entry) (i : ℕ) (push : Push) : Type 0 where
+  pub entry : Entry
+  pub there : slice_get entries i ≡ Some entry
+  pub is_open : IsOpen b entries entry push
+  pub earlier_entries : (j : ℕ) (f : Entry) (other : Push) → j < i → slice_get entries j ≡ Some f → IsOpen b entries f other → ⊥
+  pub earlier_pushes : (other : Push) → Precedes other push → IsOpen b entries entry other → ⊥
+
+-- the fault's cause holds, and no earlier one does
+abbrev pub IsRefused : Numbered → Claim → List Entry → CertFault → Type 0
+IsRefused b claim entries (fault.BadEntry i) = IsFaulty b claim entries i (λ e. IsPosition b e → ⊥)
+IsRefused b claim entries (fault.Duplicate i) = IsFaulty b claim entries i (IsRepeated b entries i)
+IsRefused b claim entries (fault.SolvedEntry i) = IsFaulty b claim entries i (IsSolved b entries i)
+IsRefused b claim entries (fault.BadReason i) = IsFaulty b claim entries i (IsUnreasoned b claim entries i)
+IsRefused b claim entries fault.Start = AreFine b claim entries (length entries) × ((e : Entry) → IsStarter b entries e → ⊥)
+IsRefused b claim entries (fault.OpenPush i square d) =
+    AreFine b claim entries (length entries) × ((e : Entry) × IsStarter b entries e) × IsFirstOpen b entries i (record { from = square; dir = d })
+IsRefused b claim entries fault.Header = ⊥
+IsRefused b claim entries (fault.Line n) = ⊥
+IsRefused b claim entries fault.Truncated = ⊥
+IsRefused b claim entries fault.Memory = Unit {0}

@@ -1,0 +1,82 @@
+//! The table of the entries' states.
+
+ghost use Rattle.std.specs.Prelude.{◌≡◌, ◌<◌, ◌+◌, IfOk, IfErr, length};
+ghost use Rattle.sok_rules.specs.Levels.{IsProper};
+ghost use Rattle.sok_board.specs.Area.{IsArea};
+ghost use Rattle.sok_cert.specs.Lookup.{IsTableOf};
+ghost use Rattle.sok_cert.specs.Refusals.{AreFine, IsRefused};
+
+use crate::claim::Claim;
+use crate::entry::Entry;
+use crate::fault::CertFault;
+use crate::judging::{Verdict, judge};
+use crate::placing::boxes_of;
+use sok_board::area::{SQUARE_LIMIT, Sq};
+use sok_board::board::Board;
+use sok_push::tables::Tables;
+use sok_state::key::Key;
+use sok_state::table::Table;
+use std::alloc::Global;
+
+/// A table of the entries' states, in order and with their depths. The first entry with a fault of
+/// its own is refused.
+pub(crate) fn states(
+    alloc: Global,
+    board: &Board,
+    tables: &Tables,
+    claim: Claim,
+    entries: &[Entry],
+) -> Result<Table, CertFault>
+    requires area { IsArea board.now.rows board.now.area }
+    requires proper { IsProper board.now.rows }
+    requires tables { tables.now.board ≡ board.now }
+    ensures fine { IfOk result (λ _. AreFine board.now claim entries.now (length entries.now)) }
+    ensures entered { IfOk result (IsTableOf board.now entries.now (length entries.now)) }
+    ensures refused { IfErr result (IsRefused board.now claim entries.now) }
+{
+    let mut table = Table::new(alloc)?;
+    for index in 0..entries.len() {
+        table = enter(alloc, board, tables, claim, entries, index, table)?;
+    }
+    Ok(table)
+}
+
+/// Enters the state of an entry into the table of those before it.
+fn enter(
+    alloc: Global,
+    board: &Board,
+    tables: &Tables,
+    claim: Claim,
+    entries: &[Entry],
+    index: usize,
+    mut table: Table,
+) -> Result<Table, CertFault>
+    requires area { IsArea board.now.rows board.now.area }
+    requires proper { IsProper board.now.rows }
+    requires tables { tables.now.board ≡ board.now }
+    requires exists { index < length entries.now }
+    requires fine { AreFine board.now claim entries.now index }
+    requires entered { IsTableOf board.now entries.now index table }
+    ensures fine { IfOk result (λ _. AreFine board.now claim entries.now (index + 1)) }
+    ensures entered { IfOk result (IsTableOf board.now entries.now (index + 1)) }
+    ensures refused { IfErr result (IsRefused board.now claim entries.now) }
+{
+    let entry = &entries[index];
+    let boxes = match boxes_of(alloc, board, entry)? {
+        Some(boxes) => boxes,
+        None => return Err(CertFault::BadEntry(index)),
+    };
+    // The board's squares are few enough for the player's number.
+    prove!(board.squares() <= SQUARE_LIMIT);
+    let key = Key::of(alloc, board, &boxes, entry.player as Sq)?;
+    if table.get(&key).is_some() {
+        return Err(CertFault::Duplicate(index));
+    }
+    match judge(alloc, board, tables, claim, entry, &boxes)? {
+        Verdict::Fine => {}
+        Verdict::Solved => return Err(CertFault::SolvedEntry(index)),
+        Verdict::Unreasoned => return Err(CertFault::BadReason(index)),
+    }
+    table.insert(key, entry.depth)?;
+    Ok(table)
+}

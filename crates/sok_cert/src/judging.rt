@@ -1,0 +1,98 @@
+//! What is found of an entry that is a position: whether it may stand, by its reason.
+
+ghost use Rattle.std.specs.Prelude.{ℕ, ◌≡◌, ◌<◌, ◌↔◌, IsTrue, IsOkAnd, All, length};
+ghost use Rattle.sok_rules.specs.Squares.{holds, is_goal};
+ghost use Rattle.sok_rules.specs.Play.{AllOnGoals};
+ghost use Rattle.sok_board.specs.Area.{spot_of, position_of};
+ghost use Rattle.sok_cert.specs.Closed.{IsPosition};
+ghost use Rattle.sok_cert.specs.Judging.{IsJudged, AreGoals};
+
+use crate::claim::Claim;
+use crate::entry::Entry;
+use crate::reason::{is_expanded, rest_of};
+use sok_bar::bar::Bar;
+use sok_board::area::{SQUARE_LIMIT, Sq};
+use sok_board::board::Board;
+use sok_push::tables::Tables;
+use sok_region::box_set::BoxSet;
+use sok_rules::fault::Memory;
+use sok_rules::level::Level;
+use std::alloc::Global;
+
+/// What is found of an entry.
+#[derive(Clone, Copy, Debug, PartialEq, Eq)]
+pub(crate) enum Verdict {
+    /// It may stand: its reason bars, or it is expanded with a box off a goal.
+    Fine,
+    /// It is expanded, and all its boxes stand on goals.
+    Solved,
+    /// It has another reason, which does not bar.
+    Unreasoned,
+}
+
+/// Whether an entry may stand, given with its boxes. It takes no memory.
+pub(crate) fn judge(
+    alloc: Global,
+    board: &Board,
+    tables: &Tables,
+    claim: Claim,
+    entry: &Entry,
+    boxes: &BoxSet,
+) -> Result<Verdict, Memory>
+    requires tables { tables.now.board ≡ board.now }
+    requires position { IsPosition board.now entry.now }
+    requires boxes { boxes.now ≡ entry.now.boxes }
+    ensures { IsOkAnd result (IsJudged board.now claim entry.now) }
+{
+    if is_expanded(&entry.reason) {
+        if is_solved(board, boxes) {
+            return Ok(Verdict::Solved);
+        }
+        return Ok(Verdict::Fine);
+    }
+    // The board's squares are few enough for the player's number.
+    prove!(board.squares() <= SQUARE_LIMIT);
+    let player = entry.player as Sq;
+    let rest = rest_of(claim, entry.depth);
+    if entry
+        .reason
+        .holds(alloc, board, tables, boxes, player, rest)?
+    {
+        return Ok(Verdict::Fine);
+    }
+    Ok(Verdict::Unreasoned)
+}
+
+/// Whether all boxes of a position stand on goals, wherever the player stands.
+pub(crate) fn is_solved(board: &Board, boxes: &BoxSet) -> bool
+    requires exist { All (λ square. square < length board.now.area) boxes.now }
+    ensures { (player : ℕ) → IsTrue result ↔ AllOnGoals board.now.rows (position_of board.now player boxes.now) }
+{
+    are_goals(board, board.level(), boxes.list())
+}
+
+/// Whether squares of the area are goals.
+fn are_goals(board: &Board, level: &Level, squares: &[Sq]) -> bool
+    requires level { level.now ≡ board.now.rows }
+    requires exist { All (λ square. square < length board.now.area) squares.now }
+    ensures { IsTrue result ↔ AreGoals board.now squares.now }
+{
+    for square in squares {
+        if !is_goal(board, level, *square) {
+            return false;
+        }
+    }
+    true
+}
+
+/// Whether a square of the area is a goal.
+fn is_goal(board: &Board, level: &Level, square: Sq) -> bool
+    requires level { level.now ≡ board.now.rows }
+    requires exists { square < length board.now.area }
+    ensures { result ≡ holds is_goal board.now.rows (spot_of board.now square) }
+{
+    match level.cell(board.spot(square)) {
+        Some(cell) => cell.is_goal(),
+        None => false,
+    }
+}
