@@ -99,7 +99,7 @@ IsArea-unique rows xs ys one two =
 abbrev with_area : Rows → List Spot → Numbered
 with_area rows area = record { rows = rows; area = area }
 
-has_gap-enclosed : (rows : Rows) (s : Spot) → ((d : Dir) → lies_beside rows s d ≡ true) → has_gap rows s ≡ false
+pub has_gap-enclosed : (rows : Rows) (s : Spot) → ((d : Dir) → lies_beside rows s d ≡ true) → has_gap rows s ≡ false
 unfolding has_gap
 has_gap-enclosed rows s lies = λ i. not (lies Left i) || (not (lies Up i) || (not (lies Right i) || (not (lies Down i) || false)))
 
@@ -111,24 +111,24 @@ outside-decoration b area s box out = elim (cases_Bool (is_among b.area s)) [
 ]
 
 -- an accepted level is refused for no cause but memory
-refused_for_memory : (rows : Rows) (cause : BoardFault) → IsRefused rows cause → (area : List Spot) → IsAccepted (with_area rows area) → cause ≡ fault.Memory
-refused_for_memory rows (fault.NotEnclosed s) ((inside, gap), _) area accepted = absurd (true≢false (sym gap ∙ has_gap-enclosed rows s (λ d. accepted.enclosed s d inside)))
-refused_for_memory rows fault.TooLarge (_, (other, is, many)) area accepted =
+pub refused-accepted : (rows : Rows) (cause : BoardFault) → IsRefused rows cause → (area : List Spot) → IsAccepted (with_area rows area) → cause ≡ fault.Memory
+refused-accepted rows (fault.NotEnclosed s) ((inside, gap), _) area accepted = absurd (true≢false (sym gap ∙ has_gap-enclosed rows s (λ d. accepted.enclosed s d inside)))
+refused-accepted rows fault.TooLarge (_, (other, is, many)) area accepted =
     let same = ap length (IsArea-unique rows other area is accepted.numbered) in
     let few = accepted.few_squares in
     absurd (omega (arith, same, few, many))
-refused_for_memory rows (fault.BoxOutside s) (_, _, ((box, out, off), _)) area accepted =
+refused-accepted rows (fault.BoxOutside s) (_, _, ((box, out, off), _)) area accepted =
     absurd (true≢false (sym (accepted.decorations s (outside-decoration (with_area rows area) accepted.numbered s box out)) ∙ off))
-refused_for_memory rows fault.TooManyBoxes (other, is, (_, many)) area accepted =
+refused-accepted rows fault.TooManyBoxes (other, is, (_, many)) area accepted =
     let same = ap (λ squares. length (boxes_of (with_area rows squares))) (IsArea-unique rows other area is accepted.numbered) in
     let few = accepted.few_boxes in
     absurd (omega (arith, same, few, many))
-refused_for_memory rows fault.TooFewGoals (other, is, (_, _, few)) area accepted =
+refused-accepted rows fault.TooFewGoals (other, is, (_, _, few)) area accepted =
     let boxes = ap (λ squares. length (boxes_of (with_area rows squares))) (IsArea-unique rows other area is accepted.numbered) in
     let goals = ap (λ squares. length (goals_of (with_area rows squares))) (IsArea-unique rows other area is accepted.numbered) in
     let enough = accepted.enough_goals in
     absurd (omega (arith, boxes, goals, few, enough))
-refused_for_memory rows fault.Memory refused area accepted = refl
+refused-accepted rows fault.Memory refused area accepted = refl
 
 -- where memory suffices, a board is made exactly of the levels that are acceptable
 pub made_exactly : (rows : Rows) (r : Result Numbered BoardFault) → IfOk r (λ b. b.rows ≡ rows) → IfOk r IsAccepted → IfErr r (IsRefused rows)
@@ -136,7 +136,7 @@ pub made_exactly : (rows : Rows) (r : Result Numbered BoardFault) → IfOk r (λ
 made_exactly rows (Ok b) same accepted _ _ = (λ _. (b.area, subst (λ of. IsAccepted (with_area of b.area)) same accepted), λ _. refl)
 made_exactly rows (Err cause) _ _ refused ample = (
   λ e. absurd (true≢false (sym e)),
-  λ (area, accepted). absurd (ample (ap Err (refused_for_memory rows cause refused area accepted))),
+  λ (area, accepted). absurd (ample (ap Err (refused-accepted rows cause refused area accepted))),
 )
 
 wall_here : (b : Numbered) → IsAccepted b → IsProper b.rows → (s t : Spot) (d : Dir) (cell : Cell) → cell_at b.rows t ≡ Some cell → InArea b.rows s → next d s ≡ Some t

@@ -6,6 +6,7 @@ pub mod Floods
 pub mod Inside
 pub mod Lists
 pub mod Numbering
+pub mod OneRefusal
 pub mod Positions
 pub mod ReadingOrder
 pub mod Refusals

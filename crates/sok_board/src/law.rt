@@ -1,11 +1,23 @@
-//! A law of play on a level with an area.
+//! Laws of levels and of their areas: play stays in the area, and a refusal is one.
 
+ghost use Rattle.std.specs.Prelude.{◌≡◌, ◌≢◌};
 ghost use Rattle.sok_rules.specs.Squares.{Rows};
-ghost use Rattle.sok_board.specs.Area.{IsArea, Numbered};
+ghost use Rattle.sok_board.specs.Area.{IsAccepted, IsArea, Numbered};
 ghost use Rattle.sok_board.specs.Confined.{ConfinesPlay, KeepsDecorations};
+ghost use Rattle.sok_board.specs.Refusals.{IsAcceptable, IsRefused};
+ghost use Rattle.sok_board.specs.declared.fault.BoardFault.{BoardFault};
+ghost use Rattle.sok_board.specs.declared.fault.BoardFault.TheVariants.{Memory};
 
 /// No letters lead the player out of the area, and none move a box that stands outside it.
 pub fn play_is_confined()
     ensures confined { (rows : Rows) → ConfinesPlay rows }
     ensures decorations { (b : Numbered) → IsArea b.rows b.area → KeepsDecorations b }
+{}
+
+/// A level is refused for one cause at most, and no refused level is accepted. An accepted one has
+/// one area.
+pub fn levels_have_one_refusal()
+    ensures one { (rows : Rows) (f g : BoardFault) → f ≢ Memory → g ≢ Memory → IsRefused rows f → IsRefused rows g → f ≡ g }
+    ensures accepted { (rows : Rows) (f : BoardFault) → f ≢ Memory → IsRefused rows f → IsAcceptable rows → ⊥ }
+    ensures area { (b c : Numbered) → b.rows ≡ c.rows → IsAccepted b → IsAccepted c → b ≡ c }
 {}

@@ -58,7 +58,7 @@ IsRefused-open b claim entries fine starter (fault.BadEntry i) open_fault = absu
 IsRefused-open b claim entries fine starter (fault.SolvedEntry i) open_fault = absurd open_fault
 IsRefused-open b claim entries fine starter (fault.BadReason i) open_fault = absurd open_fault
 
-reason-is : (b : Numbered) (claim : Claim) (e : Entry) (expanded : Bool) → is_expanded e.reason ≡ expanded → IsReasoned b claim e
+pub reason-is : (b : Numbered) (claim : Claim) (e : Entry) (expanded : Bool) → is_expanded e.reason ≡ expanded → IsReasoned b claim e
     → MatchBool expanded (AllOnGoals b.rows (place_of b e) → ⊥) (Bars b e.boxes e.reason (rest_of claim e.depth))
 reason-is b claim e expanded is reasoned = subst (λ t. MatchBool t (AllOnGoals b.rows (place_of b e) → ⊥) (Bars b e.boxes e.reason (rest_of claim e.depth))) is reasoned
 

@@ -18,6 +18,7 @@ use Rattle.sok_state.specs.declared.push.Push.{Push}
 use Rattle.sok_state.specs.Keys.{IsKeyOf}
 use Rattle.sok_state.specs.Pushes.{IsLegal, LeadsTo, Precedes}
 use Rattle.sok_state.specs.Tables.{Entries, IsAt}
+use Rattle.sok_state.proofs.Order.{Precedes-asym}
 use Rattle.sok_state.proofs.Placed.{IsStanding-placed}
 use Rattle.sok_state.proofs.States.{IsKeyOf-Same, Same-keys}
 use Rattle.sok_cert.specs.declared.entry.Entry.{Entry}
@@ -25,13 +26,6 @@ use Rattle.sok_cert.specs.Closed.{IsFollowed, IsFollower, IsPosition, is_expande
 use Rattle.sok_cert.specs.Refusals.{IsOpen, IsFirstOpen}
 use Rattle.sok_cert.specs.Lookup.{IsClosedAt, IsFound, IsLooking, IsMissing, TellsFirst, TellsOpen}
 use Rattle.sok_cert.proofs.Looking.{Contains-at, standing-after}
-
--- the order of pushes does not turn round
-pub Precedes-asym : (p q : Push) → Precedes p q → Precedes q p → ⊥
-Precedes-asym p q (inl first) (inl second) = omega (arith, first, second)
-Precedes-asym p q (inl first) (inr (same, second)) = omega (arith, first, same)
-Precedes-asym p q (inr (same, first)) (inl second) = omega (arith, second, same)
-Precedes-asym p q (inr (same, first)) (inr (again, second)) = omega (arith, first, second)
 
 -- what precedes a listed push is listed before it
 pub precedes-before : (pushes : List Push) → AllPairs Precedes pushes → (k j : ℕ) (push other : Push) → slice_get pushes k ≡ Some push → slice_get pushes j ≡ Some other → Precedes other push → j < k

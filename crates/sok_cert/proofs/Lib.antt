@@ -11,6 +11,7 @@ pub mod Headers
 pub mod LineEnds
 pub mod Looking
 pub mod Numbers
+pub mod OneRefusal
 pub mod Printable
 pub mod Printing
 pub mod Reaching

@@ -59,33 +59,6 @@ fn corridor_of_six_pushes(rt: HostRuntime) -> Result<(), Fail> {
     Ok(())
 }
 
-/// A certificate that is cut off anywhere is refused. Only the last line may lack its end.
-#[test]
-fn corridor_cut_at_each_length(rt: HostRuntime) -> Result<(), Fail> {
-    assert_eq!(rt; CORRIDOR.len(), 69);
-    for length in 0..70 {
-        let fault = match length {
-            0..=29 => Some(CertFault::Header),
-            30..=67 => Some(CertFault::Truncated),
-            _ => None,
-        };
-        assert_eq!(rt;
-            read(rt.alloc(), &CORRIDOR[..length]).err(),
-            fault,
-            "cut at {length}"
-        );
-    }
-    Ok(())
-}
-
-#[test]
-fn corridor_twice(rt: HostRuntime) -> Result<(), Fail> {
-    let mut twice = Vec::from_slice(rt.alloc(), CORRIDOR)?;
-    twice.extend_from_slice(CORRIDOR)?;
-    assert_eq!(rt; read(rt.alloc(), &twice).err(), Some(CertFault::Line(7)));
-    Ok(())
-}
-
 #[test]
 fn each_form_of_entry(rt: HostRuntime) -> Result<(), Fail> {
     let (claim, cert) = read(rt.alloc(), ALL_FORMS)?;

@@ -4,7 +4,7 @@
 //! |---|---|
 //! | `board` | which levels a solver accepts, and their square numbers |
 //! | `certificates` | texts of certificates, read and written |
-//! | `checks` | certificates of worked levels, judged by the checker |
+//! | `checks` | certificates of worked levels, and the program's whole answers |
 //! | `levels` | which rows are a level |
 //! | `prices` | which goal each box could go to at the least cost |
 //! | `pushing` | how far a box is from each goal, and where it is stuck |

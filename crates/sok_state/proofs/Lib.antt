@@ -1,4 +1,5 @@
 pub mod Keyed
+pub mod Order
 pub mod Placed
 pub mod Moves
 pub mod States

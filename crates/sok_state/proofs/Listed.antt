@@ -1,54 +1,18 @@
 -- Listing pushes in order.
-use Rattle.std.proofs.Common.{ℕ, ◌≡◌, ◌<◌, ◌≤◌, ◌+◌, ◌*◌, inl, inr, refl, sym, ap, ◌∙◌, subst, List, [], ◌∷◌, ◌++◌, if◌then◌else◌, ◌==◌, zero, suc, All, AllPairs, Contains, arith, length, get_or, slice_index}
+use Rattle.std.proofs.Common.{ℕ, ◌≡◌, ◌<◌, ◌≤◌, ◌+◌, ◌*◌, inl, inr, ap, subst, List, [], ◌∷◌, ◌++◌, zero, suc, All, AllPairs, Contains, arith, length, get_or, slice_index}
 use Rattle.std.specs.List.Sorted.{IsStrictlyIncreasing}
 use Rattle.std.proofs.lemmas.Bool.{cases_lt}
 use Rattle.std.proofs.lemmas.List.Elements.{Contains-append_left, Contains-push, Contains-push_cases, Contains-get_or}
 use Rattle.std.proofs.lemmas.List.Kept.{AllPairs-from_increasing}
-use Rattle.sok_rules.specs.declared.cell.Dir.{Dir}
-use Rattle.sok_rules.specs.declared.cell.Dir.TheVariants.{Left, Up, Right, Down}
 use Rattle.sok_board.specs.Area.{Numbered, IsArea}
 use Rattle.sok_board.proofs.Lists.{AllPairs-append}
 use Rattle.sok_region.specs.Regions.{IsPlaced}
 use Rattle.sok_state.specs.declared.key.Key.{Key}
 use Rattle.sok_state.specs.declared.push.Push.{Push}
 use Rattle.sok_state.specs.Listing.{Lists, place}
-use Rattle.sok_state.specs.Pushes.{IsLegal, Precedes, rank}
+use Rattle.sok_state.specs.Pushes.{IsLegal, Precedes}
 use Rattle.sok_state.proofs.LegalPushes.{clear-legal}
-
-rank_below : (d : Dir) → rank d < 4
-rank_below Left = omega arith
-rank_below Up = omega arith
-rank_below Right = omega arith
-rank_below Down = omega arith
-
-abbrev ranked : ℕ → Dir
-ranked n = if n == 0 then Left else if n == 1 then Up else if n == 2 then Right else Down
-
-ranked-rank : (d : Dir) → ranked (rank d) ≡ d
-ranked-rank Left = refl
-ranked-rank Up = refl
-ranked-rank Right = refl
-ranked-rank Down = refl
-
--- pushes of one place are the same
-same_place : (p q : Push) → place p ≡ place q → p ≡ q
-same_place p q same =
-    let p_below = rank_below p.dir in
-    let q_below = rank_below q.dir in
-    let from : p.from ≡ q.from = omega (arith, same, p_below, q_below) in
-    let ranks : rank p.dir ≡ rank q.dir = omega (arith, same, from) in
-    let dirs : p.dir ≡ q.dir = sym (ranked-rank p.dir) ∙ ap ranked ranks ∙ ranked-rank q.dir in
-    λ i. record { from = from i; dir = dirs i }
-
--- an earlier place is that of a push before
-pub Precedes-place : (p q : Push) → place p < place q → Precedes p q
-Precedes-place p q below =
-    let p_below = rank_below p.dir in
-    let q_below = rank_below q.dir in
-    elim (cases_lt p.from q.from) [
-      | inl earlier ↦ inl earlier
-      | inr later ↦ inr (omega (arith, below, later, p_below, q_below), omega (arith, below, later, p_below, q_below))
-    ]
+use Rattle.sok_state.proofs.Order.{Precedes-place, rank_below, same_place}
 
 -- nothing is listed before the first place
 pub Lists-none : (b : Numbered) (key : Key) → Lists b key 0 []

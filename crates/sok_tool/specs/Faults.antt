@@ -4,6 +4,8 @@ use Rattle.sok_rules.specs.declared.fault.LevelFault.{LevelFault}
 use Rattle.sok_rules.specs.declared.fault.LevelFault.TheVariants as level
 use Rattle.sok_rules.specs.declared.fault.PlayFault.{PlayFault}
 use Rattle.sok_rules.specs.declared.fault.PlayFault.TheVariants as play
+use Rattle.sok_board.specs.declared.fault.BoardFault.{BoardFault}
+use Rattle.sok_board.specs.declared.fault.BoardFault.TheVariants as board
 use Rattle.sok_text.specs.declared.lurd.LurdFault.{LurdFault}
 use Rattle.sok_text.specs.declared.lurd.LurdFault.TheVariants as lurd
 use Rattle.sok_tool.specs.declared.fault.ToolFault.{ToolFault}
@@ -18,6 +20,11 @@ tool_fault_number tool.TooTall = 2
 tool_fault_number tool.NoPlayer = 3
 tool_fault_number tool.ManyPlayers = 4
 tool_fault_number tool.NoBox = 5
+tool_fault_number (tool.NotEnclosed row col) = 6
+tool_fault_number (tool.BoxOutside row col) = 7
+tool_fault_number tool.TooFewGoals = 8
+tool_fault_number tool.TooLarge = 9
+tool_fault_number tool.TooManyBoxes = 10
 tool_fault_number (tool.BadLetter at) = 11
 tool_fault_number (tool.Blocked at) = 12
 tool_fault_number tool.TooLong = 14
@@ -35,6 +42,11 @@ tool_fault_status tool.TooTall = 3
 tool_fault_status tool.NoPlayer = 3
 tool_fault_status tool.ManyPlayers = 3
 tool_fault_status tool.NoBox = 3
+tool_fault_status (tool.NotEnclosed row col) = 3
+tool_fault_status (tool.BoxOutside row col) = 3
+tool_fault_status tool.TooFewGoals = 3
+tool_fault_status tool.TooLarge = 3
+tool_fault_status tool.TooManyBoxes = 3
 tool_fault_status (tool.BadLetter at) = 3
 tool_fault_status (tool.Blocked at) = 3
 tool_fault_status tool.TooLong = 3
@@ -54,6 +66,14 @@ of_level level.NoBox = tool.NoBox
 of_level level.NoSuchLevel = tool.NoSuchLevel
 of_level (level.NoWall row) = tool.NoWall row
 of_level level.Memory = tool.Memory
+
+abbrev pub of_board : BoardFault → ToolFault
+of_board (board.NotEnclosed spot) = tool.NotEnclosed spot.row spot.col
+of_board (board.BoxOutside spot) = tool.BoxOutside spot.row spot.col
+of_board board.TooFewGoals = tool.TooFewGoals
+of_board board.TooLarge = tool.TooLarge
+of_board board.TooManyBoxes = tool.TooManyBoxes
+of_board board.Memory = tool.Memory
 
 abbrev pub of_lurd : LurdFault → ToolFault
 of_lurd (lurd.BadLetter at) = tool.BadLetter at

@@ -1,3 +1,5 @@
+pub mod Checks
 pub mod Faults
+pub mod Inputs
 pub mod Plays
 pub mod Written

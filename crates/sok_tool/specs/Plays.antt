@@ -1,8 +1,7 @@
 -- What the program answers to a text of letters and a collection of levels.
-use Rattle.std.specs.Prelude.{ℕ, ◌≡◌, List, [], ◌∷◌, ◌++◌, Result, Ok, Err, Bool, true, false, length, nat_lt, codes}
+use Rattle.std.specs.Prelude.{ℕ, ◌≡◌, List, [], ◌∷◌, ◌++◌, Ok, Err, Bool, true, false, codes}
 use Rattle.std.specs.Fmt.{decimal}
 use Rattle.sok_rules.specs.declared.cell.Dir.{Dir}
-use Rattle.sok_rules.specs.declared.fault.LevelFault.{LevelFault}
 use Rattle.sok_rules.specs.declared.play.Tally.{Tally}
 use Rattle.sok_rules.specs.Squares.{Rows}
 use Rattle.sok_rules.specs.Replay.{IsTally, IsBlockedAt}
@@ -12,8 +11,8 @@ use Rattle.sok_text.specs.Lines.{first_line, after_line}
 use Rattle.sok_text.specs.Lurd.{Spells, GoesWrong}
 use Rattle.sok_tool.specs.declared.fault.ToolFault.{ToolFault}
 use Rattle.sok_tool.specs.declared.fault.ToolFault.TheVariants as tool
-use Rattle.sok_tool.specs.Faults.{of_level}
-use Rattle.sok_tool.specs.Written.{Answer}
+use Rattle.sok_tool.specs.Inputs.{OnLevel}
+use Rattle.sok_tool.specs.Written.{Answer, Answers}
 
 -- the word for a level that is solved, or is not
 abbrev pub outcome_word : Bool → List ℕ
@@ -43,21 +42,11 @@ IsPlayFault rows text tool.TooLong = GoesWrong text lurd.TooLong
 IsPlayFault rows text (tool.Blocked at) = (letters : List Dir) × Spells text letters × IsBlockedAt rows letters at
 IsPlayFault rows text fault = ⊥
 
--- the answer to a text that is played on a level, if it is one
-abbrev pub IsAnswerOn : Result Rows LevelFault → List ℕ → Result Answer ToolFault → Type 0
-IsAnswerOn (Err fault) text answer = answer ≡ Err (of_level fault)
-IsAnswerOn (Ok rows) text (Ok answer) = (tally : Tally) × IsPlayed rows text tally × (answer ≡ tally_answer tally)
-IsAnswerOn (Ok rows) text (Err fault) = IsPlayFault rows text fault
+-- the answer to a text that is played on a level
+abbrev pub IsPlayedAnswer : List ℕ → Rows → Answers
+IsPlayedAnswer text rows (Ok answer) = (tally : Tally) × IsPlayed rows text tally × (answer ≡ tally_answer tally)
+IsPlayedAnswer text rows (Err fault) = IsPlayFault rows text fault
 
 -- the answer to bytes of which the first line is the text, and what follows is the collection with the level
-abbrev pub IsAnswer : List ℕ → Result Answer ToolFault → Type 0
-IsAnswer bytes answer = IsAnswerOn (level_at (blocks_of (after_line bytes)) 1) (first_line bytes) answer
-
--- the same, if there are not too many bytes
-abbrev pub IsAnswerIf : Bool → List ℕ → Result Answer ToolFault → Type 0
-IsAnswerIf true bytes answer = answer ≡ Err tool.TooMuch
-IsAnswerIf false bytes answer = IsAnswer bytes answer
-
--- the answer to an input
-abbrev pub IsAnswerWithin : ℕ → List ℕ → Result Answer ToolFault → Type 0
-IsAnswerWithin limit bytes answer = IsAnswerIf (nat_lt limit (length bytes)) bytes answer
+abbrev pub IsPlay : List ℕ → Answers
+IsPlay bytes = OnLevel (IsPlayedAnswer (first_line bytes)) (level_at (blocks_of (after_line bytes)) 1)

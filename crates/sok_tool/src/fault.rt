@@ -1,11 +1,12 @@
 //! Why the program ends without an answer.
 
 ghost use Rattle.std.specs.Prelude.{◌≡◌};
-ghost use Rattle.sok_tool.specs.Faults.{tool_fault_number, tool_fault_status, of_input, of_level, of_lurd, of_play};
+ghost use Rattle.sok_tool.specs.Faults.{tool_fault_number, tool_fault_status, of_input, of_level, of_board, of_lurd, of_play};
 ghost use Rattle.sok_tool.specs.declared.fault.ToolFault.TheVariants as tool;
 
 use crate::input::InputFault;
 use crate::output::WriteFailed;
+use sok_board::fault::BoardFault;
 use sok_rules::fault::{LevelFault, Memory, PlayFault};
 use sok_text::lurd::LurdFault;
 use std::alloc::{AllocError, AllocFailed};
@@ -27,6 +28,21 @@ pub enum ToolFault {
     ManyPlayers,
     #[error("fault 5 NoBox")]
     NoBox,
+    /// The row and the column of the first square of the area that has a neighbour in no row.
+    #[error("fault 6 NotEnclosed {0} {1}")]
+    NotEnclosed(u32, u32),
+    /// The row and the column of the first box that stands outside the area and off a goal.
+    #[error("fault 7 BoxOutside {0} {1}")]
+    BoxOutside(u32, u32),
+    /// The area has fewer goals than boxes.
+    #[error("fault 8 TooFewGoals")]
+    TooFewGoals,
+    /// The area has more than 1,024 squares.
+    #[error("fault 9 TooLarge")]
+    TooLarge,
+    /// The area has more than 128 boxes.
+    #[error("fault 10 TooManyBoxes")]
+    TooManyBoxes,
     /// The place, in bytes from 0, of the first byte of the text that is neither a letter nor a blank.
     #[error("fault 11 BadLetter {0}")]
     BadLetter(usize),
@@ -51,7 +67,7 @@ pub enum ToolFault {
     /// A write failed, for any cause.
     #[error("fault 51 WriteFailed")]
     WriteFailed,
-    /// An input has more than 16,777,216 bytes.
+    /// An input has more bytes than its limit.
     #[error("fault 52 TooMuch")]
     TooMuch,
 }
@@ -67,6 +83,11 @@ impl ToolFault {
             ToolFault::NoPlayer => 3,
             ToolFault::ManyPlayers => 4,
             ToolFault::NoBox => 5,
+            ToolFault::NotEnclosed(_, _) => 6,
+            ToolFault::BoxOutside(_, _) => 7,
+            ToolFault::TooFewGoals => 8,
+            ToolFault::TooLarge => 9,
+            ToolFault::TooManyBoxes => 10,
             ToolFault::BadLetter(_) => 11,
             ToolFault::Blocked(_) => 12,
             ToolFault::TooLong => 14,
@@ -89,6 +110,11 @@ impl ToolFault {
             | ToolFault::NoPlayer
             | ToolFault::ManyPlayers
             | ToolFault::NoBox
+            | ToolFault::NotEnclosed(_, _)
+            | ToolFault::BoxOutside(_, _)
+            | ToolFault::TooFewGoals
+            | ToolFault::TooLarge
+            | ToolFault::TooManyBoxes
             | ToolFault::BadLetter(_)
             | ToolFault::Blocked(_)
             | ToolFault::TooLong
@@ -114,6 +140,21 @@ impl From<LevelFault> for ToolFault {
             LevelFault::NoSuchLevel => ToolFault::NoSuchLevel,
             LevelFault::NoWall(row) => ToolFault::NoWall(row),
             LevelFault::Memory => ToolFault::Memory,
+        }
+    }
+}
+
+impl From<BoardFault> for ToolFault {
+    ghost from_gives = { λ from fault. fault ≡ of_board from };
+
+    fn from(fault: BoardFault) -> ToolFault {
+        match fault {
+            BoardFault::NotEnclosed(spot) => ToolFault::NotEnclosed(spot.row, spot.col),
+            BoardFault::BoxOutside(spot) => ToolFault::BoxOutside(spot.row, spot.col),
+            BoardFault::TooFewGoals => ToolFault::TooFewGoals,
+            BoardFault::TooLarge => ToolFault::TooLarge,
+            BoardFault::TooManyBoxes => ToolFault::TooManyBoxes,
+            BoardFault::Memory => ToolFault::Memory,
         }
     }
 }

@@ -1,10 +1,16 @@
-//! Reading all of an input.
+//! How long inputs may be, and reading all of one.
 
 ghost use Rattle.std.specs.Prelude.{◌<◌, ◌≤◌, ◌≡◌, IfOk, IfSome, IsErrOf, length};
 ghost use Rattle.sok_tool.specs.declared.input.InputFault.TheVariants as fault;
 
 use std::alloc::{AllocError, Global};
 use std::io::Read;
+
+/// The most bytes of an input other than a certificate.
+pub const INPUT_LIMIT: usize = 16_777_216;
+
+/// The most bytes of a certificate.
+pub const CERT_LIMIT: usize = 268_435_456;
 
 /// Why an input is not read.
 #[derive(Clone, Copy, Debug, PartialEq, Eq)]

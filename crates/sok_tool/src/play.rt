@@ -1,12 +1,12 @@
 //! The replay of a text of letters on the first level of a collection.
 
-ghost use Rattle.std.specs.Prelude.{◌≡◌, ℕ, List, Result, IfOk, IfSome, string_bytes};
-ghost use Rattle.sok_tool.specs.Plays.{IsAnswer, IsAnswerWithin, outcome_status, outcome_word, tally_line};
-ghost use Rattle.sok_tool.specs.Written.{Answer, Gives, Writes};
-ghost use Rattle.sok_tool.specs.declared.fault.ToolFault.{ToolFault};
+ghost use Rattle.std.specs.Prelude.{◌≡◌, ℕ, List, IfOk, IfSome, string_bytes};
+ghost use Rattle.sok_tool.specs.Inputs.{Within};
+ghost use Rattle.sok_tool.specs.Plays.{IsPlay, outcome_status, outcome_word, tally_line};
+ghost use Rattle.sok_tool.specs.Written.{Gives, HasOne, Writes};
 
 use crate::fault::ToolFault;
-use crate::input::read_at_most;
+use crate::input::{INPUT_LIMIT, read_at_most};
 use crate::reply::{Reply, write_reply};
 use sok_rules::play::{Tally, replay};
 use sok_text::collection::Collection;
@@ -14,9 +14,6 @@ use sok_text::line::cut_line;
 use sok_text::lurd::read_lurd;
 use std::alloc::{AllocError, Global};
 use std::io::{Read, Write};
-
-/// The most bytes of an input.
-pub const INPUT_LIMIT: usize = 16_777_216;
 
 /// Plays a text of letters on the first level of a collection. The text is the first line of the
 /// input, up to LF, without a CR before the LF. The collection is what follows. Written is `solved
@@ -32,7 +29,7 @@ pub fn play_bytes<R: Read, W: Write>(
     out: &mut W,
 ) -> Result<u8, ToolFault>
     ensures { IfSome (R.remaining input.old) (λ bytes.
-        Writes (IsAnswerWithin INPUT_LIMIT bytes) (W.contents out.old) (W.contents out.new) result) }
+        Writes (Within INPUT_LIMIT IsPlay bytes) (W.contents out.old) (W.contents out.new) result) }
 {
     let bytes = read_at_most(alloc, input, INPUT_LIMIT)?;
     let reply = answer(alloc, bytes.as_slice())?;
@@ -41,7 +38,7 @@ pub fn play_bytes<R: Read, W: Write>(
 
 /// The answer to an input.
 fn answer(alloc: Global, input: &[u8]) -> Result<Reply, ToolFault>
-    ensures { Gives (IsAnswer input.now) result }
+    ensures { Gives (IsPlay input.now) result }
 {
     let (text, boards) = cut_line(input);
     let level = Collection::read(alloc, boards)?.level(alloc, 1)?;
@@ -75,6 +72,5 @@ fn outcome_status(solved: bool) -> u8
 
 /// An input has one answer at most.
 pub fn inputs_have_one_answer()
-    ensures { (limit : ℕ) (bytes : List ℕ) (a b : Result Answer ToolFault)
-        → IsAnswerWithin limit bytes a → IsAnswerWithin limit bytes b → a ≡ b }
+    ensures { (limit : ℕ) (bytes : List ℕ) → HasOne (Within limit IsPlay bytes) }
 {}

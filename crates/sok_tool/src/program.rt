@@ -2,12 +2,14 @@
 
 ghost use Rattle.std.specs.Prelude.{◌≡◌, ◌<◌, ◌≤◌, IfSome, length};
 ghost use Rattle.std.specs.Io.KnownBytes.{Keeps};
-ghost use Rattle.sok_tool.specs.Plays.{IsAnswerWithin};
+ghost use Rattle.sok_tool.specs.Inputs.{Within};
+ghost use Rattle.sok_tool.specs.Plays.{IsPlay};
 ghost use Rattle.sok_tool.specs.Written.{Ends, Runs};
 
 use crate::fault::ToolFault;
+use crate::input::INPUT_LIMIT;
 use crate::output::write_whole;
-use crate::play::{INPUT_LIMIT, play_bytes};
+use crate::play::play_bytes;
 use std::fmt::InlineText;
 use std::io::{Read, Write};
 
@@ -22,7 +24,7 @@ pub fn run<R: Read, W: Write, E: Write>(
     err: &mut E,
 ) -> u8
     ensures plays { length words.now ≤ 1 → IfSome (R.remaining input.old) (λ bytes.
-        Runs (IsAnswerWithin INPUT_LIMIT bytes) (W.contents out.old) (W.contents out.new)
+        Runs (Within INPUT_LIMIT IsPlay bytes) (W.contents out.old) (W.contents out.new)
         (E.contents err.old) (E.contents err.new) result) }
     ensures unknown { 1 < length words.now → result ≡ 2 }
     ensures silent { 1 < length words.now → Keeps (W.contents out.old) (W.contents out.new) }

@@ -1,0 +1,122 @@
+-- A level is refused for one cause, and accepted with one area.
+use Rattle.std.proofs.Common.{◌≡◌, ◌≢◌, ◌<◌, ◌≤◌, ◌⊎◌, inl, inr, refl, sym, ap, ◌∙◌, subst, true≢false, arith, length}
+use Rattle.std.proofs.lemmas.Bool.{cases_eq, cases_lt}
+use Rattle.sok_rules.specs.declared.cell.Spot.{Spot}
+use Rattle.sok_rules.specs.Squares.{Rows}
+use Rattle.sok_board.specs.Area.{Numbered, Before, IsArea, IsEnclosed, IsAccepted, boxes_of}
+use Rattle.sok_board.specs.Refusals.{IsLeak, IsStray, IsFirst, OfArea, IsRefused, IsAcceptable}
+use Rattle.sok_board.specs.declared.fault.BoardFault.{BoardFault}
+use Rattle.sok_board.specs.declared.fault.BoardFault.TheVariants as fault
+use Rattle.sok_board.proofs.Accepted.{IsArea-unique, has_gap-enclosed, refused-accepted}
+
+-- of two squares one is before the other, or they are the same
+before-total : (s t : Spot) → (s ≡ t) ⊎ Before s t ⊎ Before t s
+before-total s t = elim (cases_eq s.row t.row) [
+  | inr other ↦ elim (cases_lt s.row t.row) [
+    | inl above ↦ inr (inl (inl above))
+    | inr below ↦ inr (inr (inl (omega (arith, other, below))))
+  ]
+  | inl row_is ↦ elim (cases_eq s.col t.col) [
+    | inl col_is ↦ inl (λ i. record { row = row_is i; col = col_is i })
+    | inr other ↦ elim (cases_lt s.col t.col) [
+      | inl left ↦ inr (inl (inr (row_is, left)))
+      | inr right ↦ inr (inr (inr (sym row_is, omega (arith, other, right))))
+    ]
+  ]
+]
+
+-- a property has one first square
+IsFirst-one : (P : Spot → Type 0) (s t : Spot) → IsFirst P s → IsFirst P t → s ≡ t
+IsFirst-one P s t (here, first) (there, also) = elim (before-total s t) [
+  | inl same ↦ same
+  | inr (inl earlier) ↦ absurd (also s here earlier)
+  | inr (inr later) ↦ absurd (first t there later)
+]
+
+-- facts of a level and its area are of one area
+OfArea-both : (P Q : Numbered → Type 0) (rows : Rows) → ((b : Numbered) → P b → Q b → ⊥) → OfArea P rows → OfArea Q rows → ⊥
+OfArea-both P Q rows apart (area, is, p) (other, also, q) =
+    let same = IsArea-unique rows other area also is in
+    apart (record { rows = rows; area = area }) p (subst (λ squares. Q (record { rows = rows; area = squares })) same q)
+
+abbrev Large : Numbered → Type 0
+Large b = 1024 < length b.area
+
+abbrev Small : Numbered → Type 0
+Small b = length b.area ≤ 1024
+
+abbrev ManyBoxes : Numbered → Type 0
+ManyBoxes b = 128 < length (boxes_of b)
+
+abbrev FewBoxes : Numbered → Type 0
+FewBoxes b = length (boxes_of b) ≤ 128
+
+-- the causes in the order of refusal: each of them, or none of it and a later one
+abbrev ByBoxes : Rows → BoardFault → Type 0
+ByBoxes rows f = ((f ≡ fault.TooManyBoxes) × OfArea ManyBoxes rows) ⊎ ((f ≡ fault.TooFewGoals) × OfArea FewBoxes rows)
+
+abbrev ByStrays : Rows → BoardFault → Type 0
+ByStrays rows f = ((s : Spot) × (f ≡ fault.BoxOutside s) × IsFirst (IsStray rows) s) ⊎ (((s : Spot) → IsStray rows s → ⊥) × ByBoxes rows f)
+
+abbrev BySize : Rows → BoardFault → Type 0
+BySize rows f = ((f ≡ fault.TooLarge) × OfArea Large rows) ⊎ (OfArea Small rows × ByStrays rows f)
+
+abbrev ByLeaks : Rows → BoardFault → Type 0
+ByLeaks rows f = ((s : Spot) × (f ≡ fault.NotEnclosed s) × IsFirst (IsLeak rows) s) ⊎ (IsEnclosed rows × BySize rows f)
+
+by_order : (rows : Rows) (f : BoardFault) → f ≢ fault.Memory → IsRefused rows f → ByLeaks rows f
+by_order rows (fault.NotEnclosed s) ample first = inl (s, refl, first)
+by_order rows fault.TooLarge ample (enclosed, large) = inr (enclosed, inl (refl, large))
+by_order rows (fault.BoxOutside s) ample (enclosed, small, first) = inr (enclosed, inr (small, inl (s, refl, first)))
+by_order rows fault.TooManyBoxes ample (area, is, (tidy, many)) =
+    inr (tidy.enclosed, inr ((area, is, tidy.few_squares), inr (tidy.no_stray, inl (refl, (area, is, many)))))
+by_order rows fault.TooFewGoals ample (area, is, (tidy, few, _)) =
+    inr (tidy.enclosed, inr ((area, is, tidy.few_squares), inr (tidy.no_stray, inr (refl, (area, is, few)))))
+by_order rows fault.Memory ample refused = absurd (ample refl)
+
+many-few : (rows : Rows) → OfArea ManyBoxes rows → OfArea FewBoxes rows → ⊥
+many-few rows = OfArea-both ManyBoxes FewBoxes rows (λ b many few. omega (arith, many, few))
+
+large-small : (rows : Rows) → OfArea Large rows → OfArea Small rows → ⊥
+large-small rows = OfArea-both Large Small rows (λ b large small. omega (arith, large, small))
+
+leak-enclosed : (rows : Rows) (s : Spot) → IsLeak rows s → IsEnclosed rows → ⊥
+leak-enclosed rows s (inside, gap) enclosed = true≢false (sym gap ∙ has_gap-enclosed rows s (λ d. enclosed s d inside))
+
+ByBoxes-one : (rows : Rows) (f g : BoardFault) → ByBoxes rows f → ByBoxes rows g → f ≡ g
+ByBoxes-one rows f g (inl (is, _)) (inl (also, _)) = is ∙ sym also
+ByBoxes-one rows f g (inl (_, many)) (inr (_, few)) = absurd (many-few rows many few)
+ByBoxes-one rows f g (inr (_, few)) (inl (_, many)) = absurd (many-few rows many few)
+ByBoxes-one rows f g (inr (is, _)) (inr (also, _)) = is ∙ sym also
+
+ByStrays-one : (rows : Rows) (f g : BoardFault) → ByStrays rows f → ByStrays rows g → f ≡ g
+ByStrays-one rows f g (inl (s, is, first)) (inl (t, also, other)) = is ∙ ap fault.BoxOutside (IsFirst-one (IsStray rows) s t first other) ∙ sym also
+ByStrays-one rows f g (inl (s, _, first)) (inr (none, _)) = absurd (none s first.0)
+ByStrays-one rows f g (inr (none, _)) (inl (t, _, first)) = absurd (none t first.0)
+ByStrays-one rows f g (inr (_, later)) (inr (_, other)) = ByBoxes-one rows f g later other
+
+BySize-one : (rows : Rows) (f g : BoardFault) → BySize rows f → BySize rows g → f ≡ g
+BySize-one rows f g (inl (is, _)) (inl (also, _)) = is ∙ sym also
+BySize-one rows f g (inl (_, large)) (inr (small, _)) = absurd (large-small rows large small)
+BySize-one rows f g (inr (small, _)) (inl (_, large)) = absurd (large-small rows large small)
+BySize-one rows f g (inr (_, later)) (inr (_, other)) = ByStrays-one rows f g later other
+
+ByLeaks-one : (rows : Rows) (f g : BoardFault) → ByLeaks rows f → ByLeaks rows g → f ≡ g
+ByLeaks-one rows f g (inl (s, is, first)) (inl (t, also, other)) = is ∙ ap fault.NotEnclosed (IsFirst-one (IsLeak rows) s t first other) ∙ sym also
+ByLeaks-one rows f g (inl (s, _, first)) (inr (enclosed, _)) = absurd (leak-enclosed rows s first.0 enclosed)
+ByLeaks-one rows f g (inr (enclosed, _)) (inl (t, _, first)) = absurd (leak-enclosed rows t first.0 enclosed)
+ByLeaks-one rows f g (inr (_, later)) (inr (_, other)) = BySize-one rows f g later other
+
+-- where memory suffices, a level is refused for one cause
+pub IsRefused-one : (rows : Rows) (f g : BoardFault) → f ≢ fault.Memory → g ≢ fault.Memory → IsRefused rows f → IsRefused rows g → f ≡ g
+IsRefused-one rows f g ample enough refused also = ByLeaks-one rows f g (by_order rows f ample refused) (by_order rows g enough also)
+
+-- no level is both refused and accepted
+pub IsRefused-acceptable : (rows : Rows) (f : BoardFault) → f ≢ fault.Memory → IsRefused rows f → IsAcceptable rows → ⊥
+IsRefused-acceptable rows f ample refused (area, accepted) = ample (refused-accepted rows f refused area accepted)
+
+-- an accepted level has one area
+pub IsAccepted-one : (b c : Numbered) → b.rows ≡ c.rows → IsAccepted b → IsAccepted c → b ≡ c
+IsAccepted-one b c same accepted also =
+    let area = IsArea-unique c.rows b.area c.area (subst (λ rows. IsArea rows b.area) same accepted.numbered) also.numbered in
+    λ i. record { rows = same i; area = area i }
