@@ -14,11 +14,11 @@ use Rattle.sok_bar.specs.Rests.{IsBarred}
 use Rattle.sok_bar.proofs.Counting.{crowd-bars}
 use Rattle.sok_bar.proofs.Jams.{jams-bar}
 use Rattle.sok_bar.proofs.Prices.{priced-bars}
-use Rattle.sok_cert.specs.declared.claim.Claim.{Claim}
-use Rattle.sok_cert.specs.declared.claim.Claim.TheVariants.{Pushes, Unsolvable}
-use Rattle.sok_cert.specs.declared.entry.Entry.{Entry}
-use Rattle.sok_cert.specs.declared.entry.Reason.{Reason}
-use Rattle.sok_cert.specs.declared.entry.Reason.TheVariants.{Expanded, Spent, Bound, Crowd, Frozen}
+use Rattle.sok_entry.specs.declared.claim.Claim.{Claim}
+use Rattle.sok_entry.specs.declared.claim.Claim.TheVariants.{Pushes, Unsolvable}
+use Rattle.sok_entry.specs.declared.entry.Entry.{Entry}
+use Rattle.sok_entry.specs.declared.entry.Reason.{Reason}
+use Rattle.sok_entry.specs.declared.entry.Reason.TheVariants.{Expanded, Spent, Bound, Crowd, Frozen}
 use Rattle.sok_cert.specs.Closed.{IsPosition, Bars, rest_of}
 
 pub ArePlaced-placed : (b : Numbered) (boxes : List ℕ) (player : ℕ) → IsPlaced b boxes player → ArePlaced b player boxes

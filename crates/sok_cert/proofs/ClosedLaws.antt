@@ -13,9 +13,9 @@ use Rattle.sok_rules.proofs.Man.{IsStanding-start}
 use Rattle.sok_rules.proofs.Steps.{IsStanding, IsStanding-step}
 use Rattle.sok_rules.proofs.Walking.{boxes-Same, Same-step, Same-sym, Same-trans}
 use Rattle.sok_board.specs.Area.{Numbered, IsAccepted, IsArea}
-use Rattle.sok_cert.specs.declared.claim.Claim.{Claim}
-use Rattle.sok_cert.specs.declared.claim.Claim.TheVariants.{Pushes, Unsolvable}
-use Rattle.sok_cert.specs.declared.entry.Entry.{Entry}
+use Rattle.sok_entry.specs.declared.claim.Claim.{Claim}
+use Rattle.sok_entry.specs.declared.claim.Claim.TheVariants.{Pushes, Unsolvable}
+use Rattle.sok_entry.specs.declared.entry.Entry.{Entry}
 use Rattle.sok_cert.specs.Closed.{Bars, IsClosed, IsFollowed, IsPosition, IsReasoned, IsTrueOf, ShowsClaims, is_expanded, place_of, rest_of}
 use Rattle.sok_cert.proofs.Barring.{Agrees, Agrees-barred, Agrees-more, Bars-IsBarred}
 

@@ -7,13 +7,14 @@ use Rattle.sok_rules.specs.Levels.{IsProper}
 use Rattle.sok_rules.specs.Play.{AllOnGoals}
 use Rattle.sok_rules.proofs.Walking.{Same-sym}
 use Rattle.sok_board.specs.Area.{Numbered, IsArea}
+use Rattle.sok_state.specs.Tables.{Entries}
 use Rattle.sok_state.proofs.Placed.{IsStanding-placed}
-use Rattle.sok_cert.specs.declared.claim.Claim.{Claim}
-use Rattle.sok_cert.specs.declared.entry.Entry.{Entry}
-use Rattle.sok_cert.specs.declared.fault.CertFault.{CertFault}
-use Rattle.sok_cert.specs.declared.fault.CertFault.TheVariants as fault
+use Rattle.sok_entry.specs.declared.claim.Claim.{Claim}
+use Rattle.sok_entry.specs.declared.entry.Entry.{Entry}
+use Rattle.sok_entry.specs.declared.fault.CertFault.{CertFault}
+use Rattle.sok_entry.specs.declared.fault.CertFault.TheVariants as fault
 use Rattle.sok_cert.specs.Closed.{Bars, IsClosed, IsPosition, IsReasoned, IsStarter, is_expanded, place_of, rest_of}
-use Rattle.sok_cert.specs.Lookup.{IsClosedAt, IsOpenFault}
+use Rattle.sok_cert.specs.Lookup.{IsClosedAt, IsLooking, IsOpenFault, IsTableOf}
 use Rattle.sok_cert.specs.Refusals.{AreFine, IsFine, IsRefused}
 use Rattle.sok_cert.proofs.Looking.{Contains-at}
 use Rattle.sok_cert.proofs.Followed.{followed-closed}
@@ -24,6 +25,15 @@ at P xs all i x there = All-contains P xs x all (Contains-at xs x i there)
 -- what is fine of all entries
 pub AreFine-all : {P : Entry → Type 0} (b : Numbered) (claim : Claim) (entries : List Entry) → AreFine b claim entries (length entries) → ((i : ℕ) (e : Entry) → IsFine b claim entries i e → P e) → All P entries
 AreFine-all b claim entries fine each = λ k d within. each k (get_or entries k d) (fine k (get_or entries k d) within (slice_get-get_or entries k d within))
+
+-- the table of entries that are fine
+pub IsLooking-fine : (b : Numbered) (claim : Claim) (entries : List Entry) (table : Entries) → IsArea b.rows b.area → IsProper b.rows → AreFine b claim entries (length entries) → IsTableOf b entries (length entries) table → IsLooking b entries table
+IsLooking-fine b claim entries table area proper fine entered = record {
+  area = area;
+  proper = proper;
+  positions = AreFine-all b claim entries fine (λ i e one. one.position);
+  entered = entered;
+}
 
 pub IsClosed-fine : (b : Numbered) (claim : Claim) (entries : List Entry) → IsArea b.rows b.area → IsProper b.rows → AreFine b claim entries (length entries) → (e : Entry) × IsStarter b entries e
     → All (IsClosedAt b entries) entries → IsClosed b claim entries
@@ -87,7 +97,3 @@ pub judged-exactly : {T : Type 0} (b : Numbered) (claim : Claim) (entries : List
     → (r ≡ Err fault.Memory → ⊥) → IsOk r ↔ IsClosed b claim entries
 judged-exactly b claim entries (Ok x) closed refused other = (λ _. closed, λ _. refl)
 judged-exactly b claim entries (Err f) closed refused other = (λ e. absurd (true≢false (sym e)), λ is. absurd (other (ap Err (closed-refused b claim entries is f refused))))
-
--- the same of a list that is lent
-pub fine-here : (b : Numbered) (claim : Claim) (lent entries : List Entry) → lent ≡ entries → AreFine b claim lent (length lent) → AreFine b claim entries (length entries)
-fine-here b claim lent entries is fine = subst (λ es. AreFine b claim es (length es)) is fine

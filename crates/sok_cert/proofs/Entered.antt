@@ -13,8 +13,8 @@ use Rattle.sok_state.specs.Keys.{IsKeyOf}
 use Rattle.sok_state.specs.Tables.{Entries, Inserts, IsAt}
 use Rattle.sok_state.proofs.Placed.{IsStanding-placed}
 use Rattle.sok_state.proofs.States.{keys_equal, Same-keys}
-use Rattle.sok_cert.specs.declared.claim.Claim.{Claim}
-use Rattle.sok_cert.specs.declared.entry.Entry.{Entry}
+use Rattle.sok_entry.specs.declared.claim.Claim.{Claim}
+use Rattle.sok_entry.specs.declared.entry.Entry.{Entry}
 use Rattle.sok_cert.specs.Closed.{IsPosition, place_of}
 use Rattle.sok_cert.specs.Lookup.{IsEntered, IsTableOf}
 use Rattle.sok_cert.specs.Refusals.{AreFine, IsFine, IsNew, IsRepeated}

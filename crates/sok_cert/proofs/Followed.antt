@@ -21,7 +21,7 @@ use Rattle.sok_state.specs.Tables.{Entries, IsAt}
 use Rattle.sok_state.proofs.Order.{Precedes-asym}
 use Rattle.sok_state.proofs.Placed.{IsStanding-placed}
 use Rattle.sok_state.proofs.States.{IsKeyOf-Same, Same-keys}
-use Rattle.sok_cert.specs.declared.entry.Entry.{Entry}
+use Rattle.sok_entry.specs.declared.entry.Entry.{Entry}
 use Rattle.sok_cert.specs.Closed.{IsFollowed, IsFollower, IsPosition, is_expanded, place_of}
 use Rattle.sok_cert.specs.Refusals.{IsOpen, IsFirstOpen}
 use Rattle.sok_cert.specs.Lookup.{IsClosedAt, IsFound, IsLooking, IsMissing, TellsFirst, TellsOpen}

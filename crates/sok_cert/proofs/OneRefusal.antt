@@ -5,10 +5,10 @@ use Rattle.std.proofs.lemmas.Option.{same_Some, slice_get_within}
 use Rattle.sok_board.specs.Area.{Numbered}
 use Rattle.sok_state.specs.declared.push.Push.{Push}
 use Rattle.sok_state.proofs.Order.{Precedes-total}
-use Rattle.sok_cert.specs.declared.claim.Claim.{Claim}
-use Rattle.sok_cert.specs.declared.entry.Entry.{Entry}
-use Rattle.sok_cert.specs.declared.fault.CertFault.{CertFault}
-use Rattle.sok_cert.specs.declared.fault.CertFault.TheVariants as fault
+use Rattle.sok_entry.specs.declared.claim.Claim.{Claim}
+use Rattle.sok_entry.specs.declared.entry.Entry.{Entry}
+use Rattle.sok_entry.specs.declared.fault.CertFault.{CertFault}
+use Rattle.sok_entry.specs.declared.fault.CertFault.TheVariants as fault
 use Rattle.sok_cert.specs.Closed.{IsClosed, IsPosition, IsStarter}
 use Rattle.sok_cert.specs.Refusals.{AreFine, IsFaulty, IsFine, IsFirstOpen, IsNew, IsOpen, IsRefused, IsRepeated, IsSolved, IsUnreasoned}
 use Rattle.sok_cert.proofs.Closing.{closed-refused, reason-is}

@@ -10,8 +10,8 @@ use Rattle.sok_state.specs.declared.key.Key.{Key}
 use Rattle.sok_state.specs.Keys.{IsKeyOf}
 use Rattle.sok_state.specs.Tables.{Entries, IsAt}
 use Rattle.sok_state.proofs.States.{keys_equal, Same-keys}
-use Rattle.sok_cert.specs.declared.entry.Entry.{Entry}
-use Rattle.sok_cert.specs.declared.entry.Reason.TheVariants.{Expanded}
+use Rattle.sok_entry.specs.declared.entry.Entry.{Entry}
+use Rattle.sok_entry.specs.declared.entry.Reason.TheVariants.{Expanded}
 use Rattle.sok_cert.specs.Closed.{IsStarter, place_of}
 use Rattle.sok_cert.specs.Lookup.{IsLooking}
 use Rattle.sok_cert.proofs.Looking.{Contains-at, same_index}

@@ -9,11 +9,11 @@ use Rattle.sok_region.specs.Regions.{IsPlaced}
 use Rattle.sok_bar.specs.declared.rest.Rest.{Rest}
 use Rattle.sok_bar.specs.declared.rest.Rest.TheVariants as rest
 use Rattle.sok_bar.specs.Bars.{BarsSpent, BarsBound, BarsCrowd, BarsFrozen}
-use Rattle.sok_cert.specs.declared.claim.Claim.{Claim}
-use Rattle.sok_cert.specs.declared.claim.Claim.TheVariants.{Pushes, Unsolvable}
-use Rattle.sok_cert.specs.declared.entry.Entry.{Entry}
-use Rattle.sok_cert.specs.declared.entry.Reason.{Reason}
-use Rattle.sok_cert.specs.declared.entry.Reason.TheVariants.{Expanded, Spent, Bound, Crowd, Frozen}
+use Rattle.sok_entry.specs.declared.claim.Claim.{Claim}
+use Rattle.sok_entry.specs.declared.claim.Claim.TheVariants.{Pushes, Unsolvable}
+use Rattle.sok_entry.specs.declared.entry.Entry.{Entry}
+use Rattle.sok_entry.specs.declared.entry.Reason.{Reason}
+use Rattle.sok_entry.specs.declared.entry.Reason.TheVariants.{Expanded, Spent, Bound, Crowd, Frozen}
 
 -- what a claim says of a level: no list that solves has fewer pushes; or none solves
 abbrev pub IsTrueOf : Rows → Claim → Type 0

@@ -1,13 +1,21 @@
--- What is found of one entry that is a position.
+-- What is found of one entry: that it is a position, and whether it may stand.
 use Rattle.std.specs.Prelude.{ℕ, ◌≡◌, ◌<◌, List, false, IsTrue, length, slice_index}
 use Rattle.sok_rules.specs.Squares.{holds, is_goal}
 use Rattle.sok_rules.specs.Play.{AllOnGoals}
 use Rattle.sok_board.specs.Area.{Numbered, spot_of}
-use Rattle.sok_cert.specs.declared.claim.Claim.{Claim}
-use Rattle.sok_cert.specs.declared.entry.Entry.{Entry}
+use Rattle.sok_entry.specs.declared.claim.Claim.{Claim}
+use Rattle.sok_entry.specs.declared.entry.Entry.{Entry}
+use Rattle.sok_state.specs.Keys.{IsKeyOf}
 use Rattle.sok_cert.specs.declared.judging.Verdict.{Verdict}
 use Rattle.sok_cert.specs.declared.judging.Verdict.TheVariants.{Fine, Solved, Unreasoned}
-use Rattle.sok_cert.specs.Closed.{IsReasoned, Bars, is_expanded, place_of, rest_of}
+use Rattle.sok_cert.specs.declared.placing.Located.{Located}
+use Rattle.sok_cert.specs.Closed.{IsPosition, IsReasoned, Bars, is_expanded, place_of, rest_of}
+
+-- it is a position, with these boxes and of this state
+pub record IsLocated (b : Numbered) (e : Entry) (found : Located) : Type 0 where
+  pub position : IsPosition b e
+  pub boxes_are : found.boxes ≡ e.boxes
+  pub key_is : IsKeyOf b (place_of b e) found.key
 
 -- it may stand; it is expanded, with all boxes on goals; or it has another reason, which does not bar
 abbrev pub IsJudged : Numbered → Claim → Entry → Verdict → Type 0

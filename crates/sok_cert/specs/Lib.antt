@@ -1,9 +1,5 @@
 pub mod Closed
-pub mod Entries
-pub mod Faults
 pub mod Judging
 pub mod Lookup
-pub mod Reading
 pub mod Refusals
 pub mod Shown
-pub mod Text

@@ -9,9 +9,9 @@ use Rattle.sok_state.specs.declared.push.Push.{Push}
 use Rattle.sok_state.specs.Keys.{IsKeyOf}
 use Rattle.sok_state.specs.Pushes.{IsLegal, LeadsTo, Precedes}
 use Rattle.sok_state.specs.Tables as tables
-use Rattle.sok_cert.specs.declared.entry.Entry.{Entry}
-use Rattle.sok_cert.specs.declared.fault.CertFault.{CertFault}
-use Rattle.sok_cert.specs.declared.fault.CertFault.TheVariants as fault
+use Rattle.sok_entry.specs.declared.entry.Entry.{Entry}
+use Rattle.sok_entry.specs.declared.fault.CertFault.{CertFault}
+use Rattle.sok_entry.specs.declared.fault.CertFault.TheVariants as fault
 use Rattle.sok_cert.specs.Closed.{place_of, is_expanded, IsFollowed, IsPosition}
 use Rattle.sok_cert.specs.Refusals.{IsFirstOpen}
 

@@ -1,6 +1,6 @@
 -- What a certificate that was accepted shows.
 use Rattle.sok_rules.specs.Squares.{Rows}
-use Rattle.sok_cert.specs.declared.claim.Claim.{Claim}
+use Rattle.sok_entry.specs.declared.claim.Claim.{Claim}
 
 -- a level, and what was claimed of it
 pub record Shown : Type 0 where

@@ -3,7 +3,7 @@
 ghost use Rattle.std.specs.Prelude.{◌≡◌};
 ghost use Rattle.sok_cert.specs.Closed.{IsTrueOf};
 
-use crate::claim::Claim;
+use sok_entry::claim::Claim;
 use sok_rules::level::Level;
 use std::marker::Model;
 

@@ -1,19 +1,21 @@
 //! The checker of certificates.
 
-ghost use Rattle.std.specs.Prelude.{◌≡◌, ◌↔◌, IfOk, IfErr, IsOk, Err, IsTrue, List};
+ghost use Rattle.std.specs.Prelude.{◌≡◌, ◌↔◌, IfOk, IfErr, IsOk, Err, IsTrue, List, length};
+ghost use Rattle.sok_rules.specs.Levels.{IsProper};
+ghost use Rattle.sok_board.specs.Area.{IsArea};
 ghost use Rattle.sok_cert.specs.Closed.{IsClosed, IsStarter, IsTrueOf};
-ghost use Rattle.sok_cert.specs.Lookup.{IsLooking};
-ghost use Rattle.sok_cert.specs.Refusals.{IsRefused};
-ghost use Rattle.sok_cert.specs.declared.entry.Entry.{Entry};
-ghost use Rattle.sok_cert.specs.declared.fault.CertFault.TheVariants as fault;
+ghost use Rattle.sok_cert.specs.Lookup.{IsLooking, IsTableOf};
+ghost use Rattle.sok_cert.specs.Refusals.{AreFine, IsRefused};
+ghost use Rattle.sok_entry.specs.declared.entry.Entry.{Entry};
+ghost use Rattle.sok_entry.specs.declared.fault.CertFault.TheVariants as fault;
 
 use crate::accepted::Accepted;
-use crate::claim::Claim;
 use crate::entering::states;
-use crate::entry::Cert;
-use crate::fault::CertFault;
 use crate::following::check_pushes;
 use sok_board::board::Board;
+use sok_entry::claim::Claim;
+use sok_entry::entry::{Cert, Entry};
+use sok_entry::fault::CertFault;
 use sok_push::tables::Tables;
 use sok_region::box_set::BoxSet;
 use sok_rules::fault::Memory;
@@ -52,12 +54,31 @@ fn judged(alloc: Global, board: &Board, claim: Claim, cert: &Cert) -> Result<Acc
 {
     let level = board.level();
     let tables = Tables::new(alloc, board)?;
-    let table = states(alloc, board, &tables, claim, &cert.entries)?;
-    if !has_start(alloc, board, &table)? {
+    let entries = cert.entries.as_slice();
+    let table = states(alloc, board, &tables, claim, entries)?;
+    check_list(alloc, board, claim, entries, &table)?;
+    Ok(Accepted::new(level.copy(alloc)?, claim))
+}
+
+/// Judges entries that are fine, each by itself, with the table of their states.
+fn check_list(
+    alloc: Global,
+    board: &Board,
+    claim: Claim,
+    entries: &[Entry],
+    table: &Table,
+) -> Result<(), CertFault>
+    requires area { IsArea board.now.rows board.now.area }
+    requires proper { IsProper board.now.rows }
+    requires fine { AreFine board.now claim entries.now (length entries.now) }
+    requires entered { IsTableOf board.now entries.now (length entries.now) table.now }
+    ensures closed { IfOk result (λ _. IsClosed board.now claim entries.now) }
+    ensures refused { IfErr result (IsRefused board.now claim entries.now) }
+{
+    if !has_start(alloc, board, table)? {
         return Err(CertFault::Start);
     }
-    check_pushes(alloc, board, &table, &cert.entries)?;
-    Ok(Accepted::new(level.copy(alloc)?, claim))
+    check_pushes(alloc, board, table, entries)
 }
 
 /// Whether the start's state is in a table of entries at depth 0.

@@ -6,15 +6,13 @@ ghost use Rattle.sok_board.specs.Area.{IsArea};
 ghost use Rattle.sok_cert.specs.Lookup.{IsTableOf};
 ghost use Rattle.sok_cert.specs.Refusals.{AreFine, IsRefused};
 
-use crate::claim::Claim;
-use crate::entry::Entry;
-use crate::fault::CertFault;
 use crate::judging::{Verdict, judge};
-use crate::placing::boxes_of;
-use sok_board::area::{SQUARE_LIMIT, Sq};
+use crate::placing::{Located, locate};
 use sok_board::board::Board;
+use sok_entry::claim::Claim;
+use sok_entry::entry::Entry;
+use sok_entry::fault::CertFault;
 use sok_push::tables::Tables;
-use sok_state::key::Key;
 use sok_state::table::Table;
 use std::alloc::Global;
 
@@ -62,13 +60,9 @@ fn enter(
     ensures refused { IfErr result (IsRefused board.now claim entries.now) }
 {
     let entry = &entries[index];
-    let boxes = match boxes_of(alloc, board, entry)? {
-        Some(boxes) => boxes,
-        None => return Err(CertFault::BadEntry(index)),
+    let Some(Located { boxes, key }) = locate(alloc, board, entry)? else {
+        return Err(CertFault::BadEntry(index));
     };
-    // The board's squares are few enough for the player's number.
-    prove!(board.squares() <= SQUARE_LIMIT);
-    let key = Key::of(alloc, board, &boxes, entry.player as Sq)?;
     if table.get(&key).is_some() {
         return Err(CertFault::Duplicate(index));
     }

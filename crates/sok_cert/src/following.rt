@@ -9,10 +9,10 @@ ghost use Rattle.sok_state.specs.Tables.{HasDistinctKeys};
 ghost use Rattle.sok_cert.specs.Closed.{IsPosition};
 ghost use Rattle.sok_cert.specs.Lookup.{IsTableOf, TellsFound, TellsFirst, TellsOpen, IsClosedAt, IsOpenFault};
 
-use crate::entry::Entry;
-use crate::fault::CertFault;
 use crate::reason::is_expanded;
 use sok_board::board::Board;
+use sok_entry::entry::Entry;
+use sok_entry::fault::CertFault;
 use sok_rules::fault::Memory;
 use sok_state::key::Key;
 use sok_state::legal::{after, pushes};

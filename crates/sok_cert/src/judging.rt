@@ -7,12 +7,11 @@ ghost use Rattle.sok_board.specs.Area.{spot_of, position_of};
 ghost use Rattle.sok_cert.specs.Closed.{IsPosition};
 ghost use Rattle.sok_cert.specs.Judging.{IsJudged, AreGoals};
 
-use crate::claim::Claim;
-use crate::entry::Entry;
-use crate::reason::{is_expanded, rest_of};
-use sok_bar::bar::Bar;
+use crate::reason::{is_expanded, reason_holds, rest_of};
 use sok_board::area::{SQUARE_LIMIT, Sq};
 use sok_board::board::Board;
+use sok_entry::claim::Claim;
+use sok_entry::entry::Entry;
 use sok_push::tables::Tables;
 use sok_region::box_set::BoxSet;
 use sok_rules::fault::Memory;
@@ -54,10 +53,7 @@ pub(crate) fn judge(
     prove!(board.squares() <= SQUARE_LIMIT);
     let player = entry.player as Sq;
     let rest = rest_of(claim, entry.depth);
-    if entry
-        .reason
-        .holds(alloc, board, tables, boxes, player, rest)?
-    {
+    if reason_holds(alloc, &entry.reason, board, tables, boxes, player, rest)? {
         return Ok(Verdict::Fine);
     }
     Ok(Verdict::Unreasoned)

@@ -1,26 +1,29 @@
-//! Which entries of a certificate are positions.
+//! Which entries of a certificate are positions, and of which state.
 
-ghost use Rattle.std.specs.Prelude.{◌≡◌, ◌<◌, ◌↔◌, IsTrue, IfOk, IfSome, IfNone, All, length};
+ghost use Rattle.std.specs.Prelude.{◌≡◌, ◌<◌, ◌↔◌, IsTrue, IfOk, MatchOption, All, length};
 ghost use Rattle.std.specs.List.Sorted.{IsStrictlyIncreasing};
 ghost use Rattle.sok_cert.specs.Closed.{IsPosition};
+ghost use Rattle.sok_cert.specs.Judging.{IsLocated};
 
-use crate::entry::Entry;
 use sok_board::area::{SQUARE_LIMIT, Sq};
 use sok_board::board::Board;
+use sok_entry::entry::Entry;
 use sok_region::box_set::BoxSet;
 use sok_rules::fault::Memory;
+use sok_state::key::Key;
 use std::alloc::Global;
 
-/// The boxes of an entry that is a position with all boxes of the board, and None where it is none.
-/// It refuses only for want of memory.
-pub(crate) fn boxes_of(
-    alloc: Global,
-    board: &Board,
-    entry: &Entry,
-) -> Result<Option<BoxSet>, Memory>
-    ensures position { IfOk result (λ boxes. IfSome boxes
-        (λ boxes. IsPosition board.now entry.now × (boxes ≡ entry.now.boxes))) }
-    ensures none { IfOk result (λ boxes. IfNone boxes (IsPosition board.now entry.now → ⊥)) }
+/// The boxes and the state of a position.
+#[derive(Debug, Drop)]
+pub(crate) struct Located {
+    pub(crate) boxes: BoxSet,
+    pub(crate) key: Key,
+}
+
+/// The boxes and the state of an entry that is a position with all boxes of the board, and None where
+/// it is none. It refuses only for want of memory.
+pub(crate) fn locate(alloc: Global, board: &Board, entry: &Entry) -> Result<Option<Located>, Memory>
+    ensures { IfOk result (λ found. MatchOption found (IsPosition board.now entry.now → ⊥) (IsLocated board.now entry.now)) }
 {
     if !is_position(board, entry) {
         return Ok(None);
@@ -28,7 +31,9 @@ pub(crate) fn boxes_of(
     // The board's squares are few enough for their numbers, and its boxes for a set.
     prove!(board.squares() <= SQUARE_LIMIT);
     let squares = squares_of(alloc, entry.boxes.as_slice())?;
-    Ok(Some(BoxSet::of(alloc, &squares)?))
+    let boxes = BoxSet::of(alloc, &squares)?;
+    let key = Key::of(alloc, board, &boxes, entry.player as Sq)?;
+    Ok(Some(Located { boxes, key }))
 }
 
 /// Whether an entry is a position with all boxes of the board.

@@ -9,10 +9,10 @@ use Rattle.sok_board.specs.Area.{Numbered}
 use Rattle.sok_board.specs.Refusals.{IsRefused}
 use Rattle.sok_board.specs.declared.fault.BoardFault.{BoardFault}
 use Rattle.sok_board.specs.declared.fault.BoardFault.TheVariants as board
-use Rattle.sok_cert.specs.declared.claim.Claim.{Claim}
-use Rattle.sok_cert.specs.declared.fault.CertFault.{CertFault}
-use Rattle.sok_cert.specs.declared.fault.CertFault.TheVariants as cert
-use Rattle.sok_cert.specs.Reading.{GoesWrong}
+use Rattle.sok_entry.specs.declared.claim.Claim.{Claim}
+use Rattle.sok_entry.specs.declared.fault.CertFault.{CertFault}
+use Rattle.sok_entry.specs.declared.fault.CertFault.TheVariants as cert
+use Rattle.sok_entry.specs.Reading.{GoesWrong}
 use Rattle.sok_tool.specs.declared.fault.ToolFault.{ToolFault}
 use Rattle.sok_tool.specs.Faults.{of_board}
 use Rattle.sok_tool.specs.Checks.{IsCheck, IsJudgedWithin, IsVerdict}

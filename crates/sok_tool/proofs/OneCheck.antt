@@ -2,12 +2,12 @@
 use Rattle.std.proofs.Common.{ℕ, ◌≡◌, ◌∙◌, inl, inr, List, Result, Ok, Err, sym, ap, subst}
 use Rattle.sok_text.specs.Collections.{blocks_of, level_at}
 use Rattle.sok_board.specs.Area.{Numbered}
-use Rattle.sok_cert.specs.declared.claim.Claim.{Claim}
-use Rattle.sok_cert.specs.declared.fault.CertFault.{CertFault}
-use Rattle.sok_cert.specs.declared.fault.CertFault.TheVariants as cert
+use Rattle.sok_entry.specs.declared.claim.Claim.{Claim}
+use Rattle.sok_entry.specs.declared.fault.CertFault.{CertFault}
+use Rattle.sok_entry.specs.declared.fault.CertFault.TheVariants as cert
 use Rattle.sok_cert.specs.Refusals.{IsRefused}
 use Rattle.sok_cert.proofs.OneRefusal.{IsRefused-closed, IsRefused-one}
-use Rattle.sok_cert.proofs.Readings.{Spells-one, GoesWrong-one, Spells-GoesWrong}
+use Rattle.sok_entry.proofs.Readings.{Spells-one, GoesWrong-one, Spells-GoesWrong}
 use Rattle.sok_tool.specs.Checks.{IsShown, IsUnshown, IsVerdict, IsJudged, IsJudgedWithin, IsCheck, verdict_answer}
 use Rattle.sok_tool.specs.Written.{HasOne}
 use Rattle.sok_tool.proofs.Unique.{OnBoard-one, OnLevel-one, Within-one}

@@ -5,16 +5,16 @@ use Rattle.sok_rules.specs.declared.cell.Dir.{Dir}
 use Rattle.sok_rules.specs.declared.cell.Dir.TheVariants.{Left, Up, Right, Down}
 use Rattle.sok_text.specs.Collections.{blocks_of, level_at}
 use Rattle.sok_board.specs.Area.{Numbered}
-use Rattle.sok_cert.specs.declared.claim.Claim.{Claim}
-use Rattle.sok_cert.specs.declared.claim.Claim.TheVariants.{Pushes, Unsolvable}
-use Rattle.sok_cert.specs.declared.entry.Entry.{Entry}
-use Rattle.sok_cert.specs.declared.fault.CertFault.{CertFault}
-use Rattle.sok_cert.specs.declared.fault.CertFault.TheVariants as cert
+use Rattle.sok_entry.specs.declared.claim.Claim.{Claim}
+use Rattle.sok_entry.specs.declared.claim.Claim.TheVariants.{Pushes, Unsolvable}
+use Rattle.sok_entry.specs.declared.entry.Entry.{Entry}
+use Rattle.sok_entry.specs.declared.fault.CertFault.{CertFault}
+use Rattle.sok_entry.specs.declared.fault.CertFault.TheVariants as cert
 use Rattle.sok_cert.specs.Closed.{IsClosed, IsTrueOf}
-use Rattle.sok_cert.specs.Faults.{cert_fault_number}
-use Rattle.sok_cert.specs.Reading.{GoesWrong}
+use Rattle.sok_entry.specs.Faults.{cert_fault_number}
+use Rattle.sok_entry.specs.Reading.{GoesWrong}
 use Rattle.sok_cert.specs.Refusals.{IsRefused}
-use Rattle.sok_cert.specs.Text.{Spells}
+use Rattle.sok_entry.specs.Text.{Spells}
 use Rattle.sok_tool.specs.Inputs.{Within, OnLevel, OnBoard}
 use Rattle.sok_tool.specs.Written.{Answer, Answers}
 

@@ -6,7 +6,7 @@ ghost use Rattle.sok_tool.specs.Checks.{IsCheck, IsJudged, IsJudgedWithin, IsVer
 ghost use Rattle.sok_tool.specs.Inputs.{TellsBoard, Within};
 ghost use Rattle.sok_tool.specs.Written.{HasOne, Writes, answer_of};
 ghost use Rattle.sok_tool.specs.declared.fault.ToolFault.TheVariants as tool;
-ghost use Rattle.sok_cert.specs.declared.fault.CertFault.TheVariants as cert;
+ghost use Rattle.sok_entry.specs.declared.fault.CertFault.TheVariants as cert;
 
 use crate::fault::ToolFault;
 use crate::input::{CERT_LIMIT, INPUT_LIMIT, read_at_most};

@@ -1,5 +1,5 @@
 use Rattle.std.proofs.Common.{ℕ, ◌≡◌, ◌<◌, Some, slice_get}
-use Rattle.sok_cert.specs.declared.entry.Entry.{Entry}
+use Rattle.sok_entry.specs.declared.entry.Entry.{Entry}
 use Rattle.sok_cert.specs.Lookup.{IsClosedAt}
 use Rattle.sok_cert.proofs.following.check_pushes.Given as goal
 

@@ -1,5 +1,0 @@
-use Rattle.sok_cert.proofs.Printable.{Spells-text_of}
-use Rattle.sok_cert.proofs.law.written_texts_spell.Goals as goal
-
-pub returns : goal.returns
-returns c = Spells-text_of

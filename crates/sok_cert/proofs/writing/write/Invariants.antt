@@ -1,7 +1,0 @@
-use Rattle.std.proofs.Common.{◌≡◌, ◌++◌, string_bytes, take, map}
-use Rattle.std.specs.List.{flat_map}
-use Rattle.sok_cert.specs.Text.{header, claim_line, entry_line, ended}
-use Rattle.sok_cert.proofs.writing.write.Given as goal
-
-abbrev pub invariant-loop-entry : goal.invariant-loop-entry
-invariant-loop-entry l = string_bytes l.text ≡ (ended header ++ ended (claim_line l.claim)) ++ flat_map ended (map entry_line (take l.entry-index l.cert.entries.items))

@@ -1,0 +1,12 @@
+pub mod Claims
+pub mod EntryLines
+pub mod EntryNumbers
+pub mod Fitting
+pub mod Headers
+pub mod LineEnds
+pub mod Numbers
+pub mod Printable
+pub mod Printing
+pub mod Reaching
+pub mod Readings
+pub mod Words

@@ -1,0 +1,112 @@
+-- The lines of a certificate, and the text that they make.
+use Rattle.std.proofs.Common.{ℕ, ◌≡◌, ◌<◌, ◌≤◌, ◌-◌, List, [], ◌∷◌, ◌++◌, All, true, false, ◌==◌, if◌then◌else◌, codes, decimal, length, get_or, map, nat_le, slice_index, suc, take, ap, ◌∙◌, refl, arith}
+use Rattle.std.proofs.lemmas.Bool.{ne_eqb, leb-true, and_parts}
+use Rattle.std.proofs.lemmas.Bool.Decides.{nat_tests}
+use Rattle.std.proofs.lemmas.List.{append_assoc}
+use Rattle.std.proofs.lemmas.List.Elements.{All-nil, All-cons, All-append, All-head, All-tail, All-from_get_or, All-map}
+use Rattle.std.proofs.lemmas.List.Splits.{slice_split_at, length-slice_split}
+use Rattle.std.proofs.lemmas.Str.Parse.{digit_at}
+use Rattle.std.specs.List.{flat_map, list_all, slice_split}
+use Rattle.std.specs.Str.Lines.{lines, lines_of_parts, strip_carriage_return}
+use Rattle.sok_text.specs.Lines.{is_newline}
+use Rattle.sok_entry.specs.declared.claim.Claim.{Claim}
+use Rattle.sok_entry.specs.declared.claim.Claim.TheVariants.{Pushes, Unsolvable}
+use Rattle.sok_entry.specs.declared.entry.Entry.{Entry}
+use Rattle.sok_entry.specs.declared.entry.Reason.{Reason}
+use Rattle.sok_entry.specs.declared.entry.Reason.TheVariants.{Expanded, Spent, Bound, Crowd, Frozen}
+use Rattle.sok_entry.specs.Text.{IsSmall, header, last_line, claim_line, entry_line, ended, lines_of, text_of, letter_of, numbers_of, spaced, FitsClaim, FitsEntry, Fits, Spells}
+use Rattle.sok_entry.proofs.Numbers.{IsNumeral-decimal}
+
+-- no control characters: so a line has no LF, and no CR at its end
+abbrev IsPrintable : List ℕ → Type 0
+IsPrintable line = All (λ c. 32 ≤ c) line
+
+lines_of_parts-cons : (x : List ℕ) (parts : List (List ℕ)) → 0 < length parts → lines_of_parts (x ∷ parts) ≡ strip_carriage_return x ∷ lines_of_parts parts
+lines_of_parts-cons x [] some = absurd (omega arith)
+lines_of_parts-cons x (y ∷ more) some = refl
+
+no_newline : (line : List ℕ) → IsPrintable line → All (λ c. is_newline c ≡ false) line
+no_newline line printable k d within = let high = printable k d within in grind (arith, nat_tests)
+
+last_byte : (line : List ℕ) → IsPrintable line → slice_index line (length line - 1) == 13 ≡ false
+last_byte [] printable = refl
+last_byte (c ∷ line) printable =
+    let at : suc (length line) - 1 ≡ length line = omega arith in
+    let high = printable (length line) 0 (omega arith) in
+    ap (λ i. slice_index (c ∷ line) i == 13) at ∙ ne_eqb (get_or (c ∷ line) (length line) 0) 13 (λ same. omega arith)
+
+strip-printable : (line : List ℕ) → IsPrintable line → strip_carriage_return line ≡ line
+strip-printable line printable = ap (λ b. if b then take (length line - 1) line else line) (last_byte line printable)
+
+-- a line with LF behind it is the first line
+lines-ended : (line more : List ℕ) → IsPrintable line → lines (ended line ++ more) ≡ line ∷ lines more
+lines-ended line more printable =
+    ap lines (append_assoc line (10 ∷ []) more)
+    ∙ ap lines_of_parts (slice_split_at is_newline line 10 more (no_newline line printable) refl)
+    ∙ lines_of_parts-cons line (slice_split is_newline more) (omega (arith, length-slice_split is_newline more))
+    ∙ ap (λ first. first ∷ lines more) (strip-printable line printable)
+
+lines-flat_map : (ls : List (List ℕ)) → All IsPrintable ls → lines (flat_map ended ls) ≡ ls
+lines-flat_map [] printable = refl
+lines-flat_map (line ∷ ls) printable =
+    lines-ended line (flat_map ended ls) (All-head IsPrintable line ls printable)
+    ∙ ap (λ rest. line ∷ rest) (lines-flat_map ls (All-tail IsPrintable line ls printable))
+
+IsPrintable-decimal : (n : ℕ) → IsSmall n → IsPrintable (decimal n)
+IsPrintable-decimal n small =
+    All-from_get_or (λ c. 32 ≤ c) (decimal n) 0 (λ i within. omega (arith, (digit_at (decimal n) i (IsNumeral-decimal n small).1 within).0))
+
+IsPrintable-spaced : (ns : List ℕ) → All IsSmall ns → IsPrintable (spaced ns)
+IsPrintable-spaced [] small = All-nil (λ c. 32 ≤ c)
+IsPrintable-spaced (n ∷ ns) small =
+    All-cons (λ c. 32 ≤ c) 32 (decimal n ++ spaced ns) (omega arith)
+    (All-append (λ c. 32 ≤ c) (decimal n) (spaced ns) (IsPrintable-decimal n (All-head IsSmall n ns small)) (IsPrintable-spaced ns (All-tail IsSmall n ns small)))
+
+letter-printable : (reason : Reason) → 32 ≤ letter_of reason
+letter-printable Expanded = omega arith
+letter-printable Spent = omega arith
+letter-printable (Bound u v) = omega arith
+letter-printable (Crowd members) = omega arith
+letter-printable (Frozen members) = omega arith
+
+IsPrintable-entry_line : (e : Entry) → FitsEntry e → IsPrintable (entry_line e)
+unfolding entry_line
+IsPrintable-entry_line e fits =
+    All-cons (λ c. 32 ≤ c) (letter_of e.reason) (spaced (numbers_of e)) (letter-printable e.reason) (IsPrintable-spaced (numbers_of e) fits.small)
+
+-- by a test of each byte
+IsPrintable-test : (line : List ℕ) → list_all (λ c. nat_le 32 c) line ≡ true → IsPrintable line
+IsPrintable-test [] passed = All-nil (λ c. 32 ≤ c)
+IsPrintable-test (c ∷ line) passed =
+    let parts = and_parts (nat_le 32 c) (list_all (λ b. nat_le 32 b) line) passed in
+    All-cons (λ b. 32 ≤ b) c line (leb-true 32 c parts.0) (IsPrintable-test line parts.1)
+
+IsPrintable-header : IsPrintable header
+unfolding header
+IsPrintable-header = IsPrintable-test header refl
+
+IsPrintable-last_line : IsPrintable last_line
+unfolding last_line
+IsPrintable-last_line = IsPrintable-test last_line refl
+
+IsPrintable-claim_line : (claim : Claim) → FitsClaim claim → IsPrintable (claim_line claim)
+unfolding claim_line
+IsPrintable-claim_line (Pushes k) fits = All-append (λ c. 32 ≤ c) (codes "pushes ") (decimal k) (IsPrintable-test (codes "pushes ") refl) (IsPrintable-decimal k fits)
+IsPrintable-claim_line Unsolvable fits = IsPrintable-test (codes "unsolvable") refl
+
+entries_printable : (entries : List Entry) → All FitsEntry entries → All IsPrintable (map entry_line entries)
+entries_printable entries fit = All-map IsPrintable entry_line entries (λ k d within. IsPrintable-entry_line (get_or entries k d) (fit k d within))
+
+lines_printable : (claim : Claim) (entries : List Entry) → Fits claim entries → All IsPrintable (lines_of claim entries)
+lines_printable claim entries fits =
+    let behind = map entry_line entries ++ last_line ∷ [] in
+    All-cons IsPrintable header (claim_line claim ∷ behind) IsPrintable-header
+    (All-cons IsPrintable (claim_line claim) behind (IsPrintable-claim_line claim fits.claim_fits)
+    (All-append IsPrintable (map entry_line entries) (last_line ∷ []) (entries_printable entries fits.entries_fit) (All-cons IsPrintable last_line [] IsPrintable-last_line (All-nil IsPrintable))))
+
+-- what is printed has the lines that it is made of
+pub Spells-text_of : (claim : Claim) (entries : List Entry) → Fits claim entries → Spells (text_of claim entries) claim entries
+Spells-text_of claim entries fits = record {
+  has_lines = lines-flat_map (lines_of claim entries) (lines_printable claim entries fits);
+  fits = fits;
+}

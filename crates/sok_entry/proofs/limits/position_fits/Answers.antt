@@ -1,0 +1,19 @@
+use Rattle.std.proofs.Common.{◌↔◌, [], ◌∷◌, All, IsTrue, length, subst}
+use Rattle.std.proofs.lemmas.List.Elements.{All-append}
+use Rattle.sok_entry.specs.Text.{IsSmall}
+use Rattle.sok_entry.proofs.Fitting.{All-parts, second_decides, first_decides}
+use Rattle.sok_entry.proofs.limits.position_fits.Goals as goal
+
+pub returns-then-are_small : goal.returns-then-are_small
+returns-then-are_small c =
+    let e = c.args.entry.now in
+    let starts = e.depth ∷ e.player ∷ [] in
+    let counted = length e.boxes ∷ e.boxes in
+    let first : All IsSmall starts = c.are_small.ensures.0 c.if-are_small.true in
+    let tells = subst (λ boxes. IsTrue c.counted_fits.result ↔ All IsSmall (length boxes ∷ boxes)) c.as_slice.ensures c.counted_fits.ensures in
+    second_decides c.counted_fits.result tells (λ h. All-append IsSmall starts counted first h) (λ h. (All-parts IsSmall starts counted h).1)
+
+pub returns-else-are_small : goal.returns-else-are_small
+returns-else-are_small c =
+    let e = c.args.entry.now in
+    first_decides c.are_small.result c.if-are_small.false c.are_small.ensures (λ h. (All-parts IsSmall (e.depth ∷ e.player ∷ []) (length e.boxes ∷ e.boxes) h).0)

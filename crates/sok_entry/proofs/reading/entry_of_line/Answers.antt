@@ -1,0 +1,38 @@
+use Rattle.std.proofs.Common.{◌≡◌, ◌∷◌, get_or, drop, sym, ap, ◌∙◌, subst, arith}
+use Rattle.std.proofs.lemmas.Result.{IfOk-weaker}
+use Rattle.std.proofs.lemmas.List.{take_rest}
+use Rattle.sok_entry.specs.Text.{numbers_of}
+use Rattle.sok_entry.specs.Entries.{entry_of}
+use Rattle.sok_entry.specs.Reading.{IsEntryLine, Tells}
+use Rattle.sok_entry.proofs.EntryLines.{two_bytes, long-IsEntryLine, IsEntryLine-reads, Tells-entry_of}
+use Rattle.sok_entry.proofs.reading.entry_of_line.Goals as goal
+
+pub returns-then-line-lt2 : goal.returns-then-line-lt2
+returns-then-line-lt2 c = λ e is. omega (arith, long-IsEntryLine c.args.line.now e is)
+
+pub returns-then-line-ne32 : goal.returns-then-line-ne32
+returns-then-line-ne32 c =
+    let line = c.args.line.now in
+    let text = drop 2 line in
+    let bytes = two_bytes line (omega arith) in
+    λ e is. c.if-line-ne32.true (IsEntryLine-reads (get_or line 0 0) (get_or line 1 0) text e (subst (λ l. IsEntryLine l e) bytes is)).1
+
+pub returns-in-None : goal.returns-in-None
+returns-in-None c =
+    let line = c.args.line.now in
+    let text = drop 2 line in
+    let bytes = two_bytes line (omega arith) in
+    let no_words = rw (c.in-None.is, take_rest line 2) at c.in_ok-numbers.ensures in
+    λ e is. no_words (numbers_of e) (IsEntryLine-reads (get_or line 0 0) (get_or line 1 0) text e (subst (λ l. IsEntryLine l e) bytes is)).2
+
+pub returns-in-Some : goal.returns-in-Some
+returns-in-Some c =
+    let line = c.args.line.now in
+    let letter = get_or line 0 0 in
+    let text = drop 2 line in
+    let bytes = two_bytes line (omega arith) ∙ ap (λ b. letter ∷ b ∷ text) c.if-line-ne32.false in
+    let words = rw (c.in-Some.is, take_rest line 2) at c.in_ok-numbers.ensures in
+    IfOk-weaker c.entry_of.result (λ found. found ≡ entry_of letter c.as_slice.result.now) (Tells (IsEntryLine line))
+    (λ found made. subst (λ l. Tells (IsEntryLine l) found) (sym bytes)
+    (Tells-entry_of letter text c.in-Some.numbers.items words found (made ∙ ap (entry_of letter) c.as_slice.ensures.value)))
+    c.entry_of.ensures

@@ -1,0 +1,35 @@
+-- The entry that a letter and numbers make.
+use Rattle.std.specs.Prelude.{ℕ, List, [], ◌∷◌, Option, Some, None, ◌==◌, nat_lt, if◌then◌else◌, drop, length, option_map, take}
+use Rattle.sok_entry.specs.declared.entry.Entry.{Entry}
+use Rattle.sok_entry.specs.declared.entry.Reason.{Reason}
+use Rattle.sok_entry.specs.declared.entry.Reason.TheVariants.{Expanded, Spent, Bound, Crowd, Frozen}
+
+-- the members behind their count
+unfoldable pub members_of : List ℕ → Option (List ℕ)
+members_of [] = None
+members_of (count ∷ members) = if length members == count then Some members else None
+
+-- a reason with no numbers
+abbrev pub bare : List ℕ → Reason → Option Reason
+bare more reason = if length more == 0 then Some reason else None
+
+-- prices of this many boxes, and of goals
+abbrev pub bound_of : ℕ → List ℕ → Option Reason
+bound_of boxes more = if nat_lt (length more) boxes then None else Some (Bound (take boxes more) (drop boxes more))
+
+-- by the letters x, s, b, c and f, at so many boxes
+unfoldable pub reason_of : ℕ → ℕ → List ℕ → Option Reason
+reason_of letter boxes more =
+    if letter == 120 then bare more Expanded
+    else if letter == 115 then bare more Spent
+    else if letter == 98 then bound_of boxes more
+    else if letter == 99 then option_map Crowd (members_of more)
+    else if letter == 102 then option_map Frozen (members_of more)
+    else None
+
+-- depth, player, and boxes behind their count, before the numbers of the reason
+unfoldable pub entry_of : ℕ → List ℕ → Option Entry
+entry_of letter (depth ∷ player ∷ boxes ∷ more) =
+    if nat_lt (length more) boxes then None
+    else option_map (λ reason. record { depth = depth; player = player; boxes = take boxes more; reason = reason }) (reason_of letter boxes (drop boxes more))
+entry_of letter _ = None

@@ -1,0 +1,80 @@
+//! Why a text is no certificate, and why a certificate is refused.
+
+ghost use Rattle.std.specs.Prelude.{◌≡◌};
+ghost use Rattle.sok_entry.specs.Faults.{cert_fault_number};
+ghost use Rattle.sok_entry.specs.declared.fault.CertFault.TheVariants as cert;
+
+use sok_rules::cell::Dir;
+use sok_rules::fault::Memory;
+use std::alloc::{AllocError, AllocFailed};
+
+/// Why a text is no certificate, or why a certificate does not show what it claims. Lines are counted
+/// from 1, and entries from 0.
+#[derive(Clone, Copy, Debug, PartialEq, Eq)]
+pub enum CertFault {
+    /// The first line or the second is missing, or has another form.
+    Header,
+    /// This line is neither an entry nor `end`, or stands after `end`.
+    Line(usize),
+    /// The text ends before a line `end`.
+    Truncated,
+    /// No entry of depth 0 is the start.
+    Start,
+    /// This entry is the state of an earlier one.
+    Duplicate(usize),
+    /// This entry is no position of the level.
+    BadEntry(usize),
+    /// This entry is expanded, with all boxes on goals.
+    SolvedEntry(usize),
+    /// From this entry the box on this square can be pushed this way, and no entry has the state that
+    /// it leads to, with at most one push more.
+    OpenPush(usize, u16, Dir),
+    /// The reason of this entry does not hold.
+    BadReason(usize),
+    /// Memory was refused.
+    Memory,
+}
+
+impl CertFault {
+    /// The number by which the fault is printed.
+    pub fn number(&self) -> u8
+        ensures { result ≡ cert_fault_number self.now }
+    {
+        match self {
+            CertFault::Header => 20,
+            CertFault::Line(_) => 21,
+            CertFault::Truncated => 22,
+            CertFault::Start => 23,
+            CertFault::Duplicate(_) => 24,
+            CertFault::BadEntry(_) => 25,
+            CertFault::SolvedEntry(_) => 26,
+            CertFault::OpenPush(_, _, _) => 27,
+            CertFault::BadReason(_) => 28,
+            CertFault::Memory => 40,
+        }
+    }
+}
+
+impl From<AllocError> for CertFault {
+    ghost from_gives = { λ _ fault. fault ≡ cert.Memory };
+
+    fn from(_error: AllocError) -> CertFault {
+        CertFault::Memory
+    }
+}
+
+impl<T: Drop> From<AllocFailed<T>> for CertFault {
+    ghost from_gives = { λ _ fault. fault ≡ cert.Memory };
+
+    fn from(_error: AllocFailed<T>) -> CertFault {
+        CertFault::Memory
+    }
+}
+
+impl From<Memory> for CertFault {
+    ghost from_gives = { λ _ fault. fault ≡ cert.Memory };
+
+    fn from(_error: Memory) -> CertFault {
+        CertFault::Memory
+    }
+}

@@ -1,0 +1,22 @@
+//! What a certificate is: a claim, and positions with the reasons why they may stand; and its text.
+//!
+//! | Module | What it holds |
+//! |---|---|
+//! | `claim` | what a certificate claims |
+//! | `entry` | the positions of a certificate, each with the reason why it may stand |
+//! | `fault` | why a text is no certificate, and why a certificate is refused |
+//! | `law` | what is written is read again, and each text has one reading |
+//! | `limits` | which certificates have a text |
+//! | `number` | numbers of a text (private) |
+//! | `reading` | certificates, read from their text |
+//! | `writing` | the text of a certificate |
+#![tactic(auto)]
+
+pub mod claim;
+pub mod entry;
+pub mod fault;
+pub mod law;
+pub mod limits;
+mod number;
+pub mod reading;
+pub mod writing;
