@@ -1,7 +1,6 @@
 -- A jam is never undone: the first of its boxes that moved would get stuck, and one of them is off a goal.
-use Rattle.std.proofs.Common.{ℕ, ◌≡◌, ◌<◌, inl, inr, refl, sym, ap, ◌∙◌, List, [], ◌∷◌, true, false, true≢false, Some, None, Contains, length, ◌||◌, subst}
+use Rattle.std.proofs.Common.{ℕ, ◌≡◌, ◌<◌, inl, inr, refl, sym, ap, ◌∙◌, List, [], ◌∷◌, true, false, true≢false, Some, None, length, subst}
 use Rattle.std.specs.Option.{option_map_or, IsSomeAnd}
-use Rattle.std.proofs.lemmas.Bool.{cases_Bool}
 use Rattle.sok_rules.specs.declared.cell.Cell.{Cell}
 use Rattle.sok_rules.specs.declared.cell.Cell.TheVariants.{Wall, Floor, Goal, BoxOff, BoxOn, ManOff, ManOn}
 use Rattle.sok_rules.specs.declared.cell.Dir.{Dir}
@@ -11,16 +10,15 @@ use Rattle.sok_rules.specs.Squares.{Rows, cell_at, holds, is_open, is_wall, next
 use Rattle.sok_rules.specs.Levels.{IsProper}
 use Rattle.sok_rules.specs.Play.{Position, After, SolvesFrom, NeverFrom}
 use Rattle.sok_rules.specs.States.{Same}
-use Rattle.sok_rules.proofs.Spots.{next-opposite}
+use Rattle.sok_rules.proofs.Spots.{next-opposite, opposite-twice}
 use Rattle.sok_rules.proofs.Steps.{IsStanding, IsStanding-step}
 use Rattle.sok_rules.proofs.Walking.{boxes-Same, IsStanding-Same}
-use Rattle.sok_board.specs.Area.{Numbered, IsArea, InArea, spot_of, beside, is_decoration, position_of}
+use Rattle.sok_board.specs.Area.{Numbered, IsArea, InArea, spot_of, beside, position_of}
 use Rattle.sok_board.proofs.AreaLaws.{InArea-spot_of}
 use Rattle.sok_board.proofs.Confined.{confines-play}
-use Rattle.sok_board.proofs.Inside.{InArea-open}
-use Rattle.sok_board.proofs.Positions.{among_numbers, known_box}
+use Rattle.sok_board.proofs.Positions.{listed_box}
+use Rattle.sok_region.proofs.Walks.{standing}
 use Rattle.sok_push.specs.Pushing.{IsStuck}
-use Rattle.sok_price.specs.Laws.{ArePlaced}
 use Rattle.sok_price.specs.Prices.{IsMember}
 use Rattle.sok_bar.specs.declared.rest.Rest.{Rest}
 use Rattle.sok_bar.specs.declared.rest.Rest.TheVariants.{AtLeast, Never}
@@ -45,12 +43,6 @@ wall_or_open rows s = elim (cell_at rows s) as (λ o. option_map_or is_wall o fa
   | None ↦ λ wall _. true≢false (sym wall)
   | Some cell ↦ λ wall opened. true≢false (sym opened ∙ open_wall cell wall)
 ]
-
-opposite-twice : (d : Dir) → opposite (opposite d) ≡ d
-opposite-twice Left = refl
-opposite-twice Up = refl
-opposite-twice Right = refl
-opposite-twice Down = refl
 
 -- a box that is held along an axis is held in both of its directions
 Held-opposite : (b : Numbered) (IsOne : ℕ → Type 0) (s : ℕ) (d : Dir) → Held b IsOne s d → Held b IsOne s (opposite d)
@@ -116,20 +108,6 @@ never_jammed b area IsOne (d ∷ w) x jam solves = solves_on b.rows d w x solves
       off_goal = jam.off_goal;
     }) on)
 
--- the position for which numbers stand has a box on each of the numbered squares
-pub box_there : (b : Numbered) (player : ℕ) (boxes : List ℕ) (s : ℕ) → Contains boxes s → (position_of b player boxes).boxes (spot_of b s) ≡ true
-box_there b player boxes s one = ap (λ p. p || is_decoration b (spot_of b s)) (among_numbers b boxes s one)
-
--- a player on a free square of the area stands where he may
-pub IsStanding-position_of : (b : Numbered) → IsArea b.rows b.area → IsProper b.rows → (player : ℕ) (boxes : List ℕ) → ArePlaced b player boxes → (Contains boxes player → ⊥) → IsStanding b.rows (position_of b player boxes)
-IsStanding-position_of b area proper player boxes placed free = record {
-  on_open = InArea-open b.rows proper (spot_of b player) (InArea-spot_of b area player placed.player_exists);
-  no_box = elim (cases_Bool ((position_of b player boxes).boxes (spot_of b player))) [
-    | inr none ↦ none
-    | inl some ↦ absurd (free (known_box b area player boxes placed.boxes_exist player placed.player_exists some))
-  ];
-}
-
 -- what has no solution needs any number of pushes
 pub IsBarred-never : (b : Numbered) (player : ℕ) (boxes : List ℕ) → ((x : Position) → Same b.rows (position_of b player boxes) x → NeverFrom b.rows x) → (rest : Rest) → IsBarred b player boxes rest
 IsBarred-never b player boxes never (AtLeast n) = record { each = λ x same w solves. absurd (never x same w solves) }
@@ -141,9 +119,9 @@ jams-bar b area proper player boxes members rest placed free jam = IsBarred-neve
     let same : Same b.rows y x = (v, leads, quiet) in
     never_jammed b area (IsMember boxes members) w x (record {
       inside = (confines-play b.rows y x v (InArea-spot_of b area player placed.player_exists) leads).man;
-      standing = IsStanding-Same b.rows y x (IsStanding-position_of b area proper player boxes placed free) same;
+      standing = IsStanding-Same b.rows y x (standing b boxes (record { proper = proper; area = area; exist = placed.boxes_exist }) player placed.player_exists free) same;
       within = λ s one. let (k, inside, is) = Contains-member boxes members s one in subst (λ t. t < length b.area) is (placed.boxes_exist k s inside);
-      boxes = λ s one. ap (λ f. f (spot_of b s)) (boxes-Same b.rows y x same) ∙ box_there b player boxes s (Contains-member boxes members s one);
+      boxes = λ s one. ap (λ f. f (spot_of b s)) (boxes-Same b.rows y x same) ∙ listed_box b player boxes s (Contains-member boxes members s one);
       held = jam.held;
       off = jam.off_goal.0;
       off_one = jam.off_goal.1;

@@ -11,6 +11,7 @@ use Rattle.sok_rules.specs.Squares.{Rows, holds, is_goal, same_spot}
 use Rattle.sok_rules.specs.Play.{Position, After, step, moved, run, AllOnGoals, SolvesFrom}
 use Rattle.sok_rules.proofs.Spots.{same_spot-is, same_spot-refl}
 use Rattle.sok_rules.proofs.Steps.{IsPush, step_cases}
+use Rattle.sok_rules.proofs.Backs.{moved-to}
 use Rattle.sok_board.specs.Area.{Numbered, IsArea, InArea, spot_of, number_of, goals_of}
 use Rattle.sok_board.proofs.AreaLaws.{number_of-spot_of, InArea-next}
 use Rattle.sok_board.proofs.Lists.{Contains-filter}
@@ -36,10 +37,6 @@ moved-kept boxes from to s apart there = elim (cases_Bool (same_spot s to)) [
   | inl on ↦ ap (λ t. if t then true else if same_spot s from then false else boxes s) on
   | inr off ↦ ap (λ t. if t then true else if same_spot s from then false else boxes s) off ∙ ap (λ t. if t then false else boxes s) apart ∙ there
 ]
-
-moved-to : (boxes : Spot → Bool) (from to : Spot) → moved boxes from to to ≡ true
-unfolding moved
-moved-to boxes from to = ap (λ t. if t then true else if same_spot to from then false else boxes to) (same_spot-refl to)
 
 -- where a push leaves its box
 pub box-moved : (b : Numbered) (d : Dir) (x : Position) (a : After) (s : ℕ) → (moves : MovesBox b d x a s) → a.position.boxes (spot_of b moves.lone.to) ≡ true

@@ -8,13 +8,11 @@ use Rattle.std.proofs.lemmas.List.{get_or_default}
 use Rattle.std.proofs.lemmas.List.Kept.{AllPairs-from_increasing}
 use Rattle.std.proofs.lemmas.List.Sorted.{searched}
 use Rattle.std.proofs.lemmas.Option.{slice_get_within, slice_get-get_or, get_or_from_slice_get}
+use Rattle.sok_board.proofs.Lists.{Contains-at}
 use Rattle.sok_price.specs.Prices.{AreMembers, IsMember}
 
 pub at_index : (xs : List ℕ) (i x : ℕ) → i < length xs → get_or xs i 0 ≡ x → slice_get xs i ≡ Some x
 at_index xs i x within is = slice_get-get_or xs i 0 within ∙ ap Some is
-
-pub Contains-at : (xs : List ℕ) (i x : ℕ) → slice_get xs i ≡ Some x → Contains xs x
-Contains-at xs i x at = (i, slice_get_within xs i x at, get_or_from_slice_get xs i x x at)
 
 pub index_of : (xs : List ℕ) (x : ℕ) → Contains xs x → (i : ℕ) × (slice_get xs i ≡ Some x)
 index_of xs x (i, within, is) = (i, slice_get-get_or xs i x within ∙ ap Some is)
@@ -58,13 +56,13 @@ pub member_found : (boxes members : List ℕ) (x i : ℕ) (r : Result ℕ ℕ) �
     → (is_ok r ≡ true → IsMember boxes members x) × (IsMember boxes members x → is_ok r ≡ true)
 member_found boxes members x i r rising listed at result =
     elim r as (λ q. MatchResult q (λ k. slice_get members k ≡ Some i) (λ _. Contains members i → ⊥) → (is_ok q ≡ true → IsMember boxes members x) × (IsMember boxes members x → is_ok q ≡ true)) [
-      | Ok k ↦ λ there. ((λ _. (i, Contains-at members k i there, at)), λ _. refl)
+      | Ok k ↦ λ there. ((λ _. (i, Contains-at members i k there, at)), λ _. refl)
       | Err _ ↦ λ none. ((λ e. absurd (true≢false (sym e))), λ (j, one, at_j). absurd (none (subst (Contains members) (same_index boxes j i x rising at_j at) one)))
     ] (found members i r listed.rising result)
 
 -- a member stands on one of the boxes' squares
 pub Contains-member : (boxes members : List ℕ) (x : ℕ) → IsMember boxes members x → Contains boxes x
-Contains-member boxes members x (i, _, at) = Contains-at boxes i x at
+Contains-member boxes members x (i, _, at) = Contains-at boxes x i at
 
 -- what holds at each place of the members holds of each member
 pub each_member : (P : ℕ → Type 0) (boxes members : List ℕ) → ((k : ℕ) → k < length members → P (get_or boxes (get_or members k 0) 0)) → (s : ℕ) → IsMember boxes members s → P s

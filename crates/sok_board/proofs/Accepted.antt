@@ -17,7 +17,7 @@ use Rattle.sok_board.specs.declared.fault.BoardFault.TheVariants as fault
 use Rattle.sok_board.specs.Tables.{HasPlace}
 use Rattle.sok_rules.proofs.Spots.{same_spot-is, same_spot-refl}
 use Rattle.sok_board.proofs.AreaLaws.{spot_of-number_of, number-InArea, InArea-spot_of, InArea-next}
-use Rattle.sok_board.proofs.Lists.{AllPairs-head, AllPairs-tail, Contains-cons}
+use Rattle.sok_board.proofs.Lists.{AllPairs-head, AllPairs-tail, Contains-cons, same_ordered}
 use Rattle.sok_board.proofs.Numbering.{spot_of-get_or}
 use Rattle.sok_board.proofs.Refusals.{before_asym}
 use Rattle.sok_rules.proofs.Grid.{holds-some, is_open-is}
@@ -63,38 +63,10 @@ InArea-is_among b area s among =
     let (k, x, within, is, same) = Any-from_list_any (same_spot s) b.area among in
     subst (InArea b.rows) (is ∙ sym (same_spot-is s x same)) (area.inside k x within)
 
-same_heads : (x y : Spot) (xs ys : List Spot) → All (Before x) xs → All (Before y) ys → Contains (y ∷ ys) x → Contains (x ∷ xs) y → x ≡ y
-same_heads x y xs ys after_x after_y (zero, _, is) there = sym is
-same_heads x y xs ys after_x after_y (suc j, _, _) (zero, _, is) = is
-same_heads x y xs ys after_x after_y (suc j, far, is) (suc k, there, same) =
-    let above : Before y x = subst (Before y) is (after_y j x (omega (arith, far))) in
-    let below : Before x y = subst (Before x) same (after_x k y (omega (arith, there))) in
-    absurd (before_asym x y below above)
-
--- a square after the first is not the first
-among_rest : (x y s : Spot) (xs ys : List Spot) → x ≡ y → All (Before x) xs → Contains xs s → Contains (y ∷ ys) s → Contains ys s
-among_rest x y s xs ys same after_x (k, within, there) (zero, _, is) =
-    let above : Before x s = subst (Before x) there (after_x k s within) in
-    let itself : Before s s = subst (λ t. Before t s) (same ∙ is) above in
-    absurd (before_asym s s itself itself)
-among_rest x y s xs ys same after_x among (suc j, far, is) = (j, omega (arith, far), is)
-
--- lists in reading order with the same squares are the same
-same_ordered : (xs ys : List Spot) → AllPairs Before xs → AllPairs Before ys → ((s : Spot) → Contains xs s → Contains ys s) → ((s : Spot) → Contains ys s → Contains xs s) → xs ≡ ys
-same_ordered [] [] rising_xs rising_ys to from = refl
-same_ordered [] (y ∷ ys) rising_xs rising_ys to from = absurd (let past = (from y (0, omega arith, refl)).1 in omega (arith, past))
-same_ordered (x ∷ xs) [] rising_xs rising_ys to from = absurd (let past = (to x (0, omega arith, refl)).1 in omega (arith, past))
-same_ordered (x ∷ xs) (y ∷ ys) rising_xs rising_ys to from =
-    let same : x ≡ y = same_heads x y xs ys (AllPairs-head Before x xs rising_xs) (AllPairs-head Before y ys rising_ys) (to x (0, omega arith, refl)) (from y (0, omega arith, refl)) in
-    let rest : xs ≡ ys = same_ordered xs ys (AllPairs-tail Before x xs rising_xs) (AllPairs-tail Before y ys rising_ys)
-    (λ s among. among_rest x y s xs ys same (AllPairs-head Before x xs rising_xs) among (to s (Contains-cons x s xs among)))
-    (λ s among. among_rest y x s ys xs (sym same) (AllPairs-head Before y ys rising_ys) among (from s (Contains-cons y s ys among))) in
-    λ i. same i ∷ rest i
-
 -- a level has one area
 pub IsArea-unique : (rows : Rows) (xs ys : List Spot) → IsArea rows xs → IsArea rows ys → xs ≡ ys
 IsArea-unique rows xs ys one two =
-    same_ordered xs ys one.in_order two.in_order (λ s among. two.whole s (All-contains (InArea rows) xs s one.inside among)) (λ s among. one.whole s (All-contains (InArea rows) ys s two.inside among))
+    same_ordered Before before_asym xs ys one.in_order two.in_order (λ s among. two.whole s (All-contains (InArea rows) xs s one.inside among)) (λ s among. one.whole s (All-contains (InArea rows) ys s two.inside among))
 
 abbrev with_area : Rows → List Spot → Numbered
 with_area rows area = record { rows = rows; area = area }

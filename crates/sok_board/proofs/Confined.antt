@@ -19,7 +19,7 @@ apart_outside rows s t out inside = elim (cases_Bool (same_spot s t)) [
   | inr apart ↦ apart
 ]
 
-moved-other : (boxes : Spot → Bool) (from to s : Spot) → same_spot s to ≡ false → same_spot s from ≡ false → moved boxes from to s ≡ boxes s
+pub moved-other : (boxes : Spot → Bool) (from to s : Spot) → same_spot s to ≡ false → same_spot s from ≡ false → moved boxes from to s ≡ boxes s
 unfolding moved
 moved-other boxes from to s off_to off_from =
     ap (λ b. if b then true else if same_spot s from then false else boxes s) off_to ∙ ap (λ b. if b then false else boxes s) off_from

@@ -1,8 +1,9 @@
--- Lists: pairs over an append, and what a filter keeps.
-use Rattle.std.proofs.Common.{◌≡◌, ◌⊎◌, inl, inr, ap, subst, ◌∙◌, List, [], ◌∷◌, ◌++◌, Bool, true, false, All, AllPairs, Contains, arith, filter, cond, zero, suc}
+-- Lists: what is listed, pairs over an append, lists in order, and what a filter keeps.
+use Rattle.std.proofs.Common.{◌≡◌, ◌⊎◌, inl, inr, sym, ap, subst, ◌∙◌, refl, ℕ, List, Some, length, slice_get, [], ◌∷◌, ◌++◌, Bool, true, false, All, AllPairs, Contains, arith, filter, cond, zero, suc}
 use Rattle.std.proofs.lemmas.List.Kept.{AllPairs-cons}
 use Rattle.std.proofs.lemmas.List.Elements.{All-append, All-tail, All-head, All-contains, All-contains_itself, All-filter, filter_passes, Contains-push}
-use Rattle.std.proofs.lemmas.List.{get_or_append_left, length-append}
+use Rattle.std.proofs.lemmas.List.{get_or_append_left, get_or_push, length-append}
+use Rattle.std.proofs.lemmas.Option.{slice_get_within, slice_get-get_or, get_or_from_slice_get}
 
 pub AllPairs-head : {X : Type 0} (R : X → X → Type 0) (x : X) (xs : List X) → AllPairs R (x ∷ xs) → All (R x) xs
 AllPairs-head R x xs pairs = λ k d within. pairs 0 (suc k) d (omega arith) (omega (arith, within))
@@ -16,12 +17,49 @@ AllPairs-append {X} R (x ∷ xs) ys first second across =
     AllPairs-cons R x (xs ++ ys) (All-append (R x) xs ys (AllPairs-head R x xs first) (All-head (λ (a : X). All (R a) ys) x xs across))
     (AllPairs-append R xs ys (AllPairs-tail R x xs first) second (All-tail (λ (a : X). All (R a) ys) x xs across))
 
+-- what stands at a place is listed
+pub Contains-at : {X : Type 0} (xs : List X) (x : X) (i : ℕ) → slice_get xs i ≡ Some x → Contains xs x
+Contains-at xs x i at = (i, slice_get_within xs i x at, get_or_from_slice_get xs i x x at)
+
+-- the last element stands behind the others
+pub slice_get-push : {X : Type 0} (xs : List X) (x : X) → slice_get (xs ++ x ∷ []) (length xs) ≡ Some x
+slice_get-push xs x =
+    let longer = length-append xs (x ∷ []) in
+    slice_get-get_or (xs ++ x ∷ []) (length xs) x (omega (arith, longer)) ∙ ap Some (get_or_push xs x x (length xs) refl)
+
 pub Contains-cons : {X : Type 0} (x y : X) (xs : List X) → Contains xs y → Contains (x ∷ xs) y
 Contains-cons x y xs (k, within, is) = (suc k, omega (arith, within), is)
 
 pub Contains-cons_cases : {X : Type 0} (x y : X) (xs : List X) → Contains (x ∷ xs) y → (x ≡ y) ⊎ Contains xs y
 Contains-cons_cases x y xs (zero, within, is) = inl is
 Contains-cons_cases x y xs (suc k, within, is) = inr (k, omega (arith, within), is)
+
+-- lists in an order that does not turn round, with the same elements, are the same: so are their heads
+same_heads : {X : Type 0} (R : X → X → Type 0) → ((x y : X) → R x y → R y x → ⊥) → (x y : X) (xs ys : List X) → All (R x) xs → All (R y) ys → Contains (y ∷ ys) x → Contains (x ∷ xs) y → x ≡ y
+same_heads R asym x y xs ys after_x after_y (zero, _, is) there = sym is
+same_heads R asym x y xs ys after_x after_y (suc j, _, _) (zero, _, is) = is
+same_heads R asym x y xs ys after_x after_y (suc j, far, is) (suc k, there, same) =
+    absurd (asym x y (subst (R x) same (after_x k y (omega (arith, there)))) (subst (R y) is (after_y j x (omega (arith, far)))))
+
+-- an element after the first is not the first
+among_rest : {X : Type 0} (R : X → X → Type 0) → ((x y : X) → R x y → R y x → ⊥) → (x y s : X) (xs ys : List X) → x ≡ y → All (R x) xs → Contains xs s → Contains (y ∷ ys) s → Contains ys s
+among_rest R asym x y s xs ys same after_x (k, within, there) (zero, _, is) =
+    let itself : R s s = subst (λ t. R t s) (same ∙ is) (subst (R x) there (after_x k s within)) in
+    absurd (asym s s itself itself)
+among_rest R asym x y s xs ys same after_x among (suc j, far, is) = (j, omega (arith, far), is)
+
+pub same_ordered : {X : Type 0} (R : X → X → Type 0) → ((x y : X) → R x y → R y x → ⊥) → (xs ys : List X) → AllPairs R xs → AllPairs R ys → ((s : X) → Contains xs s → Contains ys s) → ((s : X) → Contains ys s → Contains xs s) → xs ≡ ys
+same_ordered R asym [] [] ordered_xs ordered_ys to from = refl
+same_ordered R asym [] (y ∷ ys) ordered_xs ordered_ys to from = absurd (let past = (from y (0, omega arith, refl)).1 in omega (arith, past))
+same_ordered R asym (x ∷ xs) [] ordered_xs ordered_ys to from = absurd (let past = (to x (0, omega arith, refl)).1 in omega (arith, past))
+same_ordered R asym (x ∷ xs) (y ∷ ys) ordered_xs ordered_ys to from =
+    let after_x = AllPairs-head R x xs ordered_xs in
+    let after_y = AllPairs-head R y ys ordered_ys in
+    let same : x ≡ y = same_heads R asym x y xs ys after_x after_y (to x (0, omega arith, refl)) (from y (0, omega arith, refl)) in
+    let rest : xs ≡ ys = same_ordered R asym xs ys (AllPairs-tail R x xs ordered_xs) (AllPairs-tail R y ys ordered_ys)
+    (λ s among. among_rest R asym x y s xs ys same after_x among (to s (Contains-cons x s xs among)))
+    (λ s among. among_rest R asym y x s ys xs (sym same) after_y among (from s (Contains-cons y s ys among))) in
+    λ i. same i ∷ rest i
 
 -- the last element, and those before it
 pub All-split : {X : Type 0} (P : X → Type 0) (xs : List X) (x : X) → All P (xs ++ x ∷ []) → All P xs × P x

@@ -80,3 +80,14 @@ known_box b area player boxes exist n within there =
     let within_boxes : k < length boxes = let long = length-map boxes (spot_of b) in omega (arith, below, long) in
     let spot_is : spot_of b n ≡ spot_of b (get_or boxes k n) = same_spot-is (spot_of b n) s same ∙ sym at ∙ get_or-map (spot_of b) boxes k n s within_boxes in
     (k, within_boxes, sym (same_number b area n (get_or boxes k n) within (exist k n within_boxes) spot_is))
+
+-- so no other square of the area has one
+pub no_box : (b : Numbered) → IsArea b.rows b.area → (player : ℕ) (boxes : List ℕ) → All (λ n. n < length b.area) boxes → (n : ℕ) → n < length b.area → (Contains boxes n → ⊥) → (position_of b player boxes).boxes (spot_of b n) ≡ false
+no_box b area player boxes exist n within out = elim (cases_Bool ((position_of b player boxes).boxes (spot_of b n))) [
+  | inl there ↦ absurd (out (known_box b area player boxes exist n within there))
+  | inr free ↦ free
+]
+
+-- and each that is known has one
+pub listed_box : (b : Numbered) (player : ℕ) (boxes : List ℕ) (n : ℕ) → Contains boxes n → (position_of b player boxes).boxes (spot_of b n) ≡ true
+listed_box b player boxes n among = ap (λ p. p || is_decoration b (spot_of b n)) (among_numbers b boxes n among)

@@ -7,6 +7,7 @@ use Rattle.sok_rules.specs.Levels.{IsProper}
 use Rattle.sok_rules.specs.Play.{AllOnGoals}
 use Rattle.sok_rules.proofs.Walking.{Same-sym}
 use Rattle.sok_board.specs.Area.{Numbered, IsArea}
+use Rattle.sok_board.proofs.Lists.{Contains-at}
 use Rattle.sok_state.specs.Tables.{Entries}
 use Rattle.sok_state.proofs.Placed.{IsStanding-placed}
 use Rattle.sok_entry.specs.declared.claim.Claim.{Claim}
@@ -16,7 +17,6 @@ use Rattle.sok_entry.specs.declared.fault.CertFault.TheVariants as fault
 use Rattle.sok_cert.specs.Closed.{Bars, IsClosed, IsPosition, IsReasoned, IsStarter, is_expanded, place_of, rest_of}
 use Rattle.sok_cert.specs.Lookup.{IsClosedAt, IsLooking, IsOpenFault, IsTableOf}
 use Rattle.sok_cert.specs.Refusals.{AreFine, IsFine, IsRefused}
-use Rattle.sok_cert.proofs.Looking.{Contains-at}
 use Rattle.sok_cert.proofs.Followed.{followed-closed}
 
 at : {X : Type 0} (P : X → Type 0) (xs : List X) → All P xs → (i : ℕ) (x : X) → slice_get xs i ≡ Some x → P x

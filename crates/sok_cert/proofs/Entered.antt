@@ -3,10 +3,10 @@ use Rattle.std.proofs.Common.{ℕ, ◌≡◌, ◌<◌, ◌+◌, ◌∙◌, ◌�
 use Rattle.std.specs.Map.{keys_of, values_of}
 use Rattle.std.proofs.lemmas.Bool.{cases_eq}
 use Rattle.std.proofs.lemmas.Option.{same_Some, slice_get_within, slice_get-get_or}
-use Rattle.std.proofs.lemmas.List.{get_or_default, get_or_push, length-append, length-map, map-append}
+use Rattle.std.proofs.lemmas.List.{get_or_default, length-append, length-map, map-append}
 use Rattle.sok_rules.specs.Levels.{IsProper}
 use Rattle.sok_board.specs.Area.{Numbered, IsArea}
-use Rattle.sok_board.proofs.Lists.{AllPairs-append}
+use Rattle.sok_board.proofs.Lists.{AllPairs-append, Contains-at, slice_get-push}
 use Rattle.sok_region.proofs.Floods.{slice_get-append}
 use Rattle.sok_state.specs.declared.key.Key.{Key}
 use Rattle.sok_state.specs.Keys.{IsKeyOf}
@@ -18,7 +18,6 @@ use Rattle.sok_entry.specs.declared.entry.Entry.{Entry}
 use Rattle.sok_cert.specs.Closed.{IsPosition, place_of}
 use Rattle.sok_cert.specs.Lookup.{IsEntered, IsTableOf}
 use Rattle.sok_cert.specs.Refusals.{AreFine, IsFine, IsNew, IsRepeated}
-use Rattle.sok_cert.proofs.Looking.{Contains-at}
 
 -- an entry whose key stands in the table repeats the one there
 pub IsRepeated-found : (b : Numbered) (claim : Claim) (entries : List Entry) (i : ℕ) (table : Entries) (e : Entry) (key : Key) (place : ℕ) → IsArea b.rows b.area → IsProper b.rows → i < length entries
@@ -58,11 +57,6 @@ AreFine-more b claim entries i e there fine one j f below f_there = elim (cases_
   | inr other ↦ fine j f (omega (arith, below, other)) f_there
 ]
 
-slice_get-last : {X : Type 0} (xs : List X) (x : X) → slice_get (xs ++ x ∷ []) (length xs) ≡ Some x
-slice_get-last xs x =
-    let longer = length-append xs (x ∷ []) in
-    slice_get-get_or (xs ++ x ∷ []) (length xs) x (omega (arith, longer)) ∙ ap Some (get_or_push xs x x (length xs) refl)
-
 entered-more : (b : Numbered) (table more : Entries) (i : ℕ) (e : Entry) → IsEntered b table i e → IsEntered b (table ++ more) i e
 entered-more b table more i e entry = record {
   key = entry.key;
@@ -101,8 +95,8 @@ IsTableOf-more b entries i table after e key index there entered is absent (inr 
             let depth_last : j ≡ length (values_of table) = omega (arith, same, count, depth_count) in
             subst (IsEntered b (table ++ more) j) f_is (record {
               key = key;
-              there = ap (λ some. slice_get some j) keys ∙ ap (slice_get (keys_of table ++ key ∷ [])) key_last ∙ slice_get-last (keys_of table) key;
-              depth = ap (λ some. slice_get some j) depths ∙ ap (slice_get (values_of table ++ e.depth ∷ [])) depth_last ∙ slice_get-last (values_of table) e.depth;
+              there = ap (λ some. slice_get some j) keys ∙ ap (slice_get (keys_of table ++ key ∷ [])) key_last ∙ slice_get-push (keys_of table) key;
+              depth = ap (λ some. slice_get some j) depths ∙ ap (slice_get (values_of table ++ e.depth ∷ [])) depth_last ∙ slice_get-push (values_of table) e.depth;
               is = is;
             })
       ];

@@ -12,6 +12,7 @@ use Rattle.sok_rules.proofs.Walking.{Same-sym, Same-trans}
 use Rattle.sok_board.specs.Area.{Numbered, InArea, position_of}
 use Rattle.sok_board.proofs.AreaLaws.{InArea-spot_of}
 use Rattle.sok_board.proofs.Confined.{confines-play}
+use Rattle.sok_board.proofs.Lists.{Contains-at}
 use Rattle.sok_push.proofs.Pushes.{pushes-alone}
 use Rattle.sok_state.specs.declared.key.Key.{Key}
 use Rattle.sok_state.specs.declared.push.Push.{Push}
@@ -25,7 +26,7 @@ use Rattle.sok_entry.specs.declared.entry.Entry.{Entry}
 use Rattle.sok_cert.specs.Closed.{IsFollowed, IsFollower, IsPosition, is_expanded, place_of}
 use Rattle.sok_cert.specs.Refusals.{IsOpen, IsFirstOpen}
 use Rattle.sok_cert.specs.Lookup.{IsClosedAt, IsFound, IsLooking, IsMissing, TellsFirst, TellsOpen}
-use Rattle.sok_cert.proofs.Looking.{Contains-at, standing-after}
+use Rattle.sok_cert.proofs.Looking.{standing-after}
 
 -- what precedes a listed push is listed before it
 pub precedes-before : (pushes : List Push) → AllPairs Precedes pushes → (k j : ℕ) (push other : Push) → slice_get pushes k ≡ Some push → slice_get pushes j ≡ Some other → Precedes other push → j < k

@@ -1,5 +1,5 @@
 -- Whether the state that a push leads to is in a table.
-use Rattle.std.proofs.Common.{ℕ, ◌≡◌, ◌≤◌, ◌+◌, ◌∙◌, inl, inr, refl, sym, ap, subst, List, Some, Bool, true, false, Contains, arith, slice_get}
+use Rattle.std.proofs.Common.{ℕ, ◌≡◌, ◌≤◌, ◌+◌, ◌∙◌, inl, inr, refl, sym, ap, subst, Some, Bool, true, false, Contains, arith, slice_get}
 use Rattle.std.specs.Map.{keys_of, values_of}
 use Rattle.std.proofs.lemmas.Bool.{cases_eq, cases_lt}
 use Rattle.std.proofs.lemmas.Option.{same_Some, slice_get_within, get_or_from_slice_get}
@@ -8,6 +8,7 @@ use Rattle.sok_rules.specs.Play.{Position}
 use Rattle.sok_rules.proofs.Steps.{IsStanding, IsStanding-step}
 use Rattle.sok_rules.proofs.Walking.{Same-refl}
 use Rattle.sok_board.specs.Area.{Numbered, IsArea}
+use Rattle.sok_board.proofs.Lists.{Contains-at}
 use Rattle.sok_state.specs.declared.key.Key.{Key}
 use Rattle.sok_state.specs.declared.push.Push.{Push}
 use Rattle.sok_state.specs.Keys.{IsKeyOf}
@@ -30,9 +31,6 @@ same_index table distinct key i j first second =
         | inr past ↦ absurd (distinct j i key (omega (arith, apart, past)) i_within (j_is ∙ sym i_is))
       ]
     ]
-
-pub Contains-at : {X : Type 0} (xs : List X) (x : X) (i : ℕ) → slice_get xs i ≡ Some x → Contains xs x
-Contains-at xs x i at = (i, slice_get_within xs i x at, get_or_from_slice_get xs i x x at)
 
 -- the man stands where he may after a push
 pub standing-after : (b : Numbered) (key : Key) (push : Push) (after : Position) → LeadsTo b key push after → IsStanding b.rows after

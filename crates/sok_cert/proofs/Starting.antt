@@ -6,6 +6,7 @@ use Rattle.std.proofs.lemmas.List.{length-map}
 use Rattle.sok_rules.specs.Play.{start}
 use Rattle.sok_rules.proofs.Steps.{IsStanding}
 use Rattle.sok_board.specs.Area.{Numbered}
+use Rattle.sok_board.proofs.Lists.{Contains-at}
 use Rattle.sok_state.specs.declared.key.Key.{Key}
 use Rattle.sok_state.specs.Keys.{IsKeyOf}
 use Rattle.sok_state.specs.Tables.{Entries, IsAt}
@@ -14,7 +15,7 @@ use Rattle.sok_entry.specs.declared.entry.Entry.{Entry}
 use Rattle.sok_entry.specs.declared.entry.Reason.TheVariants.{Expanded}
 use Rattle.sok_cert.specs.Closed.{IsStarter, place_of}
 use Rattle.sok_cert.specs.Lookup.{IsLooking}
-use Rattle.sok_cert.proofs.Looking.{Contains-at, same_index}
+use Rattle.sok_cert.proofs.Looking.{same_index}
 use Rattle.sok_cert.proofs.Followed.{key-at, stands}
 
 no_entry : Entry

@@ -1,5 +1,5 @@
 -- The lines of a certificate, and the text that they make.
-use Rattle.std.proofs.Common.{ℕ, ◌≡◌, ◌<◌, ◌≤◌, ◌-◌, List, [], ◌∷◌, ◌++◌, All, true, false, ◌==◌, if◌then◌else◌, codes, decimal, length, get_or, map, nat_le, slice_index, suc, take, ap, ◌∙◌, refl, arith}
+use Rattle.std.proofs.Common.{ℕ, ◌≡◌, ◌≤◌, ◌-◌, List, [], ◌∷◌, ◌++◌, All, true, false, ◌==◌, if◌then◌else◌, codes, decimal, length, get_or, map, nat_le, slice_index, suc, take, ap, ◌∙◌, refl, arith}
 use Rattle.std.proofs.lemmas.Bool.{ne_eqb, leb-true, and_parts}
 use Rattle.std.proofs.lemmas.Bool.Decides.{nat_tests}
 use Rattle.std.proofs.lemmas.List.{append_assoc}
@@ -8,6 +8,7 @@ use Rattle.std.proofs.lemmas.List.Splits.{slice_split_at, length-slice_split}
 use Rattle.std.proofs.lemmas.Str.Parse.{digit_at}
 use Rattle.std.specs.List.{flat_map, list_all, slice_split}
 use Rattle.std.specs.Str.Lines.{lines, lines_of_parts, strip_carriage_return}
+use Rattle.sok_text.proofs.Lines.{lines_of_parts-cons}
 use Rattle.sok_text.specs.Lines.{is_newline}
 use Rattle.sok_entry.specs.declared.claim.Claim.{Claim}
 use Rattle.sok_entry.specs.declared.claim.Claim.TheVariants.{Pushes, Unsolvable}
@@ -20,10 +21,6 @@ use Rattle.sok_entry.proofs.Numbers.{IsNumeral-decimal}
 -- no control characters: so a line has no LF, and no CR at its end
 abbrev IsPrintable : List ℕ → Type 0
 IsPrintable line = All (λ c. 32 ≤ c) line
-
-lines_of_parts-cons : (x : List ℕ) (parts : List (List ℕ)) → 0 < length parts → lines_of_parts (x ∷ parts) ≡ strip_carriage_return x ∷ lines_of_parts parts
-lines_of_parts-cons x [] some = absurd (omega arith)
-lines_of_parts-cons x (y ∷ more) some = refl
 
 no_newline : (line : List ℕ) → IsPrintable line → All (λ c. is_newline c ≡ false) line
 no_newline line printable k d within = let high = printable k d within in grind (arith, nat_tests)

@@ -2,11 +2,12 @@
 use Rattle.std.proofs.Common.{ℕ, ◌≡◌, ◌<◌, ◌+◌, ◌⊎◌, inl, inr, refl, sym, ap, ◌∙◌, subst, List, [], ◌∷◌, ◌++◌, Bool, true, false, true≢false, Option, Some, None, arith, length, get_or, set, count_by, cond, not, ◌&&◌, if◌then◌else◌, slice_get}
 use Rattle.std.proofs.lemmas.Bool.{cases_Bool, cases_eq, cases_lt}
 use Rattle.std.proofs.lemmas.Option.{none-some, same_Some, slice_get_within, get_or_from_slice_get, slice_get-get_or}
-use Rattle.std.proofs.lemmas.List.{length-set, length-append, get_or-set_same, get_or-set_other, get_or_append_left, get_or_push}
+use Rattle.std.proofs.lemmas.List.{length-set, length-append, get_or-set_same, get_or-set_other, get_or_append_left}
 use Rattle.std.proofs.lemmas.List.Sums.{sum_by-set}
 use Rattle.sok_rules.specs.declared.cell.Dir.{Dir}
 use Rattle.sok_rules.specs.declared.cell.Dir.TheVariants.{Left, Up, Right, Down}
 use Rattle.sok_board.specs.Area.{Numbered, beside}
+use Rattle.sok_board.proofs.Lists.{slice_get-push}
 use Rattle.sok_region.specs.declared.flood.Step.{Step}
 use Rattle.sok_region.specs.declared.flood.Origin.{Origin}
 use Rattle.sok_region.specs.Trails.{marked}
@@ -18,11 +19,6 @@ slice_get-append xs ys k x at =
     let within = slice_get_within xs k x at in
     let longer = length-append xs ys in
     slice_get-get_or (xs ++ ys) k x (omega (arith, within, longer)) ∙ ap Some (get_or_append_left xs ys x k within ∙ get_or_from_slice_get xs k x x at)
-
-slice_get-push : {X : Type 0} (xs : List X) (x : X) → slice_get (xs ++ x ∷ []) (length xs) ≡ Some x
-slice_get-push xs x =
-    let longer = length-append xs (x ∷ []) in
-    slice_get-get_or (xs ++ x ∷ []) (length xs) x (omega (arith, longer)) ∙ ap Some (get_or_push xs x x (length xs) refl)
 
 slice_get-push_cases : {X : Type 0} (xs : List X) (x : X) (k : ℕ) (y : X) → slice_get (xs ++ x ∷ []) k ≡ Some y → (slice_get xs k ≡ Some y) ⊎ ((k ≡ length xs) × (x ≡ y))
 slice_get-push_cases xs x k y at =

@@ -1,6 +1,5 @@
 -- Letters without a push, over positions and over the numbers of squares.
-use Rattle.std.proofs.Common.{ℕ, ◌≡◌, ◌<◌, ◌+◌, ◌||◌, inl, inr, refl, sym, ap, ◌∙◌, subst, List, [], ◌∷◌, Bool, true, false, true≢false, Some, None, All, Contains, arith, length, if◌then◌else◌}
-use Rattle.std.proofs.lemmas.Bool.{cases_Bool}
+use Rattle.std.proofs.Common.{ℕ, ◌≡◌, ◌<◌, ◌+◌, refl, sym, ap, ◌∙◌, subst, List, [], ◌∷◌, Bool, true, false, true≢false, Some, None, All, Contains, arith, length, if◌then◌else◌}
 use Rattle.std.proofs.lemmas.Option.{same_Some, option_and_then_some}
 use Rattle.std.specs.Option.{option_and_then, option_map_or}
 use Rattle.sok_rules.specs.declared.cell.Dir.{Dir}
@@ -10,11 +9,11 @@ use Rattle.sok_rules.specs.Play.{Position, After, one_if, pushes, run, step}
 use Rattle.sok_rules.specs.States.{Same}
 use Rattle.sok_rules.proofs.Steps.{IsStanding, step-walk, walk_step}
 use Rattle.sok_rules.proofs.Walking.{Same-step, Same-trans, quiet_step}
-use Rattle.sok_board.specs.Area.{Numbered, IsArea, InArea, beside, number_of, spot_of, is_decoration, position_of}
+use Rattle.sok_board.specs.Area.{Numbered, IsArea, InArea, beside, number_of, spot_of, position_of}
 use Rattle.sok_board.proofs.AreaLaws.{InArea-next, InArea-spot_of, number-InArea, spot_of-number_of}
 use Rattle.sok_board.proofs.Beside.{beside-is, beside-within}
 use Rattle.sok_board.proofs.Inside.{InArea-open, if_some}
-use Rattle.sok_board.proofs.Positions.{among_numbers, known_box}
+use Rattle.sok_board.proofs.Positions.{listed_box, no_box}
 use Rattle.sok_region.specs.Trails.{trail}
 use Rattle.sok_region.proofs.Trails.{trail-one}
 
@@ -24,25 +23,14 @@ pub record AreBoxes (b : Numbered) (boxes : List ℕ) : Type 0 where
   pub area : IsArea b.rows b.area
   pub exist : All (λ n. n < length b.area) boxes
 
--- a square of the area that is not listed has no box
-pub no_box : (b : Numbered) (boxes : List ℕ) → AreBoxes b boxes → (player n : ℕ) → n < length b.area → (Contains boxes n → ⊥) → (position_of b player boxes).boxes (spot_of b n) ≡ false
-no_box b boxes are player n within out = elim (cases_Bool ((position_of b player boxes).boxes (spot_of b n))) [
-  | inl there ↦ absurd (out (known_box b are.area player boxes are.exist n within there))
-  | inr free ↦ free
-]
-
--- and one that is listed has one
-pub some_box : (b : Numbered) (boxes : List ℕ) (player n : ℕ) → Contains boxes n → (position_of b player boxes).boxes (spot_of b n) ≡ true
-some_box b boxes player n among = ap (λ p. p || is_decoration b (spot_of b n)) (among_numbers b boxes n among)
-
 pub standing : (b : Numbered) (boxes : List ℕ) → AreBoxes b boxes → (n : ℕ) → n < length b.area → (Contains boxes n → ⊥) → IsStanding b.rows (position_of b n boxes)
 standing b boxes are n within out = record {
   on_open = InArea-open b.rows are.proper (spot_of b n) (InArea-spot_of b are.area n within);
-  no_box = no_box b boxes are n n within out;
+  no_box = no_box b are.area n boxes are.exist n within out;
 }
 
 pub not_listed : (b : Numbered) (boxes : List ℕ) (n : ℕ) → IsStanding b.rows (position_of b n boxes) → Contains boxes n → ⊥
-not_listed b boxes n stands among = true≢false (sym (some_box b boxes n n among) ∙ stands.no_box)
+not_listed b boxes n stands among = true≢false (sym (listed_box b n boxes n among) ∙ stands.no_box)
 
 -- the player goes on to the square beside
 step-beside : (b : Numbered) (boxes : List ℕ) → AreBoxes b boxes → (d : Dir) (s u : ℕ) → beside b s d ≡ Some u → u < length b.area → (Contains boxes u → ⊥)
@@ -52,7 +40,7 @@ step-beside b boxes are d s u on within out =
     option_and_then_some (number_of b) (next d x.man) u on (λ q ahead number.
     let there : spot_of b u ≡ q = (spot_of-number_of b q u number).1 in
     let opened : holds is_open b.rows q ≡ true = ap (holds is_open b.rows) (sym there) ∙ InArea-open b.rows are.proper (spot_of b u) (InArea-spot_of b are.area u within) in
-    let free : x.boxes q ≡ false = ap x.boxes (sym there) ∙ no_box b boxes are s u within out in
+    let free : x.boxes q ≡ false = ap x.boxes (sym there) ∙ no_box b are.area s boxes are.exist u within out in
     step-walk b.rows d x q ahead opened free ∙ (λ i. Some (record { position = record { man = sym there i; boxes = x.boxes }; pushed = false })))
 
 -- letters over squares without a box are legal, and none of them pushes

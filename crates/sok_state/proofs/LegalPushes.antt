@@ -16,7 +16,7 @@ use Rattle.sok_board.proofs.AreaLaws.{InArea-next, InArea-spot_of, number-InArea
 use Rattle.sok_board.proofs.Beside.{beside-is, beside-within}
 use Rattle.sok_board.proofs.Confined.{confines-play}
 use Rattle.sok_board.proofs.Inside.{InArea-open}
-use Rattle.sok_board.proofs.Positions.{known_box}
+use Rattle.sok_board.proofs.Positions.{known_box, listed_box, no_box}
 use Rattle.sok_region.specs.BoxSets.{IsMoved}
 use Rattle.sok_region.specs.Regions.{IsPlaced, IsRegion}
 use Rattle.sok_state.specs.declared.key.Key.{Key}
@@ -24,7 +24,6 @@ use Rattle.sok_state.specs.declared.push.Push.{Push}
 use Rattle.sok_state.specs.Keys.{IsKeyOf}
 use Rattle.sok_state.specs.Listing.{IsClear}
 use Rattle.sok_state.specs.Pushes.{LeadsTo, IsLegal}
-use Rattle.sok_state.proofs.Placed.{box_there, no_box}
 use Rattle.sok_state.proofs.Moves.{boxes_moved, IsPlaced-moved}
 use Rattle.sok_state.proofs.States.{key_position}
 
@@ -57,7 +56,7 @@ module _ (b : Numbered) (area : IsArea b.rows b.area) (proper : IsProper b.rows)
           before = before;
           same = there.1;
           steps = step-box b.rows push.dir before (spot_of b push.from) (spot_of b free.onward.ahead) false (next_behind b push.dir push.from free.behind free.behind_is)
-              (InArea-open b.rows proper (spot_of b push.from) (InArea-spot_of b area push.from exists)) (box_there b free.behind key.boxes push.from among)
+              (InArea-open b.rows proper (spot_of b push.from) (InArea-spot_of b area push.from exists)) (listed_box b free.behind key.boxes push.from among)
               (beside-next b push.dir push.from free.onward.ahead free.onward.ahead_is) (InArea-open b.rows proper (spot_of b free.onward.ahead) (InArea-spot_of b area free.onward.ahead ahead_exists))
               (no_box b area free.behind key.boxes is.placed.boxes_exist free.onward.ahead ahead_exists free.onward.clear);
           man = refl;
@@ -81,7 +80,7 @@ clear-legal b area key placed push legal =
       record {
         ahead = ahead;
         ahead_is = beside-is b push.dir push.from pushed.from pushed.to ahead (sym from_is) pushed.beyond ahead_number;
-        clear = λ on. true≢false (sym (box_there b key.least key.boxes ahead on) ∙ (λ i. sym kept i (spot_of b ahead)) ∙ free_ahead);
+        clear = λ on. true≢false (sym (listed_box b key.least key.boxes ahead on) ∙ (λ i. sym kept i (spot_of b ahead)) ∙ free_ahead);
       },
     )
 

@@ -11,9 +11,11 @@ use Rattle.sok_rules.proofs.Spots.{same_spot-is, same_spot-refl}
 use Rattle.sok_board.specs.Area.{Numbered, IsArea, InArea, spot_of, position_of, is_decoration}
 use Rattle.sok_board.proofs.Accepted.{decoration-outside}
 use Rattle.sok_board.proofs.AreaLaws.{InArea-spot_of, same_number}
+use Rattle.sok_board.proofs.Positions.{listed_box}
+use Rattle.sok_board.proofs.Confined.{moved-other}
 use Rattle.sok_region.specs.BoxSets.{IsMoved}
 use Rattle.sok_region.specs.Regions.{IsPlaced}
-use Rattle.sok_state.proofs.Placed.{box_there, box_cases, decoration_there}
+use Rattle.sok_state.proofs.Placed.{box_cases, decoration_there}
 
 moved-to : (boxes : Spot → Bool) (from to s : Spot) → same_spot s to ≡ true → moved boxes from to s ≡ true
 unfolding moved
@@ -23,11 +25,6 @@ moved-from : (boxes : Spot → Bool) (from to s : Spot) → same_spot s to ≡ f
 unfolding moved
 moved-from boxes from to s elsewhere left =
     ap (λ b. if b then true else if same_spot s from then false else boxes s) elsewhere ∙ ap (λ b. if b then false else boxes s) left
-
-moved-other : (boxes : Spot → Bool) (from to s : Spot) → same_spot s to ≡ false → same_spot s from ≡ false → moved boxes from to s ≡ boxes s
-unfolding moved
-moved-other boxes from to s elsewhere stays =
-    ap (λ b. if b then true else if same_spot s from then false else boxes s) elsewhere ∙ ap (λ b. if b then false else boxes s) stays
 
 -- where a box stands that was there, or has come
 moved-there : (boxes : Spot → Bool) (from to s : Spot) → boxes s ≡ true → (s ≡ from → ⊥) → moved boxes from to s ≡ true
@@ -43,14 +40,14 @@ module _ (b : Numbered) (area : IsArea b.rows b.area) (player other : ℕ) (boxe
     (from_exists : from < length b.area) (to_exists : to < length b.area) (moves : IsMoved boxes from to after) where
   forth : (s : Spot) → moved (position_of b player boxes).boxes (spot_of b from) (spot_of b to) s ≡ true → (position_of b other after).boxes s ≡ true
   forth s there = elim (cases_Bool (same_spot s (spot_of b to))) [
-    | inl come ↦ subst (λ t. (position_of b other after).boxes t ≡ true) (sym (same_spot-is s (spot_of b to) come)) (box_there b other after to ((moves to).1 (inl refl)))
+    | inl come ↦ subst (λ t. (position_of b other after).boxes t ≡ true) (sym (same_spot-is s (spot_of b to) come)) (listed_box b other after to ((moves to).1 (inl refl)))
     | inr elsewhere ↦ elim (cases_Bool (same_spot s (spot_of b from))) [
       | inl left ↦ absurd (true≢false (sym there ∙ moved-from (position_of b player boxes).boxes (spot_of b from) (spot_of b to) s elsewhere left))
       | inr stays ↦ elim (box_cases b player boxes s (sym (moved-other (position_of b player boxes).boxes (spot_of b from) (spot_of b to) s elsewhere stays) ∙ there)) [
         | inr decoration ↦ decoration_there b other after s decoration
         | inl (n, among, is) ↦
             let differs : n ≡ from → ⊥ = λ same. true≢false (sym (same_spot-refl s) ∙ ap (same_spot s) (is ∙ ap (spot_of b) same) ∙ stays) in
-            subst (λ t. (position_of b other after).boxes t ≡ true) (sym is) (box_there b other after n ((moves n).1 (inr (among, differs))))
+            subst (λ t. (position_of b other after).boxes t ≡ true) (sym is) (listed_box b other after n ((moves n).1 (inr (among, differs))))
       ]
     ]
   ]
@@ -65,7 +62,7 @@ module _ (b : Numbered) (area : IsArea b.rows b.area) (player other : ℕ) (boxe
       | inl come ↦ moved-to (position_of b player boxes).boxes (spot_of b from) (spot_of b to) s (ap (same_spot s) (sym (is ∙ ap (spot_of b) come)) ∙ same_spot-refl s)
       | inr (was, differs) ↦
           let within = All-contains (λ n. n < length b.area) boxes n exist was in
-          moved-there (position_of b player boxes).boxes (spot_of b from) (spot_of b to) s (ap (position_of b player boxes).boxes is ∙ box_there b player boxes n was)
+          moved-there (position_of b player boxes).boxes (spot_of b from) (spot_of b to) s (ap (position_of b player boxes).boxes is ∙ listed_box b player boxes n was)
           (λ same. differs (same_number b area n from within from_exists (sym is ∙ same)))
     ]
   ]

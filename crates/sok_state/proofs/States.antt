@@ -6,10 +6,11 @@ use Rattle.sok_rules.specs.States.{Same}
 use Rattle.sok_rules.proofs.Steps.{IsStanding}
 use Rattle.sok_rules.proofs.Walking.{Same-trans, Same-sym, boxes-Same, IsStanding-Same}
 use Rattle.sok_board.specs.Area.{Numbered, IsArea, position_of}
+use Rattle.sok_board.proofs.Positions.{listed_box}
 use Rattle.sok_region.specs.Regions.{IsRegion}
 use Rattle.sok_state.specs.declared.key.Key.{Key}
 use Rattle.sok_state.specs.Keys.{IsKeyOf, TellsStates}
-use Rattle.sok_state.proofs.Placed.{IsStanding-placed, box_there, same_boxes}
+use Rattle.sok_state.proofs.Placed.{IsStanding-placed, same_boxes}
 
 -- the position that a key stands for
 abbrev pub key_position : Numbered → Key → Position
@@ -55,7 +56,7 @@ pub IsKeyOf-region : (b : Numbered) → IsArea b.rows b.area → IsProper b.rows
 IsKeyOf-region b area proper player boxes region least is among lowest =
     let there = (is.exact least).0 among in
     let standing = IsStanding-Same b.rows (position_of b player boxes) (position_of b least boxes) (IsStanding-placed b area proper player boxes is.placed) there.1 in
-    let free : Contains boxes least → ⊥ = λ on. true≢false (sym (box_there b least boxes least on) ∙ standing.no_box) in
+    let free : Contains boxes least → ⊥ = λ on. true≢false (sym (listed_box b least boxes least on) ∙ standing.no_box) in
     record {
       placed = record { rising = is.placed.rising; boxes_exist = is.placed.boxes_exist; player_exists = there.0; free = free };
       same = there.1;

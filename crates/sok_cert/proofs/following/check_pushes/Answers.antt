@@ -2,9 +2,9 @@ use Rattle.std.proofs.Common.{◌≡◌, ◌∙◌, inl, inr, sym, ap, subst, ar
 use Rattle.std.proofs.lemmas.Bool.{cases_eq}
 use Rattle.std.proofs.lemmas.Option.{same_Some, slice_get-get_or}
 use Rattle.std.proofs.lemmas.List.Elements.{All-contains}
+use Rattle.sok_board.proofs.Lists.{Contains-at}
 use Rattle.sok_cert.specs.Closed.{IsPosition}
 use Rattle.sok_cert.specs.Lookup.{IsClosedAt, IsLooking, TellsOpen}
-use Rattle.sok_cert.proofs.Looking.{Contains-at}
 use Rattle.sok_cert.proofs.Followed.{IsFollowed-found, IsFirstOpen-missing, key-at}
 use Rattle.sok_cert.proofs.following.check_pushes.Goals as goal
 
