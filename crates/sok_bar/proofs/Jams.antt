@@ -7,23 +7,23 @@ use Rattle.sok_rules.specs.declared.cell.Dir.{Dir}
 use Rattle.sok_rules.specs.declared.cell.Dir.TheVariants.{Left, Up, Right, Down}
 use Rattle.sok_rules.specs.declared.cell.Spot.{Spot}
 use Rattle.sok_rules.specs.Squares.{Rows, cell_at, holds, is_open, is_wall, next, opposite}
-use Rattle.sok_rules.specs.Levels.{IsProper}
 use Rattle.sok_rules.specs.Play.{Position, After, SolvesFrom, NeverFrom}
 use Rattle.sok_rules.specs.States.{Same}
 use Rattle.sok_rules.proofs.Spots.{next-opposite, opposite-twice}
 use Rattle.sok_rules.proofs.Steps.{IsStanding, IsStanding-step}
 use Rattle.sok_rules.proofs.Walking.{boxes-Same, IsStanding-Same}
-use Rattle.sok_board.specs.Area.{Numbered, IsArea, InArea, spot_of, beside, position_of}
+use Rattle.sok_board.specs.Area.{Numbered, IsAccepted, IsArea, InArea, spot_of, beside, position_of}
 use Rattle.sok_board.proofs.AreaLaws.{InArea-spot_of}
 use Rattle.sok_board.proofs.Confined.{confines-play}
 use Rattle.sok_board.proofs.Positions.{listed_box}
+use Rattle.sok_region.specs.Regions.{IsPlaced}
 use Rattle.sok_region.proofs.Walks.{standing}
 use Rattle.sok_push.specs.Pushing.{IsStuck}
 use Rattle.sok_price.specs.Prices.{IsMember}
 use Rattle.sok_bar.specs.declared.rest.Rest.{Rest}
 use Rattle.sok_bar.specs.declared.rest.Rest.TheVariants.{AtLeast, Never}
 use Rattle.sok_bar.specs.Rests.{IsBarred}
-use Rattle.sok_bar.specs.Jam.{IsWallBeside, Held, IsHeld, IsGoalSquare, JamsBar}
+use Rattle.sok_bar.specs.Jam.{IsWallBeside, Held, IsHeld, IsGoalSquare, IsJam}
 use Rattle.sok_bar.proofs.Kept.{MovesBox, InArea-step, box-moved, box_kept, solves_on, never_stuck}
 use Rattle.sok_bar.proofs.Rising.{Contains-member}
 
@@ -70,13 +70,18 @@ record IsJammed (b : Numbered) (IsOne : ℕ → Type 0) (x : Position) : Type 0 
   off_goal : IsGoalSquare b off → ⊥
 
 -- a held box that is pushed lands on a stuck square
-lands_stuck : (b : Numbered) (IsOne : ℕ → Type 0) (d : Dir) (x : Position) (a : After) (s : ℕ) → IsJammed b IsOne x → (moves : MovesBox b d x a s) → Held b IsOne moves.lone.from d → IsStuck b moves.lone.to
+lands_stuck : (b : Numbered) (IsOne : ℕ → Type 0) (d : Dir) (x : Position) (a : After) (s : ℕ) → IsJammed b IsOne x → (moves : MovesBox b d x a s)
+    → Held b IsOne moves.lone.from d → IsStuck b moves.lone.to
 lands_stuck b IsOne d x a s jam moves (Held.wall_ahead h) =
-    let wall : holds is_wall b.rows moves.push.to ≡ true = sym (ap (λ t. option_map_or (holds is_wall b.rows) (next d t) false) moves.lone.from_spot ∙ ap (λ o. option_map_or (holds is_wall b.rows) o false) moves.push.beyond) ∙ h in
+    let wall : holds is_wall b.rows moves.push.to ≡ true =
+    sym (ap (λ t. option_map_or (holds is_wall b.rows) (next d t) false) moves.lone.from_spot ∙ ap (λ o. option_map_or (holds is_wall b.rows) o false)
+    moves.push.beyond) ∙ h in
     absurd (wall_or_open b.rows moves.push.to wall moves.push.to_open)
 lands_stuck b IsOne d x a s jam moves (Held.wall_behind h) =
     let back = next-opposite d x.man moves.push.from moves.push.ahead in
-    let wall : holds is_wall b.rows x.man ≡ true = sym (ap (λ t. option_map_or (holds is_wall b.rows) (next (opposite d) t) false) moves.lone.from_spot ∙ ap (λ o. option_map_or (holds is_wall b.rows) o false) back) ∙ h in
+    let wall : holds is_wall b.rows x.man ≡ true = sym
+    (ap (λ t. option_map_or (holds is_wall b.rows) (next (opposite d) t) false) moves.lone.from_spot ∙ ap
+    (λ o. option_map_or (holds is_wall b.rows) o false) back) ∙ h in
     absurd (wall_or_open b.rows x.man wall jam.standing.on_open)
 lands_stuck b IsOne d x a s jam moves (Held.box_ahead h) =
     let one : IsOne moves.lone.to = subst (λ o. IsSomeAnd o IsOne) moves.lone.beside_ahead h in
@@ -109,17 +114,25 @@ never_jammed b area IsOne (d ∷ w) x jam solves = solves_on b.rows d w x solves
     }) on)
 
 -- what has no solution needs any number of pushes
-pub IsBarred-never : (b : Numbered) (player : ℕ) (boxes : List ℕ) → ((x : Position) → Same b.rows (position_of b player boxes) x → NeverFrom b.rows x) → (rest : Rest) → IsBarred b player boxes rest
+pub IsBarred-never : (b : Numbered) (player : ℕ) (boxes : List ℕ) → ((x : Position) → Same b.rows (position_of b player boxes) x → NeverFrom b.rows x)
+    → (rest : Rest) → IsBarred b player boxes rest
 IsBarred-never b player boxes never (AtLeast n) = record { each = λ x same w solves. absurd (never x same w solves) }
 IsBarred-never b player boxes never Never = record { each = never }
 
-pub jams-bar : (b : Numbered) → IsArea b.rows b.area → IsProper b.rows → JamsBar b
-jams-bar b area proper player boxes members rest placed free jam = IsBarred-never b player boxes (λ x (v, leads, quiet) w solves.
+-- a jam bars its position, whatever is still to be shown; the player stands on a free square
+pub jams-bar : (b : Numbered) → IsAccepted b → (player : ℕ) (boxes members : List ℕ) (rest : Rest) → IsPlaced b boxes player → IsJam b boxes members
+    → IsBarred b player boxes rest
+jams-bar b accepted player boxes members rest placed jam = IsBarred-never b player boxes (λ x (v, leads, quiet) w solves.
     let y : Position = position_of b player boxes in
     let same : Same b.rows y x = (v, leads, quiet) in
-    never_jammed b area (IsMember boxes members) w x (record {
-      inside = (confines-play b.rows y x v (InArea-spot_of b area player placed.player_exists) leads).man;
-      standing = IsStanding-Same b.rows y x (standing b boxes (record { proper = proper; area = area; exist = placed.boxes_exist }) player placed.player_exists free) same;
+    never_jammed b accepted.numbered (IsMember boxes members) w x (record {
+      inside = (confines-play b.rows y x v (InArea-spot_of b accepted.numbered player placed.player_exists) leads).man;
+      standing = IsStanding-Same b.rows y x (standing b boxes (record {
+        proper = accepted.proper;
+        area = accepted.numbered;
+        exist =
+            placed.boxes_exist;
+      }) player placed.player_exists placed.free) same;
       within = λ s one. let (k, inside, is) = Contains-member boxes members s one in subst (λ t. t < length b.area) is (placed.boxes_exist k s inside);
       boxes = λ s one. ap (λ f. f (spot_of b s)) (boxes-Same b.rows y x same) ∙ listed_box b player boxes s (Contains-member boxes members s one);
       held = jam.held;

@@ -1,20 +1,19 @@
 -- A box on a known square stays there or is the one that is pushed; on a stuck square it never comes to a goal.
-use Rattle.std.proofs.Common.{ℕ, ◌≡◌, ◌<◌, ◌+◌, ◌⊎◌, inl, inr, refl, sym, ap, ◌∙◌, List, [], ◌∷◌, Bool, true, false, Some, None, Contains, arith, length, if◌then◌else◌, subst}
+use Rattle.std.proofs.Common.{ℕ, ◌≡◌, ◌<◌, ◌+◌, ◌⊎◌, inl, inr, refl, sym, ap, ◌∙◌, List, [], ◌∷◌, Bool, true, false, Some, None, arith, length}
+use Rattle.std.proofs.Common.{if◌then◌else◌, subst}
 use Rattle.std.specs.Option.{option_and_then, IsSomeAnd}
-use Rattle.std.specs.List.{range_with_len}
 use Rattle.std.proofs.lemmas.Bool.{cases_Bool, cases_eq}
-use Rattle.std.proofs.lemmas.List.FromFn.{length-range_with_len, get_or-range_with_len}
 use Rattle.std.proofs.lemmas.Option.{same_Some}
 use Rattle.sok_rules.specs.declared.cell.Dir.{Dir}
 use Rattle.sok_rules.specs.declared.cell.Spot.{Spot}
-use Rattle.sok_rules.specs.Squares.{Rows, holds, is_goal, same_spot}
+use Rattle.sok_rules.specs.Squares.{Rows, same_spot}
 use Rattle.sok_rules.specs.Play.{Position, After, step, moved, run, AllOnGoals, SolvesFrom}
-use Rattle.sok_rules.proofs.Spots.{same_spot-is, same_spot-refl}
+use Rattle.sok_rules.proofs.Spots.{same_spot-is}
 use Rattle.sok_rules.proofs.Steps.{IsPush, step_cases}
 use Rattle.sok_rules.proofs.Backs.{moved-to}
-use Rattle.sok_board.specs.Area.{Numbered, IsArea, InArea, spot_of, number_of, goals_of}
+use Rattle.sok_board.specs.Area.{Numbered, IsArea, InArea, spot_of, number_of}
 use Rattle.sok_board.proofs.AreaLaws.{number_of-spot_of, InArea-next}
-use Rattle.sok_board.proofs.Lists.{Contains-filter}
+use Rattle.sok_board.proofs.Numbering.{Contains-goals_of}
 use Rattle.sok_push.specs.Pushing.{lone_push, lone_pushes, IsStuck}
 use Rattle.sok_push.proofs.PushingLaws.{IsLonePush, lone_push-push}
 
@@ -41,10 +40,12 @@ moved-kept boxes from to s apart there = elim (cases_Bool (same_spot s to)) [
 -- where a push leaves its box
 pub box-moved : (b : Numbered) (d : Dir) (x : Position) (a : After) (s : ℕ) → (moves : MovesBox b d x a s) → a.position.boxes (spot_of b moves.lone.to) ≡ true
 box-moved b d x a s moves =
-    ap (λ (y : After). y.position.boxes (spot_of b moves.lone.to)) moves.push.leads ∙ ap (moved x.boxes moves.push.from moves.push.to) moves.lone.to_spot ∙ moved-to x.boxes moves.push.from moves.push.to
+    ap (λ (y : After). y.position.boxes (spot_of b moves.lone.to)) moves.push.leads ∙ ap (moved x.boxes moves.push.from moves.push.to) moves.lone.to_spot ∙
+    moved-to x.boxes moves.push.from moves.push.to
 
 -- a box stays on its square, or it is the one that is pushed
-pub box_kept : (b : Numbered) → IsArea b.rows b.area → (d : Dir) (x : Position) (a : After) → InArea b.rows x.man → step b.rows d x ≡ Some a → (s : ℕ) → s < length b.area
+pub box_kept : (b : Numbered) → IsArea b.rows b.area → (d : Dir) (x : Position) (a : After) → InArea b.rows x.man → step b.rows d x ≡ Some a → (s : ℕ)
+    → s < length b.area
     → x.boxes (spot_of b s) ≡ true → (a.position.boxes (spot_of b s) ≡ true) ⊎ MovesBox b d x a s
 box_kept b area d x a inside stepped s within there = elim (step_cases b.rows d x a stepped) [
   | inl walk ↦ inl (ap (λ (y : After). y.position.boxes (spot_of b s)) walk.leads ∙ there)
@@ -55,36 +56,36 @@ box_kept b area d x a inside stepped s within there = elim (step_cases b.rows d 
         | inr other ↦
             let apart : same_spot (spot_of b s) push.from ≡ false = elim (cases_Bool (same_spot (spot_of b s) push.from)) [
               | inr off ↦ off
-              | inl on ↦ absurd (other (sym (same_Some s lone.from (sym (number_of-spot_of b area s within) ∙ ap (number_of b) (same_spot-is (spot_of b s) push.from on) ∙ lone.from_is))))
+              | inl on ↦ absurd (other (sym (same_Some s lone.from
+                  (sym (number_of-spot_of b area s within) ∙ ap (number_of b) (same_spot-is (spot_of b s) push.from on) ∙ lone.from_is))))
             ] in
             inl (ap (λ (y : After). y.position.boxes (spot_of b s)) push.leads ∙ moved-kept x.boxes push.from push.to (spot_of b s) apart there)
       ]
 ]
 
 -- a list that solves and is not empty begins with a letter that is legal, and goes on to solve
-pub solves_on : {C : Type 0} (rows : Rows) (d : Dir) (w : List Dir) (x : Position) → SolvesFrom rows x (d ∷ w) → ((a : After) → step rows d x ≡ Some a → SolvesFrom rows a.position w → C) → C
-solves_on {C} rows d w x = elim (step rows d x) as (λ o. IsSomeAnd (option_and_then (λ (after : After). run rows after.position w) o) (AllOnGoals rows) → ((a : After) → o ≡ Some a → SolvesFrom rows a.position w → C) → C) [
-  | None ↦ λ none _. absurd none
-  | Some a ↦ λ solves on. on a refl solves
-]
+pub solves_on : {C : Type 0} (rows : Rows) (d : Dir) (w : List Dir) (x : Position) → SolvesFrom rows x (d ∷ w)
+    → ((a : After) → step rows d x ≡ Some a → SolvesFrom rows a.position w → C) → C
+solves_on {C} rows d w x = elim (step rows d x) as (λ o. IsSomeAnd (option_and_then (λ (after : After). run rows after.position w) o) (AllOnGoals rows) →
+    ((a : After) → o ≡ Some a → SolvesFrom rows a.position w → C) → C) [
+      | None ↦ λ none _. absurd none
+      | Some a ↦ λ solves on. on a refl solves
+    ]
 
 -- where a lone push from a stuck square leads is stuck
 IsStuck-pushed : (b : Numbered) (d : Dir) (from to : ℕ) → lone_push b d from ≡ Some to → IsStuck b from → IsStuck b to
-IsStuck-pushed b d from to goes stuck = λ g n goal (w, leads, long). stuck g (n + 1) goal (d ∷ w, ap (option_and_then (λ t. lone_pushes b t w)) goes ∙ leads, omega (arith, long))
-
--- a goal of the area is one of its goals
-pub Contains-goals_of : (b : Numbered) (s : ℕ) → s < length b.area → holds is_goal b.rows (spot_of b s) ≡ true → Contains (goals_of b) s
-Contains-goals_of b s within goal =
-    let counted : 0 + s ≡ s = omega arith in
-    let listed : Contains (range_with_len 0 (length b.area)) s = (s, omega (arith, within, length-range_with_len 0 (length b.area)), get_or-range_with_len 0 (length b.area) s s within ∙ counted) in
-    Contains-filter (λ k. holds is_goal b.rows (spot_of b k)) (range_with_len 0 (length b.area)) s listed goal
+IsStuck-pushed b d from to goes stuck = λ g n goal (w, leads, long). stuck g (n + 1) goal
+    (d ∷ w, ap (option_and_then (λ t. lone_pushes b t w)) goes ∙ leads, omega (arith, long))
 
 -- nothing solves while a box stands on a stuck square
-pub never_stuck : (b : Numbered) → IsArea b.rows b.area → (w : List Dir) (x : Position) (s : ℕ) → InArea b.rows x.man → s < length b.area → x.boxes (spot_of b s) ≡ true → IsStuck b s → SolvesFrom b.rows x w → ⊥
+pub never_stuck : (b : Numbered) → IsArea b.rows b.area → (w : List Dir) (x : Position) (s : ℕ) → InArea b.rows x.man → s < length b.area
+    → x.boxes (spot_of b s) ≡ true → IsStuck b s → SolvesFrom b.rows x w → ⊥
 never_stuck b area [] x s inside within there stuck solves = stuck s 0 (Contains-goals_of b s within (solves (spot_of b s) there)) ([], refl, refl)
-never_stuck b area (d ∷ w) x s inside within there stuck solves = solves_on b.rows d w x solves (λ a stepped on. elim (box_kept b area d x a inside stepped s within there) [
-  | inl kept ↦ never_stuck b area w a.position s (InArea-step b.rows d x a inside stepped) within kept stuck on
-  | inr moves ↦
-      let left : IsStuck b moves.lone.from = subst (IsStuck b) (sym moves.is) stuck in
-      never_stuck b area w a.position moves.lone.to (InArea-step b.rows d x a inside stepped) moves.lone.to_within (box-moved b d x a s moves) (IsStuck-pushed b d moves.lone.from moves.lone.to moves.lone.goes left) on
-])
+never_stuck b area (d ∷ w) x s inside within there stuck solves =
+    solves_on b.rows d w x solves (λ a stepped on. elim (box_kept b area d x a inside stepped s within there) [
+      | inl kept ↦ never_stuck b area w a.position s (InArea-step b.rows d x a inside stepped) within kept stuck on
+      | inr moves ↦
+          let left : IsStuck b moves.lone.from = subst (IsStuck b) (sym moves.is) stuck in
+          never_stuck b area w a.position moves.lone.to (InArea-step b.rows d x a inside stepped) moves.lone.to_within (box-moved b d x a s moves)
+          (IsStuck-pushed b d moves.lone.from moves.lone.to moves.lone.goes left) on
+    ])

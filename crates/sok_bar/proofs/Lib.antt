@@ -1,7 +1,7 @@
 pub mod Counting
-pub mod Goals
 pub mod Jams
 pub mod Kept
 pub mod Prices
+pub mod ReasonLaws
 pub mod Removal
 pub mod Rising

@@ -1,5 +1,6 @@
 -- Boxes that are not held are taken away, until each box is held by those that are left.
-use Rattle.std.proofs.Common.{ℕ, ◌≡◌, ◌≢◌, ◌<◌, ◌≤◌, ◌+◌, ◌-◌, inl, inr, refl, sym, ap, ◌∙◌, subst, List, [], ◌∷◌, ◌++◌, Some, None, Contains, IsSomeAnd, Option, arith, length, get_or, slice_get}
+use Rattle.std.proofs.Common.{ℕ, ◌≡◌, ◌≢◌, ◌<◌, ◌≤◌, ◌+◌, ◌-◌, inl, inr, refl, sym, ap, ◌∙◌, subst, List, [], ◌∷◌, ◌++◌, Some, None, Contains, IsSomeAnd}
+use Rattle.std.proofs.Common.{Option, arith, length, get_or, slice_get}
 use Rattle.std.specs.List.{range_with_len, remove}
 use Rattle.std.specs.List.Sorted.{IsStrictlyIncreasing}
 use Rattle.std.proofs.lemmas.Bool.{cases_eq, cases_lt}
@@ -13,13 +14,8 @@ use Rattle.sok_rules.specs.Squares.{opposite}
 use Rattle.sok_board.specs.Area.{Numbered, beside}
 use Rattle.sok_price.specs.Prices.{AreMembers, IsMember}
 use Rattle.sok_bar.specs.Jam.{Held, IsHeld, IsJam}
-use Rattle.sok_bar.specs.Settings.{AreAllMembers}
-use Rattle.sok_bar.proofs.Rising.{below_later}
-
--- what is left: members, among them those of each jam
-pub record IsShrinking (b : Numbered) (boxes members : List ℕ) : Type 0 where
-  pub listed : AreMembers boxes members
-  pub most : (jam : List ℕ) → IsJam b boxes jam → (i : ℕ) → Contains jam i → Contains members i
+use Rattle.sok_bar.specs.Settings.{AreAllMembers, HasJams}
+use Rattle.sok_bar.proofs.Rising.{below_later, Contains-member}
 
 one_of_more : (o : Option ℕ) (P Q : ℕ → Type 0) → ((s : ℕ) → P s → Q s) → IsSomeAnd o P → IsSomeAnd o Q
 one_of_more None P Q more none = none
@@ -45,13 +41,18 @@ Contains-remove xs k x inside other (j, within, is) =
       | inr after ↦ elim (cases_eq j k) [
         | inl same ↦ absurd (other (sym is ∙ ap (λ n. get_or xs n x) same ∙ get_or_default xs k x 0 inside))
         | inr apart ↦
-            let later : (j - 1) + 1 ≡ j = omega (arith, after, apart) in
-            (j - 1, omega (arith, within, shorter, after, apart), get_or-remove_above xs k x (j - 1) (omega (arith, after, apart)) inside ∙ ap (λ n. get_or xs n x) later ∙ is)
+            let later : (j - 1) + 1 ≡ j = omega (arith, after, apart) in (
+              j - 1,
+              omega (arith, within, shorter, after, apart),
+              get_or-remove_above xs k x (j - 1) (omega (arith, after, apart)) inside ∙ ap
+                  (λ n. get_or xs n x) later ∙ is,
+            )
       ]
     ]
 
 -- what is at a place after a removal was somewhere before it
-from_removed : (xs : List ℕ) (k j : ℕ) → k < length xs → (i : ℕ) × (get_or (remove xs k) j 0 ≡ get_or xs i 0) × (j ≤ i) × (i ≤ j + 1) × ((j < k → i ≡ j) × (k ≤ j → i ≡ j + 1))
+from_removed : (xs : List ℕ) (k j : ℕ) → k < length xs → (i : ℕ) × (get_or (remove xs k) j 0 ≡ get_or xs i 0) × (j ≤ i) × (i ≤ j + 1)
+    × ((j < k → i ≡ j) × (k ≤ j → i ≡ j + 1))
 from_removed xs k j inside = elim (cases_lt j k) [
   | inl before ↦ (j, get_or-remove_below xs k 0 j before inside, omega arith, omega arith, ((λ _. refl), λ after. absurd (omega (arith, before, after))))
   | inr after ↦ (j + 1, get_or-remove_above xs k 0 j after inside, omega arith, omega arith, ((λ before. absurd (omega (arith, before, after))), λ _. refl))
@@ -80,20 +81,22 @@ listed-remove boxes members k inside listed = record {
       let shorter = length-remove members k inside in
       elim (cases_lt j k) [
         | inl before ↦ subst (λ n. n < length boxes) (sym (get_or-remove_below members k d j before inside)) (listed.within j d (omega (arith, before, inside)))
-        | inr after ↦ subst (λ n. n < length boxes) (sym (get_or-remove_above members k d j after inside)) (listed.within (j + 1) d (omega (arith, within, shorter)))
+        | inr after ↦ subst (λ n. n < length boxes) (sym (get_or-remove_above members k d j after inside))
+            (listed.within (j + 1) d (omega (arith, within, shorter)))
       ];
 }
 
 -- a member that is not held is in no jam
-pub IsShrinking-remove : (b : Numbered) (boxes members : List ℕ) (k : ℕ) → IsShrinking b boxes members → k < length members → (IsHeld b (IsMember boxes members) (get_or boxes (get_or members k 0) 0) → ⊥)
-    → IsShrinking b boxes (remove members k)
-IsShrinking-remove b boxes members k shrinking inside loose = record {
-  listed = listed-remove boxes members k inside shrinking.listed;
+pub HasJams-remove : (b : Numbered) (boxes members : List ℕ) (k : ℕ) → HasJams b boxes members → k < length members
+    → (IsHeld b (IsMember boxes members) (get_or boxes (get_or members k 0) 0) → ⊥)
+    → HasJams b boxes (remove members k)
+HasJams-remove b boxes members k has inside loose = record {
+  listed = listed-remove boxes members k inside has.listed;
   most = λ jam is_jam i one. elim (cases_eq i (get_or members k 0)) [
-    | inr other ↦ Contains-remove members k i inside other (shrinking.most jam is_jam i one)
+    | inr other ↦ Contains-remove members k i inside other (has.most jam is_jam i one)
     | inl same ↦
-        let more : (s : ℕ) → IsMember boxes jam s → IsMember boxes members s = λ s (n, there, at). (n, shrinking.most jam is_jam n there, at) in
-        let exists : i < length boxes = subst (λ n. n < length boxes) (sym same) (shrinking.listed.within k 0 inside) in
+        let more : (s : ℕ) → IsMember boxes jam s → IsMember boxes members s = λ s (n, there, at). (n, has.most jam is_jam n there, at) in
+        let exists : i < length boxes = subst (λ n. n < length boxes) (sym same) (has.listed.within k 0 inside) in
         let s : ℕ = get_or boxes (get_or members k 0) 0 in
         let at : slice_get boxes i ≡ Some s = slice_get-get_or boxes i 0 exists ∙ ap (λ n. Some (get_or boxes n 0)) same in
         absurd (loose (IsHeld-more b (IsMember boxes jam) (IsMember boxes members) more s (is_jam.held s (i, one, at))))
@@ -124,13 +127,12 @@ AreAllMembers-range boxes = record {
 }
 
 -- all boxes
-pub IsShrinking-all : (b : Numbered) (boxes all : List ℕ) → AreAllMembers boxes all → IsShrinking b boxes all
-IsShrinking-all b boxes all are_all = record {
+pub HasJams-all : (b : Numbered) (boxes all : List ℕ) → AreAllMembers boxes all → HasJams b boxes all
+HasJams-all b boxes all are_all = record {
   listed = are_all.listed;
   most = λ jam is_jam i (k, within, is). are_all.each i (subst (λ n. n < length boxes) is (is_jam.listed.within k i within));
 }
 
 -- a box of a jam is held by all boxes
-pub IsHeld-all : (b : Numbered) (boxes all jam : List ℕ) → AreAllMembers boxes all → IsJam b boxes jam → (s : ℕ) → IsMember boxes jam s → IsHeld b (IsMember boxes all) s
-IsHeld-all b boxes all jam are_all is_jam s one =
-    IsHeld-more b (IsMember boxes jam) (IsMember boxes all) (λ t (k, there, at). (k, (IsShrinking-all b boxes all are_all).most jam is_jam k there, at)) s (is_jam.held s one)
+pub IsHeld-all : (b : Numbered) (boxes jam : List ℕ) → IsJam b boxes jam → (s : ℕ) → IsMember boxes jam s → IsHeld b (Contains boxes) s
+IsHeld-all b boxes jam is_jam s one = IsHeld-more b (IsMember boxes jam) (Contains boxes) (Contains-member boxes jam) s (is_jam.held s one)

@@ -1,5 +1,6 @@
 -- Numbers that rise, and members of a list by their indices.
-use Rattle.std.proofs.Common.{ℕ, ◌≡◌, ◌<◌, ◌≤◌, inl, inr, refl, sym, ap, ◌∙◌, List, true, true≢false, Some, Result, Ok, Err, Contains, arith, length, get_or, slice_get, is_ok, subst}
+use Rattle.std.proofs.Common.{ℕ, ◌≡◌, ◌<◌, ◌≤◌, inl, inr, refl, sym, ap, ◌∙◌, List, true, true≢false, Some, Result, Ok, Err, Contains, arith, length, get_or}
+use Rattle.std.proofs.Common.{slice_get, is_ok, subst}
 use Rattle.std.specs.List.Sorted.{IsStrictlyIncreasing, IsBinarySearchResult}
 use Rattle.std.specs.Ordering.{nat_cmp}
 use Rattle.std.specs.Result.{MatchResult}
@@ -35,29 +36,38 @@ same_index xs i j x rising at_i at_j =
       | inl same ↦ same
       | inr other ↦ elim (cases_lt i j) [
         | inl before ↦ let less = below_later xs i j rising before (slice_get_within xs j x at_j) in absurd (omega (arith, less, here, there))
-        | inr after ↦ let less = below_later xs j i rising (omega (arith, after, other)) (slice_get_within xs i x at_i) in absurd (omega (arith, less, here, there))
+        | inr after ↦ let less = below_later xs j i rising (omega (arith, after, other)) (slice_get_within xs i x at_i) in
+            absurd (omega (arith, less, here, there))
       ]
     ]
 
 -- what a binary search in numbers that rise finds
-pub found : (xs : List ℕ) (x : ℕ) (r : Result ℕ ℕ) → IsStrictlyIncreasing xs → IsBinarySearchResult (λ y. nat_cmp y x) xs r → MatchResult r (λ i. slice_get xs i ≡ Some x) (λ _. Contains xs x → ⊥)
-found xs x r rising result = elim r as (λ q. IsBinarySearchResult (λ y. nat_cmp y x) xs q → MatchResult q (λ i. slice_get xs i ≡ Some x) (λ _. Contains xs x → ⊥)) [
-  | Ok i ↦ λ at. let (within, is) = searched xs x (Ok i) at (λ k j before inside. no_higher xs k j rising before inside) in at_index xs i x within is
-  | Err i ↦ λ at (k, within, is). let (_, below, above) = searched xs x (Err i) at (λ k j before inside. no_higher xs k j rising before inside) in
-      let here : get_or xs k 0 ≡ x = sym (get_or_default xs k x 0 within) ∙ is in
-      elim (cases_lt k i) [
-        | inl before ↦ let less = below k before in omega (arith, less, here)
-        | inr after ↦ let less = above k after within in omega (arith, less, here)
-      ]
-] result
+pub found : (xs : List ℕ) (x : ℕ) (r : Result ℕ ℕ) → IsStrictlyIncreasing xs → IsBinarySearchResult (λ y. nat_cmp y x) xs r
+    → MatchResult r (λ i. slice_get xs i ≡ Some x) (λ _. Contains xs x → ⊥)
+found xs x r rising result = elim r as (λ q. IsBinarySearchResult (λ y. nat_cmp y x) xs q → MatchResult q (λ i. slice_get xs i ≡ Some x)
+    (λ _. Contains xs x → ⊥)) [
+      | Ok i ↦ λ at. let (within, is) = searched xs x (Ok i) at (λ k j before inside. no_higher xs k j rising before inside) in at_index xs i x within is
+      | Err i ↦ λ at (k, within, is). let (_, below, above) = searched xs x (Err i) at (λ k j before inside. no_higher xs k j rising before inside) in
+          let here : get_or xs k 0 ≡ x = sym (get_or_default xs k x 0 within) ∙ is in
+          elim (cases_lt k i) [
+            | inl before ↦ let less = below k before in omega (arith, less, here)
+            | inr after ↦ let less = above k after within in omega (arith, less, here)
+          ]
+    ] result
 
 -- whether the index of a box is found among the members
-pub member_found : (boxes members : List ℕ) (x i : ℕ) (r : Result ℕ ℕ) → IsStrictlyIncreasing boxes → AreMembers boxes members → slice_get boxes i ≡ Some x → IsBinarySearchResult (λ y. nat_cmp y i) members r
+pub member_found : (boxes members : List ℕ) (x i : ℕ) (r : Result ℕ ℕ) → IsStrictlyIncreasing boxes → AreMembers boxes members → slice_get boxes i ≡ Some x
+    → IsBinarySearchResult (λ y. nat_cmp y i) members r
     → (is_ok r ≡ true → IsMember boxes members x) × (IsMember boxes members x → is_ok r ≡ true)
 member_found boxes members x i r rising listed at result =
-    elim r as (λ q. MatchResult q (λ k. slice_get members k ≡ Some i) (λ _. Contains members i → ⊥) → (is_ok q ≡ true → IsMember boxes members x) × (IsMember boxes members x → is_ok q ≡ true)) [
+    elim r as (λ q. MatchResult q (λ k. slice_get members k ≡ Some i) (λ _. Contains members i → ⊥) → (is_ok q ≡ true → IsMember boxes members x) ×
+    (IsMember boxes members x → is_ok q ≡ true)) [
       | Ok k ↦ λ there. ((λ _. (i, Contains-at members i k there, at)), λ _. refl)
-      | Err _ ↦ λ none. ((λ e. absurd (true≢false (sym e))), λ (j, one, at_j). absurd (none (subst (Contains members) (same_index boxes j i x rising at_j at) one)))
+      | Err _ ↦ λ none. (
+        (λ e. absurd (true≢false (sym e))),
+        λ (j, one, at_j). absurd
+            (none (subst (Contains members) (same_index boxes j i x rising at_j at) one)),
+      )
     ] (found members i r listed.rising result)
 
 -- a member stands on one of the boxes' squares
@@ -65,10 +75,16 @@ pub Contains-member : (boxes members : List ℕ) (x : ℕ) → IsMember boxes me
 Contains-member boxes members x (i, _, at) = Contains-at boxes x i at
 
 -- what holds at each place of the members holds of each member
-pub each_member : (P : ℕ → Type 0) (boxes members : List ℕ) → ((k : ℕ) → k < length members → P (get_or boxes (get_or members k 0) 0)) → (s : ℕ) → IsMember boxes members s → P s
+pub each_member : (P : ℕ → Type 0) (boxes members : List ℕ) → ((k : ℕ) → k < length members → P (get_or boxes (get_or members k 0) 0)) → (s : ℕ)
+    → IsMember boxes members s → P s
 each_member P boxes members each s (i, (k, within, is), at) =
     let index : get_or members k 0 ≡ i = get_or_default members k 0 i within ∙ is in
     subst P (ap (λ n. get_or boxes n 0) index ∙ get_or_from_slice_get boxes i s 0 at) (each k within)
 
 pub member_at : (boxes members : List ℕ) (k : ℕ) → AreMembers boxes members → k < length members → IsMember boxes members (get_or boxes (get_or members k 0) 0)
-member_at boxes members k listed within = (get_or members k 0, (k, within, get_or_default members k (get_or members k 0) 0 within), slice_get-get_or boxes (get_or members k 0) 0 (listed.within k 0 within))
+member_at boxes members k listed within = (
+  get_or members k 0,
+  (k, within, get_or_default members k (get_or members k 0) 0 within),
+  slice_get-get_or boxes
+      (get_or members k 0) 0 (listed.within k 0 within),
+)

@@ -1,24 +1,31 @@
--- Which reasons are allowed for what is still to be shown.
+-- The reasons for barring a position: what each of them says, and what it shows.
 use Rattle.std.specs.Prelude.{ℕ, ◌≡◌, List}
 use Rattle.sok_board.specs.Area.{Numbered}
+use Rattle.sok_region.specs.Regions.{IsPlaced}
 use Rattle.sok_price.specs.Prices.{Priced, IsCrowd}
 use Rattle.sok_bar.specs.declared.rest.Rest.{Rest}
 use Rattle.sok_bar.specs.declared.rest.Rest.TheVariants.{AtLeast, Never}
 use Rattle.sok_bar.specs.Jam.{IsJam}
+use Rattle.sok_bar.specs.Rests.{IsBarred}
 
--- no more pushes are asked for
-abbrev pub BarsSpent : Rest → Type 0
-BarsSpent (AtLeast n) = n ≡ 0
-BarsSpent Never = ⊥
+-- a reason for barring a position, with its numbers: prices u of the boxes and v of the goals, or members of the boxes
+pub data Barring : Type 0 where
+  spent : Barring
+  bound : (u v : List ℕ) → Barring
+  crowd : (members : List ℕ) → Barring
+  frozen : (members : List ℕ) → Barring
 
--- prices u of the boxes and v of the goals bound the pushes; of positions without a solution they say nothing
-abbrev pub BarsBound : Numbered → List ℕ → List ℕ → List ℕ → Rest → Type 0
-BarsBound b boxes u v (AtLeast n) = Priced b boxes u v n
-BarsBound b boxes u v Never = ⊥
+-- what a reason says of a position with these boxes: no more pushes are asked for; the prices bound the pushes, and say
+-- nothing of positions without a solution; the members are a crowd, or a jam, whatever is to be shown
+abbrev pub Bars : Numbered → List ℕ → Barring → Rest → Type 0
+Bars b boxes Barring.spent (AtLeast n) = n ≡ 0
+Bars b boxes Barring.spent Never = ⊥
+Bars b boxes (Barring.bound u v) (AtLeast n) = Priced b boxes u v n
+Bars b boxes (Barring.bound u v) Never = ⊥
+Bars b boxes (Barring.crowd members) rest = IsCrowd b boxes members
+Bars b boxes (Barring.frozen members) rest = IsJam b boxes members
 
--- members of the boxes are a crowd, or a jam, whatever is to be shown
-abbrev pub BarsCrowd : Numbered → List ℕ → List ℕ → Rest → Type 0
-BarsCrowd b boxes members rest = IsCrowd b boxes members
-
-abbrev pub BarsFrozen : Numbered → List ℕ → List ℕ → Rest → Type 0
-BarsFrozen b boxes members rest = IsJam b boxes members
+-- the law of reasons: a position that is barred by what a reason says is barred by what rests to be shown
+abbrev pub ReasonsBar : Numbered → Type 0
+ReasonsBar b = (player : ℕ) (boxes : List ℕ) (reason : Barring) (rest : Rest) → IsPlaced b boxes player → Bars b boxes reason rest → IsBarred b player boxes
+    rest

@@ -1,15 +1,12 @@
 -- Boxes that hold each other for ever (Sokoban Wiki, "Deadlocks", freeze deadlocks).
-use Rattle.std.specs.Prelude.{ℕ, ◌⊎◌, List, Contains, false, IsTrue, IsSomeAnd}
+use Rattle.std.specs.Prelude.{ℕ, ◌⊎◌, List, false, IsTrue, IsSomeAnd}
 use Rattle.std.specs.Option.{option_map_or}
 use Rattle.sok_rules.specs.declared.cell.Dir.{Dir}
 use Rattle.sok_rules.specs.declared.cell.Dir.TheVariants.{Left, Up}
 use Rattle.sok_rules.specs.Squares.{holds, is_wall, is_goal, next, opposite}
 use Rattle.sok_board.specs.Area.{Numbered, beside, spot_of}
 use Rattle.sok_push.specs.Pushing.{IsStuck}
-use Rattle.sok_price.specs.Laws.{ArePlaced}
 use Rattle.sok_price.specs.Prices.{AreMembers, IsMember}
-use Rattle.sok_bar.specs.declared.rest.Rest.{Rest}
-use Rattle.sok_bar.specs.Rests.{IsBarred}
 
 abbrev pub IsWallBeside : Numbered → ℕ → Dir → Type 0
 IsWallBeside b s d = IsTrue (option_map_or (holds is_wall b.rows) (next d (spot_of b s)) false)
@@ -45,12 +42,12 @@ IsGoalSquare b s = IsTrue (holds is_goal b.rows (spot_of b s))
 abbrev pub HasOneOffGoal : Numbered → List ℕ → List ℕ → Type 0
 HasOneOffGoal b boxes members = (s : ℕ) × IsMember boxes members s × (IsGoalSquare b s → ⊥)
 
+-- each member is held by members
+abbrev pub AreHeld : Numbered → List ℕ → List ℕ → Type 0
+AreHeld b boxes members = (s : ℕ) → IsMember boxes members s → IsHeld b (IsMember boxes members) s
+
 -- members of a list of boxes that hold each other, some of them off goals
 pub record IsJam (b : Numbered) (boxes members : List ℕ) : Type 0 where
   pub listed : AreMembers boxes members
-  pub held : (s : ℕ) → IsMember boxes members s → IsHeld b (IsMember boxes members) s
+  pub held : AreHeld b boxes members
   pub off_goal : HasOneOffGoal b boxes members
-
--- a jam bars its position, whatever is still to be shown
-abbrev pub JamsBar : Numbered → Type 0
-JamsBar b = (player : ℕ) (boxes members : List ℕ) (rest : Rest) → ArePlaced b player boxes → (Contains boxes player → ⊥) → IsJam b boxes members → IsBarred b player boxes rest

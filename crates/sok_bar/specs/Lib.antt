@@ -1,6 +1,8 @@
+-- words of public contracts
 pub mod Bars
-pub mod Fair
 pub mod Jam
-pub mod Reached
 pub mod Rests
+-- words of the crate's own contracts
+pub mod Fair
+pub mod Reached
 pub mod Settings

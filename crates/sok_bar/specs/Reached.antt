@@ -11,7 +11,7 @@ pub record Reaches (b : Numbered) (square goal : ℕ) : Type 0 where
   pub chain : Chain b square (goal_at b goal) pushes
 
 -- one leads there from a member
-pub record IsReached (b : Numbered) (boxes members : List ℕ) (goal : ℕ) : Type 0 where
+pub record IsReachedBy (b : Numbered) (boxes members : List ℕ) (goal : ℕ) : Type 0 where
   pub from : ℕ
   pub member : IsMember boxes members from
   pub reaches : Reaches b from goal

@@ -2,16 +2,34 @@
 use Rattle.std.specs.Prelude.{ℕ, ◌≡◌, ◌<◌, ◌≤◌, List, All, Contains, length}
 use Rattle.std.specs.List.Sorted.{IsStrictlyIncreasing}
 use Rattle.sok_board.specs.Area.{Numbered}
+use Rattle.sok_board.specs.Limits.{box_limit}
 use Rattle.sok_push.specs.Distances.{Distances}
-use Rattle.sok_price.specs.Prices.{AreMembers}
+use Rattle.sok_price.specs.Prices.{AreMembers, IsMember}
+use Rattle.sok_bar.specs.declared.held.Holders.{Holders}
+use Rattle.sok_bar.specs.declared.held.Holders.TheVariants.{Every, Members}
+use Rattle.sok_bar.specs.Jam.{IsJam}
 
 pub record IsSetting (b : Numbered) (t : Distances) (boxes : List ℕ) : Type 0 where
   pub tables : t.board ≡ b
   pub exist : All (λ square. square < length b.area) boxes
   pub rising : IsStrictlyIncreasing boxes
-  pub few : length boxes ≤ 128
+  pub few : length boxes ≤ box_limit
+
+-- a square of a box that may hold others
+abbrev pub IsHolder : List ℕ → Holders → ℕ → Type 0
+IsHolder boxes Every = Contains boxes
+IsHolder boxes (Members members) = IsMember boxes members.now
+
+abbrev pub AreHolders : List ℕ → Holders → Type 0
+AreHolders boxes Every = Unit {0}
+AreHolders boxes (Members members) = AreMembers boxes members.now
 
 -- the indices of all boxes
 pub record AreAllMembers (boxes members : List ℕ) : Type 0 where
   pub listed : AreMembers boxes members
   pub each : (i : ℕ) → i < length boxes → Contains members i
+
+-- members of which some may be taken away: those of each jam are among them
+pub record HasJams (b : Numbered) (boxes members : List ℕ) : Type 0 where
+  pub listed : AreMembers boxes members
+  pub most : (jam : List ℕ) → IsJam b boxes jam → (i : ℕ) → Contains jam i → Contains members i

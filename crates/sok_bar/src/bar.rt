@@ -13,9 +13,9 @@ use std::alloc::Global;
 
 /// A reason for barring a position: for going no further from it.
 pub trait Bar {
-    /// Whether the reason shows what is still to be shown of a position, given by the squares of its
-    /// boxes and of its player, with the tables of its board. Where it answers true, so it is of each
-    /// position of the same state. It refuses only for want of memory.
+    /// Whether the reason shows what is still to be shown of a position, given by the squares of
+    /// its boxes and of its player, with the tables of its board. Where it answers true, so it is
+    /// of each position of the same state. It refuses only for want of memory.
     fn holds(
         &self,
         alloc: Global,
@@ -29,5 +29,6 @@ pub trait Bar {
         requires boxes_exist { All (λ square. square < length board.now.area) boxes.now }
         requires player_exists { player < length board.now.area }
         requires player_free { Contains boxes.now player → ⊥ }
-        ensures law { IfOk result (λ holds. IsTrue holds → IsBarred board.now player boxes.now rest) };
+        ensures law { IfOk result
+            (λ holds. IsTrue holds → IsBarred board.now player boxes.now rest) };
 }

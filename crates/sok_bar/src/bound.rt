@@ -1,33 +1,33 @@
 //! Prices that bound the pushes from below.
 
-ghost use Rattle.std.specs.Prelude.{ℕ, ◌≡◌, ◌<◌, ◌≤◌, ◌↔◌, IsTrue, IsOkAnd, IfOk, IfSome, All, Contains, length, slice_index, sum};
+ghost use Rattle.std.specs.Prelude.{◌≡◌, ◌<◌, ◌≤◌, ◌↔◌, ◌^◌, IsTrue, IsOkAnd, IfOk, All, Contains};
+ghost use Rattle.std.specs.Prelude.{length, sum};
 ghost use Rattle.sok_board.specs.Area.{goals_of};
-ghost use Rattle.sok_price.specs.Prices.{Priced};
-ghost use Rattle.sok_bar.specs.Bars.{BarsBound};
+ghost use Rattle.sok_bar.specs.Bars.{Barring, Bars};
 ghost use Rattle.sok_bar.specs.Fair.{IsAffordable, IsFair, AreFair};
 ghost use Rattle.sok_bar.specs.Rests.{IsBarred};
 
 use crate::bar::Bar;
 use crate::rest::Rest;
-use sok_board::area::{SQUARE_LIMIT, Sq};
+use sok_board::area::Sq;
 use sok_board::board::Board;
 use sok_push::tables::Tables;
 use sok_region::box_set::BoxSet;
 use sok_rules::fault::Memory;
 use std::alloc::Global;
 
-/// Prices of a position's boxes, in their order, and of the goals, in theirs. A box costs no more than
-/// a goal and its distance to it. So the prices of the boxes less those of all goals bound the
+/// Prices of a position's boxes, in their order, and of the goals, in theirs. A box costs no more
+/// than a goal and its distance to it. So the prices of the boxes less those of all goals bound the
 /// pushes from below (weak duality of the assignment problem).
-#[derive(Debug, Drop)]
-pub struct Bound {
-    pub u: Vec<u32>,
-    pub v: Vec<u32>,
+#[derive(Clone, Copy, Debug)]
+pub struct Bound<'a> {
+    pub u: &'a [u32],
+    pub v: &'a [u32],
 }
 
-impl Bar for Bound {
-    /// True where the lists are such prices, as many as boxes and goals, and leave as many pushes as
-    /// are asked for; never where no solution is to be shown. It takes no memory.
+impl Bar for Bound<'_> {
+    /// True where the lists are such prices, as many as boxes and goals, and leave as many pushes
+    /// as are asked for; never where no solution is to be shown. It takes no memory.
     fn holds(
         &self,
         _alloc: Global,
@@ -40,50 +40,30 @@ impl Bar for Bound {
         requires tables { tables.now.board ≡ board.now }
         requires boxes_exist { All (λ square. square < length board.now.area) boxes.now }
         requires player_exists { player < length board.now.area }
-        ensures law { IfOk result (λ holds. IsTrue holds → IsBarred board.now player boxes.now rest) }
+        requires player_free { Contains boxes.now player → ⊥ }
+        ensures law { IfOk result
+            (λ holds. IsTrue holds → IsBarred board.now player boxes.now rest) }
         ensures exact { IsOkAnd result
-            (λ holds. IsTrue holds ↔ BarsBound board.now boxes.now self.now.u.items self.now.v.items rest) }
+            (λ holds. IsTrue holds
+            ↔ Bars board.now boxes.now (Barring.bound self.now.u.now self.now.v.now) rest) }
     {
-        match rest {
-            Rest::AtLeast(pushes) => {
-                Ok(is_priced(board, tables, boxes, &self.u, &self.v, pushes))
-            }
-            Rest::Never => Ok(false),
+        let Rest::AtLeast(pushes) = rest else {
+            return Ok(false);
+        };
+        let boxes = boxes.list();
+        if self.u.len() != boxes.len() {
+            return Ok(false);
         }
-    }
-}
-
-/// Whether prices of the boxes and of the goals are fair and leave so many pushes. Then each list of
-/// letters that solves from a position with these boxes has as many. It takes no memory.
-pub fn is_priced(
-    board: &Board,
-    tables: &Tables,
-    boxes: &BoxSet,
-    u: &[u32],
-    v: &[u32],
-    pushes: u32,
-) -> bool
-    requires tables { tables.now.board ≡ board.now }
-    requires boxes_exist { All (λ square. square < length board.now.area) boxes.now }
-    ensures exact { IsTrue result ↔ Priced board.now boxes.now u.now v.now pushes }
-    ensures bars { IsTrue result → (player : ℕ) → player < length board.now.area
-        → IsBarred board.now player boxes.now (Rest.AtLeast pushes) }
-{
-    let boxes = boxes.list();
-    if u.len() != boxes.len() {
-        return false;
-    }
-    if v.len() != board.goals().len() {
-        return false;
-    }
-    if !are_fair(tables, boxes, u, v) {
-        return false;
-    }
-    // There are at most as many goals as squares, so the sums fit.
-    prove!(board.squares() <= SQUARE_LIMIT);
-    match total(u).checked_sub(total(v)) {
-        Some(left) => left >= u64::from(pushes),
-        None => false,
+        if self.v.len() != tables.goals() {
+            return Ok(false);
+        }
+        if !are_fair(tables, boxes, self.u, self.v) {
+            return Ok(false);
+        }
+        match total(self.u).checked_sub(total(self.v)) {
+            Some(left) => Ok(left >= u64::from(pushes)),
+            None => Ok(false),
+        }
     }
 }
 
@@ -130,7 +110,7 @@ fn is_affordable(tables: &Tables, goal: usize, square: Sq, price: u32, goal_pric
 
 /// The sum of some prices.
 fn total(prices: &[u32]) -> u64
-    requires { length prices.now ≤ 1024 }
+    requires { length prices.now < 2 ^ 32 }
     ensures { result ≡ sum prices.now }
 {
     prices.iter().map(|price| u64::from(*price)).sum()

@@ -1,10 +1,12 @@
 //! Which boxes are held along both axes.
 
-ghost use Rattle.std.specs.Prelude.{ℕ, ◌≡◌, ◌<◌, ◌↔◌, IsTrue, IfNone, IfSome, length, slice_index};
+ghost use Rattle.std.specs.List.Sorted.{IsStrictlyIncreasing};
+ghost use Rattle.std.specs.Prelude.{◌≡◌, ◌<◌, ◌≤◌, ◌↔◌, Contains, IsTrue, length};
+ghost use Rattle.sok_board.specs.Limits.{box_limit};
 ghost use Rattle.sok_push.specs.Pushing.{IsStuck};
-ghost use Rattle.sok_price.specs.Prices.{AreMembers, IsMember};
-ghost use Rattle.sok_bar.specs.Jam.{Held, IsBetween, IsHeld};
-ghost use Rattle.sok_bar.specs.Settings.{IsSetting};
+ghost use Rattle.sok_price.specs.Prices.{AreMembers};
+ghost use Rattle.sok_bar.specs.Jam.{AreHeld, Held, IsBetween, IsHeld};
+ghost use Rattle.sok_bar.specs.Settings.{AreHolders, IsHolder, IsSetting};
 
 use crate::members::is_member;
 use sok_board::area::Sq;
@@ -12,28 +14,26 @@ use sok_board::board::Board;
 use sok_push::tables::Tables;
 use sok_rules::cell::Dir;
 
-/// The place among the members of the first one that is not held by walls, by members or between
-/// stuck squares.
-pub(crate) fn first_loose(
-    board: &Board,
-    tables: &Tables,
-    boxes: &[Sq],
-    members: &[u32],
-) -> Option<usize>
+/// Which of some boxes may hold another: all of them, or members of their list.
+#[derive(Clone, Copy, Debug)]
+pub(crate) enum Holders<'a> {
+    Every,
+    Members(&'a [u32]),
+}
+
+/// Whether each member is held by walls, by members or between stuck squares.
+pub(crate) fn are_held(board: &Board, tables: &Tables, boxes: &[Sq], members: &[u32]) -> bool
     requires setting { IsSetting board.now tables.now boxes.now }
     requires listed { AreMembers boxes.now members.now }
-    ensures none { IfNone result
-        ((s : ℕ) → IsMember boxes.now members.now s → IsHeld board.now (IsMember boxes.now members.now) s) }
-    ensures exists { IfSome result (λ place. place < length members.now) }
-    ensures loose { IfSome result (λ place. IsHeld board.now (IsMember boxes.now members.now)
-        (slice_index boxes.now (slice_index members.now place)) → ⊥) }
+    ensures { IsTrue result ↔ AreHeld board.now boxes.now members.now }
 {
-    for (place, member) in members.iter().enumerate() {
-        if !is_held(board, tables, boxes, members, boxes[*member as usize]) {
-            return Some(place);
+    for member in members {
+        let square = boxes[*member as usize];
+        if !is_held(board, tables, boxes, Holders::Members(members), square) {
+            return false;
         }
     }
-    None
+    true
 }
 
 /// Whether a box on a square is held along both axes.
@@ -41,16 +41,16 @@ pub(crate) fn is_held(
     board: &Board,
     tables: &Tables,
     boxes: &[Sq],
-    members: &[u32],
+    holders: Holders<'_>,
     square: Sq,
 ) -> bool
     requires setting { IsSetting board.now tables.now boxes.now }
-    requires listed { AreMembers boxes.now members.now }
+    requires listed { AreHolders boxes.now holders }
     requires exists { square < length board.now.area }
-    ensures { IsTrue result ↔ IsHeld board.now (IsMember boxes.now members.now) square }
+    ensures { IsTrue result ↔ IsHeld board.now (IsHolder boxes.now holders.entry) square }
 {
-    is_held_along(board, tables, boxes, members, square, Dir::Left)
-        && is_held_along(board, tables, boxes, members, square, Dir::Up)
+    is_held_along(board, tables, boxes, holders, square, Dir::Left)
+        && is_held_along(board, tables, boxes, holders, square, Dir::Up)
 }
 
 /// Whether a box on a square is held along the axis of a direction.
@@ -58,43 +58,56 @@ fn is_held_along(
     board: &Board,
     tables: &Tables,
     boxes: &[Sq],
-    members: &[u32],
+    holders: Holders<'_>,
     square: Sq,
     dir: Dir,
 ) -> bool
     requires setting { IsSetting board.now tables.now boxes.now }
-    requires listed { AreMembers boxes.now members.now }
+    requires listed { AreHolders boxes.now holders }
     requires exists { square < length board.now.area }
-    ensures { IsTrue result ↔ Held board.now (IsMember boxes.now members.now) square dir }
+    ensures { IsTrue result ↔ Held board.now (IsHolder boxes.now holders.entry) square dir }
 {
     match board.neighbour(square, dir) {
         Some(ahead) => match board.neighbour(square, dir.opposite()) {
-            Some(behind) => is_between(board, tables, boxes, members, ahead, behind),
+            Some(behind) => is_between(board, tables, boxes, holders, ahead, behind),
             None => true,
         },
         None => true,
     }
 }
 
-/// Whether a box between two squares of the area stays: a member stands on one of them, or both are
+/// Whether a box between two squares of the area stays: a holder stands on one of them, or both are
 /// stuck.
 fn is_between(
     board: &Board,
     tables: &Tables,
     boxes: &[Sq],
-    members: &[u32],
+    holders: Holders<'_>,
     ahead: Sq,
     behind: Sq,
 ) -> bool
     requires setting { IsSetting board.now tables.now boxes.now }
-    requires listed { AreMembers boxes.now members.now }
+    requires listed { AreHolders boxes.now holders }
     requires ahead { ahead < length board.now.area }
     requires behind { behind < length board.now.area }
-    ensures { IsTrue result ↔ IsBetween board.now (IsMember boxes.now members.now) ahead behind }
+    ensures { IsTrue result ↔ IsBetween board.now (IsHolder boxes.now holders.entry) ahead behind }
 {
-    is_member(boxes, members, ahead)
-        || is_member(boxes, members, behind)
+    is_holder(boxes, holders, ahead)
+        || is_holder(boxes, holders, behind)
         || are_stuck(board, tables, ahead, behind)
+}
+
+/// Whether a holder stands on a square.
+fn is_holder(boxes: &[Sq], holders: Holders<'_>, square: Sq) -> bool
+    requires rising { IsStrictlyIncreasing boxes.now }
+    requires few { length boxes.now ≤ box_limit }
+    requires listed { AreHolders boxes.now holders }
+    ensures { IsTrue result ↔ IsHolder boxes.now holders.entry square }
+{
+    match holders {
+        Holders::Every => boxes.contains(&square),
+        Holders::Members(members) => is_member(boxes, members, square),
+    }
 }
 
 /// Whether two squares are both stuck.

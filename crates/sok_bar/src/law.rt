@@ -1,11 +1,11 @@
-//! The law of jams.
+//! The law of reasons.
 
-ghost use Rattle.sok_bar.specs.Jam.{JamsBar};
-ghost use Rattle.sok_board.specs.Area.{IsArea, Numbered};
-ghost use Rattle.sok_rules.specs.Levels.{IsProper};
+ghost use Rattle.sok_bar.specs.Bars.{ReasonsBar};
+ghost use Rattle.sok_board.specs.Area.{IsAccepted, Numbered};
 
-/// Boxes that hold each other never come to goals: no list of letters solves from a position with a
-/// jam, nor from any other position of the same state. The player stands on a free square.
-pub fn jams_never_solve()
-    ensures { (b : Numbered) → IsArea b.rows b.area → IsProper b.rows → JamsBar b }
+/// What a reason says of a position shows what is still to be shown of it, and of each other
+/// position of the same state: prices bound the pushes from below, and nothing solves from a
+/// position with a crowd or a jam. Boxes and player stand on squares of their own.
+pub fn reasons_bar()
+    ensures { (b : Numbered) → IsAccepted b → ReasonsBar b }
 {}

@@ -7,8 +7,8 @@
 //! | `crowd` | boxes that share too few goals |
 //! | `frozen` | boxes that hold each other for ever |
 //! | `held` | which boxes are held along both axes |
-//! | `law` | nothing solves from a position with a jam |
-//! | `members` | lists of members of a box list |
+//! | `law` | what a reason says of a position bars it |
+//! | `members` | lists of members of a box list; whether numbers rise |
 //! | `rest` | what is still to be shown of a position |
 //! | `spent` | no more pushes are asked for |
 #![tactic(auto)]
@@ -19,6 +19,6 @@ pub mod crowd;
 pub mod frozen;
 mod held;
 pub mod law;
-mod members;
+pub mod members;
 pub mod rest;
 pub mod spent;

@@ -2,6 +2,7 @@
 
 ghost use Rattle.std.specs.Prelude.{◌≡◌, ◌<◌, ◌≤◌, ◌↔◌, All, IsTrue, length};
 ghost use Rattle.std.specs.List.Sorted.{IsStrictlyIncreasing};
+ghost use Rattle.sok_board.specs.Limits.{box_limit};
 ghost use Rattle.sok_price.specs.Prices.{AreMembers, IsMember};
 
 use sok_board::area::Sq;
@@ -17,11 +18,11 @@ pub(crate) fn are_members(boxes: &[Sq], members: &[u32]) -> bool
 }
 
 /// Whether each number is above the one before.
-fn rises(members: &[u32]) -> bool
-    ensures { IsTrue result ↔ IsStrictlyIncreasing members.now }
+pub fn rises(numbers: &[u32]) -> bool
+    ensures { IsTrue result ↔ IsStrictlyIncreasing numbers.now }
 {
-    for i in 1..members.len() {
-        if members[i - 1] >= members[i] {
+    for i in 1..numbers.len() {
+        if numbers[i - 1] >= numbers[i] {
             return false;
         }
     }
@@ -31,7 +32,7 @@ fn rises(members: &[u32]) -> bool
 /// Whether a member stands on a square.
 pub(crate) fn is_member(boxes: &[Sq], members: &[u32], square: Sq) -> bool
     requires rising { IsStrictlyIncreasing boxes.now }
-    requires few { length boxes.now ≤ 128 }
+    requires few { length boxes.now ≤ box_limit }
     requires listed { AreMembers boxes.now members.now }
     ensures { IsTrue result ↔ IsMember boxes.now members.now square }
 {

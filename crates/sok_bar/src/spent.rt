@@ -1,8 +1,8 @@
 //! The reason that no more pushes are asked for.
 
 ghost use Rattle.std.specs.Prelude.{◌↔◌, IfOk, IsOkAnd, IsTrue};
+ghost use Rattle.sok_bar.specs.Bars.{Barring, Bars};
 ghost use Rattle.sok_bar.specs.Rests.{IsBarred};
-ghost use Rattle.sok_bar.specs.Bars.{BarsSpent};
 
 use crate::bar::Bar;
 use crate::rest::Rest;
@@ -28,8 +28,10 @@ impl Bar for Spent {
         player: Sq,
         rest: Rest,
     ) -> Result<bool, Memory>
-        ensures law { IfOk result (λ holds. IsTrue holds → IsBarred board.now player boxes.now rest) }
-        ensures exact { IsOkAnd result (λ holds. IsTrue holds ↔ BarsSpent rest) }
+        ensures law { IfOk result
+            (λ holds. IsTrue holds → IsBarred board.now player boxes.now rest) }
+        ensures exact { IsOkAnd result
+            (λ holds. IsTrue holds ↔ Bars board.now boxes.now Barring.spent rest) }
     {
         Ok(matches!(rest, Rest::AtLeast(0)))
     }

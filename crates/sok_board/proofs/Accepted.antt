@@ -1,5 +1,6 @@
 -- What makes a level accepted, and what contradicts it.
-use Rattle.std.proofs.Common.{ℕ, ◌≡◌, ◌<◌, ◌↔◌, inl, inr, refl, sym, ap, ◌∙◌, subst, List, [], ◌∷◌, true, false, true≢false, Option, Some, None, Result, Ok, Err, IsTrue, IsSome, IsNone, IfSome, IsOk, IfOk, IfErr, All, Contains, arith, length, get_or, not, ◌&&◌, is_some, AllPairs, ◌||◌, zero, suc}
+use Rattle.std.proofs.Common.{ℕ, ◌≡◌, ◌<◌, ◌↔◌, inl, inr, refl, sym, ap, ◌∙◌, subst, List, true, false, true≢false, Option, Some, None, IsTrue, IsSome, IsNone}
+use Rattle.std.proofs.Common.{IfSome, All, arith, length, get_or, not, is_some, ◌||◌}
 use Rattle.std.specs.Option.{option_and_then, option_map_or}
 use Rattle.std.proofs.lemmas.Bool.{cases_Bool, not-true}
 use Rattle.std.proofs.lemmas.List.Elements.{All-weaker, All-contains}
@@ -11,13 +12,13 @@ use Rattle.sok_rules.specs.declared.cell.Spot.{Spot}
 use Rattle.sok_rules.specs.Squares.{Rows, cell_at, holds, is_box, is_goal, is_open, is_wall, next, same_spot}
 use Rattle.sok_rules.specs.Levels.{IsProper}
 use Rattle.sok_board.specs.Area.{Numbered, Before, InArea, IsArea, IsAccepted, number_of, spot_of, is_among, is_decoration, goals_of, boxes_of}
-use Rattle.sok_board.specs.Refusals.{IsStray, IsRefused, IsAcceptable, lies_beside, has_gap}
+use Rattle.sok_board.specs.Refusals.{IsRefused, lies_beside, has_gap}
 use Rattle.sok_board.specs.declared.fault.BoardFault.{BoardFault}
 use Rattle.sok_board.specs.declared.fault.BoardFault.TheVariants as fault
 use Rattle.sok_board.specs.Tables.{HasPlace}
 use Rattle.sok_rules.proofs.Spots.{same_spot-is, same_spot-refl}
 use Rattle.sok_board.proofs.AreaLaws.{spot_of-number_of, number-InArea, InArea-spot_of, InArea-next}
-use Rattle.sok_board.proofs.Lists.{AllPairs-head, AllPairs-tail, Contains-cons, same_ordered}
+use Rattle.sok_board.proofs.Lists.{same_ordered}
 use Rattle.sok_board.proofs.Numbering.{spot_of-get_or}
 use Rattle.sok_board.proofs.Refusals.{before_asym}
 use Rattle.sok_rules.proofs.Grid.{holds-some, is_open-is}
@@ -46,16 +47,17 @@ is_among-InArea b area s inside =
     list_any_at (same_spot s) b.area k s within (ap (same_spot s) is ∙ same_spot-refl s)
 
 -- a decoration is a box outside the area
-pub decoration-outside : (b : Numbered) → IsArea b.rows b.area → (s : Spot) → IsTrue (is_decoration b s) → (holds is_box b.rows s ≡ true) × (InArea b.rows s → ⊥)
+pub decoration-outside : (b : Numbered) → IsArea b.rows b.area → (s : Spot) → IsTrue (is_decoration b s)
+    → (holds is_box b.rows s ≡ true) × (InArea b.rows s → ⊥)
 decoration-outside b area s e =
     let (box, apart) = both (holds is_box b.rows s) (not (is_among b.area s)) e in
     (box, λ inside. true≢false (sym (is_among-InArea b area s inside) ∙ not-true (is_among b.area s) apart))
 
--- without strays each decoration is on a goal
-pub decorations-tidy : (b : Numbered) → IsArea b.rows b.area → ((s : Spot) → IsStray b.rows s → ⊥) → (s : Spot) → IsTrue (is_decoration b s) → IsTrue (holds is_goal b.rows s)
-decorations-tidy b area tidy s e =
-    let (box, out) = decoration-outside b area s e in
-    elim (cases_Bool (holds is_goal b.rows s)) [ inl on ↦ on | inr off ↦ absurd (tidy s (box, out, off)) ]
+-- each decoration of an accepted level is on a goal
+pub decoration-on_goal : (b : Numbered) → IsAccepted b → (s : Spot) → IsTrue (is_decoration b s) → IsTrue (holds is_goal b.rows s)
+decoration-on_goal b accepted s e =
+    let (box, out) = decoration-outside b accepted.numbered s e in
+    elim (cases_Bool (holds is_goal b.rows s)) [ inl on ↦ on | inr off ↦ absurd (accepted.no_stray s (box, out, off)) ]
 
 -- a square among those of an area is in the area
 pub InArea-is_among : (b : Numbered) → IsArea b.rows b.area → (s : Spot) → is_among b.area s ≡ true → InArea b.rows s
@@ -66,7 +68,8 @@ InArea-is_among b area s among =
 -- a level has one area
 pub IsArea-unique : (rows : Rows) (xs ys : List Spot) → IsArea rows xs → IsArea rows ys → xs ≡ ys
 IsArea-unique rows xs ys one two =
-    same_ordered Before before_asym xs ys one.in_order two.in_order (λ s among. two.whole s (All-contains (InArea rows) xs s one.inside among)) (λ s among. one.whole s (All-contains (InArea rows) ys s two.inside among))
+    same_ordered Before before_asym xs ys one.in_order two.in_order (λ s among. two.whole s (All-contains (InArea rows) xs s one.inside among))
+    (λ s among. one.whole s (All-contains (InArea rows) ys s two.inside among))
 
 abbrev with_area : Rows → List Spot → Numbered
 with_area rows area = record { rows = rows; area = area }
@@ -75,22 +78,15 @@ pub has_gap-enclosed : (rows : Rows) (s : Spot) → ((d : Dir) → lies_beside r
 unfolding has_gap
 has_gap-enclosed rows s lies = λ i. not (lies Left i) || (not (lies Up i) || (not (lies Right i) || (not (lies Down i) || false)))
 
--- a box outside the area is a decoration
-outside-decoration : (b : Numbered) → IsArea b.rows b.area → (s : Spot) → holds is_box b.rows s ≡ true → (InArea b.rows s → ⊥) → IsTrue (is_decoration b s)
-outside-decoration b area s box out = elim (cases_Bool (is_among b.area s)) [
-  | inl among ↦ absurd (out (InArea-is_among b area s among))
-  | inr apart ↦ λ i. box i && not (apart i)
-]
-
 -- an accepted level is refused for no cause but memory
 pub refused-accepted : (rows : Rows) (cause : BoardFault) → IsRefused rows cause → (area : List Spot) → IsAccepted (with_area rows area) → cause ≡ fault.Memory
-refused-accepted rows (fault.NotEnclosed s) ((inside, gap), _) area accepted = absurd (true≢false (sym gap ∙ has_gap-enclosed rows s (λ d. accepted.enclosed s d inside)))
+refused-accepted rows (fault.NotEnclosed s) ((inside, gap), _) area accepted =
+    absurd (true≢false (sym gap ∙ has_gap-enclosed rows s (λ d. accepted.enclosed s d inside)))
 refused-accepted rows fault.TooLarge (_, (other, is, many)) area accepted =
     let same = ap length (IsArea-unique rows other area is accepted.numbered) in
     let few = accepted.few_squares in
     absurd (omega (arith, same, few, many))
-refused-accepted rows (fault.BoxOutside s) (_, _, ((box, out, off), _)) area accepted =
-    absurd (true≢false (sym (accepted.decorations s (outside-decoration (with_area rows area) accepted.numbered s box out)) ∙ off))
+refused-accepted rows (fault.BoxOutside s) (_, _, (stray, _)) area accepted = absurd (accepted.no_stray s stray)
 refused-accepted rows fault.TooManyBoxes (other, is, (_, many)) area accepted =
     let same = ap (λ squares. length (boxes_of (with_area rows squares))) (IsArea-unique rows other area is accepted.numbered) in
     let few = accepted.few_boxes in
@@ -102,24 +98,15 @@ refused-accepted rows fault.TooFewGoals (other, is, (_, _, few)) area accepted =
     absurd (omega (arith, boxes, goals, few, enough))
 refused-accepted rows fault.Memory refused area accepted = refl
 
--- where memory suffices, a board is made exactly of the levels that are acceptable
-pub made_exactly : (rows : Rows) (r : Result Numbered BoardFault) → IfOk r (λ b. b.rows ≡ rows) → IfOk r IsAccepted → IfErr r (IsRefused rows)
-    → (r ≡ Err fault.Memory → ⊥) → IsOk r ↔ IsAcceptable rows
-made_exactly rows (Ok b) same accepted _ _ = (λ _. (b.area, subst (λ of. IsAccepted (with_area of b.area)) same accepted), λ _. refl)
-made_exactly rows (Err cause) _ _ refused ample = (
-  λ e. absurd (true≢false (sym e)),
-  λ (area, accepted). absurd (ample (ap Err (refused-accepted rows cause refused area accepted))),
-)
-
-wall_here : (b : Numbered) → IsAccepted b → IsProper b.rows → (s t : Spot) (d : Dir) (cell : Cell) → cell_at b.rows t ≡ Some cell → InArea b.rows s → next d s ≡ Some t
+wall_here : (b : Numbered) → IsAccepted b → (s t : Spot) (d : Dir) (cell : Cell) → cell_at b.rows t ≡ Some cell → InArea b.rows s → next d s ≡ Some t
     → IsNone (number_of b t) ↔ IsTrue (holds is_wall b.rows t)
-wall_here b accepted proper s t d cell at inside beside = elim (cases_Bool (is_wall cell)) [
+wall_here b accepted s t d cell at inside beside = elim (cases_Bool (is_wall cell)) [
   | inl wall ↦
       let closed : holds is_open b.rows t ≡ false = holds-some is_open b.rows t cell at ∙ is_open-is cell ∙ ap not wall in (
         λ _. holds-some is_wall b.rows t cell at ∙ wall,
         λ _. elim (cases_Bool (is_some (number_of b t))) [
           | inr none ↦ none
-          | inl some ↦ absurd (true≢false (sym (InArea-open b.rows proper t ((IsSome-number_of b accepted.numbered t).0 some)) ∙ closed))
+          | inl some ↦ absurd (true≢false (sym (InArea-open b.rows accepted.proper t ((IsSome-number_of b accepted.numbered t).0 some)) ∙ closed))
         ],
       )
   | inr free ↦
@@ -130,18 +117,19 @@ wall_here b accepted proper s t d cell at inside beside = elim (cases_Bool (is_w
       )
 ]
 
-wall_at : (b : Numbered) → IsAccepted b → IsProper b.rows → (s t : Spot) (d : Dir) (o : Option Cell) → cell_at b.rows t ≡ o → InArea b.rows s → next d s ≡ Some t → IsSome o
+wall_at : (b : Numbered) → IsAccepted b → (s t : Spot) (d : Dir) (o : Option Cell) → cell_at b.rows t ≡ o → InArea b.rows s → next d s ≡ Some t → IsSome o
     → IsNone (number_of b t) ↔ IsTrue (holds is_wall b.rows t)
-wall_at b accepted proper s t d None at inside beside some = absurd (true≢false (sym some))
-wall_at b accepted proper s t d (Some cell) at inside beside some = wall_here b accepted proper s t d cell at inside beside
+wall_at b accepted s t d None at inside beside some = absurd (true≢false (sym some))
+wall_at b accepted s t d (Some cell) at inside beside some = wall_here b accepted s t d cell at inside beside
 
 -- the square beside one of the area has no number exactly where a wall stands
-pub wall_beside : (b : Numbered) → IsAccepted b → IsProper b.rows → (s : Spot) (d : Dir) (o : Option Spot) → InArea b.rows s → next d s ≡ o
+pub wall_beside : (b : Numbered) → IsAccepted b → (s : Spot) (d : Dir) (o : Option Spot) → InArea b.rows s → next d s ≡ o
     → IsNone (option_and_then (number_of b) o) ↔ IsTrue (option_map_or (holds is_wall b.rows) o false)
-wall_beside b accepted proper s d None inside beside =
+wall_beside b accepted s d None inside beside =
     absurd (true≢false (sym (subst (λ o. IsTrue (option_map_or (λ t. is_some (cell_at b.rows t)) o false)) beside (accepted.enclosed s d inside))))
-wall_beside b accepted proper s d (Some t) inside beside =
-    wall_at b accepted proper s t d (cell_at b.rows t) refl inside beside (subst (λ o. IsTrue (option_map_or (λ t. is_some (cell_at b.rows t)) o false)) beside (accepted.enclosed s d inside))
+wall_beside b accepted s d (Some t) inside beside =
+    wall_at b accepted s t d (cell_at b.rows t) refl inside beside
+    (subst (λ o. IsTrue (option_map_or (λ t. is_some (cell_at b.rows t)) o false)) beside (accepted.enclosed s d inside))
 
 -- the square that a list of an area's squares has at a number
 pub spot_read : (b c : Numbered) (n : ℕ) (x : Spot) → b ≡ c → n < length c.area → x ≡ get_or b.area n x → x ≡ spot_of c n
@@ -149,15 +137,8 @@ spot_read b c n x same within is =
     let inside : n < length b.area = let long = ap (λ (a : Numbered). length a.area) same in omega (arith, within, long) in
     is ∙ sym (spot_of-get_or b.rows b.area n x inside) ∙ ap (λ a. spot_of a n) same
 
-pub HasPlace-spot_of : (b : Numbered) → IsAccepted b → IsProper b.rows → (n : ℕ) → n < length b.area → HasPlace (spot_of b n)
-HasPlace-spot_of b accepted proper n within = HasPlace-InArea b.rows proper (spot_of b n) (InArea-spot_of b accepted.numbered n within)
-
-pub wall_beside_number : (b : Numbered) → IsAccepted b → IsProper b.rows → (n : ℕ) (d : Dir) (x : Spot) (o : Option Spot) → n < length b.area → x ≡ spot_of b n → next d x ≡ o
-    → IsNone (option_and_then (number_of b) o) ↔ IsTrue (option_map_or (holds is_wall b.rows) (next d (spot_of b n)) false)
-wall_beside_number b accepted proper n d x o within is beside =
-    let there : next d (spot_of b n) ≡ o = ap (next d) (sym is) ∙ beside in
-    subst (λ q. IsNone (option_and_then (number_of b) o) ↔ IsTrue (option_map_or (holds is_wall b.rows) q false)) (sym there)
-    (wall_beside b accepted proper (spot_of b n) d o (InArea-spot_of b accepted.numbered n within) there)
+pub HasPlace-spot_of : (b : Numbered) → IsAccepted b → (n : ℕ) → n < length b.area → HasPlace (spot_of b n)
+HasPlace-spot_of b accepted n within = HasPlace-InArea b.rows accepted.proper (spot_of b n) (InArea-spot_of b accepted.numbered n within)
 
 found_number : (b : Numbered) (s : Spot) (o : Option ℕ) → number_of b s ≡ o → IfSome o (λ n. (n < length b.area) × (spot_of b n ≡ s))
 found_number b s None is = tt

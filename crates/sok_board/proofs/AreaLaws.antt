@@ -1,5 +1,6 @@
 -- Squares of an area and their numbers.
-use Rattle.std.proofs.Common.{ℕ, ◌≡◌, ◌<◌, inl, inr, refl, sym, ◌∙◌, ap, subst, List, [], ◌∷◌, ◌++◌, Some, None, true, false, arith, length, get_or, if◌then◌else◌, cond, nat_lt}
+use Rattle.std.proofs.Common.{ℕ, ◌≡◌, ◌<◌, inl, inr, refl, sym, ◌∙◌, ap, subst, List, [], ◌∷◌, ◌++◌, Some, None, true, false, arith, length, get_or}
+use Rattle.std.proofs.Common.{if◌then◌else◌, cond, nat_lt}
 use Rattle.std.proofs.lemmas.Bool.Decides.{nat_tests}
 use Rattle.std.proofs.lemmas.Option.{same_Some, unwrap_or-slice_get}
 use Rattle.std.proofs.lemmas.List.Quantifiers.{position-Some}
@@ -35,17 +36,20 @@ number_of-spot_of b area n within =
     let at : spot_of b n ≡ get_or b.area n origin = spot_of-at b n in
     let first : position_or_len (same_spot (spot_of b n)) b.area ≡ n =
     position_or_len_is (same_spot (spot_of b n)) b.area n origin (omega (arith, within))
-    (λ k below. ap (λ s. same_spot s (get_or b.area k origin)) at ∙ before_apart (get_or b.area k origin) (get_or b.area n origin) (area.in_order k n origin below within))
+    (λ k below. ap (λ s. same_spot s (get_or b.area k origin)) at
+    ∙ before_apart (get_or b.area k origin) (get_or b.area n origin) (area.in_order k n origin below within))
     (λ _. ap (same_spot (spot_of b n)) (sym at) ∙ same_spot-refl (spot_of b n)) in
     let found : nat_lt n (length b.area) ≡ true = grind (arith, nat_tests, within) in
     ap (λ k. cond (nat_lt k (length b.area)) (Some k) None) first ∙ ap (λ t. cond t (Some n) None) found
 
 -- squares of the area are told apart by their numbers
 pub same_number : (b : Numbered) → IsArea b.rows b.area → (n m : ℕ) → n < length b.area → m < length b.area → spot_of b n ≡ spot_of b m → n ≡ m
-same_number b area n m n_within m_within same = same_Some n m (sym (number_of-spot_of b area n n_within) ∙ ap (number_of b) same ∙ number_of-spot_of b area m m_within)
+same_number b area n m n_within m_within same = same_Some n m
+    (sym (number_of-spot_of b area n n_within) ∙ ap (number_of b) same ∙ number_of-spot_of b area m m_within)
 
 -- a square of the area has a number
-pub number-InArea : (b : Numbered) → IsArea b.rows b.area → (s : Spot) → InArea b.rows s → (n : ℕ) × (number_of b s ≡ Some n) × (n < length b.area) × (spot_of b n ≡ s)
+pub number-InArea : (b : Numbered) → IsArea b.rows b.area → (s : Spot) → InArea b.rows s
+    → (n : ℕ) × (number_of b s ≡ Some n) × (n < length b.area) × (spot_of b n ≡ s)
 number-InArea b area s inside =
     let (k, within, is) = area.whole s inside in
     let there : spot_of b k ≡ s = spot_of-at b k ∙ get_or_default b.area k origin s within ∙ is in
@@ -59,10 +63,11 @@ stroll-append rows [] v s = refl
 stroll-append rows (d ∷ w) v s = elim (next d s) as (λ o. option_and_then (λ t. if holds is_open rows t then stroll rows t (w ++ v) else None) o
     ≡ option_and_then (λ t. stroll rows t v) (option_and_then (λ t. if holds is_open rows t then stroll rows t w else None) o)) [
       | None ↦ refl
-      | Some t ↦ elim (holds is_open rows t) as (λ h. (if h then stroll rows t (w ++ v) else None) ≡ option_and_then (λ t. stroll rows t v) (if h then stroll rows t w else None)) [
-        | true ↦ stroll-append rows w v t
-        | false ↦ refl
-      ]
+      | Some t ↦ elim (holds is_open rows t) as (λ h. (if h then stroll rows t (w ++ v) else None)
+          ≡ option_and_then (λ t. stroll rows t v) (if h then stroll rows t w else None)) [
+            | true ↦ stroll-append rows w v t
+            | false ↦ refl
+          ]
     ]
 
 -- an open square beside the area is of the area

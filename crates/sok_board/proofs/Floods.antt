@@ -1,8 +1,9 @@
 -- What a flood keeps while it meets squares, and what it has met at its end.
-use Rattle.std.proofs.Common.{ℕ, ◌≡◌, ◌<◌, ◌≤◌, ◌+◌, ◌*◌, inl, inr, refl, sym, ap, ◌∙◌, subst, List, [], ◌∷◌, ◌++◌, Bool, true, false, true≢false, Option, Some, None, All, Contains, arith, length, get_or, set, count_by, cond, not, ◌&&◌, ◌⊎◌, if◌then◌else◌}
+use Rattle.std.proofs.Common.{ℕ, replicate, ◌≡◌, ◌<◌, ◌≤◌, ◌+◌, ◌*◌, inl, inr, refl, sym, ap, ◌∙◌, subst, List, [], ◌∷◌, ◌++◌, Bool, true, false, true≢false}
+use Rattle.std.proofs.Common.{Option, Some, None, All, Contains, arith, length, get_or, set, count_by, cond, not, ◌&&◌, ◌⊎◌, if◌then◌else◌}
 use Rattle.std.proofs.lemmas.Bool.{cases_Bool}
 use Rattle.std.proofs.lemmas.Option.{none-some, same_Some, option_and_then_some}
-use Rattle.std.proofs.lemmas.List.{length-set, length-append}
+use Rattle.std.proofs.lemmas.List.{length-replicate, length-set, length-append}
 use Rattle.std.proofs.lemmas.List.Elements.{All-push, All-weaker, Contains-append_left, Contains-push, Contains-push_cases}
 use Rattle.std.proofs.lemmas.List.Sums.{sum_by-set}
 use Rattle.std.specs.Option.{option_map_or}
@@ -13,13 +14,13 @@ use Rattle.sok_rules.specs.Squares.{Rows, holds, is_open, next, same_spot}
 use Rattle.sok_rules.specs.Levels.{IsProper}
 use Rattle.sok_rules.specs.Play.{start}
 use Rattle.sok_board.specs.Area.{InArea, stroll}
-use Rattle.sok_board.specs.Tables.{HasPlace, place_of}
+use Rattle.sok_board.specs.Tables.{table_places, HasPlace, place_of}
 use Rattle.sok_board.specs.Floods.{Met, IsFlooding, MarksArea, is_met, meet, meet_beside, meet_around}
 use Rattle.sok_rules.proofs.Spots.{same_spot-is}
 use Rattle.sok_board.proofs.AreaLaws.{InArea-next, InArea-man}
 use Rattle.sok_board.proofs.Inside.{HasPlace-holds, HasPlace-InArea, if_some}
 use Rattle.sok_board.proofs.Lists.{All-split}
-use Rattle.sok_board.proofs.Tables.{entry-set_same, entry-set_other, entry-within, entry-blank}
+use Rattle.sok_board.proofs.Tables.{entry-set_same, entry-set_other, entry-within, entry-replicate}
 
 -- a flood with one square more
 abbrev pub added : Spot → Met → Met
@@ -67,7 +68,8 @@ Grows-refl rows s met = record {
   less = omega arith;
 }
 
-new-trans : (rows : Rows) (s : Spot) (a b c : Met) → Grows rows s a b → Grows rows s b c → (x : Spot) → (is_met b x ≡ true) ⊎ (Contains c.pending x × IsNeighbour rows s x)
+new-trans : (rows : Rows) (s : Spot) (a b c : Met) → Grows rows s a b → Grows rows s b c → (x : Spot)
+    → (is_met b x ≡ true) ⊎ (Contains c.pending x × IsNeighbour rows s x)
     → (is_met a x ≡ true) ⊎ (Contains c.pending x × IsNeighbour rows s x)
 new-trans rows s a b c first second x (inr new) = inr new
 new-trans rows s a b c first second x (inl met) = elim (first.new x met) [ inl before ↦ inl before | inr new ↦ inr (second.kept x new.0, new.1) ]
@@ -82,8 +84,9 @@ Grows-trans rows s a b c first second = record {
   less = let one = first.less in let two = second.less in omega (arith, one, two);
 }
 
-is_met-added_same : (t : Spot) (met : Met) → HasPlace t → length met.marks ≡ 4096 → is_met (added t met) t ≡ true
-is_met-added_same t met within whole = entry-set_same false true met.marks t within.col (let row = within.row in let col = within.col in omega (arith, row, col, whole))
+is_met-added_same : (t : Spot) (met : Met) → HasPlace t → length met.marks ≡ table_places → is_met (added t met) t ≡ true
+is_met-added_same t met within whole = entry-set_same false true met.marks t within.col
+    (let row = within.row in let col = within.col in omega (arith, row, col, whole))
 
 is_met-added_cases : (t : Spot) (met : Met) → HasPlace t → (x : Spot) → (t ≡ x) ⊎ (is_met (added t met) x ≡ is_met met x)
 is_met-added_cases t met within x = elim (cases_Bool (same_spot t x)) [
@@ -92,14 +95,14 @@ is_met-added_cases t met within x = elim (cases_Bool (same_spot t x)) [
 ]
 
 -- an unmarked square has an entry
-unmet_place : (t : Spot) (met : Met) → HasPlace t → length met.marks ≡ 4096 → is_met met t ≡ false → get_or met.marks (place_of t) false ≡ false
+unmet_place : (t : Spot) (met : Met) → HasPlace t → length met.marks ≡ table_places → is_met met t ≡ false → get_or met.marks (place_of t) false ≡ false
 unmet_place t met within whole unmet = sym (entry-within false met.marks t within.col) ∙ unmet
 
 -- what a mark counts among the unmarked
 abbrev unmarked : Bool → ℕ
 unmarked b = cond (not b) 1 0
 
-left_of-added : (t : Spot) (met : Met) → HasPlace t → length met.marks ≡ 4096 → is_met met t ≡ false → left_of (added t met) + 1 ≡ left_of met
+left_of-added : (t : Spot) (met : Met) → HasPlace t → length met.marks ≡ table_places → is_met met t ≡ false → left_of (added t met) + 1 ≡ left_of met
 unfolding left_of
 left_of-added t met within whole unmet =
     let row = within.row in
@@ -111,7 +114,8 @@ left_of-added t met within whole unmet =
     let pushed = length-append met.pending (t ∷ []) in
     omega (arith, sum, one, pushed)
 
-Grows-added : (rows : Rows) (s t : Spot) (met : Met) → IsNeighbour rows s t → HasPlace t → length met.marks ≡ 4096 → is_met met t ≡ false → Grows rows s met (added t met)
+Grows-added : (rows : Rows) (s t : Spot) (met : Met) → IsNeighbour rows s t → HasPlace t → length met.marks ≡ table_places → is_met met t ≡ false
+    → Grows rows s met (added t met)
 Grows-added rows s t met neighbour within whole unmet =
     let more : (x : Spot) → is_met met x ≡ true → is_met (added t met) x ≡ true = λ x e. elim (is_met-added_cases t met within x) [
       | inl same ↦ subst (λ y. is_met (added t met) y ≡ true) same (is_met-added_same t met within whole)
@@ -147,7 +151,8 @@ Reaches-met rows s t d met beside there_already = record {
   reaches = λ u there opened. ap (is_met met) (same_Some u t (sym there ∙ beside)) ∙ there_already;
 }
 
-Reaches-added : (rows : Rows) (s t : Spot) (d : Dir) (met : Met) → IsProper rows → length met.marks ≡ 4096 → next d s ≡ Some t → holds is_open rows t ≡ true → is_met met t ≡ false → Reaches rows s d met (added t met)
+Reaches-added : (rows : Rows) (s t : Spot) (d : Dir) (met : Met) → IsProper rows → length met.marks ≡ table_places → next d s ≡ Some t
+    → holds is_open rows t ≡ true → is_met met t ≡ false → Reaches rows s d met (added t met)
 Reaches-added rows s t d met proper whole beside opened unmet =
     let within = HasPlace-holds is_open rows t proper opened in
     record {
@@ -155,7 +160,8 @@ Reaches-added rows s t d met proper whole beside opened unmet =
       reaches = λ u there _. ap (is_met (added t met)) (same_Some u t (sym there ∙ beside)) ∙ is_met-added_same t met within whole;
     }
 
-Reaches-meet : (rows : Rows) (s t : Spot) (d : Dir) (met : Met) → IsProper rows → length met.marks ≡ 4096 → next d s ≡ Some t → Reaches rows s d met (meet rows t met)
+Reaches-meet : (rows : Rows) (s t : Spot) (d : Dir) (met : Met) → IsProper rows → length met.marks ≡ table_places → next d s ≡ Some t
+    → Reaches rows s d met (meet rows t met)
 Reaches-meet rows s t d met proper whole beside = elim (cases_Bool (holds is_open rows t)) [
   | inr closed ↦ subst (Reaches rows s d met) (sym (meet-wall rows t met closed)) (Reaches-wall rows s t d met beside closed)
   | inl opened ↦ elim (cases_Bool (is_met met t)) [
@@ -164,14 +170,16 @@ Reaches-meet rows s t d met proper whole beside = elim (cases_Bool (holds is_ope
   ]
 ]
 
-Reaches-option : (rows : Rows) (s : Spot) (d : Dir) (met : Met) → IsProper rows → length met.marks ≡ 4096 → (o : Option Spot) → next d s ≡ o → Reaches rows s d met (option_map_or (λ t. meet rows t met) o met)
+Reaches-option : (rows : Rows) (s : Spot) (d : Dir) (met : Met) → IsProper rows → length met.marks ≡ table_places → (o : Option Spot) → next d s ≡ o
+    → Reaches rows s d met (option_map_or (λ t. meet rows t met) o met)
 Reaches-option rows s d met proper whole None beside = record {
   grows = Grows-refl rows s met;
   reaches = λ t there opened. absurd (none-some t (sym beside ∙ there));
 }
 Reaches-option rows s d met proper whole (Some t) beside = Reaches-meet rows s t d met proper whole beside
 
-pub Reaches-meet_beside : (rows : Rows) (s : Spot) (d : Dir) (met : Met) → IsProper rows → length met.marks ≡ 4096 → Reaches rows s d met (meet_beside rows s d met)
+pub Reaches-meet_beside : (rows : Rows) (s : Spot) (d : Dir) (met : Met) → IsProper rows → length met.marks ≡ table_places
+    → Reaches rows s d met (meet_beside rows s d met)
 unfolding meet_beside
 Reaches-meet_beside rows s d met proper whole = Reaches-option rows s d met proper whole (next d s) refl
 
@@ -183,7 +191,8 @@ pub meet_beside-None : (rows : Rows) (s : Spot) (d : Dir) (met : Met) → next d
 unfolding meet_beside
 meet_beside-None rows s d met none = ap (λ o. option_map_or (λ t. meet rows t met) o met) none
 
-pub whole-meet_beside : (rows : Rows) (s : Spot) (d : Dir) (met after : Met) → IsProper rows → length met.marks ≡ 4096 → after ≡ meet_beside rows s d met → length after.marks ≡ 4096
+pub whole-meet_beside : (rows : Rows) (s : Spot) (d : Dir) (met after : Met) → IsProper rows → length met.marks ≡ table_places
+    → after ≡ meet_beside rows s d met → length after.marks ≡ table_places
 whole-meet_beside rows s d met after proper whole is = ap (λ (m : Met). length m.marks) is ∙ (Reaches-meet_beside rows s d met proper whole).grows.whole ∙ whole
 
 -- a flood after all neighbours of a square are met
@@ -191,13 +200,15 @@ pub record Surrounds (rows : Rows) (s : Spot) (met after : Met) : Type 0 where
   pub grows : Grows rows s met after
   pub reaches : (d : Dir) (t : Spot) → next d s ≡ Some t → holds is_open rows t ≡ true → is_met after t ≡ true
 
-pub Surrounds-meet_around : (rows : Rows) (s : Spot) (met : Met) → IsProper rows → length met.marks ≡ 4096 → Surrounds rows s met (meet_around rows s met)
+pub Surrounds-meet_around : (rows : Rows) (s : Spot) (met : Met) → IsProper rows → length met.marks ≡ table_places
+    → Surrounds rows s met (meet_around rows s met)
 unfolding meet_around
 Surrounds-meet_around rows s met proper whole =
     let one = Reaches-meet_beside rows s Left met proper whole in
     let two = Reaches-meet_beside rows s Up (meet_beside rows s Left met) proper (one.grows.whole ∙ whole) in
     let three = Reaches-meet_beside rows s Right (meet_beside rows s Up (meet_beside rows s Left met)) proper (two.grows.whole ∙ one.grows.whole ∙ whole) in
-    let four = Reaches-meet_beside rows s Down (meet_beside rows s Right (meet_beside rows s Up (meet_beside rows s Left met))) proper (three.grows.whole ∙ two.grows.whole ∙ one.grows.whole ∙ whole) in
+    let four = Reaches-meet_beside rows s Down (meet_beside rows s Right (meet_beside rows s Up (meet_beside rows s Left met))) proper
+    (three.grows.whole ∙ two.grows.whole ∙ one.grows.whole ∙ whole) in
     let last_two = Grows-trans rows s _ _ _ three.grows four.grows in
     let last_three = Grows-trans rows s _ _ _ two.grows last_two in
     record {
@@ -220,18 +231,22 @@ sound-more rows s met after sound there x (inl before) = sound x before
 sound-more rows s met after sound there x (inr (_, neighbour)) = InArea-next rows neighbour.dir s x (sound s there) neighbour.beside neighbour.opened
 
 closed-last : (rows : Rows) (s : Spot) (rest : List Spot) (met after : Met) → met.pending ≡ rest ++ s ∷ [] → Surrounds rows s (without_last met rest) after
-    → (x : Spot) (d : Dir) (t : Spot) → next d x ≡ Some t → holds is_open rows t ≡ true → Contains (rest ++ s ∷ []) x ⊎ (is_met met t ≡ true) → Contains after.pending x ⊎ (is_met after t ≡ true)
+    → (x : Spot) (d : Dir) (t : Spot) → next d x ≡ Some t → holds is_open rows t ≡ true → Contains (rest ++ s ∷ []) x ⊎ (is_met met t ≡ true)
+    → Contains after.pending x ⊎ (is_met after t ≡ true)
 closed-last rows s rest met after last around x d t beside opened (inr there) = inr (around.grows.more t there)
 closed-last rows s rest met after last around x d t beside opened (inl among) = elim (Contains-push_cases rest s x among) [
   | inl before ↦ inl (around.grows.kept x before)
   | inr same ↦ inr (around.reaches d t (ap (next d) same ∙ beside) opened)
 ]
 
-closed-more : (rows : Rows) (s : Spot) (rest : List Spot) (met after : Met) → IsFlooding rows met → met.pending ≡ rest ++ s ∷ [] → Surrounds rows s (without_last met rest) after
-    → (x : Spot) (d : Dir) (t : Spot) → next d x ≡ Some t → holds is_open rows t ≡ true → (is_met met x ≡ true) ⊎ (Contains after.pending x × IsNeighbour rows s x) → Contains after.pending x ⊎ (is_met after t ≡ true)
+closed-more : (rows : Rows) (s : Spot) (rest : List Spot) (met after : Met) → IsFlooding rows met → met.pending ≡ rest ++ s ∷ []
+    → Surrounds rows s (without_last met rest) after
+    → (x : Spot) (d : Dir) (t : Spot) → next d x ≡ Some t → holds is_open rows t ≡ true
+    → (is_met met x ≡ true) ⊎ (Contains after.pending x × IsNeighbour rows s x) → Contains after.pending x ⊎ (is_met after t ≡ true)
 closed-more rows s rest met after flooding last around x d t beside opened (inr (new, _)) = inl new
 closed-more rows s rest met after flooding last around x d t beside opened (inl before) =
-    closed-last rows s rest met after last around x d t beside opened (subst (λ pending. Contains pending x ⊎ (is_met met t ≡ true)) last (flooding.closed x d t before beside opened))
+    closed-last rows s rest met after last around x d t beside opened
+    (subst (λ pending. Contains pending x ⊎ (is_met met t ≡ true)) last (flooding.closed x d t before beside opened))
 
 -- the square that is taken next is met
 pub last_met : (rows : Rows) (met : Met) (rest : List Spot) (s : Spot) → IsFlooding rows met → met.pending ≡ rest ++ s ∷ [] → is_met met s ≡ true
@@ -252,14 +267,17 @@ IsFlooding-more rows s rest met after flooding last around =
 pub HasPlace-last : (rows : Rows) (met : Met) (rest : List Spot) (s : Spot) → IsProper rows → IsFlooding rows met → met.pending ≡ rest ++ s ∷ [] → HasPlace s
 HasPlace-last rows met rest s proper flooding last = HasPlace-InArea rows proper s (flooding.sound s (last_met rows met rest s flooding last))
 
-surrounds-last : (rows : Rows) (met after : Met) (rest : List Spot) (s : Spot) → IsProper rows → IsFlooding rows met → after ≡ meet_around rows s (without_last met rest)
+surrounds-last : (rows : Rows) (met after : Met) (rest : List Spot) (s : Spot) → IsProper rows → IsFlooding rows met
+    → after ≡ meet_around rows s (without_last met rest)
     → Surrounds rows s (without_last met rest) after
-surrounds-last rows met after rest s proper flooding is = subst (Surrounds rows s (without_last met rest)) (sym is) (Surrounds-meet_around rows s (without_last met rest) proper flooding.whole)
+surrounds-last rows met after rest s proper flooding is = subst (Surrounds rows s (without_last met rest)) (sym is)
+    (Surrounds-meet_around rows s (without_last met rest) proper flooding.whole)
 
 -- one more square is taken, and its neighbours are met
 pub IsFlooding-meet_around : (rows : Rows) (met after : Met) (rest : List Spot) (s : Spot) → IsProper rows → IsFlooding rows met → met.pending ≡ rest ++ s ∷ []
     → after ≡ meet_around rows s (without_last met rest) → IsFlooding rows after
-IsFlooding-meet_around rows met after rest s proper flooding last is = IsFlooding-more rows s rest met after flooding last (surrounds-last rows met after rest s proper flooding is)
+IsFlooding-meet_around rows met after rest s proper flooding last is =
+    IsFlooding-more rows s rest met after flooding last (surrounds-last rows met after rest s proper flooding is)
 
 -- and less is left to do
 pub less-meet_around : (rows : Rows) (met after : Met) (rest : List Spot) (s : Spot) → IsProper rows → IsFlooding rows met → met.pending ≡ rest ++ s ∷ []
@@ -272,15 +290,16 @@ less-meet_around rows met after rest s proper flooding last is =
     omega (arith, less, longer, pushed)
 
 -- a flood that has met the man alone
-pub IsFlooding-start : (rows : Rows) (marks : List Bool) → HasPlace (start rows).man → length marks ≡ 4096 → All (λ b. b ≡ false) marks
+pub IsFlooding-start : (rows : Rows) (marks : List Bool) → HasPlace (start rows).man → marks ≡ replicate table_places false
     → IsFlooding rows (added (start rows).man (record { marks = marks; pending = [] }))
-IsFlooding-start rows marks within whole blank =
+IsFlooding-start rows marks within blank =
+    let whole : length marks ≡ table_places = ap length blank ∙ length-replicate table_places false in
     let man = (start rows).man in
     let none : Met = record { marks = marks; pending = [] } in
     let there : is_met (added man none) man ≡ true = is_met-added_same man none within whole in
     let only : (x : Spot) → is_met (added man none) x ≡ true → man ≡ x = λ x e. elim (is_met-added_cases man none within x) [
       | inl same ↦ same
-      | inr other ↦ absurd (true≢false (sym e ∙ other ∙ entry-blank false marks blank x))
+      | inr other ↦ absurd (true≢false (sym e ∙ other ∙ entry-replicate false table_places marks blank x))
     ] in
     record {
       whole = length-set marks (place_of man) true ∙ whole;
@@ -291,7 +310,8 @@ IsFlooding-start rows marks within whole blank =
     }
 
 -- where nothing is pending, a walk stays on met squares
-met_along : (rows : Rows) (met : Met) → IsFlooding rows met → met.pending ≡ [] → (w : List Dir) (s t : Spot) → is_met met s ≡ true → stroll rows s w ≡ Some t → is_met met t ≡ true
+met_along : (rows : Rows) (met : Met) → IsFlooding rows met → met.pending ≡ [] → (w : List Dir) (s t : Spot) → is_met met s ≡ true → stroll rows s w ≡ Some t
+    → is_met met t ≡ true
 met_along rows met flooding none [] s t there leads = ap (is_met met) (sym (same_Some s t leads)) ∙ there
 met_along rows met flooding none (d ∷ w) s t there leads =
     option_and_then_some (λ q. if holds is_open rows q then stroll rows q w else None) (next d s) t leads (λ q beside on.
@@ -304,4 +324,8 @@ met_along rows met flooding none (d ∷ w) s t there leads =
 
 -- at its end a flood has met exactly the area
 pub MarksArea-from_flooding : (rows : Rows) (met : Met) → IsFlooding rows met → met.pending ≡ [] → MarksArea rows met.marks
-MarksArea-from_flooding rows met flooding none = λ s. (flooding.sound s, λ inside. met_along rows met flooding none inside.0 (start rows).man s flooding.started inside.1)
+MarksArea-from_flooding rows met flooding none = λ s. (
+  flooding.sound s,
+  λ inside. met_along rows met flooding none inside.0
+      (start rows).man s flooding.started inside.1,
+)

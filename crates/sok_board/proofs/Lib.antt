@@ -1,5 +1,6 @@
 pub mod Accepted
 pub mod AreaLaws
+pub mod Around
 pub mod Beside
 pub mod Confined
 pub mod Floods
@@ -8,6 +9,7 @@ pub mod Lists
 pub mod Numbering
 pub mod OneRefusal
 pub mod Positions
+pub mod Premises
 pub mod ReadingOrder
 pub mod Refusals
 pub mod Tables

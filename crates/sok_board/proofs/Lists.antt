@@ -1,5 +1,6 @@
 -- Lists: what is listed, pairs over an append, lists in order, and what a filter keeps.
-use Rattle.std.proofs.Common.{◌≡◌, ◌⊎◌, inl, inr, sym, ap, subst, ◌∙◌, refl, ℕ, List, Some, length, slice_get, [], ◌∷◌, ◌++◌, Bool, true, false, All, AllPairs, Contains, arith, filter, cond, zero, suc}
+use Rattle.std.proofs.Common.{◌≡◌, ◌⊎◌, inl, inr, sym, ap, subst, ◌∙◌, refl, ℕ, List, Some, length, slice_get, [], ◌∷◌, ◌++◌, Bool, true, false, All, AllPairs}
+use Rattle.std.proofs.Common.{Contains, arith, filter, cond, zero, suc}
 use Rattle.std.proofs.lemmas.List.Kept.{AllPairs-cons}
 use Rattle.std.proofs.lemmas.List.Elements.{All-append, All-tail, All-head, All-contains, All-contains_itself, All-filter, filter_passes, Contains-push}
 use Rattle.std.proofs.lemmas.List.{get_or_append_left, get_or_push, length-append}
@@ -35,20 +36,23 @@ Contains-cons_cases x y xs (zero, within, is) = inl is
 Contains-cons_cases x y xs (suc k, within, is) = inr (k, omega (arith, within), is)
 
 -- lists in an order that does not turn round, with the same elements, are the same: so are their heads
-same_heads : {X : Type 0} (R : X → X → Type 0) → ((x y : X) → R x y → R y x → ⊥) → (x y : X) (xs ys : List X) → All (R x) xs → All (R y) ys → Contains (y ∷ ys) x → Contains (x ∷ xs) y → x ≡ y
+same_heads : {X : Type 0} (R : X → X → Type 0) → ((x y : X) → R x y → R y x → ⊥) → (x y : X) (xs ys : List X) → All (R x) xs → All (R y) ys
+    → Contains (y ∷ ys) x → Contains (x ∷ xs) y → x ≡ y
 same_heads R asym x y xs ys after_x after_y (zero, _, is) there = sym is
 same_heads R asym x y xs ys after_x after_y (suc j, _, _) (zero, _, is) = is
 same_heads R asym x y xs ys after_x after_y (suc j, far, is) (suc k, there, same) =
     absurd (asym x y (subst (R x) same (after_x k y (omega (arith, there)))) (subst (R y) is (after_y j x (omega (arith, far)))))
 
 -- an element after the first is not the first
-among_rest : {X : Type 0} (R : X → X → Type 0) → ((x y : X) → R x y → R y x → ⊥) → (x y s : X) (xs ys : List X) → x ≡ y → All (R x) xs → Contains xs s → Contains (y ∷ ys) s → Contains ys s
+among_rest : {X : Type 0} (R : X → X → Type 0) → ((x y : X) → R x y → R y x → ⊥) → (x y s : X) (xs ys : List X) → x ≡ y → All (R x) xs → Contains xs s
+    → Contains (y ∷ ys) s → Contains ys s
 among_rest R asym x y s xs ys same after_x (k, within, there) (zero, _, is) =
     let itself : R s s = subst (λ t. R t s) (same ∙ is) (subst (R x) there (after_x k s within)) in
     absurd (asym s s itself itself)
 among_rest R asym x y s xs ys same after_x among (suc j, far, is) = (j, omega (arith, far), is)
 
-pub same_ordered : {X : Type 0} (R : X → X → Type 0) → ((x y : X) → R x y → R y x → ⊥) → (xs ys : List X) → AllPairs R xs → AllPairs R ys → ((s : X) → Contains xs s → Contains ys s) → ((s : X) → Contains ys s → Contains xs s) → xs ≡ ys
+pub same_ordered : {X : Type 0} (R : X → X → Type 0) → ((x y : X) → R x y → R y x → ⊥) → (xs ys : List X) → AllPairs R xs → AllPairs R ys
+    → ((s : X) → Contains xs s → Contains ys s) → ((s : X) → Contains ys s → Contains xs s) → xs ≡ ys
 same_ordered R asym [] [] ordered_xs ordered_ys to from = refl
 same_ordered R asym [] (y ∷ ys) ordered_xs ordered_ys to from = absurd (let past = (from y (0, omega arith, refl)).1 in omega (arith, past))
 same_ordered R asym (x ∷ xs) [] ordered_xs ordered_ys to from = absurd (let past = (to x (0, omega arith, refl)).1 in omega (arith, past))

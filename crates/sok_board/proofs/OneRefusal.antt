@@ -3,8 +3,9 @@ use Rattle.std.proofs.Common.{◌≡◌, ◌≢◌, ◌<◌, ◌≤◌, ◌⊎�
 use Rattle.std.proofs.lemmas.Bool.{cases_eq, cases_lt}
 use Rattle.sok_rules.specs.declared.cell.Spot.{Spot}
 use Rattle.sok_rules.specs.Squares.{Rows}
-use Rattle.sok_board.specs.Area.{Numbered, Before, IsArea, IsEnclosed, IsAccepted, boxes_of}
-use Rattle.sok_board.specs.Refusals.{IsLeak, IsStray, IsFirst, OfArea, IsRefused, IsAcceptable}
+use Rattle.sok_board.specs.Area.{Numbered, Before, IsArea, IsEnclosed, IsStray, IsAccepted, boxes_of}
+use Rattle.sok_board.specs.Limits.{square_limit, box_limit}
+use Rattle.sok_board.specs.Refusals.{IsLeak, IsFirst, OfArea, IsRefused, IsAcceptable}
 use Rattle.sok_board.specs.declared.fault.BoardFault.{BoardFault}
 use Rattle.sok_board.specs.declared.fault.BoardFault.TheVariants as fault
 use Rattle.sok_board.proofs.Accepted.{IsArea-unique, has_gap-enclosed, refused-accepted}
@@ -40,16 +41,16 @@ OfArea-both P Q rows apart (area, is, p) (other, also, q) =
     apart (record { rows = rows; area = area }) p (subst (λ squares. Q (record { rows = rows; area = squares })) same q)
 
 abbrev Large : Numbered → Type 0
-Large b = 1024 < length b.area
+Large b = square_limit < length b.area
 
 abbrev Small : Numbered → Type 0
-Small b = length b.area ≤ 1024
+Small b = length b.area ≤ square_limit
 
 abbrev ManyBoxes : Numbered → Type 0
-ManyBoxes b = 128 < length (boxes_of b)
+ManyBoxes b = box_limit < length (boxes_of b)
 
 abbrev FewBoxes : Numbered → Type 0
-FewBoxes b = length (boxes_of b) ≤ 128
+FewBoxes b = length (boxes_of b) ≤ box_limit
 
 -- the causes in the order of refusal: each of them, or none of it and a later one
 abbrev ByBoxes : Rows → BoardFault → Type 0

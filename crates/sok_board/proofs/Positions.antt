@@ -1,11 +1,11 @@
 -- The position for which the numbers of a board's player and boxes stand.
-use Rattle.std.proofs.Common.{ℕ, ◌≡◌, ◌<◌, ◌+◌, inl, inr, refl, sym, ap, ◌∙◌, List, Bool, true, false, true≢false, Some, All, Contains, arith, length, get_or, map, not, ◌&&◌, ◌||◌}
+use Rattle.std.proofs.Common.{ℕ, ◌≡◌, ◌<◌, inl, inr, refl, sym, ap, ◌∙◌, List, Bool, true, false, true≢false, Some, All, Contains, arith, length, get_or, map}
+use Rattle.std.proofs.Common.{not, ◌&&◌, ◌||◌}
 use Rattle.std.specs.List.{range_with_len}
 use Rattle.std.proofs.lemmas.Bool.{cases_Bool}
 use Rattle.std.proofs.lemmas.List.{length-map, get_or-map}
 use Rattle.std.proofs.lemmas.List.Elements.{filter_passes}
 use Rattle.std.proofs.lemmas.List.Folds.{list_any_at, Any-from_list_any}
-use Rattle.std.proofs.lemmas.List.FromFn.{length-range_with_len, get_or-range_with_len}
 use Rattle.sok_rules.specs.declared.cell.Spot.{Spot}
 use Rattle.sok_rules.specs.Squares.{holds, is_box, same_spot}
 use Rattle.sok_rules.specs.Play.{start}
@@ -14,7 +14,7 @@ use Rattle.sok_board.proofs.Accepted.{InArea-is_among, decoration-outside}
 use Rattle.sok_rules.proofs.Spots.{same_spot-is, same_spot-refl}
 use Rattle.sok_board.proofs.AreaLaws.{origin, spot_of-number_of, number-InArea, InArea-spot_of, same_number}
 use Rattle.sok_board.proofs.Confined.{start-boxes}
-use Rattle.sok_board.proofs.Lists.{Contains-filter}
+use Rattle.sok_board.proofs.Numbering.{Contains-boxes_of}
 
 -- a square is among those of some numbers, if one of them is its number
 pub among_numbers : (b : Numbered) (numbers : List ℕ) (n : ℕ) → Contains numbers n → is_among (map (spot_of b) numbers) (spot_of b n) ≡ true
@@ -31,13 +31,12 @@ box_among b s among =
     let there : spot_of b (get_or (boxes_of b) k 0) ≡ s = sym (get_or-map (spot_of b) (boxes_of b) k 0 x inside) ∙ is ∙ sym (same_spot-is s x same) in
     ap (holds is_box b.rows) (sym there) ∙ filter_passes (λ n. holds is_box b.rows (spot_of b n)) (range_with_len 0 (length b.area)) k 0 inside
 
-among_boxes : (b : Numbered) → IsArea b.rows b.area → (s : Spot) → InArea b.rows s → holds is_box b.rows s ≡ true → is_among (map (spot_of b) (boxes_of b)) s ≡ true
+among_boxes : (b : Numbered) → IsArea b.rows b.area → (s : Spot) → InArea b.rows s → holds is_box b.rows s ≡ true
+    → is_among (map (spot_of b) (boxes_of b)) s ≡ true
 among_boxes b area s inside box =
     let (n, _, within, there) = number-InArea b area s inside in
-    let counted : 0 + n ≡ n = omega arith in
-    let listed : Contains (range_with_len 0 (length b.area)) n = (n, omega (arith, within, length-range_with_len 0 (length b.area)), get_or-range_with_len 0 (length b.area) n n within ∙ counted) in
-    let chosen = Contains-filter (λ k. holds is_box b.rows (spot_of b k)) (range_with_len 0 (length b.area)) n listed (ap (holds is_box b.rows) there ∙ box) in
-    ap (is_among (map (spot_of b) (boxes_of b))) (sym there) ∙ among_numbers b (boxes_of b) n chosen
+    ap (is_among (map (spot_of b) (boxes_of b))) (sym there) ∙ among_numbers b (boxes_of b) n
+    (Contains-boxes_of b n within (ap (holds is_box b.rows) there ∙ box))
 
 or_true : (p : Bool) → (p || true) ≡ true
 or_true true = refl
@@ -59,7 +58,8 @@ all_boxes b area s =
     ]
 
 -- the start of a board stands for the start of its level
-pub position_of-start : (b : Numbered) → IsArea b.rows b.area → (player : ℕ) → Some player ≡ number_of b (start b.rows).man → position_of b player (boxes_of b) ≡ start b.rows
+pub position_of-start : (b : Numbered) → IsArea b.rows b.area → (player : ℕ) → Some player ≡ number_of b (start b.rows).man
+    → position_of b player (boxes_of b) ≡ start b.rows
 position_of-start b area player is =
     let (_, there) = spot_of-number_of b (start b.rows).man player (sym is) in
     λ i. record { man = there i; boxes = λ s. (all_boxes b area s ∙ sym (start-boxes b.rows s)) i }
@@ -69,20 +69,23 @@ either true q e fails = e
 either false q e fails = absurd (true≢false (sym e ∙ fails))
 
 -- a box on a square of the area is one of those that are known
-pub known_box : (b : Numbered) → IsArea b.rows b.area → (player : ℕ) (boxes : List ℕ) → All (λ n. n < length b.area) boxes → (n : ℕ) → n < length b.area → (position_of b player boxes).boxes (spot_of b n) ≡ true → Contains boxes n
+pub known_box : (b : Numbered) → IsArea b.rows b.area → (player : ℕ) (boxes : List ℕ) → All (λ n. n < length b.area) boxes → (n : ℕ) → n < length b.area
+    → (position_of b player boxes).boxes (spot_of b n) ≡ true → Contains boxes n
 known_box b area player boxes exist n within there =
     let plain : is_decoration b (spot_of b n) ≡ false = elim (cases_Bool (is_decoration b (spot_of b n))) [
       | inl decoration ↦ absurd ((decoration-outside b area (spot_of b n) decoration).1 (InArea-spot_of b area n within))
       | inr plain ↦ plain
     ] in
-    let among : is_among (map (spot_of b) boxes) (spot_of b n) ≡ true = either (is_among (map (spot_of b) boxes) (spot_of b n)) (is_decoration b (spot_of b n)) there plain in
+    let among : is_among (map (spot_of b) boxes) (spot_of b n) ≡ true =
+    either (is_among (map (spot_of b) boxes) (spot_of b n)) (is_decoration b (spot_of b n)) there plain in
     let (k, s, below, at, same) = Any-from_list_any (same_spot (spot_of b n)) (map (spot_of b) boxes) among in
     let within_boxes : k < length boxes = let long = length-map boxes (spot_of b) in omega (arith, below, long) in
     let spot_is : spot_of b n ≡ spot_of b (get_or boxes k n) = same_spot-is (spot_of b n) s same ∙ sym at ∙ get_or-map (spot_of b) boxes k n s within_boxes in
     (k, within_boxes, sym (same_number b area n (get_or boxes k n) within (exist k n within_boxes) spot_is))
 
 -- so no other square of the area has one
-pub no_box : (b : Numbered) → IsArea b.rows b.area → (player : ℕ) (boxes : List ℕ) → All (λ n. n < length b.area) boxes → (n : ℕ) → n < length b.area → (Contains boxes n → ⊥) → (position_of b player boxes).boxes (spot_of b n) ≡ false
+pub no_box : (b : Numbered) → IsArea b.rows b.area → (player : ℕ) (boxes : List ℕ) → All (λ n. n < length b.area) boxes → (n : ℕ) → n < length b.area
+    → (Contains boxes n → ⊥) → (position_of b player boxes).boxes (spot_of b n) ≡ false
 no_box b area player boxes exist n within out = elim (cases_Bool ((position_of b player boxes).boxes (spot_of b n))) [
   | inl there ↦ absurd (out (known_box b area player boxes exist n within there))
   | inr free ↦ free

@@ -1,6 +1,7 @@
 -- The first square of a cause, and no square of a cause.
-use Rattle.std.proofs.Common.{ℕ, ◌≡◌, ◌<◌, ◌≤◌, ◌↔◌, inl, inr, refl, sym, ap, ◌∙◌, subst, List, [], ◌∷◌, Bool, true, false, true≢false, IsTrue, All, AllPairs, Contains, arith, length, get_or, take, not, ◌&&◌, nat_lt}
-use Rattle.std.proofs.lemmas.Bool.{cases_Bool, not-true}
+use Rattle.std.proofs.Common.{ℕ, ◌≡◌, ◌<◌, ◌≤◌, inl, inr, sym, ap, ◌∙◌, subst, List, [], ◌∷◌, true, false, true≢false, All, AllPairs, Contains, arith, length}
+use Rattle.std.proofs.Common.{get_or, take, not, nat_lt}
+use Rattle.std.proofs.lemmas.Bool.{cases_Bool}
 use Rattle.std.proofs.lemmas.Bool.Decides.{nat_tests}
 use Rattle.std.proofs.lemmas.List.{length-take-le, get_or-take, take_all, get_or_default}
 use Rattle.std.proofs.lemmas.List.Elements.{All-contains}
@@ -8,11 +9,12 @@ use Rattle.std.proofs.lemmas.List.Folds.{list_any_at}
 use Rattle.sok_rules.specs.declared.cell.Dir.{Dir}
 use Rattle.sok_rules.specs.declared.cell.Dir.TheVariants.{Left, Up, Right, Down}
 use Rattle.sok_rules.specs.declared.cell.Spot.{Spot}
-use Rattle.sok_rules.specs.Squares.{Rows, holds, is_box, is_goal, places}
-use Rattle.sok_board.specs.Area.{InArea, IsArea, IsEnclosed, Before}
-use Rattle.sok_board.specs.Refusals.{lies_beside, has_gap, is_stray, IsFirst, IsLeak, IsStray}
+use Rattle.sok_rules.specs.Squares.{Rows, is_box, places}
+use Rattle.sok_board.specs.Area.{InArea, IsArea, IsEnclosed, IsStray, Before}
+use Rattle.sok_board.specs.Refusals.{lies_beside, has_gap, IsFirst, IsLeak}
 use Rattle.sok_rules.proofs.Grid.{cell-from_holds}
-use Rattle.sok_board.proofs.ReadingOrder.{Contains-places, in_order-places}
+use Rattle.sok_rules.proofs.ReadingOrder.{Contains-places}
+use Rattle.sok_board.proofs.ReadingOrder.{in_order-places}
 
 pub before_asym : (a b : Spot) → Before a b → Before b a → ⊥
 before_asym a b (inl up) (inl down) = omega (arith, up, down)
@@ -65,54 +67,25 @@ first_leak-some rows squares i x area inside is so_far gap =
     (λ t among leak. true≢false (sym leak.1 ∙ All-contains (λ s. has_gap rows s ≡ false) (take i squares) t so_far among))
     (subst (InArea rows) is (area.inside i x inside), gap)
 
-pub first_leak-none : (rows : Rows) (squares : List Spot) (i : ℕ) → IsArea rows squares → length squares ≤ i → All (λ s. has_gap rows s ≡ false) (take i squares) → IsEnclosed rows
+pub first_leak-none : (rows : Rows) (squares : List Spot) (i : ℕ) → IsArea rows squares → length squares ≤ i
+    → All (λ s. has_gap rows s ≡ false) (take i squares) → IsEnclosed rows
 first_leak-none rows squares i area past all = λ s d inside.
-    no_gap rows s (All-contains (λ s. has_gap rows s ≡ false) squares s (subst (All (λ s. has_gap rows s ≡ false)) (take_all i squares past) all) (area.whole s inside)) d
-
-and_false : (p q : Bool) → (p && false && q) ≡ false
-and_false true q = refl
-and_false false q = refl
-
-pub is_stray-inside : (rows : Rows) (inside : Bool) (s : Spot) → inside ≡ true → is_stray rows inside s ≡ false
-unfolding is_stray
-is_stray-inside rows inside s is = ap (λ b. holds is_box rows s && not b && not (holds is_goal rows s)) is ∙ and_false (holds is_box rows s) (not (holds is_goal rows s))
-
-pub is_stray-other : (rows : Rows) (inside : Bool) (s : Spot) → inside ≡ false → holds is_box rows s ≡ false → is_stray rows inside s ≡ false
-unfolding is_stray
-is_stray-other rows inside s out other = ap (λ b. b && not inside && not (holds is_goal rows s)) other
-
-pub is_stray-box : (rows : Rows) (inside : Bool) (s : Spot) → inside ≡ false → holds is_box rows s ≡ true → is_stray rows inside s ≡ not (holds is_goal rows s)
-unfolding is_stray
-is_stray-box rows inside s out box = ap (λ b. b && not inside && not (holds is_goal rows s)) box ∙ ap (λ b. not b && not (holds is_goal rows s)) out
-
--- a stray box passes the test, and what passes is one
-is_stray-from : (rows : Rows) (inside : Spot → Bool) → ((s : Spot) → IsTrue (inside s) ↔ InArea rows s) → (s : Spot) → IsStray rows s → is_stray rows (inside s) s ≡ true
-is_stray-from rows inside exact s (box, out, off) = elim (cases_Bool (inside s)) [
-  | inl within ↦ absurd (out ((exact s).0 within))
-  | inr without ↦ is_stray-box rows (inside s) s without box ∙ ap not off
-]
-
-from_is_stray : (rows : Rows) (inside : Spot → Bool) → ((s : Spot) → IsTrue (inside s) ↔ InArea rows s) → (s : Spot) → is_stray rows (inside s) s ≡ true → IsStray rows s
-from_is_stray rows inside exact s passes = elim (cases_Bool (inside s)) [
-  | inl within ↦ absurd (true≢false (sym passes ∙ is_stray-inside rows (inside s) s within))
-  | inr without ↦ elim (cases_Bool (holds is_box rows s)) [
-    | inr other ↦ absurd (true≢false (sym passes ∙ is_stray-other rows (inside s) s without other))
-    | inl box ↦ (box, (λ within. true≢false (sym ((exact s).1 within) ∙ without)), not-true (holds is_goal rows s) (sym (is_stray-box rows (inside s) s without box) ∙ passes))
-  ]
-]
+    no_gap rows s (All-contains (λ s. has_gap rows s ≡ false) squares s (subst (All (λ s. has_gap rows s ≡ false)) (take_all i squares past) all)
+    (area.whole s inside)) d
 
 box_among : (rows : Rows) (s : Spot) → IsStray rows s → Contains (places rows) s
 box_among rows s stray = let (cell, at, _) = cell-from_holds is_box rows s stray.0 in Contains-places rows s cell at
 
-pub first_stray-some : (rows : Rows) (inside : Spot → Bool) (i : ℕ) (x : Spot) → ((s : Spot) → IsTrue (inside s) ↔ InArea rows s) → i < length (places rows) → get_or (places rows) i x ≡ x
-    → All (λ s. is_stray rows (inside s) s ≡ false) (take i (places rows)) → is_stray rows (inside x) x ≡ true → IsFirst (IsStray rows) x
-first_stray-some rows inside i x exact within is so_far passes =
-    first_in (IsStray rows) (places rows) i x (in_order-places rows) within is (box_among rows)
-    (λ t among stray. true≢false (sym (is_stray-from rows inside exact t stray) ∙ All-contains (λ s. is_stray rows (inside s) s ≡ false) (take i (places rows)) t so_far among))
-    (from_is_stray rows inside exact x passes)
+-- a list of a level's places in which there was no stray box so far
+abbrev pub HasNoStray : Rows → List Spot → Type 0
+HasNoStray rows squares = All (λ s. IsStray rows s → ⊥) squares
 
-pub first_stray-none : (rows : Rows) (inside : Spot → Bool) (i : ℕ) → ((s : Spot) → IsTrue (inside s) ↔ InArea rows s) → length (places rows) ≤ i
-    → All (λ s. is_stray rows (inside s) s ≡ false) (take i (places rows)) → (s : Spot) → IsStray rows s → ⊥
-first_stray-none rows inside i exact past all s stray =
-    true≢false (sym (is_stray-from rows inside exact s stray)
-    ∙ All-contains (λ s. is_stray rows (inside s) s ≡ false) (places rows) s (subst (All (λ s. is_stray rows (inside s) s ≡ false)) (take_all i (places rows) past) all) (box_among rows s stray))
+pub first_stray-some : (rows : Rows) (i : ℕ) (x : Spot) → i < length (places rows) → get_or (places rows) i x ≡ x
+    → HasNoStray rows (take i (places rows)) → IsStray rows x → IsFirst (IsStray rows) x
+first_stray-some rows i x within is so_far stray =
+    first_in (IsStray rows) (places rows) i x (in_order-places rows) within is (box_among rows)
+    (λ t among. All-contains (λ s. IsStray rows s → ⊥) (take i (places rows)) t so_far among) stray
+
+pub first_stray-none : (rows : Rows) (i : ℕ) → length (places rows) ≤ i → HasNoStray rows (take i (places rows)) → (s : Spot) → IsStray rows s → ⊥
+first_stray-none rows i past all s stray =
+    All-contains (λ s. IsStray rows s → ⊥) (places rows) s (subst (HasNoStray rows) (take_all i (places rows) past) all) (box_among rows s stray) stray

@@ -8,7 +8,7 @@ use Rattle.sok_rules.specs.Squares.{Rows, holds, is_open, next}
 use Rattle.sok_board.specs.declared.flood.Flood.{Flood}
 use Rattle.sok_rules.specs.Play.{start}
 use Rattle.sok_board.specs.Area.{InArea}
-use Rattle.sok_board.specs.Tables.{place_of, entry}
+use Rattle.sok_board.specs.Tables.{table_places, place_of, entry}
 
 -- the marks of the squares met so far, and those of them whose neighbours are not yet met
 pub record Met : Type 0 where
@@ -35,11 +35,12 @@ meet_around rows s met = meet_beside rows s Down (meet_beside rows s Right (meet
 
 -- what holds of a flood between two squares
 pub record IsFlooding (rows : Rows) (met : Met) : Type 0 where
-  pub whole : length met.marks ≡ 4096
+  pub whole : length met.marks ≡ table_places
   pub started : is_met met (start rows).man ≡ true
   pub sound : (x : Spot) → is_met met x ≡ true → InArea rows x
   pub waiting : All (λ x. is_met met x ≡ true) met.pending
-  pub closed : (x : Spot) (d : Dir) (t : Spot) → is_met met x ≡ true → next d x ≡ Some t → holds is_open rows t ≡ true → Contains met.pending x ⊎ (is_met met t ≡ true)
+  pub closed : (x : Spot) (d : Dir) (t : Spot) → is_met met x ≡ true → next d x ≡ Some t → holds is_open rows t ≡ true
+      → Contains met.pending x ⊎ (is_met met t ≡ true)
 
 -- a table marks exactly the squares of the area
 abbrev pub MarksArea : Rows → List Bool → Type 0

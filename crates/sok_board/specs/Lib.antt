@@ -1,7 +1,11 @@
+-- words of public contracts
 pub mod Area
-pub mod Boards
 pub mod Confined
 pub mod Faults
-pub mod Floods
+pub mod Limits
 pub mod Refusals
+-- the proof's own: what is kept of a level, and the flood that finds its area
+pub mod Boards
+pub mod Floods
+pub mod Neighbours
 pub mod Tables

@@ -1,14 +1,15 @@
 -- Why a level is not accepted: the first cause in the order of refusal, and the first square of that cause.
-use Rattle.std.specs.Prelude.{◌≡◌, ◌<◌, ◌≤◌, List, [], ◌∷◌, Bool, false, IsTrue, not, ◌&&◌, length, is_some}
+use Rattle.std.specs.Prelude.{◌<◌, ◌≤◌, List, [], ◌∷◌, Bool, false, IsTrue, not, length, is_some}
 use Rattle.std.specs.List.{list_any}
 use Rattle.std.specs.Option.{option_map_or}
 use Rattle.sok_rules.specs.declared.cell.Dir.{Dir}
 use Rattle.sok_rules.specs.declared.cell.Dir.TheVariants.{Left, Up, Right, Down}
 use Rattle.sok_rules.specs.declared.cell.Spot.{Spot}
-use Rattle.sok_rules.specs.Squares.{Rows, cell_at, holds, is_box, is_goal, next}
+use Rattle.sok_rules.specs.Squares.{Rows, cell_at, next}
+use Rattle.sok_board.specs.Limits.{square_limit, box_limit}
 use Rattle.sok_board.specs.declared.fault.BoardFault.{BoardFault}
 use Rattle.sok_board.specs.declared.fault.BoardFault.TheVariants.{NotEnclosed, BoxOutside, TooFewGoals, TooLarge, TooManyBoxes, Memory}
-use Rattle.sok_board.specs.Area.{InArea, IsArea, IsEnclosed, IsAccepted, Before, Numbered, goals_of, boxes_of}
+use Rattle.sok_board.specs.Area.{InArea, IsArea, IsEnclosed, IsStray, IsAccepted, Before, Numbered, goals_of, boxes_of}
 
 -- whether the neighbour in a direction lies in some row
 abbrev pub lies_beside : Rows → Spot → Dir → Bool
@@ -22,10 +23,6 @@ has_gap rows s = list_any (λ d. not (lies_beside rows s d)) (Left ∷ Up ∷ Ri
 abbrev pub IsLeak : Rows → Spot → Type 0
 IsLeak rows s = InArea rows s × IsTrue (has_gap rows s)
 
--- a box outside the area and off a goal
-abbrev pub IsStray : Rows → Spot → Type 0
-IsStray rows s = IsTrue (holds is_box rows s) × (InArea rows s → ⊥) × (holds is_goal rows s ≡ false)
-
 -- the first square with a property, row by row and from left to right
 abbrev pub IsFirst : (Spot → Type 0) → Spot → Type 0
 IsFirst P s = P s × ((t : Spot) → P t → Before t s → ⊥)
@@ -33,7 +30,7 @@ IsFirst P s = P s × ((t : Spot) → P t → Before t s → ⊥)
 -- the area is enclosed and not too large, and each box outside it is on a goal
 pub record IsTidy (b : Numbered) : Type 0 where
   pub enclosed : IsEnclosed b.rows
-  pub few_squares : length b.area ≤ 1024
+  pub few_squares : length b.area ≤ square_limit
   pub no_stray : (s : Spot) → IsStray b.rows s → ⊥
 
 -- a fact of a level and its area
@@ -43,16 +40,12 @@ OfArea P rows = (area : List Spot) × IsArea rows area × P (record { rows = row
 -- the cause that a fault names holds, and no earlier one does
 abbrev pub IsRefused : Rows → BoardFault → Type 0
 IsRefused rows (NotEnclosed s) = IsFirst (IsLeak rows) s
-IsRefused rows TooLarge = IsEnclosed rows × OfArea (λ b. 1024 < length b.area) rows
-IsRefused rows (BoxOutside s) = IsEnclosed rows × OfArea (λ b. length b.area ≤ 1024) rows × IsFirst (IsStray rows) s
-IsRefused rows TooManyBoxes = OfArea (λ b. IsTidy b × (128 < length (boxes_of b))) rows
-IsRefused rows TooFewGoals = OfArea (λ b. IsTidy b × (length (boxes_of b) ≤ 128) × (length (goals_of b) < length (boxes_of b))) rows
+IsRefused rows TooLarge = IsEnclosed rows × OfArea (λ b. square_limit < length b.area) rows
+IsRefused rows (BoxOutside s) = IsEnclosed rows × OfArea (λ b. length b.area ≤ square_limit) rows × IsFirst (IsStray rows) s
+IsRefused rows TooManyBoxes = OfArea (λ b. IsTidy b × (box_limit < length (boxes_of b))) rows
+IsRefused rows TooFewGoals = OfArea (λ b. IsTidy b × (length (boxes_of b) ≤ box_limit) × (length (goals_of b) < length (boxes_of b))) rows
 IsRefused rows Memory = Unit {0}
 
 -- a level of which a board can be made
 abbrev pub IsAcceptable : Rows → Type 0
 IsAcceptable rows = (area : List Spot) × IsAccepted (record { rows = rows; area = area })
-
--- whether a box stands off a goal at a square that is not in the area
-unfoldable pub is_stray : Rows → Bool → Spot → Bool
-is_stray rows inside s = holds is_box rows s && not inside && not (holds is_goal rows s)

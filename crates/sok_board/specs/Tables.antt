@@ -1,15 +1,24 @@
 -- Tables with an entry for each square of 64 rows and 64 columns.
 use Rattle.std.specs.Prelude.{ℕ, ◌+◌, ◌*◌, ◌<◌, List, nat_lt, if◌then◌else◌, slice_index_or}
+use Rattle.sok_rules.specs.Limits.{size_limit}
 use Rattle.sok_rules.specs.declared.cell.Spot.{Spot}
+
+-- how many rows a table has, and columns: as many as a level may have
+abbrev pub table_side : ℕ
+table_side = size_limit
+
+-- the places of a table
+abbrev pub table_places : ℕ
+table_places = table_side * table_side
 
 -- a square for which such a table has a place
 pub record HasPlace (s : Spot) : Type 0 where
-  pub row : s.row < 64
-  pub col : s.col < 64
+  pub row : s.row < table_side
+  pub col : s.col < table_side
 
 abbrev pub place_of : Spot → ℕ
-place_of s = s.row * 64 + s.col
+place_of s = s.row * table_side + s.col
 
 -- what a table has for a square, or the other value where it has no place for the square
 unfoldable pub entry : {X : Type 0} → X → List X → Spot → X
-entry other table s = if nat_lt s.col 64 then slice_index_or table (place_of s) other else other
+entry other table s = if nat_lt s.col table_side then slice_index_or table (place_of s) other else other

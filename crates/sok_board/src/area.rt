@@ -1,17 +1,21 @@
 //! The squares of a level's area, their numbers, and which of them have goals and boxes.
 
-ghost use Rattle.std.specs.Prelude.{◌≡◌, ◌≤◌, IfOk, All, AllPairs, None, false, length, filter, position};
+ghost use Rattle.std.specs.Prelude.{◌≡◌, ◌≤◌, IfOk, All, AllPairs, Bool};
+ghost use Rattle.std.specs.Prelude.{None, false, length, filter, position};
 ghost use Rattle.sok_rules.specs.Squares.{places, same_spot};
 ghost use Rattle.sok_rules.specs.Levels.{IsProper};
+ghost use Rattle.sok_rules.specs.declared.cell.Cell.{Cell};
+ghost use Rattle.sok_rules.specs.declared.cell.Cell.TheVariants.{Wall};
 ghost use Rattle.sok_rules.specs.declared.cell.Spot.{Spot};
-ghost use Rattle.sok_board.specs.Area.{IsArea, Before, goals_of, boxes_of};
+ghost use Rattle.sok_board.specs.Area.{IsArea, Before, numbers_where};
+ghost use Rattle.sok_board.specs.Limits.{square_limit};
 ghost use Rattle.sok_board.specs.Tables.{HasPlace, entry};
 
-use crate::cells::{is_box_at, is_goal_at};
+use crate::cells::cell_or_wall;
 use crate::flood::mark_area;
 use crate::places::man;
 use crate::table;
-use sok_rules::cell::Spot;
+use sok_rules::cell::{Cell, Spot};
 use sok_rules::fault::Memory;
 use sok_rules::level::Level;
 use std::alloc::Global;
@@ -32,60 +36,56 @@ pub(crate) fn squares(alloc: Global, level: &Level, spots: &[Spot]) -> Result<Ve
     ensures { IfOk result (λ squares. IsArea level.now squares.items) }
 {
     let marks = mark_area(alloc, level, man(level, spots))?;
-    marked(alloc, spots, &marks)
+    keep_marked(alloc, spots, &marks)
 }
 
 /// Those of some squares that a table marks.
-fn marked(alloc: Global, spots: &[Spot], marks: &[bool]) -> Result<Vec<Spot>, Memory>
-    ensures { IfOk result (λ marked. marked.items ≡ filter (λ s. entry false marks.now s) spots.now) }
+fn keep_marked(alloc: Global, spots: &[Spot], marks: &[bool]) -> Result<Vec<Spot>, Memory>
+    ensures { IfOk result (λ kept. kept.items ≡ filter (λ s. entry false marks.now s) spots.now) }
 {
-    let marked = spots
+    let kept = spots
         .iter()
         .copied()
         .filter(|spot| table::entry(marks, *spot, false))
         .collect(alloc)?;
-    Ok(marked)
+    Ok(kept)
 }
 
 /// A table of the squares' numbers.
 pub(crate) fn numbers(alloc: Global, squares: &[Spot]) -> Result<Vec<Option<Sq>>, Memory>
-    requires few { length squares.now ≤ 1024 }
+    requires few { length squares.now ≤ square_limit }
     requires within { All HasPlace squares.now }
     requires in_order { AllPairs Before squares.now }
     ensures { IfOk result
         (λ numbers. (s : Spot) → entry None numbers.items s ≡ position (same_spot s) squares.now) }
 {
-    let mut numbers = table::blank(alloc, table::PLACES, None)?;
+    let mut numbers = vec![in alloc; None; table::PLACES]?;
     for (number, spot) in squares.iter().enumerate() {
         numbers[table::place(*spot)] = Some(number as Sq);
     }
     Ok(numbers)
 }
 
-/// The numbers of the squares with goals, rising.
-pub(crate) fn goals(alloc: Global, level: &Level, squares: &[Spot]) -> Result<Vec<Sq>, Memory>
-    requires { length squares.now ≤ 1024 }
-    ensures { IfOk result (λ goals. goals.items ≡ goals_of (record { rows = level.now; area = squares.now })) }
+/// The numbers of the squares on which something stands that passes a test, rising. A wall is to
+/// fail it.
+pub(crate) fn numbers_where<F: Fn(Cell) -> bool>(
+    alloc: Global,
+    level: &Level,
+    squares: &[Spot],
+    passes: F,
+) -> Result<Vec<Sq>, Memory>
+    requires few { length squares.now ≤ square_limit }
+    requires callable { F.IsAlwaysCallable passes }
+    ensures { (test : Cell → Bool) → test Wall ≡ false
+        → ((cell : Cell) (answer : Bool) → F.post passes cell answer → answer ≡ test cell)
+        → IfOk result (λ list. list.items
+        ≡ numbers_where test (record { rows = level.now; area = squares.now })) }
 {
-    let mut goals = Vec::new(alloc);
+    let mut numbers = Vec::new(alloc);
     for (number, spot) in squares.iter().enumerate() {
-        if is_goal_at(level, *spot) {
-            goals.push(number as Sq)?;
+        if passes(cell_or_wall(level, *spot)) {
+            numbers.push(number as Sq)?;
         }
     }
-    Ok(goals)
-}
-
-/// The numbers of the squares with boxes, rising.
-pub(crate) fn boxes(alloc: Global, level: &Level, squares: &[Spot]) -> Result<Vec<Sq>, Memory>
-    requires { length squares.now ≤ 1024 }
-    ensures { IfOk result (λ boxes. boxes.items ≡ boxes_of (record { rows = level.now; area = squares.now })) }
-{
-    let mut boxes = Vec::new(alloc);
-    for (number, spot) in squares.iter().enumerate() {
-        if is_box_at(level, *spot) {
-            boxes.push(number as Sq)?;
-        }
-    }
-    Ok(boxes)
+    Ok(numbers)
 }

@@ -1,17 +1,19 @@
 //! An accepted level with its squares.
 
-ghost use Rattle.std.specs.Prelude.{◌≡◌, ◌<◌, ◌↔◌, IfOk, IfErr, IfSome, IsOk, IsNone, IsTrue, Some, All, false, length};
+ghost use Rattle.std.specs.Prelude.{◌≡◌, ◌<◌, ◌≤◌, ◌↔◌, IfOk, IfErr, IfSome};
+ghost use Rattle.std.specs.Prelude.{IsNone, IsTrue, Some, All, false, length, map};
 ghost use Rattle.std.specs.List.Sorted.{IsStrictlyIncreasing};
 ghost use Rattle.std.specs.Option.{option_map_or};
-ghost use Rattle.sok_rules.specs.Levels.{IsProper};
+ghost use Rattle.sok_rules.specs.Levels.{trimmed};
 ghost use Rattle.sok_rules.specs.Play.{start};
-ghost use Rattle.sok_rules.specs.Squares.{holds, is_wall, next};
-ghost use Rattle.sok_board.specs.Area.{IsAccepted, number_of, spot_of, beside, goals_of, boxes_of, position_of};
-ghost use Rattle.sok_board.specs.Refusals.{IsRefused, IsAcceptable};
-ghost use Rattle.sok_board.specs.Tables.{HasPlace};
-ghost use Rattle.sok_board.specs.declared.fault.BoardFault.TheVariants as fault;
+ghost use Rattle.sok_rules.specs.Squares.{holds, is_goal, is_wall, next};
+ghost use Rattle.sok_board.specs.Area.{IsAccepted, number_of, spot_of, beside};
+ghost use Rattle.sok_board.specs.Area.{goals_of, boxes_of, position_of};
+ghost use Rattle.sok_board.specs.Limits.{box_limit};
+ghost use Rattle.sok_board.specs.Refusals.{IsRefused};
 
 use crate::area::{self, Sq};
+use crate::cells::cell_or_wall;
 use crate::fault::BoardFault;
 use crate::places::places;
 use crate::survey::{self, Numbering};
@@ -39,7 +41,8 @@ impl Model for Board {
 
     ghost view = { λ board. record { rows = board.level; area = board.squares.items } };
 
-    ghost invariant = { λ board. IsNumbering (record { rows = board.level; area = board.squares.items }) board.numbering };
+    ghost invariant = { λ board.
+        IsNumbering (record { rows = board.level; area = board.squares.items }) board.numbering };
 }
 
 impl Board {
@@ -51,7 +54,6 @@ impl Board {
         ensures rows { IfOk result (λ board. board.rows ≡ level.now) }
         ensures accepted { IfOk result IsAccepted }
         ensures refused { IfErr result (IsRefused level.now) }
-        ensures exact { (result ≡ Err fault.Memory → ⊥) → (IsOk result ↔ IsAcceptable level.now) }
     {
         board_of(alloc, level)
     }
@@ -59,7 +61,7 @@ impl Board {
     /// The level, as `new` was given it.
     pub fn level(&self) -> &Level
         ensures level { result.now ≡ self.now.rows }
-        ensures proper { IsProper self.now.rows }
+        ensures trimmed { map trimmed self.now.rows ≡ self.now.rows }
         ensures accepted { IsAccepted self.now }
     {
         &self.level
@@ -68,7 +70,6 @@ impl Board {
     /// How many squares the area has.
     pub fn squares(&self) -> usize
         ensures count { result ≡ length self.now.area }
-        ensures proper { IsProper self.now.rows }
         ensures accepted { IsAccepted self.now }
     {
         self.squares.len()
@@ -79,6 +80,7 @@ impl Board {
         ensures goals { result.now ≡ goals_of self.now }
         ensures rising { IsStrictlyIncreasing result.now }
         ensures exist { All (λ goal. goal < length self.now.area) result.now }
+        ensures accepted { IsAccepted self.now }
     {
         &self.numbering.goals
     }
@@ -91,6 +93,8 @@ impl Board {
         ensures position { position_of self.now result.0 result.1.now ≡ start self.now.rows }
         ensures player_exists { result.0 < length self.now.area }
         ensures boxes_exist { All (λ square. square < length self.now.area) result.1.now }
+        ensures few { length result.1.now ≤ box_limit }
+        ensures accepted { IsAccepted self.now }
     {
         (self.numbering.player, &self.numbering.boxes)
     }
@@ -109,13 +113,20 @@ impl Board {
         requires { square < length self.now.area }
         ensures beside { result ≡ beside self.now square dir }
         ensures wall { IsNone result
-            ↔ IsTrue (option_map_or (holds is_wall self.now.rows) (next dir (spot_of self.now square)) false) }
+            ↔ IsTrue (option_map_or (holds is_wall self.now.rows)
+            (next dir (spot_of self.now square)) false) }
         ensures exists { IfSome result (λ neighbour. neighbour < length self.now.area) }
+        ensures accepted { IsAccepted self.now }
     {
-        match self.squares[square as usize].next(dir) {
-            Some(beside) => table::entry(&self.numbering.numbers, beside, None),
-            None => None,
-        }
+        self.numbering.neighbours[square as usize].towards(dir)
+    }
+
+    /// Whether a square of the area is a goal.
+    pub fn is_goal(&self, square: Sq) -> bool
+        requires { square < length self.now.area }
+        ensures { result ≡ holds is_goal self.now.rows (spot_of self.now square) }
+    {
+        cell_or_wall(&self.level, self.spot(square)).is_goal()
     }
 
     /// Where a square of the area lies.
@@ -123,7 +134,6 @@ impl Board {
         requires { square < length self.now.area }
         ensures spot { result ≡ spot_of self.now square }
         ensures inverse { number_of self.now result ≡ Some square }
-        ensures within { HasPlace result }
     {
         self.squares[square as usize]
     }

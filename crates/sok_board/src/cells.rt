@@ -1,43 +1,19 @@
-//! What stands on the squares of a level. Nothing stands on a square that no row has.
+//! What stands on the squares of a level.
 
-ghost use Rattle.std.specs.Prelude.{◌≡◌};
-ghost use Rattle.sok_rules.specs.Squares.{holds, is_open, is_man, is_box, is_goal};
+ghost use Rattle.std.specs.Prelude.{◌≡◌, Bool, false};
+ghost use Rattle.sok_rules.specs.Squares.{holds};
+ghost use Rattle.sok_rules.specs.declared.cell.Cell.{Cell};
+ghost use Rattle.sok_rules.specs.declared.cell.Cell.TheVariants.{Wall};
 
-use sok_rules::cell::Spot;
+use sok_rules::cell::{Cell, Spot};
 use sok_rules::level::Level;
 
-pub(crate) fn is_open_at(level: &Level, spot: Spot) -> bool
-    ensures { result ≡ holds is_open level.now spot }
+/// What stands on a square, and a wall where no row has the square.
+pub(crate) fn cell_or_wall(level: &Level, spot: Spot) -> Cell
+    ensures { (test : Cell → Bool) → test Wall ≡ false → test result ≡ holds test level.now spot }
 {
     match level.cell(spot) {
-        Some(cell) => !cell.is_wall(),
-        None => false,
-    }
-}
-
-pub(crate) fn is_man_at(level: &Level, spot: Spot) -> bool
-    ensures { result ≡ holds is_man level.now spot }
-{
-    match level.cell(spot) {
-        Some(cell) => cell.is_man(),
-        None => false,
-    }
-}
-
-pub(crate) fn is_box_at(level: &Level, spot: Spot) -> bool
-    ensures { result ≡ holds is_box level.now spot }
-{
-    match level.cell(spot) {
-        Some(cell) => cell.is_box(),
-        None => false,
-    }
-}
-
-pub(crate) fn is_goal_at(level: &Level, spot: Spot) -> bool
-    ensures { result ≡ holds is_goal level.now spot }
-{
-    match level.cell(spot) {
-        Some(cell) => cell.is_goal(),
-        None => false,
+        Some(cell) => cell,
+        None => Cell::Wall,
     }
 }

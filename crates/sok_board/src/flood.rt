@@ -3,10 +3,11 @@
 ghost use Rattle.std.specs.Prelude.{◌≡◌, IfOk, length};
 ghost use Rattle.sok_rules.specs.Levels.{IsProper};
 ghost use Rattle.sok_rules.specs.Play.{start};
-ghost use Rattle.sok_board.specs.Tables.{HasPlace};
-ghost use Rattle.sok_board.specs.Floods.{met_of, meet, meet_beside, meet_around, IsFlooding, MarksArea};
+ghost use Rattle.sok_board.specs.Tables.{HasPlace, table_places};
+ghost use Rattle.sok_board.specs.Floods.{met_of, meet, meet_beside, meet_around};
+ghost use Rattle.sok_board.specs.Floods.{IsFlooding, MarksArea};
 
-use crate::cells::is_open_at;
+use crate::cells::cell_or_wall;
 use crate::table;
 use sok_rules::cell::{Dir, Spot};
 use sok_rules::fault::Memory;
@@ -23,10 +24,10 @@ pub(crate) struct Flood {
 /// Meets a square, if no wall stands there and it is not met yet.
 fn meet(level: &Level, spot: Spot, mut flood: Flood) -> Result<Flood, Memory>
     requires proper { IsProper level.now }
-    requires whole { length flood.marks.items ≡ 4096 }
+    requires whole { length flood.marks.items ≡ table_places }
     ensures { IfOk result (λ after. met_of after ≡ meet level.now spot (met_of flood)) }
 {
-    if !is_open_at(level, spot) {
+    if cell_or_wall(level, spot).is_wall() {
         return Ok(flood);
     }
     if table::entry(&flood.marks, spot, false) {
@@ -40,7 +41,7 @@ fn meet(level: &Level, spot: Spot, mut flood: Flood) -> Result<Flood, Memory>
 /// Meets the neighbour of a square in a direction, if there is one.
 fn meet_beside(level: &Level, spot: Spot, dir: Dir, flood: Flood) -> Result<Flood, Memory>
     requires proper { IsProper level.now }
-    requires whole { length flood.marks.items ≡ 4096 }
+    requires whole { length flood.marks.items ≡ table_places }
     requires within { HasPlace spot }
     ensures { IfOk result (λ after. met_of after ≡ meet_beside level.now spot dir (met_of flood)) }
 {
@@ -53,7 +54,7 @@ fn meet_beside(level: &Level, spot: Spot, dir: Dir, flood: Flood) -> Result<Floo
 /// Meets the four neighbours of a square.
 fn meet_around(level: &Level, spot: Spot, flood: Flood) -> Result<Flood, Memory>
     requires proper { IsProper level.now }
-    requires whole { length flood.marks.items ≡ 4096 }
+    requires whole { length flood.marks.items ≡ table_places }
     requires within { HasPlace spot }
     ensures { IfOk result (λ after. met_of after ≡ meet_around level.now spot (met_of flood)) }
 {
@@ -64,12 +65,12 @@ fn meet_around(level: &Level, spot: Spot, flood: Flood) -> Result<Flood, Memory>
 }
 
 /// A flood that has met the square on which the player starts, and nothing else.
-fn begun(alloc: Global, level: &Level, man: Spot) -> Result<Flood, Memory>
+fn begin(alloc: Global, level: &Level, man: Spot) -> Result<Flood, Memory>
     requires proper { IsProper level.now }
     requires man { man ≡ (start level.now).man }
     ensures { IfOk result (λ flood. IsFlooding level.now (met_of flood)) }
 {
-    let mut marks = table::blank(alloc, table::PLACES, false)?;
+    let mut marks = vec![in alloc; false; table::PLACES]?;
     marks[table::place(man)] = true;
     let pending = Vec::from_slice(alloc, &[man])?;
     Ok(Flood { marks, pending })
@@ -82,7 +83,7 @@ pub(crate) fn mark_area(alloc: Global, level: &Level, man: Spot) -> Result<Vec<b
     requires man { man ≡ (start level.now).man }
     ensures { IfOk result (λ marks. MarksArea level.now marks.items) }
 {
-    let mut flood = begun(alloc, level, man)?;
+    let mut flood = begin(alloc, level, man)?;
     while let Some(spot) = flood.pending.pop() {
         flood = meet_around(level, spot, flood)?;
     }

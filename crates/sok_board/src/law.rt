@@ -17,7 +17,9 @@ pub fn play_is_confined()
 /// A level is refused for one cause at most, and no refused level is accepted. An accepted one has
 /// one area.
 pub fn levels_have_one_refusal()
-    ensures one { (rows : Rows) (f g : BoardFault) → f ≢ Memory → g ≢ Memory → IsRefused rows f → IsRefused rows g → f ≡ g }
-    ensures accepted { (rows : Rows) (f : BoardFault) → f ≢ Memory → IsRefused rows f → IsAcceptable rows → ⊥ }
+    ensures one { (rows : Rows) (f g : BoardFault) → f ≢ Memory → g ≢ Memory
+        → IsRefused rows f → IsRefused rows g → f ≡ g }
+    ensures accepted { (rows : Rows) (f : BoardFault) → f ≢ Memory
+        → IsRefused rows f → IsAcceptable rows → ⊥ }
     ensures area { (b c : Numbered) → b.rows ≡ c.rows → IsAccepted b → IsAccepted c → b ≡ c }
 {}

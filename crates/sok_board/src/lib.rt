@@ -8,6 +8,7 @@
 //! | `fault` | why a level is not accepted |
 //! | `flood` | the flood that finds the squares of an area |
 //! | `law` | play stays inside the area and leaves what stands outside it |
+//! | `neighbours` | the numbers of the squares beside each square |
 //! | `places` | the squares of a level's text in reading order |
 //! | `refusal` | the squares for which a level is not accepted |
 //! | `survey` | the tests by which a level is accepted, in the order of refusal |
@@ -20,6 +21,7 @@ mod cells;
 pub mod fault;
 mod flood;
 pub mod law;
+mod neighbours;
 mod places;
 mod refusal;
 mod survey;

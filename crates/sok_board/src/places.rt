@@ -5,7 +5,7 @@ ghost use Rattle.sok_rules.specs.Squares.{places, places_in_row, holds, is_man};
 ghost use Rattle.sok_rules.specs.Levels.{IsProper, cells_of};
 ghost use Rattle.sok_rules.specs.Play.{start};
 
-use crate::cells::is_man_at;
+use crate::cells::cell_or_wall;
 use sok_rules::cell::{Cell, Spot};
 use sok_rules::fault::Memory;
 use sok_rules::level::Level;
@@ -49,5 +49,8 @@ pub(crate) fn man(level: &Level, spots: &[Spot]) -> Spot
 fn first_man(level: &Level, spots: &[Spot]) -> Option<Spot>
     ensures { result ≡ find (holds is_man level.now) spots.now }
 {
-    spots.iter().copied().find(|spot| is_man_at(level, *spot))
+    spots
+        .iter()
+        .copied()
+        .find(|spot| cell_or_wall(level, *spot).is_man())
 }

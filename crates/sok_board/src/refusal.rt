@@ -1,16 +1,16 @@
 //! The squares for which a level is not accepted.
 
-ghost use Rattle.std.specs.Prelude.{◌≡◌, ◌↔◌, MatchOption, None, IsSome, is_some, not};
+ghost use Rattle.std.specs.Prelude.{◌≡◌, ◌↔◌, IsTrue, MatchOption, None, IsSome, not};
 ghost use Rattle.std.specs.List.{list_any};
 ghost use Rattle.sok_rules.specs.Squares.{places};
 ghost use Rattle.sok_rules.specs.Levels.{IsProper};
 ghost use Rattle.sok_rules.specs.declared.cell.Spot.{Spot};
-ghost use Rattle.sok_board.specs.Area.{IsArea, InArea, IsEnclosed};
-ghost use Rattle.sok_board.specs.Refusals.{lies_beside, has_gap, is_stray, IsFirst, IsLeak, IsStray};
+ghost use Rattle.sok_board.specs.Area.{IsArea, InArea, IsEnclosed, IsStray};
+ghost use Rattle.sok_board.specs.Refusals.{lies_beside, has_gap, IsFirst, IsLeak};
 ghost use Rattle.sok_board.specs.Tables.{HasPlace, entry};
 
 use crate::area::Sq;
-use crate::cells::{is_box_at, is_goal_at};
+use crate::cells::cell_or_wall;
 use crate::table;
 use sok_rules::cell::{Dir, Spot};
 use sok_rules::level::Level;
@@ -60,7 +60,8 @@ fn lies_beside(level: &Level, spot: Spot, dir: Dir) -> bool
 pub(crate) fn first_stray(level: &Level, spots: &[Spot], numbers: &[Option<Sq>]) -> Option<Spot>
     requires places { spots.now ≡ places level.now }
     requires numbers { (s : Spot) → IsSome (entry None numbers.now s) ↔ InArea level.now s }
-    ensures { MatchOption result ((s : Spot) → IsStray level.now s → ⊥) (IsFirst (IsStray level.now)) }
+    ensures { MatchOption result
+        ((s : Spot) → IsStray level.now s → ⊥) (IsFirst (IsStray level.now)) }
 {
     for place in spots {
         if is_stray(level, numbers, *place) {
@@ -72,10 +73,12 @@ pub(crate) fn first_stray(level: &Level, spots: &[Spot], numbers: &[Option<Sq>])
 
 /// Whether a box stands off a goal at a square without a number.
 fn is_stray(level: &Level, numbers: &[Option<Sq>], spot: Spot) -> bool
-    ensures { result ≡ is_stray level.now (is_some (entry None numbers.now spot)) spot }
+    requires { IsSome (entry None numbers.now spot) ↔ InArea level.now spot }
+    ensures { IsTrue result ↔ IsStray level.now spot }
 {
     if table::entry(numbers, spot, None).is_some() {
         return false;
     }
-    is_box_at(level, spot) && !is_goal_at(level, spot)
+    let cell = cell_or_wall(level, spot);
+    cell.is_box() && !cell.is_goal()
 }

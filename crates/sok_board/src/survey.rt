@@ -1,26 +1,28 @@
 //! The tests by which a level is accepted, in the order of refusal, and what they find.
 
-ghost use Rattle.std.specs.Prelude.{◌≡◌, IfOk, IfErr};
+ghost use Rattle.std.specs.Prelude.{◌≡◌, IfOk, IfErr, map};
 ghost use Rattle.sok_rules.specs.Squares.{places};
-ghost use Rattle.sok_rules.specs.Levels.{IsProper};
+ghost use Rattle.sok_rules.specs.Levels.{IsProper, trimmed};
 ghost use Rattle.sok_board.specs.Area.{IsArea};
 ghost use Rattle.sok_board.specs.Boards.{IsNumbering};
 ghost use Rattle.sok_board.specs.Refusals.{IsRefused};
 
-use crate::area::{BOX_LIMIT, SQUARE_LIMIT, Sq, boxes, goals, numbers};
+use crate::area::{BOX_LIMIT, SQUARE_LIMIT, Sq, numbers, numbers_where};
 use crate::fault::BoardFault;
+use crate::neighbours::{Neighbours, list_neighbours};
 use crate::places::man;
 use crate::refusal::{first_leak, first_stray};
 use crate::table;
-use sok_rules::cell::Spot;
+use sok_rules::cell::{Cell, Spot};
 use sok_rules::level::Level;
 use std::alloc::Global;
 
-/// The numbers of squares in a table, those of the goals and of the boxes, rising, and that of the
-/// player.
+/// The numbers of squares in a table, those of the squares beside each square, those of the goals
+/// and of the boxes, rising, and that of the player.
 #[derive(Debug, Drop)]
 pub(crate) struct Numbering {
     pub(crate) numbers: Vec<Option<Sq>>,
+    pub(crate) neighbours: Vec<Neighbours>,
     pub(crate) goals: Vec<Sq>,
     pub(crate) player: Sq,
     pub(crate) boxes: Vec<Sq>,
@@ -34,6 +36,7 @@ pub(crate) fn number(
     squares: &[Spot],
 ) -> Result<Numbering, BoardFault>
     requires proper { IsProper level.now }
+    requires trimmed { map trimmed level.now ≡ level.now }
     requires places { spots.now ≡ places level.now }
     requires area { IsArea level.now squares.now }
     ensures accepted { IfOk result (IsNumbering (record { rows = level.now; area = squares.now })) }
@@ -49,17 +52,19 @@ pub(crate) fn number(
     if let Some(spot) = first_stray(level, spots, &numbers) {
         return Err(BoardFault::BoxOutside(spot));
     }
-    let boxes = boxes(alloc, level, squares)?;
+    let boxes = numbers_where(alloc, level, squares, Cell::is_box)?;
     if boxes.len() > BOX_LIMIT {
         return Err(BoardFault::TooManyBoxes);
     }
-    let goals = goals(alloc, level, squares)?;
+    let goals = numbers_where(alloc, level, squares, Cell::is_goal)?;
     if goals.len() < boxes.len() {
         return Err(BoardFault::TooFewGoals);
     }
+    let neighbours = list_neighbours(alloc, squares, &numbers)?;
     let player = table::entry(&numbers, man(level, spots), None).unwrap();
     Ok(Numbering {
         numbers,
+        neighbours,
         goals,
         player,
         boxes,

@@ -1,11 +1,9 @@
 //! Tables with an entry for each square of 64 rows and 64 columns.
 
-ghost use Rattle.std.specs.Prelude.{◌≡◌, IfOk, All, length};
+ghost use Rattle.std.specs.Prelude.{◌≡◌};
 ghost use Rattle.sok_board.specs.Tables.{place_of, entry};
 
 use sok_rules::cell::Spot;
-use sok_rules::fault::Memory;
-use std::alloc::Global;
 
 /// The columns of a table, and its rows.
 pub(crate) const SIDE: usize = 64;
@@ -31,16 +29,4 @@ pub(crate) fn entry<T: Copy>(table: &[T], spot: Spot, other: T) -> T
         Some(value) => *value,
         None => other,
     }
-}
-
-/// A table with one value at each of its places.
-pub(crate) fn blank<T: Copy>(alloc: Global, places: usize, value: T) -> Result<Vec<T>, Memory>
-    ensures count { IfOk result (λ table. length table.items ≡ places) }
-    ensures blank { IfOk result (λ table. All (λ x. x ≡ value) table.items) }
-{
-    let mut table = Vec::with_capacity(alloc, places)?;
-    for _ in 0..places {
-        table.push(value)?;
-    }
-    Ok(table)
 }

@@ -1,28 +1,30 @@
 -- One entry more in the table.
-use Rattle.std.proofs.Common.{ℕ, ◌≡◌, ◌<◌, ◌+◌, ◌∙◌, ◌≢◌, inl, inr, refl, sym, ap, subst, List, [], ◌∷◌, ◌++◌, Some, None, Option, true, false, true≢false, is_some, MatchOption, All, AllPairs, Contains, arith, length, get_or, slice_get}
+use Rattle.std.proofs.Common.{ℕ, ◌≡◌, ◌<◌, ◌+◌, ◌∙◌, ◌≢◌, inl, inr, refl, sym, ap, subst, List, [], ◌∷◌, ◌++◌, Some, None, Option, true, false, true≢false}
+use Rattle.std.proofs.Common.{is_some, MatchOption, All, AllPairs, Contains, arith, length, get_or, slice_get}
 use Rattle.std.specs.Map.{keys_of, values_of}
 use Rattle.std.proofs.lemmas.Bool.{cases_eq}
 use Rattle.std.proofs.lemmas.Option.{same_Some, slice_get_within, slice_get-get_or}
 use Rattle.std.proofs.lemmas.List.{get_or_default, length-append, length-map, map-append}
-use Rattle.sok_rules.specs.Levels.{IsProper}
-use Rattle.sok_board.specs.Area.{Numbered, IsArea}
+use Rattle.sok_board.specs.Area.{Numbered, IsAccepted}
 use Rattle.sok_board.proofs.Lists.{AllPairs-append, Contains-at, slice_get-push}
 use Rattle.sok_region.proofs.Floods.{slice_get-append}
 use Rattle.sok_state.specs.declared.key.Key.{Key}
 use Rattle.sok_state.specs.Keys.{IsKeyOf}
 use Rattle.sok_state.specs.Tables.{Entries, Inserts, IsAt}
-use Rattle.sok_state.proofs.Placed.{IsStanding-placed}
 use Rattle.sok_state.proofs.States.{keys_equal, Same-keys}
 use Rattle.sok_entry.specs.declared.claim.Claim.{Claim}
 use Rattle.sok_entry.specs.declared.entry.Entry.{Entry}
-use Rattle.sok_cert.specs.Closed.{IsPosition, place_of}
+use Rattle.sok_cert.specs.Closed.{IsPosition, entry_position}
 use Rattle.sok_cert.specs.Lookup.{IsEntered, IsTableOf}
 use Rattle.sok_cert.specs.Refusals.{AreFine, IsFine, IsNew, IsRepeated}
+use Rattle.sok_cert.proofs.Looking.{entered-key, entry-stands}
 
 -- an entry whose key stands in the table repeats the one there
-pub IsRepeated-found : (b : Numbered) (claim : Claim) (entries : List Entry) (i : ℕ) (table : Entries) (e : Entry) (key : Key) (place : ℕ) → IsArea b.rows b.area → IsProper b.rows → i < length entries
-    → AreFine b claim entries i → IsTableOf b entries i table → IsPosition b e → IsKeyOf b (place_of b e) key → IsAt table key place → IsRepeated b entries i e
-IsRepeated-found b claim entries i table e key place area proper exists fine entered position is at =
+pub IsRepeated-found : (b : Numbered) (claim : Claim) (entries : List Entry) (i : ℕ) (table : Entries) (e : Entry) (key : Key) (place : ℕ) → IsAccepted b
+    → i < length entries
+    → AreFine b claim entries i → IsTableOf b entries i table → IsPosition b e → IsKeyOf b (entry_position b e) key → IsAt table key place → IsRepeated b
+    entries i e
+IsRepeated-found b claim entries i table e key place accepted exists fine entered position is at =
     let listed_keys = length-map table (λ (entry : Key × ℕ). entry.0) in
     let key_within = slice_get_within (keys_of table) place key at in
     let count = entered.count in
@@ -30,26 +32,28 @@ IsRepeated-found b claim entries i table e key place area proper exists fine ent
     let f = get_or entries place e in
     let there : slice_get entries place ≡ Some f = slice_get-get_or entries place e (omega (arith, within, exists)) in
     let entry = entered.entered place f within there in
-    let f_is : IsKeyOf b (place_of b f) key = subst (IsKeyOf b (place_of b f)) (same_Some entry.key key (sym entry.there ∙ at)) entry.is in
+    let f_is = entered-key b table place f key entry at in
     record {
       position = position;
       place = place;
       earlier = f;
       before = within;
       there = there;
-      same = Same-keys b (place_of b f) (place_of b e) key (IsStanding-placed b area proper e.player e.boxes position.placed) f_is is;
+      same = Same-keys b (entry_position b f) (entry_position b e) key
+          (entry-stands b accepted e position) f_is is;
     }
 
 -- one whose key does not is new
-pub IsNew-absent : (b : Numbered) (claim : Claim) (entries : List Entry) (i : ℕ) (table : Entries) (e : Entry) (key : Key) → IsArea b.rows b.area → IsProper b.rows
-    → AreFine b claim entries i → IsTableOf b entries i table → IsKeyOf b (place_of b e) key → (Contains (keys_of table) key → ⊥) → IsNew b entries i e
-IsNew-absent b claim entries i table e key area proper fine entered is absent j f below there same =
+pub IsNew-absent : (b : Numbered) (claim : Claim) (entries : List Entry) (i : ℕ) (table : Entries) (e : Entry) (key : Key) → IsAccepted b
+    → AreFine b claim entries i → IsTableOf b entries i table → IsKeyOf b (entry_position b e) key → (Contains (keys_of table) key → ⊥) → IsNew b entries i e
+IsNew-absent b claim entries i table e key accepted fine entered is absent j f below there same =
     let entry = entered.entered j f below there in
-    let stands = IsStanding-placed b area proper f.player f.boxes (fine j f below there).position.placed in
-    let equal : entry.key ≡ key = keys_equal b area (place_of b f) (place_of b e) entry.key key stands entry.is is same in
+    let stands = entry-stands b accepted f (fine j f below there).position in
+    let equal : entry.key ≡ key = keys_equal b accepted.numbered (entry_position b f) (entry_position b e) entry.key key stands entry.is is same in
     absent (subst (Contains (keys_of table)) equal (Contains-at (keys_of table) entry.key j entry.there))
 
-pub AreFine-more : (b : Numbered) (claim : Claim) (entries : List Entry) (i : ℕ) (e : Entry) → slice_get entries i ≡ Some e → AreFine b claim entries i → IsFine b claim entries i e → AreFine b claim entries (i + 1)
+pub AreFine-more : (b : Numbered) (claim : Claim) (entries : List Entry) (i : ℕ) (e : Entry) → slice_get entries i ≡ Some e → AreFine b claim entries i
+    → IsFine b claim entries i e → AreFine b claim entries (i + 1)
 AreFine-more b claim entries i e there fine one j f below f_there = elim (cases_eq j i) [
   | inl last ↦
       let is : e ≡ f = same_Some e f (sym there ∙ ap (slice_get entries) (sym last) ∙ f_there) in
@@ -60,8 +64,10 @@ AreFine-more b claim entries i e there fine one j f below f_there = elim (cases_
 entered-more : (b : Numbered) (table more : Entries) (i : ℕ) (e : Entry) → IsEntered b table i e → IsEntered b (table ++ more) i e
 entered-more b table more i e entry = record {
   key = entry.key;
-  there = ap (λ keys. slice_get keys i) (map-append (λ (one : Key × ℕ). one.0) table more) ∙ slice_get-append (keys_of table) (keys_of more) i entry.key entry.there;
-  depth = ap (λ depths. slice_get depths i) (map-append (λ (one : Key × ℕ). one.1) table more) ∙ slice_get-append (values_of table) (values_of more) i e.depth entry.depth;
+  there = ap (λ keys. slice_get keys i) (map-append (λ (one : Key × ℕ). one.0) table more) ∙ slice_get-append (keys_of table) (keys_of more) i entry.key
+      entry.there;
+  depth = ap (λ depths. slice_get depths i) (map-append (λ (one : Key × ℕ). one.1) table more) ∙ slice_get-append (values_of table) (values_of more) i e.depth
+      entry.depth;
   is = entry.is;
 }
 
@@ -71,7 +77,8 @@ differs table key absent = λ k d within n other_d n_within same.
     absent (k, within, get_or_default (keys_of table) k key d within ∙ same ∙ ap (λ m. get_or (key ∷ []) m other_d) first)
 
 -- the key of an entry goes last
-pub IsTableOf-more : (b : Numbered) (entries : List Entry) (i : ℕ) (table after : Entries) (e : Entry) (key : Key) (index : ℕ) → slice_get entries i ≡ Some e → IsTableOf b entries i table → IsKeyOf b (place_of b e) key
+pub IsTableOf-more : (b : Numbered) (entries : List Entry) (i : ℕ) (table after : Entries) (e : Entry) (key : Key) (index : ℕ) → slice_get entries i ≡ Some e
+    → IsTableOf b entries i table → IsKeyOf b (entry_position b e) key
     → (Contains (keys_of table) key → ⊥) → Inserts table key e.depth index after → IsTableOf b entries (i + 1) after
 IsTableOf-more b entries i table after e key index there entered is absent (inl stays) = absurd (absent (Contains-at (keys_of table) key index stays.there))
 IsTableOf-more b entries i table after e key index there entered is absent (inr last) =
@@ -86,7 +93,8 @@ IsTableOf-more b entries i table after e key index there entered is absent (inr 
     subst (IsTableOf b entries (i + 1)) (sym last.more) (record {
       count = omega (arith, longer, count);
       distinct = subst (AllPairs (λ k other. k ≢ other)) (sym keys)
-          (AllPairs-append (λ k other. k ≢ other) (keys_of table) (key ∷ []) entered.distinct (λ n m d below within. absurd (omega (arith, below, within))) (differs table key absent));
+          (AllPairs-append (λ k other. k ≢ other) (keys_of table) (key ∷ []) entered.distinct (λ n m d below within. absurd (omega (arith, below, within)))
+          (differs table key absent));
       entered = λ j f below f_there. elim (cases_eq j i) [
         | inr other ↦ entered-more b table more j f (entered.entered j f (omega (arith, below, other)) f_there)
         | inl same ↦
@@ -96,7 +104,8 @@ IsTableOf-more b entries i table after e key index there entered is absent (inr 
             subst (IsEntered b (table ++ more) j) f_is (record {
               key = key;
               there = ap (λ some. slice_get some j) keys ∙ ap (slice_get (keys_of table ++ key ∷ [])) key_last ∙ slice_get-push (keys_of table) key;
-              depth = ap (λ some. slice_get some j) depths ∙ ap (slice_get (values_of table ++ e.depth ∷ [])) depth_last ∙ slice_get-push (values_of table) e.depth;
+              depth = ap (λ some. slice_get some j) depths ∙ ap (slice_get (values_of table ++ e.depth ∷ [])) depth_last ∙ slice_get-push (values_of table)
+                  e.depth;
               is = is;
             })
       ];

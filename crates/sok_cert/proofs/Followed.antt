@@ -1,5 +1,6 @@
 -- From states that are found in the table to entries that follow.
-use Rattle.std.proofs.Common.{ℕ, ◌≡◌, ◌<◌, ◌∙◌, ◌↔◌, inl, inr, refl, sym, ap, subst, List, Some, None, true, AllPairs, Contains, arith, length, get_or, slice_get, IsTrue}
+use Rattle.std.proofs.Common.{ℕ, ◌≡◌, ◌<◌, ◌∙◌, ◌↔◌, inl, inr, refl, sym, ap, subst, List, Some, None, true, AllPairs, Contains, arith, length, get_or}
+use Rattle.std.proofs.Common.{slice_get, IsTrue}
 use Rattle.std.specs.Map.{keys_of}
 use Rattle.std.proofs.lemmas.Bool.{cases_eq, cases_lt}
 use Rattle.std.proofs.lemmas.Option.{same_Some, slice_get_within, slice_get-get_or, get_or_from_slice_get}
@@ -20,16 +21,16 @@ use Rattle.sok_state.specs.Keys.{IsKeyOf}
 use Rattle.sok_state.specs.Pushes.{IsLegal, LeadsTo, Precedes}
 use Rattle.sok_state.specs.Tables.{Entries, IsAt}
 use Rattle.sok_state.proofs.Order.{Precedes-asym}
-use Rattle.sok_state.proofs.Placed.{IsStanding-placed}
 use Rattle.sok_state.proofs.States.{IsKeyOf-Same, Same-keys}
 use Rattle.sok_entry.specs.declared.entry.Entry.{Entry}
-use Rattle.sok_cert.specs.Closed.{IsFollowed, IsFollower, IsPosition, is_expanded, place_of}
+use Rattle.sok_cert.specs.Closed.{IsFollowed, IsFollower, IsPosition, is_expanded, entry_position}
 use Rattle.sok_cert.specs.Refusals.{IsOpen, IsFirstOpen}
 use Rattle.sok_cert.specs.Lookup.{IsClosedAt, IsFound, IsLooking, IsMissing, TellsFirst, TellsOpen}
-use Rattle.sok_cert.proofs.Looking.{standing-after}
+use Rattle.sok_cert.proofs.Looking.{entered-key, entry-stands, standing-after}
 
 -- what precedes a listed push is listed before it
-pub precedes-before : (pushes : List Push) → AllPairs Precedes pushes → (k j : ℕ) (push other : Push) → slice_get pushes k ≡ Some push → slice_get pushes j ≡ Some other → Precedes other push → j < k
+pub precedes-before : (pushes : List Push) → AllPairs Precedes pushes → (k j : ℕ) (push other : Push) → slice_get pushes k ≡ Some push
+    → slice_get pushes j ≡ Some other → Precedes other push → j < k
 precedes-before pushes in_order k j push other here there precedes =
     let here_is = get_or_from_slice_get pushes k push push here in
     let there_is = get_or_from_slice_get pushes j other push there in
@@ -40,30 +41,34 @@ precedes-before pushes in_order k j push other here there precedes =
             let is : other ≡ push = same_Some other push (sym there ∙ ap (slice_get pushes) same ∙ here) in
             absurd (Precedes-asym other push precedes (subst (λ p. Precedes p other) is (subst (Precedes other) (sym is) precedes)))
         | inr apart ↦
-            let later : Precedes (get_or pushes k push) (get_or pushes j push) = in_order k j push (omega (arith, past, apart)) (slice_get_within pushes j other there) in
+            let later : Precedes (get_or pushes k push) (get_or pushes j push) =
+            in_order k j push (omega (arith, past, apart)) (slice_get_within pushes j other there) in
             absurd (Precedes-asym other push precedes (subst (λ p. Precedes p other) here_is (subst (Precedes (get_or pushes k push)) there_is later)))
       ]
     ]
 
-pub stands : (b : Numbered) (entries : List Entry) (table : Entries) → IsLooking b entries table → (e : Entry) → Contains entries e → IsStanding b.rows (place_of b e)
+pub stands : (b : Numbered) (entries : List Entry) (table : Entries) → IsLooking b entries table → (e : Entry) → Contains entries e
+    → IsStanding b.rows (entry_position b e)
 stands b entries table looking e listed =
-    IsStanding-placed b looking.area looking.proper e.player e.boxes (All-contains (IsPosition b) entries e looking.positions listed).placed
+    entry-stands b looking.accepted e (All-contains (IsPosition b) entries e looking.positions listed)
 
 -- the key at an entry's place is the entry's
-pub key-at : (b : Numbered) (entries : List Entry) (table : Entries) → IsLooking b entries table → (i : ℕ) (e : Entry) (key : Key) → slice_get entries i ≡ Some e → IsAt table key i → IsKeyOf b (place_of b e) key
+pub key-at : (b : Numbered) (entries : List Entry) (table : Entries) → IsLooking b entries table → (i : ℕ) (e : Entry) (key : Key)
+    → slice_get entries i ≡ Some e → IsAt table key i → IsKeyOf b (entry_position b e) key
 key-at b entries table looking i e key there at =
-    let entry = looking.entered.entered i e (slice_get_within entries i e there) there in
-    subst (IsKeyOf b (place_of b e)) (same_Some entry.key key (sym entry.there ∙ at)) entry.is
+    entered-key b table i e key (looking.entered.entered i e (slice_get_within entries i e there) there) at
 
 -- a push from a position of an entry's state leads on from its key
-leads-from : (b : Numbered) (entries : List Entry) (table : Entries) → IsLooking b entries table → (e : Entry) → Contains entries e → (key : Key) → IsKeyOf b (place_of b e) key
-    → (x : Position) → Same b.rows (place_of b e) x → Same b.rows (position_of b key.least key.boxes) x
+leads-from : (b : Numbered) (entries : List Entry) (table : Entries) → IsLooking b entries table → (e : Entry) → Contains entries e → (key : Key)
+    → IsKeyOf b (entry_position b e) key
+    → (x : Position) → Same b.rows (entry_position b e) x → Same b.rows (position_of b key.least key.boxes) x
 leads-from b entries table looking e listed key is x walked =
     let key_place = position_of b key.least key.boxes in
-    Same-trans b.rows key_place (place_of b e) x (Same-sym b.rows (place_of b e) key_place (stands b entries table looking e listed) is.same) walked
+    Same-trans b.rows key_place (entry_position b e) x (Same-sym b.rows (entry_position b e) key_place (stands b entries table looking e listed) is.same) walked
 
 -- a state that is found is an entry's
-found-follower : (b : Numbered) (entries : List Entry) (table : Entries) → IsLooking b entries table → (e : Entry) (key : Key) (push : Push) → IsFound b table key e.depth push
+found-follower : (b : Numbered) (entries : List Entry) (table : Entries) → IsLooking b entries table → (e : Entry) (key : Key) (push : Push)
+    → IsFound b table key e.depth push
     → (after : Position) → LeadsTo b key push after → (f : Entry) × IsFollower b entries e.depth after f
 found-follower b entries table looking e key push found after leads =
     let listed_keys = length-map table (λ (entry : Key × ℕ). entry.0) in
@@ -80,17 +85,20 @@ found-follower b entries table looking e key push found after leads =
       record {
         listed = listed;
         near = omega (arith, near, deep);
-        same = Same-keys b after (place_of b f) found.next (stands b entries table looking f listed) (found.is after leads) (key-at b entries table looking found.index f found.next there found.there);
+        same = Same-keys b after (entry_position b f) found.next (stands b entries table looking f listed) (found.is after leads)
+            (key-at b entries table looking found.index f found.next there found.there);
       },
     )
 
 -- where each legal push is found, the entry is followed
-pub IsFollowed-found : (b : Numbered) (entries : List Entry) (table : Entries) → IsLooking b entries table → (e : Entry) → Contains entries e → (key : Key) → IsKeyOf b (place_of b e) key
+pub IsFollowed-found : (b : Numbered) (entries : List Entry) (table : Entries) → IsLooking b entries table → (e : Entry) → Contains entries e → (key : Key)
+    → IsKeyOf b (entry_position b e) key
     → TellsOpen b table key e.depth None → IsFollowed b entries e
 IsFollowed-found b entries table looking e listed key is found x d after walked leads pushed =
     let placed = (All-contains (IsPosition b) entries e looking.positions listed).placed in
-    let inside : InArea b.rows x.man = (confines-play b.rows (place_of b e) x walked.0 (InArea-spot_of b looking.area e.player placed.player_exists) walked.1).man in
-    let move = pushes-alone b looking.area x d after inside leads pushed in
+    let inside : InArea b.rows x.man = (confines-play b.rows (entry_position b e) x walked.0
+    (InArea-spot_of b looking.accepted.numbered e.player placed.player_exists) walked.1).man in
+    let move = pushes-alone b looking.accepted.numbered x d after inside leads pushed in
     let push : Push = record { from = move.from; dir = d } in
     let on : LeadsTo b key push after.position = record {
       before = x;
@@ -101,7 +109,8 @@ IsFollowed-found b entries table looking e listed key is found x d after walked 
     } in
     found-follower b entries table looking e key push (found push (record { after = after.position; leads = on })) after.position on
 
-open-leads : (b : Numbered) (entries : List Entry) (table : Entries) → IsLooking b entries table → (e : Entry) → Contains entries e → (key : Key) → IsKeyOf b (place_of b e) key
+open-leads : (b : Numbered) (entries : List Entry) (table : Entries) → IsLooking b entries table → (e : Entry) → Contains entries e → (key : Key)
+    → IsKeyOf b (entry_position b e) key
     → (push : Push) → (open_push : IsOpen b entries e push) → LeadsTo b key push open_push.after
 open-leads b entries table looking e listed key is push open_push = record {
   before = open_push.before;
@@ -112,7 +121,8 @@ open-leads b entries table looking e listed key is push open_push = record {
 }
 
 -- a legal push that is found is not open
-closed-found : (b : Numbered) (entries : List Entry) (table : Entries) → IsLooking b entries table → (e : Entry) → Contains entries e → (key : Key) → IsKeyOf b (place_of b e) key
+closed-found : (b : Numbered) (entries : List Entry) (table : Entries) → IsLooking b entries table → (e : Entry) → Contains entries e → (key : Key)
+    → IsKeyOf b (entry_position b e) key
     → (push : Push) → (IsLegal b key push → IsFound b table key e.depth push) → IsOpen b entries e push → ⊥
 closed-found b entries table looking e listed key is push found open_push =
     let on = open-leads b entries table looking e listed key is push open_push in
@@ -120,7 +130,8 @@ closed-found b entries table looking e listed key is push found open_push =
     open_push.unfollowed f follower.listed follower.near follower.same
 
 -- and one that is missing is open
-IsOpen-missing : (b : Numbered) (entries : List Entry) (table : Entries) → IsLooking b entries table → (e : Entry) → Contains entries e → (key : Key) → IsKeyOf b (place_of b e) key
+IsOpen-missing : (b : Numbered) (entries : List Entry) (table : Entries) → IsLooking b entries table → (e : Entry) → Contains entries e → (key : Key)
+    → IsKeyOf b (entry_position b e) key
     → (push : Push) → IsTrue (is_expanded e.reason) → IsLegal b key push → IsMissing b table key e.depth push → IsOpen b entries e push
 IsOpen-missing b entries table looking e listed key is push expanded legal missing =
     let leads = legal.leads in
@@ -129,26 +140,34 @@ IsOpen-missing b entries table looking e listed key is push expanded legal missi
       exists = leads.exists;
       before = leads.before;
       after = legal.after;
-      walked = Same-trans b.rows (place_of b e) (position_of b key.least key.boxes) leads.before is.same leads.same;
+      walked = Same-trans b.rows (entry_position b e) (position_of b key.least key.boxes) leads.before is.same leads.same;
       steps = leads.steps;
       man = leads.man;
       unfollowed = λ f f_listed near same.
           let (j, within, at) = f_listed in
           let there : slice_get entries j ≡ Some f = slice_get-get_or entries j f within ∙ ap Some at in
           let entry = looking.entered.entered j f within there in
-          let back = Same-sym b.rows legal.after (place_of b f) (standing-after b key push legal.after leads) same in
-          missing legal.after entry.key j f.depth leads (IsKeyOf-Same b (place_of b f) legal.after entry.key (stands b entries table looking f f_listed) back entry.is) entry.there entry.depth near;
+          let back = Same-sym b.rows legal.after (entry_position b f) (standing-after b key push legal.after leads) same in
+          missing legal.after entry.key j f.depth leads
+          (IsKeyOf-Same b (entry_position b f) legal.after entry.key (stands b entries table looking f f_listed) back entry.is) entry.there entry.depth
+          near;
     }
 
 -- a followed entry has no open push
 pub followed-closed : (b : Numbered) (entries : List Entry) (e : Entry) (push : Push) → IsClosedAt b entries e → IsOpen b entries e push → ⊥
 followed-closed b entries e push followed open_push =
-    let (f, follower) = followed open_push.expanded open_push.before push.dir (record { position = open_push.after; pushed = true }) open_push.walked open_push.steps refl in
+    let (f, follower) = followed open_push.expanded open_push.before push.dir (record {
+      position = open_push.after;
+      pushed =
+          true;
+    }) open_push.walked open_push.steps refl in
     open_push.unfollowed f follower.listed follower.near follower.same
 
 -- the first open push of all
-pub IsFirstOpen-missing : (b : Numbered) (entries : List Entry) (table : Entries) → IsLooking b entries table → (i : ℕ) (e : Entry) → slice_get entries i ≡ Some e → (key : Key) → IsAt table key i
-    → (push : Push) → IsTrue (is_expanded e.reason) → TellsOpen b table key e.depth (Some push) → ((j : ℕ) (f : Entry) → j < i → slice_get entries j ≡ Some f → IsClosedAt b entries f) → IsFirstOpen b entries i push
+pub IsFirstOpen-missing : (b : Numbered) (entries : List Entry) (table : Entries) → IsLooking b entries table → (i : ℕ) (e : Entry)
+    → slice_get entries i ≡ Some e → (key : Key) → IsAt table key i
+    → (push : Push) → IsTrue (is_expanded e.reason) → TellsOpen b table key e.depth (Some push) →
+    ((j : ℕ) (f : Entry) → j < i → slice_get entries j ≡ Some f → IsClosedAt b entries f) → IsFirstOpen b entries i push
 IsFirstOpen-missing b entries table looking i e there key at push expanded ((legal, missing), earlier) before =
     let listed = Contains-at entries e i there in
     let is = key-at b entries table looking i e key there at in
@@ -161,7 +180,8 @@ IsFirstOpen-missing b entries table looking i e there key at push expanded ((leg
     }
 
 -- of a list of the legal pushes, the first that is missing is the first of all
-pub TellsOpen-first : (b : Numbered) (table : Entries) (key : Key) (depth : ℕ) (pushes : List Push) (k : ℕ) (push : Push) → ((p : Push) → Contains pushes p ↔ IsLegal b key p) → AllPairs Precedes pushes
+pub TellsOpen-first : (b : Numbered) (table : Entries) (key : Key) (depth : ℕ) (pushes : List Push) (k : ℕ) (push : Push)
+    → ((p : Push) → Contains pushes p ↔ IsLegal b key p) → AllPairs Precedes pushes
     → push ≡ get_or pushes k push → TellsFirst b table key depth pushes (Some k) → TellsOpen b table key depth (Some push)
 TellsOpen-first b table key depth pushes k push exact in_order here ((first, there, missing), earlier) =
     let is : first ≡ push = sym (get_or_from_slice_get pushes k first push there) ∙ sym here in
@@ -173,7 +193,8 @@ TellsOpen-first b table key depth pushes k push exact in_order here ((first, the
           earlier j other (precedes-before pushes in_order k j push other at other_at precedes) other_at,
     )
 
-pub TellsOpen-none : (b : Numbered) (table : Entries) (key : Key) (depth : ℕ) (pushes : List Push) → ((p : Push) → Contains pushes p ↔ IsLegal b key p) → TellsFirst b table key depth pushes None → TellsOpen b table key depth None
+pub TellsOpen-none : (b : Numbered) (table : Entries) (key : Key) (depth : ℕ) (pushes : List Push) → ((p : Push) → Contains pushes p ↔ IsLegal b key p)
+    → TellsFirst b table key depth pushes None → TellsOpen b table key depth None
 TellsOpen-none b table key depth pushes exact all = λ push legal.
     let (j, within, same) = (exact push).1 legal in
     all j push (slice_get-get_or pushes j push within ∙ ap Some same)

@@ -7,3 +7,5 @@ pub mod Looking
 pub mod OneRefusal
 pub mod Solved
 pub mod Starting
+pub mod Verdicts
+pub use Rattle.sok_entry.proofs.Readings

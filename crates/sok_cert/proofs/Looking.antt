@@ -7,15 +7,31 @@ use Rattle.sok_rules.specs.declared.cell.Dir.TheVariants.{Left}
 use Rattle.sok_rules.specs.Play.{Position}
 use Rattle.sok_rules.proofs.Steps.{IsStanding, IsStanding-step}
 use Rattle.sok_rules.proofs.Walking.{Same-refl}
-use Rattle.sok_board.specs.Area.{Numbered, IsArea}
+use Rattle.sok_board.specs.Area.{Numbered, IsAccepted, IsArea}
 use Rattle.sok_board.proofs.Lists.{Contains-at}
 use Rattle.sok_state.specs.declared.key.Key.{Key}
 use Rattle.sok_state.specs.declared.push.Push.{Push}
 use Rattle.sok_state.specs.Keys.{IsKeyOf}
 use Rattle.sok_state.specs.Pushes.{LeadsTo}
 use Rattle.sok_state.specs.Tables.{Entries, HasDistinctKeys, IsAt}
+use Rattle.sok_state.proofs.Placed.{IsStanding-placed}
 use Rattle.sok_state.proofs.States.{keys_equal}
-use Rattle.sok_cert.specs.Lookup.{IsMissing, TellsFound}
+use Rattle.sok_entry.specs.declared.entry.Entry.{Entry}
+use Rattle.sok_cert.specs.Closed.{IsPosition, entry_position}
+use Rattle.sok_cert.specs.Lookup.{IsEntered, IsMissing, TellsFound}
+
+-- one key stands at an index
+same_key : (table : Entries) (i : ℕ) (first second : Key) → IsAt table first i → IsAt table second i → first ≡ second
+same_key table i first second at also = same_Some first second (sym at ∙ also)
+
+-- the key at an entry's place is the entry's
+pub entered-key : (b : Numbered) (table : Entries) (i : ℕ) (e : Entry) (key : Key) → IsEntered b table i e → IsAt table key i
+    → IsKeyOf b (entry_position b e) key
+entered-key b table i e key entry at = subst (IsKeyOf b (entry_position b e)) (same_key table i entry.key key entry.there at) entry.is
+
+-- the man of an entry stands where he may
+pub entry-stands : (b : Numbered) → IsAccepted b → (e : Entry) → IsPosition b e → IsStanding b.rows (entry_position b e)
+entry-stands b accepted e position = IsStanding-placed b accepted.numbered accepted.proper e.player e.boxes position.placed
 
 -- a key stands at one index alone
 pub same_index : (table : Entries) → HasDistinctKeys table → (key : Key) (i j : ℕ) → IsAt table key i → IsAt table key j → i ≡ j
@@ -37,19 +53,23 @@ pub standing-after : (b : Numbered) (key : Key) (push : Push) (after : Position)
 standing-after b key push after leads = IsStanding-step b.rows push.dir leads.before (record { position = after; pushed = true }) leads.steps
 
 -- the key of the state that a push leads to is one alone
-next-is : (b : Numbered) → IsArea b.rows b.area → (key : Key) (push : Push) (next other : Key) → ((after : Position) → LeadsTo b key push after → IsKeyOf b after next)
+next-is : (b : Numbered) → IsArea b.rows b.area → (key : Key) (push : Push) (next other : Key)
+    → ((after : Position) → LeadsTo b key push after → IsKeyOf b after next)
     → (after : Position) → LeadsTo b key push after → IsKeyOf b after other → other ≡ next
 next-is b area key push next other is after leads other_is =
     keys_equal b area after after other next (standing-after b key push after leads) other_is (is after leads) (Same-refl b.rows after)
 
-pub IsMissing-absent : (b : Numbered) → IsArea b.rows b.area → (table : Entries) (key : Key) (depth : ℕ) (push : Push) (next : Key) → ((after : Position) → LeadsTo b key push after → IsKeyOf b after next)
+pub IsMissing-absent : (b : Numbered) → IsArea b.rows b.area → (table : Entries) (key : Key) (depth : ℕ) (push : Push) (next : Key)
+    → ((after : Position) → LeadsTo b key push after → IsKeyOf b after next)
     → (Contains (keys_of table) next → ⊥) → IsMissing b table key depth push
 IsMissing-absent b area table key depth push next is absent after other index deep leads other_is there depth_is near =
     absent (subst (Contains (keys_of table)) (next-is b area key push next other is after leads other_is) (Contains-at (keys_of table) other index there))
 
 -- what the depth of a present state tells
-pub TellsFound-near : (b : Numbered) → IsArea b.rows b.area → (table : Entries) → HasDistinctKeys table → (key : Key) (depth : ℕ) (push : Push) (next : Key) → ((after : Position) → LeadsTo b key push after → IsKeyOf b after next)
-    → (index deep : ℕ) → IsAt table next index → slice_get (values_of table) index ≡ Some deep → (near : Bool) → (near ≡ true → deep ≤ depth + 1) → (near ≡ false → deep ≤ depth + 1 → ⊥) → TellsFound b table key depth push near
+pub TellsFound-near : (b : Numbered) → IsArea b.rows b.area → (table : Entries) → HasDistinctKeys table → (key : Key) (depth : ℕ) (push : Push) (next : Key)
+    → ((after : Position) → LeadsTo b key push after → IsKeyOf b after next)
+    → (index deep : ℕ) → IsAt table next index → slice_get (values_of table) index ≡ Some deep → (near : Bool) → (near ≡ true → deep ≤ depth + 1) →
+    (near ≡ false → deep ≤ depth + 1 → ⊥) → TellsFound b table key depth push near
 TellsFound-near b area table distinct key depth push next is index deep there depth_is true nearby far = record {
   next = next;
   is = is;
@@ -59,7 +79,8 @@ TellsFound-near b area table distinct key depth push next is index deep there de
   depth_is = depth_is;
   near = nearby refl;
 }
-TellsFound-near b area table distinct key depth push next is index deep there depth_is false nearby far = λ after other at other_deep leads other_is other_there other_depth near.
+TellsFound-near b area table distinct key depth push next is index deep there depth_is false nearby far =
+    λ after other at other_deep leads other_is other_there other_depth near.
     let same : other ≡ next = next-is b area key push next other is after leads other_is in
     let here : at ≡ index = same_index table distinct next at index (subst (λ k. IsAt table k at) same other_there) there in
     let as_deep : other_deep ≡ deep = same_Some other_deep deep (sym other_depth ∙ ap (slice_get (values_of table)) here ∙ depth_is) in

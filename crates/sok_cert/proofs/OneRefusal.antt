@@ -13,36 +13,66 @@ use Rattle.sok_cert.specs.Closed.{IsClosed, IsPosition, IsStarter}
 use Rattle.sok_cert.specs.Refusals.{AreFine, IsFaulty, IsFine, IsFirstOpen, IsNew, IsOpen, IsRefused, IsRepeated, IsSolved, IsUnreasoned}
 use Rattle.sok_cert.proofs.Closing.{closed-refused, reason-is}
 
+-- the fault of a cause, or where that does not hold one of a later cause
+abbrev OrLater : CertFault → Type 0 → Type 0 → (CertFault → Type 0) → CertFault → Type 0
+OrLater first Cause Not Later f = ((f ≡ first) × Cause) ⊎ (Not × Later f)
+
+-- so there is one, where the later causes have one
+OrLater-one : (first : CertFault) (Cause Not : Type 0) (Later : CertFault → Type 0) (f g : CertFault) → (Cause → Not → ⊥) → (Later f → Later g → f ≡ g)
+    → OrLater first Cause Not Later f → OrLater first Cause Not Later g → f ≡ g
+OrLater-one first Cause Not Later f g apart one (inl (is, _)) (inl (also, _)) = is ∙ sym also
+OrLater-one first Cause Not Later f g apart one (inl (_, cause)) (inr (other, _)) = absurd (apart cause other)
+OrLater-one first Cause Not Later f g apart one (inr (other, _)) (inl (_, cause)) = absurd (apart cause other)
+OrLater-one first Cause Not Later f g apart one (inr (_, later)) (inr (_, more)) = one later more
+
 -- what is wrong with an entry, and the fault that names it
 abbrev ByReason : Numbered → Claim → List Entry → ℕ → Entry → CertFault → Type 0
-ByReason b claim entries i e f = ((f ≡ fault.SolvedEntry i) × IsSolved b entries i e) ⊎ ((f ≡ fault.BadReason i) × IsUnreasoned b claim entries i e)
+ByReason b claim entries i e = OrLater (fault.SolvedEntry i) (IsSolved b entries i e) (IsUnreasoned b claim entries i e) (λ f. f ≡ fault.BadReason i)
 
 abbrev ByState : Numbered → Claim → List Entry → ℕ → Entry → CertFault → Type 0
-ByState b claim entries i e f = ((f ≡ fault.Duplicate i) × IsRepeated b entries i e) ⊎ (IsNew b entries i e × ByReason b claim entries i e f)
+ByState b claim entries i e = OrLater (fault.Duplicate i) (IsRepeated b entries i e) (IsNew b entries i e) (ByReason b claim entries i e)
 
 abbrev ByEntry : Numbered → Claim → List Entry → ℕ → Entry → CertFault → Type 0
-ByEntry b claim entries i e f = ((f ≡ fault.BadEntry i) × (IsPosition b e → ⊥)) ⊎ (IsPosition b e × ByState b claim entries i e f)
+ByEntry b claim entries i e = OrLater (fault.BadEntry i) (IsPosition b e → ⊥) (IsPosition b e) (ByState b claim entries i e)
 
 -- what is wrong with entries that are fine, each by itself
 abbrev ByAll : Numbered → List Entry → CertFault → Type 0
-ByAll b entries f =
-    ((f ≡ fault.Start) × ((e : Entry) → IsStarter b entries e → ⊥))
-    ⊎ (((e : Entry) × IsStarter b entries e) × ((i : ℕ) × (push : Push) × (f ≡ fault.OpenPush i push.from push.dir) × IsFirstOpen b entries i push))
+ByAll b entries = OrLater fault.Start ((e : Entry) → IsStarter b entries e → ⊥) ((e : Entry) × IsStarter b entries e)
+    (λ f. (i : ℕ) × (push : Push) × (f ≡ fault.OpenPush i push.from push.dir) × IsFirstOpen b entries i push)
 
 abbrev ByOrder : Numbered → Claim → List Entry → CertFault → Type 0
 ByOrder b claim entries f =
     ((i : ℕ) × IsFaulty b claim entries i (λ e. ByEntry b claim entries i e f)) ⊎ (AreFine b claim entries (length entries) × ByAll b entries f)
 
-faulty-as : {P Q : Entry → Type 0} (b : Numbered) (claim : Claim) (entries : List Entry) (i : ℕ) → ((e : Entry) → P e → Q e) → IsFaulty b claim entries i P → IsFaulty b claim entries i Q
+faulty-as : {P Q : Entry → Type 0} (b : Numbered) (claim : Claim) (entries : List Entry) (i : ℕ) → ((e : Entry) → P e → Q e) → IsFaulty b claim entries i P
+    → IsFaulty b claim entries i Q
 faulty-as b claim entries i to faulty = record { entry = faulty.entry; there = faulty.there; before = faulty.before; fault = to faulty.entry faulty.fault }
 
 by_order : (b : Numbered) (claim : Claim) (entries : List Entry) (f : CertFault) → f ≢ fault.Memory → IsRefused b claim entries f → ByOrder b claim entries f
 by_order b claim entries (fault.BadEntry i) ample faulty = inl (i, faulty-as b claim entries i (λ e misplaced. inl (refl, misplaced)) faulty)
-by_order b claim entries (fault.Duplicate i) ample faulty = inl (i, faulty-as b claim entries i (λ e repeated. inr (repeated.position, inl (refl, repeated))) faulty)
-by_order b claim entries (fault.SolvedEntry i) ample faulty = inl (i, faulty-as b claim entries i (λ e solved. inr (solved.position, inr (solved.new, inl (refl, solved)))) faulty)
-by_order b claim entries (fault.BadReason i) ample faulty = inl (i, faulty-as b claim entries i (λ e fails. inr (fails.position, inr (fails.new, inr (refl, fails)))) faulty)
+by_order b claim entries (fault.Duplicate i) ample faulty =
+    inl (i, faulty-as b claim entries i (λ e repeated. inr (repeated.position, inl (refl, repeated))) faulty)
+by_order b claim entries (fault.SolvedEntry i) ample faulty =
+    inl (i, faulty-as b claim entries i (λ e solved. inr (solved.position, inr (solved.new, inl (refl, solved)))) faulty)
+by_order b claim entries (fault.BadReason i) ample faulty =
+    inl (i, faulty-as b claim entries i (λ e fails. inr (fails.position, inr (fails.new, inr (fails, refl)))) faulty)
 by_order b claim entries fault.Start ample (fine, none) = inr (fine, inl (refl, none))
-by_order b claim entries (fault.OpenPush i square d) ample (fine, starter, first) = inr (fine, inr (starter, (i, record { from = square; dir = d }, refl, first)))
+by_order b claim entries (fault.OpenPush i square d) ample (fine, starter, first) = inr (
+  fine,
+  inr (
+    starter,
+    (
+      i,
+      record {
+        from = square;
+        dir =
+            d;
+      },
+      refl,
+      first,
+    ),
+  ),
+)
 by_order b claim entries fault.Header ample none = absurd none
 by_order b claim entries (fault.Line n) ample none = absurd none
 by_order b claim entries fault.Truncated ample none = absurd none
@@ -51,36 +81,37 @@ by_order b claim entries fault.Memory ample refused = absurd (ample refl)
 repeated-new : (b : Numbered) (entries : List Entry) (i : ℕ) (e : Entry) → IsRepeated b entries i e → IsNew b entries i e → ⊥
 repeated-new b entries i e repeated new = new repeated.place repeated.earlier repeated.before repeated.there repeated.same
 
-ByReason-one : (b : Numbered) (claim : Claim) (entries : List Entry) (i : ℕ) (e : Entry) (f g : CertFault) → ByReason b claim entries i e f → ByReason b claim entries i e g → f ≡ g
-ByReason-one b claim entries i e f g (inl (is, _)) (inl (also, _)) = is ∙ sym also
-ByReason-one b claim entries i e f g (inl (_, solved)) (inr (_, fails)) = absurd (true≢false (sym solved.expanded ∙ fails.barring))
-ByReason-one b claim entries i e f g (inr (_, fails)) (inl (_, solved)) = absurd (true≢false (sym solved.expanded ∙ fails.barring))
-ByReason-one b claim entries i e f g (inr (is, _)) (inr (also, _)) = is ∙ sym also
+ByReason-one : (b : Numbered) (claim : Claim) (entries : List Entry) (i : ℕ) (e : Entry) (f g : CertFault) → ByReason b claim entries i e f
+    → ByReason b claim entries i e g → f ≡ g
+ByReason-one b claim entries i e f g = OrLater-one (fault.SolvedEntry i) (IsSolved b entries i e) (IsUnreasoned b claim entries i e)
+    (λ h. h ≡ fault.BadReason i) f g
+    (λ solved fails. true≢false (sym solved.expanded ∙ fails.barring)) (λ is also. is ∙ sym also)
 
-ByState-one : (b : Numbered) (claim : Claim) (entries : List Entry) (i : ℕ) (e : Entry) (f g : CertFault) → ByState b claim entries i e f → ByState b claim entries i e g → f ≡ g
-ByState-one b claim entries i e f g (inl (is, _)) (inl (also, _)) = is ∙ sym also
-ByState-one b claim entries i e f g (inl (_, repeated)) (inr (new, _)) = absurd (repeated-new b entries i e repeated new)
-ByState-one b claim entries i e f g (inr (new, _)) (inl (_, repeated)) = absurd (repeated-new b entries i e repeated new)
-ByState-one b claim entries i e f g (inr (_, later)) (inr (_, other)) = ByReason-one b claim entries i e f g later other
+ByState-one : (b : Numbered) (claim : Claim) (entries : List Entry) (i : ℕ) (e : Entry) (f g : CertFault) → ByState b claim entries i e f
+    → ByState b claim entries i e g → f ≡ g
+ByState-one b claim entries i e f g = OrLater-one (fault.Duplicate i) (IsRepeated b entries i e) (IsNew b entries i e) (ByReason b claim entries i e) f g
+    (repeated-new b entries i e) (ByReason-one b claim entries i e f g)
 
-ByEntry-one : (b : Numbered) (claim : Claim) (entries : List Entry) (i : ℕ) (e : Entry) (f g : CertFault) → ByEntry b claim entries i e f → ByEntry b claim entries i e g → f ≡ g
-ByEntry-one b claim entries i e f g (inl (is, _)) (inl (also, _)) = is ∙ sym also
-ByEntry-one b claim entries i e f g (inl (_, misplaced)) (inr (position, _)) = absurd (misplaced position)
-ByEntry-one b claim entries i e f g (inr (position, _)) (inl (_, misplaced)) = absurd (misplaced position)
-ByEntry-one b claim entries i e f g (inr (_, later)) (inr (_, other)) = ByState-one b claim entries i e f g later other
+ByEntry-one : (b : Numbered) (claim : Claim) (entries : List Entry) (i : ℕ) (e : Entry) (f g : CertFault) → ByEntry b claim entries i e f
+    → ByEntry b claim entries i e g → f ≡ g
+ByEntry-one b claim entries i e f g = OrLater-one (fault.BadEntry i) (IsPosition b e → ⊥) (IsPosition b e) (ByState b claim entries i e) f g
+    (λ misplaced position. misplaced position) (ByState-one b claim entries i e f g)
 
 -- an entry with a fault is not fine
-ByEntry-fine : (b : Numbered) (claim : Claim) (entries : List Entry) (i : ℕ) (e : Entry) (f : CertFault) → ByEntry b claim entries i e f → IsFine b claim entries i e → ⊥
+ByEntry-fine : (b : Numbered) (claim : Claim) (entries : List Entry) (i : ℕ) (e : Entry) (f : CertFault) → ByEntry b claim entries i e f
+    → IsFine b claim entries i e → ⊥
 ByEntry-fine b claim entries i e f (inl (_, misplaced)) fine = misplaced fine.position
 ByEntry-fine b claim entries i e f (inr (_, inl (_, repeated))) fine = repeated-new b entries i e repeated fine.new
 ByEntry-fine b claim entries i e f (inr (_, inr (_, inl (_, solved)))) fine = reason-is b claim e true solved.expanded fine.reasoned solved.solved
-ByEntry-fine b claim entries i e f (inr (_, inr (_, inr (_, fails)))) fine = fails.fails (reason-is b claim e false fails.barring fine.reasoned)
+ByEntry-fine b claim entries i e f (inr (_, inr (_, inr (fails, _)))) fine = fails.fails (reason-is b claim e false fails.barring fine.reasoned)
 
 -- so it is not among entries that are fine
-faulty-fine : (b : Numbered) (claim : Claim) (entries : List Entry) (i n : ℕ) (f : CertFault) → IsFaulty b claim entries i (λ e. ByEntry b claim entries i e f) → i < n → AreFine b claim entries n → ⊥
+faulty-fine : (b : Numbered) (claim : Claim) (entries : List Entry) (i n : ℕ) (f : CertFault)
+    → IsFaulty b claim entries i (λ e. ByEntry b claim entries i e f) → i < n → AreFine b claim entries n → ⊥
 faulty-fine b claim entries i n f faulty below fine = ByEntry-fine b claim entries i faulty.entry f faulty.fault (fine i faulty.entry below faulty.there)
 
-faulty-one : (b : Numbered) (claim : Claim) (entries : List Entry) (i j : ℕ) (f g : CertFault) → IsFaulty b claim entries i (λ e. ByEntry b claim entries i e f) → IsFaulty b claim entries j (λ e. ByEntry b claim entries j e g) → f ≡ g
+faulty-one : (b : Numbered) (claim : Claim) (entries : List Entry) (i j : ℕ) (f g : CertFault)
+    → IsFaulty b claim entries i (λ e. ByEntry b claim entries i e f) → IsFaulty b claim entries j (λ e. ByEntry b claim entries j e g) → f ≡ g
 faulty-one b claim entries i j f g first second = elim (cases_eq i j) [
   | inr other ↦ elim (cases_lt i j) [
     | inl below ↦ absurd (faulty-fine b claim entries i j f first below second.before)
@@ -93,7 +124,8 @@ faulty-one b claim entries i j f g first second = elim (cases_eq i j) [
 ]
 
 -- there is one first open push
-first_open-one : (b : Numbered) (entries : List Entry) (i j : ℕ) (p q : Push) → IsFirstOpen b entries i p → IsFirstOpen b entries j q → fault.OpenPush i p.from p.dir ≡ fault.OpenPush j q.from q.dir
+first_open-one : (b : Numbered) (entries : List Entry) (i j : ℕ) (p q : Push) → IsFirstOpen b entries i p → IsFirstOpen b entries j q
+    → fault.OpenPush i p.from p.dir ≡ fault.OpenPush j q.from q.dir
 first_open-one b entries i j p q first second = elim (cases_eq i j) [
   | inr other ↦ elim (cases_lt i j) [
     | inl below ↦ absurd (second.earlier_entries i first.entry p below first.there first.is_open)
@@ -109,13 +141,14 @@ first_open-one b entries i j p q first second = elim (cases_eq i j) [
 ]
 
 ByAll-one : (b : Numbered) (entries : List Entry) (f g : CertFault) → ByAll b entries f → ByAll b entries g → f ≡ g
-ByAll-one b entries f g (inl (is, _)) (inl (also, _)) = is ∙ sym also
-ByAll-one b entries f g (inl (_, none)) (inr ((e, starter), _)) = absurd (none e starter)
-ByAll-one b entries f g (inr ((e, starter), _)) (inl (_, none)) = absurd (none e starter)
-ByAll-one b entries f g (inr (_, (i, p, is, first))) (inr (_, (j, q, also, second))) = is ∙ first_open-one b entries i j p q first second ∙ sym also
+ByAll-one b entries f g =
+    OrLater-one fault.Start ((e : Entry) → IsStarter b entries e → ⊥) ((e : Entry) × IsStarter b entries e)
+    (λ h. (i : ℕ) × (push : Push) × (h ≡ fault.OpenPush i push.from push.dir) × IsFirstOpen b entries i push) f g
+    (λ none (e, starter). none e starter) (λ (i, p, is, first) (j, q, also, second). is ∙ first_open-one b entries i j p q first second ∙ sym also)
 
 -- no entry is faulty where all are fine
-faulty-all : (b : Numbered) (claim : Claim) (entries : List Entry) (i : ℕ) (f : CertFault) → IsFaulty b claim entries i (λ e. ByEntry b claim entries i e f) → AreFine b claim entries (length entries) → ⊥
+faulty-all : (b : Numbered) (claim : Claim) (entries : List Entry) (i : ℕ) (f : CertFault) → IsFaulty b claim entries i (λ e. ByEntry b claim entries i e f)
+    → AreFine b claim entries (length entries) → ⊥
 faulty-all b claim entries i f faulty fine = faulty-fine b claim entries i (length entries) f faulty (slice_get_within entries i faulty.entry faulty.there) fine
 
 ByOrder-one : (b : Numbered) (claim : Claim) (entries : List Entry) (f g : CertFault) → ByOrder b claim entries f → ByOrder b claim entries g → f ≡ g
@@ -125,9 +158,12 @@ ByOrder-one b claim entries f g (inr (fine, _)) (inl (j, faulty)) = absurd (faul
 ByOrder-one b claim entries f g (inr (_, later)) (inr (_, other)) = ByAll-one b entries f g later other
 
 -- where memory suffices, a list is refused for one fault
-pub IsRefused-one : (b : Numbered) (claim : Claim) (entries : List Entry) (f g : CertFault) → f ≢ fault.Memory → g ≢ fault.Memory → IsRefused b claim entries f → IsRefused b claim entries g → f ≡ g
-IsRefused-one b claim entries f g ample enough refused also = ByOrder-one b claim entries f g (by_order b claim entries f ample refused) (by_order b claim entries g enough also)
+pub IsRefused-one : (b : Numbered) (claim : Claim) (entries : List Entry) (f g : CertFault) → f ≢ fault.Memory → g ≢ fault.Memory
+    → IsRefused b claim entries f → IsRefused b claim entries g → f ≡ g
+IsRefused-one b claim entries f g ample enough refused also =
+    ByOrder-one b claim entries f g (by_order b claim entries f ample refused) (by_order b claim entries g enough also)
 
 -- no list is both refused and closed
-pub IsRefused-closed : (b : Numbered) (claim : Claim) (entries : List Entry) (f : CertFault) → f ≢ fault.Memory → IsClosed b claim entries → IsRefused b claim entries f → ⊥
+pub IsRefused-closed : (b : Numbered) (claim : Claim) (entries : List Entry) (f : CertFault) → f ≢ fault.Memory → IsClosed b claim entries
+    → IsRefused b claim entries f → ⊥
 IsRefused-closed b claim entries f ample closed refused = ample (closed-refused b claim entries closed f refused)

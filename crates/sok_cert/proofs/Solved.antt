@@ -1,18 +1,26 @@
 -- Positions in which all boxes stand on goals.
-use Rattle.std.proofs.Common.{ℕ, ◌≡◌, ◌<◌, inl, inr, sym, ap, ◌∙◌, List, Bool, true, false, true≢false, arith, length, get_or, map, ◌||◌}
+use Rattle.std.proofs.Common.{ℕ, ◌≡◌, ◌<◌, inl, inr, sym, ap, ◌∙◌, List, Bool, true, false, true≢false, arith, length, get_or, map, ◌||◌, IsTrue}
 use Rattle.std.proofs.lemmas.Bool.{cases_Bool}
 use Rattle.std.proofs.lemmas.List.{length-map, get_or-map, get_or_default}
 use Rattle.std.proofs.lemmas.List.Folds.{Any-from_list_any}
+use Rattle.sok_rules.specs.declared.cell.Spot.{Spot}
 use Rattle.sok_rules.specs.Squares.{holds, is_goal, same_spot}
 use Rattle.sok_rules.specs.Play.{AllOnGoals}
 use Rattle.sok_rules.proofs.Spots.{same_spot-is}
 use Rattle.sok_board.specs.Area.{Numbered, IsAccepted, spot_of, is_among, is_decoration, position_of}
+use Rattle.sok_board.proofs.Accepted.{decoration-outside}
 use Rattle.sok_board.proofs.Positions.{among_numbers}
 use Rattle.sok_cert.specs.Judging.{AreGoals}
 
 other : (p q : Bool) → (p || q) ≡ true → p ≡ false → q ≡ true
 other true q e fails = absurd (true≢false fails)
 other false q e fails = e
+
+-- a decoration stands on a goal
+goal-decoration : (b : Numbered) → IsAccepted b → (s : Spot) → IsTrue (is_decoration b s) → holds is_goal b.rows s ≡ true
+goal-decoration b accepted s decoration =
+    let (box, out) = decoration-outside b accepted.numbered s decoration in
+    elim (cases_Bool (holds is_goal b.rows s)) [ inl goal ↦ goal | inr off ↦ absurd (accepted.no_stray s (box, out, off)) ]
 
 -- where all boxes of the area stand on goals, so do all boxes
 pub AreGoals-solves : (b : Numbered) → IsAccepted b → (player : ℕ) (boxes : List ℕ) → AreGoals b boxes → AllOnGoals b.rows (position_of b player boxes)
@@ -22,7 +30,7 @@ AreGoals-solves b accepted player boxes goals = λ s there. elim (cases_Bool (is
       let inside : k < length boxes = let long = length-map boxes (spot_of b) in omega (arith, within, long) in
       let spot_is : s ≡ spot_of b (get_or boxes k 0) = same_spot-is s x same ∙ sym is ∙ get_or-map (spot_of b) boxes k 0 x inside in
       ap (holds is_goal b.rows) spot_is ∙ goals k inside
-  | inr apart ↦ accepted.decorations s (other (is_among (map (spot_of b) boxes) s) (is_decoration b s) there apart)
+  | inr apart ↦ goal-decoration b accepted s (other (is_among (map (spot_of b) boxes) s) (is_decoration b s) there apart)
 ]
 
 pub AreGoals-solved : (b : Numbered) (player : ℕ) (boxes : List ℕ) → AllOnGoals b.rows (position_of b player boxes) → AreGoals b boxes

@@ -13,7 +13,7 @@ use Rattle.sok_state.specs.Tables.{Entries, IsAt}
 use Rattle.sok_state.proofs.States.{keys_equal, Same-keys}
 use Rattle.sok_entry.specs.declared.entry.Entry.{Entry}
 use Rattle.sok_entry.specs.declared.entry.Reason.TheVariants.{Expanded}
-use Rattle.sok_cert.specs.Closed.{IsStarter, place_of}
+use Rattle.sok_cert.specs.Closed.{IsStarter, entry_position}
 use Rattle.sok_cert.specs.Lookup.{IsLooking}
 use Rattle.sok_cert.proofs.Looking.{same_index}
 use Rattle.sok_cert.proofs.Followed.{key-at, stands}
@@ -28,24 +28,28 @@ at-within table key index at =
     omega (arith, within, listed)
 
 -- a starter's key is the start's
-starter-at : (b : Numbered) (entries : List Entry) (table : Entries) → IsLooking b entries table → IsStanding b.rows (start b.rows) → (key : Key) → IsKeyOf b (start b.rows) key
+starter-at : (b : Numbered) (entries : List Entry) (table : Entries) → IsLooking b entries table → IsStanding b.rows (start b.rows) → (key : Key)
+    → IsKeyOf b (start b.rows) key
     → (e : Entry) → IsStarter b entries e → (j : ℕ) × IsAt table key j × (slice_get (values_of table) j ≡ Some e.depth)
 starter-at b entries table looking standing key is e starter =
     let (j, within, same) = starter.listed in
     let there : slice_get entries j ≡ Some e = slice_get-get_or entries j e within ∙ ap Some same in
     let entry = looking.entered.entered j e within there in
-    let equal : entry.key ≡ key = sym (keys_equal b looking.area (start b.rows) (place_of b e) key entry.key standing is entry.is starter.same) in
+    let equal : entry.key ≡ key = sym (keys_equal b looking.accepted.numbered (start b.rows) (entry_position b e) key entry.key standing is entry.is
+    starter.same) in
     (j, subst (λ k. IsAt table k j) equal entry.there, entry.depth)
 
 -- where the start's key is missing, no entry starts
-pub none-starts : (b : Numbered) (entries : List Entry) (table : Entries) → IsLooking b entries table → IsStanding b.rows (start b.rows) → (key : Key) → IsKeyOf b (start b.rows) key
+pub none-starts : (b : Numbered) (entries : List Entry) (table : Entries) → IsLooking b entries table → IsStanding b.rows (start b.rows) → (key : Key)
+    → IsKeyOf b (start b.rows) key
     → (Contains (keys_of table) key → ⊥) → (e : Entry) → IsStarter b entries e → ⊥
 none-starts b entries table looking standing key is absent e starter =
     let (j, at, _) = starter-at b entries table looking standing key is e starter in
     absent (Contains-at (keys_of table) key j at)
 
 -- where it stands, its entry starts at depth 0
-pub one-starts : (b : Numbered) (entries : List Entry) (table : Entries) → IsLooking b entries table → IsStanding b.rows (start b.rows) → (key : Key) → IsKeyOf b (start b.rows) key
+pub one-starts : (b : Numbered) (entries : List Entry) (table : Entries) → IsLooking b entries table → IsStanding b.rows (start b.rows) → (key : Key)
+    → IsKeyOf b (start b.rows) key
     → (index deep : ℕ) → IsAt table key index → slice_get (values_of table) index ≡ Some deep → deep ≡ 0 → (e : Entry) × IsStarter b entries e
 one-starts b entries table looking standing key is index deep at depth_is zero_deep =
     let count = looking.entered.count in
@@ -59,11 +63,13 @@ one-starts b entries table looking standing key is index deep at depth_is zero_d
       record {
         listed = listed;
         first = same_Some f.depth deep (sym entry.depth ∙ depth_is) ∙ zero_deep;
-        same = Same-keys b (start b.rows) (place_of b f) key (stands b entries table looking f listed) is (key-at b entries table looking index f key there at);
+        same = Same-keys b (start b.rows) (entry_position b f) key (stands b entries table looking f listed) is
+            (key-at b entries table looking index f key there at);
       },
     )
 
-pub starts-at-zero : (b : Numbered) (entries : List Entry) (table : Entries) → IsLooking b entries table → IsStanding b.rows (start b.rows) → (key : Key) → IsKeyOf b (start b.rows) key
+pub starts-at-zero : (b : Numbered) (entries : List Entry) (table : Entries) → IsLooking b entries table → IsStanding b.rows (start b.rows) → (key : Key)
+    → IsKeyOf b (start b.rows) key
     → (index deep : ℕ) → IsAt table key index → slice_get (values_of table) index ≡ Some deep → (e : Entry) × IsStarter b entries e → deep ≡ 0
 starts-at-zero b entries table looking standing key is index deep at depth_is (e, starter) =
     let (j, e_at, e_depth) = starter-at b entries table looking standing key is e starter in

@@ -1,5 +1,6 @@
 -- A certificate: positions in which each legal push leads to another of them, or which are barred with a reason.
-use Rattle.std.specs.Prelude.{ℕ, ◌≡◌, ◌≤◌, ◌+◌, ◌-◌, List, Some, Bool, true, false, IsTrue, MatchBool, Contains, All, length, slice_get}
+use Rattle.std.specs.Prelude.{ℕ, ◌≡◌, ◌≤◌, ◌+◌, ◌-◌, List, Option, Some, None, Bool, true, false, IsTrue, IsSomeAnd, MatchBool, Contains, All, length}
+use Rattle.std.specs.Prelude.{slice_get}
 use Rattle.sok_rules.specs.declared.cell.Dir.{Dir}
 use Rattle.sok_rules.specs.Squares.{Rows}
 use Rattle.sok_rules.specs.Play.{Position, After, start, step, AllOnGoals, AtLeast, IsUnsolvable}
@@ -8,7 +9,7 @@ use Rattle.sok_board.specs.Area.{Numbered, position_of, boxes_of}
 use Rattle.sok_region.specs.Regions.{IsPlaced}
 use Rattle.sok_bar.specs.declared.rest.Rest.{Rest}
 use Rattle.sok_bar.specs.declared.rest.Rest.TheVariants as rest
-use Rattle.sok_bar.specs.Bars.{BarsSpent, BarsBound, BarsCrowd, BarsFrozen}
+use Rattle.sok_bar.specs.Bars.{Barring, Bars}
 use Rattle.sok_entry.specs.declared.claim.Claim.{Claim}
 use Rattle.sok_entry.specs.declared.claim.Claim.TheVariants.{Pushes, Unsolvable}
 use Rattle.sok_entry.specs.declared.entry.Entry.{Entry}
@@ -20,8 +21,8 @@ abbrev pub IsTrueOf : Rows → Claim → Type 0
 IsTrueOf rows (Pushes k) = AtLeast rows k
 IsTrueOf rows Unsolvable = IsUnsolvable rows
 
-abbrev pub place_of : Numbered → Entry → Position
-place_of b e = position_of b e.player e.boxes
+abbrev pub entry_position : Numbered → Entry → Position
+entry_position b e = position_of b e.player e.boxes
 
 -- numbers of squares that make a position with all boxes of the area
 pub record IsPosition (b : Numbered) (e : Entry) : Type 0 where
@@ -33,13 +34,17 @@ abbrev pub rest_of : Claim → ℕ → Rest
 rest_of (Pushes k) depth = rest.AtLeast (k - depth)
 rest_of Unsolvable depth = rest.Never
 
--- the reason shows it; an expanded entry bars nothing
-abbrev pub Bars : Numbered → List ℕ → Reason → Rest → Type 0
-Bars b boxes Expanded rest = ⊥
-Bars b boxes Spent rest = BarsSpent rest
-Bars b boxes (Bound u v) rest = BarsBound b boxes u v rest
-Bars b boxes (Crowd members) rest = BarsCrowd b boxes members rest
-Bars b boxes (Frozen members) rest = BarsFrozen b boxes members rest
+-- the reason by which an entry is barred; an expanded one gives none
+abbrev pub barring : Reason → Option Barring
+barring Expanded = None
+barring Spent = Some Barring.spent
+barring (Bound u v) = Some (Barring.bound u v)
+barring (Crowd members) = Some (Barring.crowd members)
+barring (Frozen members) = Some (Barring.frozen members)
+
+-- by what its reason says, an entry is barred by what rests of the claim at its depth
+abbrev pub IsBarredBy : Numbered → Claim → Entry → Type 0
+IsBarredBy b claim e = IsSomeAnd (barring e.reason) (λ reason. Bars b e.boxes reason (rest_of claim e.depth))
 
 abbrev pub is_expanded : Reason → Bool
 is_expanded Expanded = true
@@ -48,29 +53,30 @@ is_expanded _ = false
 -- an expanded entry has a box off a goal, and each other one bars
 abbrev pub IsReasoned : Numbered → Claim → Entry → Type 0
 IsReasoned b claim e =
-    MatchBool (is_expanded e.reason) (AllOnGoals b.rows (place_of b e) → ⊥) (Bars b e.boxes e.reason (rest_of claim e.depth))
+    MatchBool (is_expanded e.reason) (AllOnGoals b.rows (entry_position b e) → ⊥) (IsBarredBy b claim e)
 
 -- an entry of the state of a position, at most one deeper
 pub record IsFollower (b : Numbered) (entries : List Entry) (depth : ℕ) (x : Position) (f : Entry) : Type 0 where
   pub listed : Contains entries f
   pub near : f.depth ≤ depth + 1
-  pub same : Same b.rows x (place_of b f)
+  pub same : Same b.rows x (entry_position b f)
 
 -- each push that is legal after some walk leads to an entry at most one deeper
 abbrev pub IsFollowed : Numbered → List Entry → Entry → Type 0
 IsFollowed b entries e =
-    (x : Position) (d : Dir) (after : After) → Same b.rows (place_of b e) x → step b.rows d x ≡ Some after → after.pushed ≡ true
+    (x : Position) (d : Dir) (after : After) → Same b.rows (entry_position b e) x → step b.rows d x ≡ Some after → after.pushed ≡ true
     → (f : Entry) × IsFollower b entries e.depth after.position f
 
 -- an entry of depth 0 of the start's state
 pub record IsStarter (b : Numbered) (entries : List Entry) (e : Entry) : Type 0 where
   pub listed : Contains entries e
   pub first : e.depth ≡ 0
-  pub same : Same b.rows (start b.rows) (place_of b e)
+  pub same : Same b.rows (start b.rows) (entry_position b e)
 
 -- no two entries are one state
 abbrev pub AreApart : Numbered → List Entry → Type 0
-AreApart b entries = (i j : ℕ) (e f : Entry) → slice_get entries i ≡ Some e → slice_get entries j ≡ Some f → Same b.rows (place_of b e) (place_of b f) → i ≡ j
+AreApart b entries = (i j : ℕ) (e f : Entry) → slice_get entries i ≡ Some e → slice_get entries j ≡ Some f → Same b.rows (entry_position b e)
+    (entry_position b f) → i ≡ j
 
 pub record IsClosed (b : Numbered) (claim : Claim) (entries : List Entry) : Type 0 where
   pub positions : All (IsPosition b) entries

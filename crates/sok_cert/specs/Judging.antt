@@ -6,22 +6,22 @@ use Rattle.sok_board.specs.Area.{Numbered, spot_of}
 use Rattle.sok_entry.specs.declared.claim.Claim.{Claim}
 use Rattle.sok_entry.specs.declared.entry.Entry.{Entry}
 use Rattle.sok_state.specs.Keys.{IsKeyOf}
-use Rattle.sok_cert.specs.declared.judging.Verdict.{Verdict}
-use Rattle.sok_cert.specs.declared.judging.Verdict.TheVariants.{Fine, Solved, Unreasoned}
+use Rattle.sok_cert.specs.declared.judging.Finding.{Finding}
+use Rattle.sok_cert.specs.declared.judging.Finding.TheVariants.{Fine, Solved, Unreasoned}
 use Rattle.sok_cert.specs.declared.placing.Located.{Located}
-use Rattle.sok_cert.specs.Closed.{IsPosition, IsReasoned, Bars, is_expanded, place_of, rest_of}
+use Rattle.sok_cert.specs.Closed.{IsBarredBy, IsPosition, IsReasoned, is_expanded, entry_position}
 
 -- it is a position, with these boxes and of this state
 pub record IsLocated (b : Numbered) (e : Entry) (found : Located) : Type 0 where
   pub position : IsPosition b e
   pub boxes_are : found.boxes ≡ e.boxes
-  pub key_is : IsKeyOf b (place_of b e) found.key
+  pub key_is : IsKeyOf b (entry_position b e) found.key
 
 -- it may stand; it is expanded, with all boxes on goals; or it has another reason, which does not bar
-abbrev pub IsJudged : Numbered → Claim → Entry → Verdict → Type 0
-IsJudged b claim e Fine = IsReasoned b claim e
-IsJudged b claim e Solved = IsTrue (is_expanded e.reason) × AllOnGoals b.rows (place_of b e)
-IsJudged b claim e Unreasoned = (is_expanded e.reason ≡ false) × (Bars b e.boxes e.reason (rest_of claim e.depth) → ⊥)
+abbrev pub IsFinding : Numbered → Claim → Entry → Finding → Type 0
+IsFinding b claim e Fine = IsReasoned b claim e
+IsFinding b claim e Solved = IsTrue (is_expanded e.reason) × AllOnGoals b.rows (entry_position b e)
+IsFinding b claim e Unreasoned = (is_expanded e.reason ≡ false) × (IsBarredBy b claim e → ⊥)
 
 -- squares that are goals
 abbrev pub AreGoals : Numbered → List ℕ → Type 0

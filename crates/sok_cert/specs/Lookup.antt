@@ -1,9 +1,8 @@
 -- A table of the entries' states, in which the states that pushes lead to are looked up.
 use Rattle.std.specs.Prelude.{ℕ, ◌≡◌, ◌<◌, ◌≤◌, ◌+◌, List, Option, Some, None, Bool, true, false, All, length, slice_get, IsTrue}
 use Rattle.std.specs.Map.{values_of}
-use Rattle.sok_rules.specs.Levels.{IsProper}
 use Rattle.sok_rules.specs.Play.{Position}
-use Rattle.sok_board.specs.Area.{Numbered, IsArea}
+use Rattle.sok_board.specs.Area.{Numbered, IsAccepted}
 use Rattle.sok_state.specs.declared.key.Key.{Key}
 use Rattle.sok_state.specs.declared.push.Push.{Push}
 use Rattle.sok_state.specs.Keys.{IsKeyOf}
@@ -12,7 +11,7 @@ use Rattle.sok_state.specs.Tables as tables
 use Rattle.sok_entry.specs.declared.entry.Entry.{Entry}
 use Rattle.sok_entry.specs.declared.fault.CertFault.{CertFault}
 use Rattle.sok_entry.specs.declared.fault.CertFault.TheVariants as fault
-use Rattle.sok_cert.specs.Closed.{place_of, is_expanded, IsFollowed, IsPosition}
+use Rattle.sok_cert.specs.Closed.{entry_position, is_expanded, IsFollowed, IsPosition}
 use Rattle.sok_cert.specs.Refusals.{IsFirstOpen}
 
 -- an entry's key stands at its place, with its depth
@@ -20,7 +19,7 @@ pub record IsEntered (b : Numbered) (table : tables.Entries) (i : ℕ) (e : Entr
   pub key : Key
   pub there : tables.IsAt table key i
   pub depth : slice_get (values_of table) i ≡ Some e.depth
-  pub is : IsKeyOf b (place_of b e) key
+  pub is : IsKeyOf b (entry_position b e) key
 
 -- so it is of the first entries, and the table has nothing else
 pub record IsTableOf (b : Numbered) (entries : List Entry) (n : ℕ) (table : tables.Entries) : Type 0 where
@@ -41,7 +40,8 @@ pub record IsFound (b : Numbered) (table : tables.Entries) (key : Key) (depth : 
 -- it is not
 abbrev pub IsMissing : Numbered → tables.Entries → Key → ℕ → Push → Type 0
 IsMissing b table key depth push =
-    (after : Position) (next : Key) (index deep : ℕ) → LeadsTo b key push after → IsKeyOf b after next → tables.IsAt table next index → slice_get (values_of table) index ≡ Some deep → deep ≤ depth + 1 → ⊥
+    (after : Position) (next : Key) (index deep : ℕ) → LeadsTo b key push after → IsKeyOf b after next → tables.IsAt table next index
+    → slice_get (values_of table) index ≡ Some deep → deep ≤ depth + 1 → ⊥
 
 abbrev pub TellsFound : Numbered → tables.Entries → Key → ℕ → Push → Bool → Type 0
 TellsFound b table key depth push true = IsFound b table key depth push
@@ -72,7 +72,6 @@ IsOpenFault b entries _ = ⊥
 
 -- what the checker knows when all entries are entered
 pub record IsLooking (b : Numbered) (entries : List Entry) (table : tables.Entries) : Type 0 where
-  pub area : IsArea b.rows b.area
-  pub proper : IsProper b.rows
+  pub accepted : IsAccepted b
   pub positions : All (IsPosition b) entries
   pub entered : IsTableOf b entries (length entries) table

@@ -9,11 +9,11 @@ use Rattle.sok_entry.specs.declared.claim.Claim.{Claim}
 use Rattle.sok_entry.specs.declared.entry.Entry.{Entry}
 use Rattle.sok_entry.specs.declared.fault.CertFault.{CertFault}
 use Rattle.sok_entry.specs.declared.fault.CertFault.TheVariants as fault
-use Rattle.sok_cert.specs.Closed.{IsPosition, IsReasoned, IsStarter, Bars, is_expanded, place_of, rest_of}
+use Rattle.sok_cert.specs.Closed.{IsPosition, IsReasoned, IsBarredBy, IsStarter, is_expanded, entry_position}
 
 -- no entry before a place is of the entry's state
 abbrev pub IsNew : Numbered → List Entry → ℕ → Entry → Type 0
-IsNew b entries i e = (j : ℕ) (f : Entry) → j < i → slice_get entries j ≡ Some f → Same b.rows (place_of b f) (place_of b e) → ⊥
+IsNew b entries i e = (j : ℕ) (f : Entry) → j < i → slice_get entries j ≡ Some f → Same b.rows (entry_position b f) (entry_position b e) → ⊥
 
 -- an entry without a fault of its own
 pub record IsFine (b : Numbered) (claim : Claim) (entries : List Entry) (i : ℕ) (e : Entry) : Type 0 where
@@ -39,21 +39,21 @@ pub record IsRepeated (b : Numbered) (entries : List Entry) (i : ℕ) (e : Entry
   pub earlier : Entry
   pub before : place < i
   pub there : slice_get entries place ≡ Some earlier
-  pub same : Same b.rows (place_of b earlier) (place_of b e)
+  pub same : Same b.rows (entry_position b earlier) (entry_position b e)
 
 -- expanded, with all boxes on goals
 pub record IsSolved (b : Numbered) (entries : List Entry) (i : ℕ) (e : Entry) : Type 0 where
   pub position : IsPosition b e
   pub new : IsNew b entries i e
   pub expanded : IsTrue (is_expanded e.reason)
-  pub solved : AllOnGoals b.rows (place_of b e)
+  pub solved : AllOnGoals b.rows (entry_position b e)
 
 -- not expanded, with a reason that does not bar
 pub record IsUnreasoned (b : Numbered) (claim : Claim) (entries : List Entry) (i : ℕ) (e : Entry) : Type 0 where
   pub position : IsPosition b e
   pub new : IsNew b entries i e
   pub barring : is_expanded e.reason ≡ false
-  pub fails : Bars b e.boxes e.reason (rest_of claim e.depth) → ⊥
+  pub fails : IsBarredBy b claim e → ⊥
 
 -- a push that is legal from a position of an expanded entry's state, and leads to no entry at most one deeper
 pub record IsOpen (b : Numbered) (entries : List Entry) (e : Entry) (push : Push) : Type 0 where
@@ -61,10 +61,10 @@ pub record IsOpen (b : Numbered) (entries : List Entry) (e : Entry) (push : Push
   pub exists : push.from < length b.area
   pub before : Position
   pub after : Position
-  pub walked : Same b.rows (place_of b e) before
+  pub walked : Same b.rows (entry_position b e) before
   pub steps : step b.rows push.dir before ≡ Some (record { position = after; pushed = true })
   pub man : after.man ≡ spot_of b push.from
-  pub unfollowed : (f : Entry) → Contains entries f → f.depth ≤ e.depth + 1 → Same b.rows after (place_of b f) → ⊥
+  pub unfollowed : (f : Entry) → Contains entries f → f.depth ≤ e.depth + 1 → Same b.rows after (entry_position b f) → ⊥
 
 -- the first open push: none of an entry before, and none before it of the same entry
 pub record IsFirstOpen (b : Numbered) (entries : List Entry) (i : ℕ) (push : Push) : Type 0 where

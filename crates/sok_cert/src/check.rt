@@ -1,9 +1,8 @@
 //! The checker of certificates.
 
 ghost use Rattle.std.specs.Prelude.{◌≡◌, ◌↔◌, IfOk, IfErr, IsOk, Err, IsTrue, List, length};
-ghost use Rattle.sok_rules.specs.Levels.{IsProper};
-ghost use Rattle.sok_board.specs.Area.{IsArea};
-ghost use Rattle.sok_cert.specs.Closed.{IsClosed, IsStarter, IsTrueOf};
+ghost use Rattle.sok_board.specs.Area.{IsAccepted};
+ghost use Rattle.sok_cert.specs.Closed.{IsClosed, IsStarter};
 ghost use Rattle.sok_cert.specs.Lookup.{IsLooking, IsTableOf};
 ghost use Rattle.sok_cert.specs.Refusals.{AreFine, IsRefused};
 ghost use Rattle.sok_entry.specs.declared.entry.Entry.{Entry};
@@ -36,10 +35,9 @@ pub fn check(
 ) -> Result<Accepted, CertFault>
     ensures claim { IfOk result (λ accepted. accepted.claim ≡ claim.now) }
     ensures level { IfOk result (λ accepted. accepted.rows ≡ board.now.rows) }
-    ensures shown { IfOk result (λ _. IsTrueOf board.now.rows claim.now) }
-    ensures closed { IfOk result (λ _. IsClosed board.now claim.now cert.now.entries.items) }
     ensures refused { IfErr result (IsRefused board.now claim.now cert.now.entries.items) }
-    ensures exact { (result ≡ Err fault.Memory → ⊥) → (IsOk result ↔ IsClosed board.now claim.now cert.now.entries.items) }
+    ensures exact { (result ≡ Err fault.Memory → ⊥)
+        → (IsOk result ↔ IsClosed board.now claim.now cert.now.entries.items) }
 {
     judged(alloc, board, *claim, cert)
 }
@@ -48,7 +46,6 @@ pub fn check(
 fn judged(alloc: Global, board: &Board, claim: Claim, cert: &Cert) -> Result<Accepted, CertFault>
     ensures claim { IfOk result (λ accepted. accepted.claim ≡ claim) }
     ensures level { IfOk result (λ accepted. accepted.rows ≡ board.now.rows) }
-    ensures shown { IfOk result (λ _. IsTrueOf board.now.rows claim) }
     ensures closed { IfOk result (λ _. IsClosed board.now claim cert.now.entries.items) }
     ensures refused { IfErr result (IsRefused board.now claim cert.now.entries.items) }
 {
@@ -68,8 +65,7 @@ fn check_list(
     entries: &[Entry],
     table: &Table,
 ) -> Result<(), CertFault>
-    requires area { IsArea board.now.rows board.now.area }
-    requires proper { IsProper board.now.rows }
+    requires accepted { IsAccepted board.now }
     requires fine { AreFine board.now claim entries.now (length entries.now) }
     requires entered { IsTableOf board.now entries.now (length entries.now) table.now }
     ensures closed { IfOk result (λ _. IsClosed board.now claim entries.now) }
@@ -86,7 +82,6 @@ fn has_start(alloc: Global, board: &Board, table: &Table) -> Result<bool, Memory
     ensures { (entries : List Entry) → IsLooking board.now entries table.now
         → IfOk result (λ starts. IsTrue starts ↔ ((e : Entry) × IsStarter board.now entries e)) }
 {
-    let _level = board.level();
     let (player, boxes) = board.start();
     let boxes = BoxSet::of(alloc, boxes)?;
     let start = Key::of(alloc, board, &boxes, player)?;

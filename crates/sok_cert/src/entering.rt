@@ -1,12 +1,11 @@
 //! The table of the entries' states.
 
 ghost use Rattle.std.specs.Prelude.{◌≡◌, ◌<◌, ◌+◌, IfOk, IfErr, length};
-ghost use Rattle.sok_rules.specs.Levels.{IsProper};
-ghost use Rattle.sok_board.specs.Area.{IsArea};
+ghost use Rattle.sok_board.specs.Area.{IsAccepted};
 ghost use Rattle.sok_cert.specs.Lookup.{IsTableOf};
 ghost use Rattle.sok_cert.specs.Refusals.{AreFine, IsRefused};
 
-use crate::judging::{Verdict, judge};
+use crate::judging::{Finding, judge};
 use crate::placing::{Located, locate};
 use sok_board::board::Board;
 use sok_entry::claim::Claim;
@@ -25,8 +24,7 @@ pub(crate) fn states(
     claim: Claim,
     entries: &[Entry],
 ) -> Result<Table, CertFault>
-    requires area { IsArea board.now.rows board.now.area }
-    requires proper { IsProper board.now.rows }
+    requires accepted { IsAccepted board.now }
     requires tables { tables.now.board ≡ board.now }
     ensures fine { IfOk result (λ _. AreFine board.now claim entries.now (length entries.now)) }
     ensures entered { IfOk result (IsTableOf board.now entries.now (length entries.now)) }
@@ -49,8 +47,7 @@ fn enter(
     index: usize,
     mut table: Table,
 ) -> Result<Table, CertFault>
-    requires area { IsArea board.now.rows board.now.area }
-    requires proper { IsProper board.now.rows }
+    requires accepted { IsAccepted board.now }
     requires tables { tables.now.board ≡ board.now }
     requires exists { index < length entries.now }
     requires fine { AreFine board.now claim entries.now index }
@@ -67,9 +64,9 @@ fn enter(
         return Err(CertFault::Duplicate(index));
     }
     match judge(alloc, board, tables, claim, entry, &boxes)? {
-        Verdict::Fine => {}
-        Verdict::Solved => return Err(CertFault::SolvedEntry(index)),
-        Verdict::Unreasoned => return Err(CertFault::BadReason(index)),
+        Finding::Fine => {}
+        Finding::Solved => return Err(CertFault::SolvedEntry(index)),
+        Finding::Unreasoned => return Err(CertFault::BadReason(index)),
     }
     table.insert(key, entry.depth)?;
     Ok(table)

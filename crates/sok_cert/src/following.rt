@@ -1,13 +1,13 @@
 //! Whether each push from an expanded entry leads to another entry.
 
 ghost use Rattle.std.specs.Prelude.{ℕ, ◌≡◌, ◌<◌, IfOk, IfErr, All, length, slice_get};
-ghost use Rattle.sok_rules.specs.Levels.{IsProper};
-ghost use Rattle.sok_board.specs.Area.{IsArea};
+ghost use Rattle.sok_board.specs.Area.{IsAccepted};
 ghost use Rattle.sok_state.specs.Keys.{IsKey};
 ghost use Rattle.sok_state.specs.Pushes.{IsLegal};
 ghost use Rattle.sok_state.specs.Tables.{HasDistinctKeys};
 ghost use Rattle.sok_cert.specs.Closed.{IsPosition};
-ghost use Rattle.sok_cert.specs.Lookup.{IsTableOf, TellsFound, TellsFirst, TellsOpen, IsClosedAt, IsOpenFault};
+ghost use Rattle.sok_cert.specs.Lookup.{IsTableOf, TellsFound, TellsFirst, TellsOpen, IsClosedAt};
+ghost use Rattle.sok_cert.specs.Lookup.{IsOpenFault};
 
 use crate::reason::is_expanded;
 use sok_board::board::Board;
@@ -29,7 +29,7 @@ fn is_found(
     depth: u32,
     push: Push,
 ) -> Result<bool, Memory>
-    requires area { IsArea board.now.rows board.now.area }
+    requires accepted { IsAccepted board.now }
     requires key { IsKey board.now key.now }
     requires legal { IsLegal board.now key.now push }
     requires distinct { HasDistinctKeys table.now }
@@ -51,7 +51,7 @@ fn first_missing(
     depth: u32,
     pushes: &[Push],
 ) -> Result<Option<usize>, Memory>
-    requires area { IsArea board.now.rows board.now.area }
+    requires accepted { IsAccepted board.now }
     requires key { IsKey board.now key.now }
     requires legal { All (IsLegal board.now key.now) pushes.now }
     requires distinct { HasDistinctKeys table.now }
@@ -73,7 +73,7 @@ fn open_push(
     key: &Key,
     depth: u32,
 ) -> Result<Option<Push>, Memory>
-    requires area { IsArea board.now.rows board.now.area }
+    requires accepted { IsAccepted board.now }
     requires key { IsKey board.now key.now }
     requires distinct { HasDistinctKeys table.now }
     ensures { IfOk result (TellsOpen board.now table.now key.now depth) }
@@ -93,8 +93,7 @@ pub(crate) fn check_pushes(
     table: &Table,
     entries: &[Entry],
 ) -> Result<(), CertFault>
-    requires area { IsArea board.now.rows board.now.area }
-    requires proper { IsProper board.now.rows }
+    requires accepted { IsAccepted board.now }
     requires table { IsTableOf board.now entries.now (length entries.now) table.now }
     requires positions { All (IsPosition board.now) entries.now }
     ensures followed { IfOk result (λ _. All (IsClosedAt board.now entries.now) entries.now) }

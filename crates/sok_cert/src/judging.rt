@@ -1,26 +1,24 @@
 //! What is found of an entry that is a position: whether it may stand, by its reason.
 
 ghost use Rattle.std.specs.Prelude.{ℕ, ◌≡◌, ◌<◌, ◌↔◌, IsTrue, IsOkAnd, All, length};
-ghost use Rattle.sok_rules.specs.Squares.{holds, is_goal};
 ghost use Rattle.sok_rules.specs.Play.{AllOnGoals};
-ghost use Rattle.sok_board.specs.Area.{spot_of, position_of};
+ghost use Rattle.sok_board.specs.Area.{IsAccepted, position_of};
 ghost use Rattle.sok_cert.specs.Closed.{IsPosition};
-ghost use Rattle.sok_cert.specs.Judging.{IsJudged, AreGoals};
+ghost use Rattle.sok_cert.specs.Judging.{IsFinding, AreGoals};
 
 use crate::reason::{is_expanded, reason_holds, rest_of};
-use sok_board::area::{SQUARE_LIMIT, Sq};
+use sok_board::area::Sq;
 use sok_board::board::Board;
 use sok_entry::claim::Claim;
 use sok_entry::entry::Entry;
 use sok_push::tables::Tables;
 use sok_region::box_set::BoxSet;
 use sok_rules::fault::Memory;
-use sok_rules::level::Level;
 use std::alloc::Global;
 
 /// What is found of an entry.
 #[derive(Clone, Copy, Debug, PartialEq, Eq)]
-pub(crate) enum Verdict {
+pub(crate) enum Finding {
     /// It may stand: its reason bars, or it is expanded with a box off a goal.
     Fine,
     /// It is expanded, and all its boxes stand on goals.
@@ -37,58 +35,46 @@ pub(crate) fn judge(
     claim: Claim,
     entry: &Entry,
     boxes: &BoxSet,
-) -> Result<Verdict, Memory>
+) -> Result<Finding, Memory>
+    requires accepted { IsAccepted board.now }
     requires tables { tables.now.board ≡ board.now }
     requires position { IsPosition board.now entry.now }
     requires boxes { boxes.now ≡ entry.now.boxes }
-    ensures { IsOkAnd result (IsJudged board.now claim entry.now) }
+    ensures { IsOkAnd result (IsFinding board.now claim entry.now) }
 {
     if is_expanded(&entry.reason) {
         if is_solved(board, boxes) {
-            return Ok(Verdict::Solved);
+            return Ok(Finding::Solved);
         }
-        return Ok(Verdict::Fine);
+        return Ok(Finding::Fine);
     }
-    // The board's squares are few enough for the player's number.
-    prove!(board.squares() <= SQUARE_LIMIT);
     let player = entry.player as Sq;
     let rest = rest_of(claim, entry.depth);
     if reason_holds(alloc, &entry.reason, board, tables, boxes, player, rest)? {
-        return Ok(Verdict::Fine);
+        return Ok(Finding::Fine);
     }
-    Ok(Verdict::Unreasoned)
+    Ok(Finding::Unreasoned)
 }
 
 /// Whether all boxes of a position stand on goals, wherever the player stands.
 pub(crate) fn is_solved(board: &Board, boxes: &BoxSet) -> bool
+    requires accepted { IsAccepted board.now }
     requires exist { All (λ square. square < length board.now.area) boxes.now }
-    ensures { (player : ℕ) → IsTrue result ↔ AllOnGoals board.now.rows (position_of board.now player boxes.now) }
+    ensures { (player : ℕ) → IsTrue result
+        ↔ AllOnGoals board.now.rows (position_of board.now player boxes.now) }
 {
-    are_goals(board, board.level(), boxes.list())
+    are_goals(board, boxes.list())
 }
 
 /// Whether squares of the area are goals.
-fn are_goals(board: &Board, level: &Level, squares: &[Sq]) -> bool
-    requires level { level.now ≡ board.now.rows }
+fn are_goals(board: &Board, squares: &[Sq]) -> bool
     requires exist { All (λ square. square < length board.now.area) squares.now }
     ensures { IsTrue result ↔ AreGoals board.now squares.now }
 {
     for square in squares {
-        if !is_goal(board, level, *square) {
+        if !board.is_goal(*square) {
             return false;
         }
     }
     true
-}
-
-/// Whether a square of the area is a goal.
-fn is_goal(board: &Board, level: &Level, square: Sq) -> bool
-    requires level { level.now ≡ board.now.rows }
-    requires exists { square < length board.now.area }
-    ensures { result ≡ holds is_goal board.now.rows (spot_of board.now square) }
-{
-    match level.cell(board.spot(square)) {
-        Some(cell) => cell.is_goal(),
-        None => false,
-    }
 }

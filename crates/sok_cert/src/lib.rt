@@ -8,7 +8,7 @@
 //! | `entering` | the table of the entries' states (private) |
 //! | `following` | whether each push from an expanded entry leads to another entry (private) |
 //! | `judging` | what is found of an entry by its reason (private) |
-//! | `law` | a closed certificate is true, and a list has one judgement |
+//! | `law` | a closed certificate is true; a list has one judgement, and a text one verdict |
 //! | `placing` | which entries are positions, and of which state (private) |
 //! | `reason` | what the reasons of a certificate show (private) |
 #![tactic(auto)]
@@ -22,4 +22,4 @@ pub mod law;
 mod placing;
 mod reason;
 
-pub use sok_entry::{claim, entry, fault, limits, reading, writing};
+pub use sok_entry::{claim, entry, fault, law as text_law, limits, reading, writing};

@@ -1,11 +1,13 @@
 //! Which entries of a certificate are positions, and of which state.
 
 ghost use Rattle.std.specs.Prelude.{◌≡◌, ◌<◌, ◌↔◌, IsTrue, IfOk, MatchOption, All, length};
-ghost use Rattle.std.specs.List.Sorted.{IsStrictlyIncreasing};
+ghost use Rattle.sok_board.specs.Area.{IsAccepted};
+ghost use Rattle.sok_board.specs.Limits.{square_limit};
 ghost use Rattle.sok_cert.specs.Closed.{IsPosition};
 ghost use Rattle.sok_cert.specs.Judging.{IsLocated};
 
-use sok_board::area::{SQUARE_LIMIT, Sq};
+use sok_bar::members::rises;
+use sok_board::area::Sq;
 use sok_board::board::Board;
 use sok_entry::entry::Entry;
 use sok_region::box_set::BoxSet;
@@ -20,16 +22,16 @@ pub(crate) struct Located {
     pub(crate) key: Key,
 }
 
-/// The boxes and the state of an entry that is a position with all boxes of the board, and None where
-/// it is none. It refuses only for want of memory.
+/// The boxes and the state of an entry that is a position with all boxes of the board, and None
+/// where it is none. It refuses only for want of memory.
 pub(crate) fn locate(alloc: Global, board: &Board, entry: &Entry) -> Result<Option<Located>, Memory>
-    ensures { IfOk result (λ found. MatchOption found (IsPosition board.now entry.now → ⊥) (IsLocated board.now entry.now)) }
+    requires { IsAccepted board.now }
+    ensures { IfOk result (λ found. MatchOption found
+        (IsPosition board.now entry.now → ⊥) (IsLocated board.now entry.now)) }
 {
     if !is_position(board, entry) {
         return Ok(None);
     }
-    // The board's squares are few enough for their numbers, and its boxes for a set.
-    prove!(board.squares() <= SQUARE_LIMIT);
     let squares = squares_of(alloc, entry.boxes.as_slice())?;
     let boxes = BoxSet::of(alloc, &squares)?;
     let key = Key::of(alloc, board, &boxes, entry.player as Sq)?;
@@ -56,21 +58,9 @@ fn are_below(numbers: &[u32], limit: usize) -> bool
     numbers.iter().all(|number| (*number as usize) < limit)
 }
 
-/// Whether each number is above the one before.
-fn rises(numbers: &[u32]) -> bool
-    ensures { IsTrue result ↔ IsStrictlyIncreasing numbers.now }
-{
-    for i in 1..numbers.len() {
-        if numbers[i - 1] >= numbers[i] {
-            return false;
-        }
-    }
-    true
-}
-
 /// Numbers of squares, as squares.
 fn squares_of(alloc: Global, numbers: &[u32]) -> Result<Vec<Sq>, Memory>
-    requires { All (λ number. number < 1024) numbers.now }
+    requires { All (λ number. number < square_limit) numbers.now }
     ensures { IfOk result (λ squares. squares.items ≡ numbers.now) }
 {
     let mut squares = Vec::with_capacity(alloc, numbers.len())?;

@@ -17,7 +17,8 @@ two_bytes (a ∷ b ∷ text) long = refl
 abbrev behind_depth : Entry → List ℕ
 behind_depth e = e.player ∷ length e.boxes ∷ e.boxes ++ numbers_of_reason e.reason
 
-pub IsEntryLine-reads : (a b : ℕ) (text : List ℕ) (e : Entry) → IsEntryLine (a ∷ b ∷ text) e → (a ≡ letter_of e.reason) × (b ≡ 32) × AreWords text (numbers_of e)
+pub IsEntryLine-reads : (a b : ℕ) (text : List ℕ) (e : Entry) → IsEntryLine (a ∷ b ∷ text) e → (a ≡ letter_of e.reason) × (b ≡ 32)
+    × AreWords text (numbers_of e)
 unfolding entry_line
 IsEntryLine-reads a b text e is =
     let same : a ∷ b ∷ text ≡ letter_of e.reason ∷ 32 ∷ decimal e.depth ++ spaced (behind_depth e) = is.1 in
@@ -25,7 +26,8 @@ IsEntryLine-reads a b text e is =
     let space : b ≡ 32 = cc in
     (letter, space, AreWords-spaced text e.depth (behind_depth e) is.0.small (ap (λ c. c ∷ text) (sym space) ∙ ap (drop 1) same))
 
-IsEntryLine-words : (a : ℕ) (text : List ℕ) (e : Entry) → a ≡ letter_of e.reason → AreWords text (numbers_of e) → PricesEachBox (length e.boxes) e.reason → IsEntryLine (a ∷ 32 ∷ text) e
+IsEntryLine-words : (a : ℕ) (text : List ℕ) (e : Entry) → a ≡ letter_of e.reason → AreWords text (numbers_of e) → PricesEachBox (length e.boxes) e.reason
+    → IsEntryLine (a ∷ 32 ∷ text) e
 unfolding entry_line
 IsEntryLine-words a text e letter words priced =
     let fits : FitsEntry e = record { small = words.0; priced = priced } in

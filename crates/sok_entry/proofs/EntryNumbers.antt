@@ -1,5 +1,6 @@
 -- The entry that a letter and numbers make, and back.
-use Rattle.std.proofs.Common.{ℕ, ◌≡◌, ◌≤◌, List, [], ◌∷◌, ◌++◌, Option, Some, None, Bool, true, false, ◌==◌, nat_lt, if◌then◌else◌, ◌⊎◌, inl, inr, length, take, drop, option_map, sym, ap, ◌∙◌, refl, subst, arith}
+use Rattle.std.proofs.Common.{ℕ, ◌≡◌, ◌≤◌, List, [], ◌∷◌, ◌++◌, Option, Some, None, Bool, true, false, ◌==◌, nat_lt, if◌then◌else◌, ◌⊎◌, inl, inr, length, take}
+use Rattle.std.proofs.Common.{drop, option_map, sym, ap, ◌∙◌, refl, subst, arith}
 use Rattle.std.proofs.lemmas.Bool.{eqb-true}
 use Rattle.std.proofs.lemmas.Bool.Decides.{nat_tests}
 use Rattle.std.proofs.lemmas.List.{take_at, drop_at, take-append-drop, length-take, length-append}
@@ -11,13 +12,13 @@ use Rattle.sok_entry.specs.Text.{letter_of, numbers_of_reason, numbers_of, Price
 use Rattle.sok_entry.specs.Entries.{members_of, bare, bound_of, reason_of, entry_of}
 
 -- which way a choice went
-chosen : {X : Type 0} (b : Bool) (x y z : X) → (if b then x else y) ≡ z → ((b ≡ true) × (x ≡ z)) ⊎ ((b ≡ false) × (y ≡ z))
-chosen true x y z same = inl (refl, same)
-chosen false x y z same = inr (refl, same)
+if_cases : {X : Type 0} (b : Bool) (x y z : X) → (if b then x else y) ≡ z → ((b ≡ true) × (x ≡ z)) ⊎ ((b ≡ false) × (y ≡ z))
+if_cases true x y z same = inl (refl, same)
+if_cases false x y z same = inr (refl, same)
 
-none_chosen : {X : Type 0} (b : Bool) (x y : X) → (if b then None else Some x) ≡ Some y → (b ≡ false) × (x ≡ y)
-none_chosen true x y same = absurd (none-some y same)
-none_chosen false x y same = (refl, same_Some x y same)
+if_none : {X : Type 0} (b : Bool) (x y : X) → (if b then None else Some x) ≡ Some y → (b ≡ false) × (x ≡ y)
+if_none true x y same = absurd (none-some y same)
+if_none false x y same = (refl, same_Some x y same)
 
 mapped : {X Y : Type 0} (f : X → Y) (o : Option X) (y : Y) → option_map f o ≡ Some y → (x : X) × (o ≡ Some x) × (f x ≡ y)
 mapped f None y same = absurd (none-some y same)
@@ -41,7 +42,7 @@ members_of-some (count ∷ rest) members same =
 
 bound_of-some : (boxes : ℕ) (more : List ℕ) (reason : Reason) → bound_of boxes more ≡ Some reason → Makes 98 boxes more reason
 bound_of-some boxes more reason same =
-    let found = none_chosen (nat_lt (length more) boxes) (Bound (take boxes more) (drop boxes more)) reason same in
+    let found = if_none (nat_lt (length more) boxes) (Bound (take boxes more) (drop boxes more)) reason same in
     let long : boxes ≤ length more = grind (arith, nat_tests, found.0) in
     subst (Makes 98 boxes more) found.1 (refl, sym (take-append-drop boxes more), omega (arith, length-take boxes more))
 
@@ -51,7 +52,8 @@ bare_makes letter boxes more plain reason is none priced same =
     let found = cond_some (length more == 0) plain reason same in
     subst (Makes letter boxes more) found.1 (is, no_elements more found.0 ∙ sym none, priced)
 
-members_make : (letter boxes : ℕ) (more : List ℕ) (make : List ℕ → Reason) (reason : Reason) → ((members : List ℕ) → Makes letter boxes (length members ∷ members) (make members))
+members_make : (letter boxes : ℕ) (more : List ℕ) (make : List ℕ → Reason) (reason : Reason)
+    → ((members : List ℕ) → Makes letter boxes (length members ∷ members) (make members))
     → option_map make (members_of more) ≡ Some reason → Makes letter boxes more reason
 members_make letter boxes more make reason makes same =
     let found = mapped make (members_of more) reason same in
@@ -59,15 +61,15 @@ members_make letter boxes more make reason makes same =
 
 reason_of-some : (letter boxes : ℕ) (more : List ℕ) (reason : Reason) → reason_of letter boxes more ≡ Some reason → Makes letter boxes more reason
 unfolding reason_of
-reason_of-some letter boxes more reason same = elim (chosen (letter == 120) (bare more Expanded) _ (Some reason) same) [
+reason_of-some letter boxes more reason same = elim (if_cases (letter == 120) (bare more Expanded) _ (Some reason) same) [
   | inl x ↦ bare_makes letter boxes more Expanded reason (eqb-true letter 120 x.0) refl tt x.1
-  | inr not_x ↦ elim (chosen (letter == 115) (bare more Spent) _ (Some reason) not_x.1) [
+  | inr not_x ↦ elim (if_cases (letter == 115) (bare more Spent) _ (Some reason) not_x.1) [
     | inl s ↦ bare_makes letter boxes more Spent reason (eqb-true letter 115 s.0) refl tt s.1
-    | inr not_s ↦ elim (chosen (letter == 98) (bound_of boxes more) _ (Some reason) not_s.1) [
+    | inr not_s ↦ elim (if_cases (letter == 98) (bound_of boxes more) _ (Some reason) not_s.1) [
       | inl b ↦ subst (λ l. Makes l boxes more reason) (sym (eqb-true letter 98 b.0)) (bound_of-some boxes more reason b.1)
-      | inr not_b ↦ elim (chosen (letter == 99) (option_map Crowd (members_of more)) _ (Some reason) not_b.1) [
+      | inr not_b ↦ elim (if_cases (letter == 99) (option_map Crowd (members_of more)) _ (Some reason) not_b.1) [
         | inl c ↦ members_make letter boxes more Crowd reason (λ members. (eqb-true letter 99 c.0, refl, tt)) c.1
-        | inr not_c ↦ elim (chosen (letter == 102) (option_map Frozen (members_of more)) None (Some reason) not_c.1) [
+        | inr not_c ↦ elim (if_cases (letter == 102) (option_map Frozen (members_of more)) None (Some reason) not_c.1) [
           | inl f ↦ members_make letter boxes more Frozen reason (λ members. (eqb-true letter 102 f.0, refl, tt)) f.1
           | inr not_f ↦ absurd (none-some reason not_f.1)
         ]
@@ -109,7 +111,8 @@ entry_of-numbers e priced =
     ∙ ap (option_map (make e.boxes)) (reason_of-numbers e.reason count priced)
 
 -- and no other letter or numbers make it
-pub entry_of-some : (letter : ℕ) (ns : List ℕ) (e : Entry) → entry_of letter ns ≡ Some e → (letter ≡ letter_of e.reason) × (ns ≡ numbers_of e) × PricesEachBox (length e.boxes) e.reason
+pub entry_of-some : (letter : ℕ) (ns : List ℕ) (e : Entry) → entry_of letter ns ≡ Some e → (letter ≡ letter_of e.reason) × (ns ≡ numbers_of e)
+    × PricesEachBox (length e.boxes) e.reason
 unfolding entry_of
 entry_of-some letter [] e same = absurd (none-some e same)
 entry_of-some letter (depth ∷ []) e same = absurd (none-some e same)
@@ -117,7 +120,7 @@ entry_of-some letter (depth ∷ player ∷ []) e same = absurd (none-some e same
 entry_of-some letter (depth ∷ player ∷ count ∷ more) e same =
     let make : Reason → Entry = λ reason. record { depth = depth; player = player; boxes = take count more; reason = reason } in
     let made = reason_of letter count (drop count more) in
-    elim (chosen (nat_lt (length more) count) None (option_map make made) (Some e) same) [
+    elim (if_cases (nat_lt (length more) count) None (option_map make made) (Some e) same) [
       | inl short ↦ absurd (none-some e short.1)
       | inr long ↦
           let found = mapped make made e long.1 in
@@ -126,6 +129,7 @@ entry_of-some letter (depth ∷ player ∷ count ∷ more) e same =
           let enough : count ≤ length more = grind (arith, nat_tests, long.0) in
           let counts : length (take count more) ≡ count = omega (arith, length-take count more) in
           let numbers : more ≡ take count more ++ numbers_of_reason reason = sym (take-append-drop count more) ∙ ap (λ rest. take count more ++ rest) makes.1 in
-          let Is : Entry → Type 0 = λ x. (letter ≡ letter_of x.reason) × (◌≡◌ {A = List ℕ} (depth ∷ player ∷ count ∷ more) (numbers_of x)) × PricesEachBox (length x.boxes) x.reason in
+          let Is : Entry → Type 0 = λ x. (letter ≡ letter_of x.reason) × (◌≡◌ {A =
+          List ℕ} (depth ∷ player ∷ count ∷ more) (numbers_of x)) × PricesEachBox (length x.boxes) x.reason in
           subst Is found.2 (makes.0, (λ i. depth ∷ player ∷ sym counts i ∷ numbers i), subst (λ n. PricesEachBox n reason) (sym counts) makes.2)
     ]

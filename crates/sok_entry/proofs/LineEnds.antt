@@ -1,5 +1,6 @@
 -- Which lines of a text have their end.
-use Rattle.std.proofs.Common.{ℕ, ◌≡◌, ◌<◌, ◌≤◌, ◌+◌, ◌-◌, List, [], true, false, All, nat_lt, if◌then◌else◌, ◌==◌, slice_index, length, take, ap, inl, inr, arith}
+use Rattle.std.proofs.Common.{ℕ, ◌≡◌, ◌<◌, ◌≤◌, ◌+◌, ◌-◌, List, [], true, false, All, nat_lt, if◌then◌else◌, ◌==◌, slice_index, length, take, ap, inl, inr}
+use Rattle.std.proofs.Common.{arith}
 use Rattle.std.proofs.lemmas.Bool.{cases_Bool, cases_lt}
 use Rattle.std.proofs.lemmas.Bool.Decides.{nat_tests}
 use Rattle.std.proofs.lemmas.List.{drop_all, length-take}
@@ -16,7 +17,13 @@ end_of text = position_or_len is_newline text
 
 ended_lines-ended : (text : List ℕ) → end_of text < length text → ended_lines text ≡ ended_lines (after_first is_newline text) + 1
 ended_lines-ended text ended =
-    omega (arith, length-slice_split is_newline text, length-slice_split is_newline (after_first is_newline text), ap length (slice_split_first is_newline text 0 ended))
+    omega (
+      arith,
+      length-slice_split is_newline text,
+      length-slice_split is_newline (after_first is_newline text),
+      ap length
+          (slice_split_first is_newline text 0 ended),
+    )
 
 ended_lines-unended : (text : List ℕ) → length text ≤ end_of text → ended_lines text ≡ 0
 ended_lines-unended text past =
@@ -33,7 +40,13 @@ length-first_line-ended : (text : List ℕ) → end_of text < length text → le
 unfolding first_line
 length-first_line-ended text ended =
     let found : nat_lt (end_of text) (length text) ≡ true = grind (arith, nat_tests) in
-    omega (arith, ap (λ b. length (if b then strip_carriage_return (before_first is_newline text) else text)) found, length-strip (before_first is_newline text), length-take (end_of text) text)
+    omega (
+      arith,
+      ap (λ b. length (if b then strip_carriage_return (before_first is_newline text) else text)) found,
+      length-strip
+          (before_first is_newline text),
+      length-take (end_of text) text,
+    )
 
 length-first_line-unended : (text : List ℕ) → length text ≤ end_of text → length (first_line text) ≡ length text
 unfolding first_line

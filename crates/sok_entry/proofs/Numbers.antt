@@ -32,5 +32,6 @@ Tells-value word some lead None none = λ n h.
 Tells-value word some lead (Some n) h =
     let small : IsSmall n = h.0 in
     let value : n ≡ digits_value 10 word = h.2 in
-    let one : get_or word 0 0 ≡ 48 → length word ≡ 1 = λ zero. elim (cases_lt 1 (length word)) [ inl long ↦ absurd (lead long zero) | inr short ↦ omega arith ] in
+    let one : get_or word 0 0 ≡ 48 → length word ≡ 1 =
+    λ zero. elim (cases_lt 1 (length word)) [ inl long ↦ absurd (lead long zero) | inr short ↦ omega arith ] in
     (small, sym (ap decimal value ∙ decimal-digits_value own word h.1 some one (omega arith)))

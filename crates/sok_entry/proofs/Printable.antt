@@ -1,5 +1,6 @@
 -- The lines of a certificate, and the text that they make.
-use Rattle.std.proofs.Common.{ℕ, ◌≡◌, ◌≤◌, ◌-◌, List, [], ◌∷◌, ◌++◌, All, true, false, ◌==◌, if◌then◌else◌, codes, decimal, length, get_or, map, nat_le, slice_index, suc, take, ap, ◌∙◌, refl, arith}
+use Rattle.std.proofs.Common.{ℕ, ◌≡◌, ◌≤◌, ◌-◌, List, [], ◌∷◌, ◌++◌, All, true, false, ◌==◌, if◌then◌else◌, codes, decimal, length, get_or, map, nat_le}
+use Rattle.std.proofs.Common.{slice_index, suc, take, ap, ◌∙◌, refl, arith}
 use Rattle.std.proofs.lemmas.Bool.{ne_eqb, leb-true, and_parts}
 use Rattle.std.proofs.lemmas.Bool.Decides.{nat_tests}
 use Rattle.std.proofs.lemmas.List.{append_assoc}
@@ -15,7 +16,8 @@ use Rattle.sok_entry.specs.declared.claim.Claim.TheVariants.{Pushes, Unsolvable}
 use Rattle.sok_entry.specs.declared.entry.Entry.{Entry}
 use Rattle.sok_entry.specs.declared.entry.Reason.{Reason}
 use Rattle.sok_entry.specs.declared.entry.Reason.TheVariants.{Expanded, Spent, Bound, Crowd, Frozen}
-use Rattle.sok_entry.specs.Text.{IsSmall, header, last_line, claim_line, entry_line, ended, lines_of, text_of, letter_of, numbers_of, spaced, FitsClaim, FitsEntry, Fits, Spells}
+use Rattle.sok_entry.specs.Text.{IsSmall, header, last_line, claim_line, entry_line, ended, lines_of, text_of, letter_of, numbers_of, spaced, FitsClaim}
+use Rattle.sok_entry.specs.Text.{FitsEntry, Fits, Spells}
 use Rattle.sok_entry.proofs.Numbers.{IsNumeral-decimal}
 
 -- no control characters: so a line has no LF, and no CR at its end
@@ -57,7 +59,8 @@ IsPrintable-spaced : (ns : List ℕ) → All IsSmall ns → IsPrintable (spaced 
 IsPrintable-spaced [] small = All-nil (λ c. 32 ≤ c)
 IsPrintable-spaced (n ∷ ns) small =
     All-cons (λ c. 32 ≤ c) 32 (decimal n ++ spaced ns) (omega arith)
-    (All-append (λ c. 32 ≤ c) (decimal n) (spaced ns) (IsPrintable-decimal n (All-head IsSmall n ns small)) (IsPrintable-spaced ns (All-tail IsSmall n ns small)))
+    (All-append (λ c. 32 ≤ c) (decimal n) (spaced ns) (IsPrintable-decimal n (All-head IsSmall n ns small))
+    (IsPrintable-spaced ns (All-tail IsSmall n ns small)))
 
 letter-printable : (reason : Reason) → 32 ≤ letter_of reason
 letter-printable Expanded = omega arith
@@ -88,7 +91,8 @@ IsPrintable-last_line = IsPrintable-test last_line refl
 
 IsPrintable-claim_line : (claim : Claim) → FitsClaim claim → IsPrintable (claim_line claim)
 unfolding claim_line
-IsPrintable-claim_line (Pushes k) fits = All-append (λ c. 32 ≤ c) (codes "pushes ") (decimal k) (IsPrintable-test (codes "pushes ") refl) (IsPrintable-decimal k fits)
+IsPrintable-claim_line (Pushes k) fits = All-append (λ c. 32 ≤ c) (codes "pushes ") (decimal k) (IsPrintable-test (codes "pushes ") refl)
+    (IsPrintable-decimal k fits)
 IsPrintable-claim_line Unsolvable fits = IsPrintable-test (codes "unsolvable") refl
 
 entries_printable : (entries : List Entry) → All FitsEntry entries → All IsPrintable (map entry_line entries)
@@ -99,7 +103,8 @@ lines_printable claim entries fits =
     let behind = map entry_line entries ++ last_line ∷ [] in
     All-cons IsPrintable header (claim_line claim ∷ behind) IsPrintable-header
     (All-cons IsPrintable (claim_line claim) behind (IsPrintable-claim_line claim fits.claim_fits)
-    (All-append IsPrintable (map entry_line entries) (last_line ∷ []) (entries_printable entries fits.entries_fit) (All-cons IsPrintable last_line [] IsPrintable-last_line (All-nil IsPrintable))))
+    (All-append IsPrintable (map entry_line entries) (last_line ∷ []) (entries_printable entries fits.entries_fit)
+    (All-cons IsPrintable last_line [] IsPrintable-last_line (All-nil IsPrintable))))
 
 -- what is printed has the lines that it is made of
 pub Spells-text_of : (claim : Claim) (entries : List Entry) → Fits claim entries → Spells (text_of claim entries) claim entries

@@ -22,7 +22,8 @@ pub Reached-start : (text : List ℕ) → Reached text [] text
 Reached-start text = record { fit = All-nil FitsEntry; has_lines = refl; ended = omega arith }
 
 -- one more entry
-pub Reached-more : (text : List ℕ) (entries : List Entry) (rest : List ℕ) (e : Entry) → Reached text entries rest → 0 < length rest → IsEntryLine (first_line rest) e
+pub Reached-more : (text : List ℕ) (entries : List Entry) (rest : List ℕ) (e : Entry) → Reached text entries rest → 0 < length rest
+    → IsEntryLine (first_line rest) e
     → Reached text (entries ++ e ∷ []) (after_line rest)
 Reached-more text entries rest e reached some is = record {
   fit = All-push FitsEntry entries e reached.fit is.0;
@@ -47,7 +48,8 @@ pub lines-Reached : (text : List ℕ) (entries : List Entry) (rest : List ℕ) �
 lines-Reached text entries rest reached some last none =
     lines-rest text entries rest reached some ∙ (λ i. map entry_line entries ++ last i ∷ lines-none (after_line rest) none i)
 
-pub StopsAt-missing : (text : List ℕ) (entries : List Entry) (rest : List ℕ) → Reached text entries rest → length rest == 0 ≡ true → StopsAt (ended_lines text) (lines text) Truncated
+pub StopsAt-missing : (text : List ℕ) (entries : List Entry) (rest : List ℕ) → Reached text entries rest → length rest == 0 ≡ true
+    → StopsAt (ended_lines text) (lines text) Truncated
 StopsAt-missing text entries rest reached none = record {
   entries = entries;
   rest = [];
@@ -56,7 +58,8 @@ StopsAt-missing text entries rest reached none = record {
   wrong = missing refl refl;
 }
 
-pub StopsAt-cut : (text : List ℕ) (entries : List Entry) (rest : List ℕ) → Reached text entries rest → 0 < length rest → first_line rest ≢ last_line → length rest ≤ length (first_line rest)
+pub StopsAt-cut : (text : List ℕ) (entries : List Entry) (rest : List ℕ) → Reached text entries rest → 0 < length rest → first_line rest ≢ last_line
+    → length rest ≤ length (first_line rest)
     → StopsAt (ended_lines text) (lines text) Truncated
 StopsAt-cut text entries rest reached some not_last long = record {
   entries = entries;
@@ -67,7 +70,8 @@ StopsAt-cut text entries rest reached some not_last long = record {
 }
 
 pub StopsAt-other : (text : List ℕ) (entries : List Entry) (rest : List ℕ) → Reached text entries rest → 0 < length rest → first_line rest ≢ last_line
-    → ((e : Entry) → IsEntryLine (first_line rest) e → ⊥) → length (first_line rest) < length rest → StopsAt (ended_lines text) (lines text) (Line (3 + length entries))
+    → ((e : Entry) → IsEntryLine (first_line rest) e → ⊥) → length (first_line rest) < length rest → StopsAt (ended_lines text) (lines text)
+    (Line (3 + length entries))
 StopsAt-other text entries rest reached some not_last no_entry short = record {
   entries = entries;
   rest = first_line rest ∷ lines (after_line rest);
@@ -76,7 +80,8 @@ StopsAt-other text entries rest reached some not_last no_entry short = record {
   wrong = other (first_line rest) (lines (after_line rest)) refl not_last no_entry (omega (arith, first_ended rest short, reached.ended)) refl;
 }
 
-pub StopsAt-behind : (text : List ℕ) (entries : List Entry) (rest : List ℕ) → Reached text entries rest → 0 < length rest → first_line rest ≡ last_line → 0 < length (after_line rest)
+pub StopsAt-behind : (text : List ℕ) (entries : List Entry) (rest : List ℕ) → Reached text entries rest → 0 < length rest → first_line rest ≡ last_line
+    → 0 < length (after_line rest)
     → StopsAt (ended_lines text) (lines text) (Line (4 + length entries))
 StopsAt-behind text entries rest reached some last more =
     let after = after_line rest in record {

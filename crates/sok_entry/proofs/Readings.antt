@@ -52,7 +52,8 @@ Fronts-cons e f es fs rs ss same (longer g more fits is) = longer g more fits is
 Fronts-cons e f es fs rs ss same (shorter g more fits is) = shorter g more fits is
 Fronts-cons e f es fs rs ss same (equal entries rest) = equal (λ i. same i ∷ entries i) rest
 
-fronts : (es fs : List Entry) (rs ss : List (List ℕ)) → All FitsEntry es → All FitsEntry fs → map entry_line es ++ rs ≡ map entry_line fs ++ ss → Fronts es fs rs ss
+fronts : (es fs : List Entry) (rs ss : List (List ℕ)) → All FitsEntry es → All FitsEntry fs → map entry_line es ++ rs ≡ map entry_line fs ++ ss
+    → Fronts es fs rs ss
 fronts [] [] rs ss fit_e fit_f same = equal refl same
 fronts [] (f ∷ fs) rs ss fit_e fit_f same = longer f fs (All-head FitsEntry f fs fit_f) same
 fronts (e ∷ es) [] rs ss fit_e fit_f same = shorter e es (All-head FitsEntry e es fit_e) (sym same)
@@ -70,7 +71,8 @@ nothing_behind [] rest same = same
 nothing_behind (line ∷ front) rest same = absurd (omega (arith, ap length same))
 
 -- what is wrong where an entry follows is that the text ends with it
-wrong_entry : (ended n : ℕ) (rest more : List (List ℕ)) (fault : CertFault) (e : Entry) → FitsEntry e → rest ≡ entry_line e ∷ more → IsWrong ended n rest fault → (fault ≡ Truncated) × (more ≡ [])
+wrong_entry : (ended n : ℕ) (rest more : List (List ℕ)) (fault : CertFault) (e : Entry) → FitsEntry e → rest ≡ entry_line e ∷ more
+    → IsWrong ended n rest fault → (fault ≡ Truncated) × (more ≡ [])
 wrong_entry ended n rest more fault e fits is (missing none is_fault) = absurd (omega (arith, ap length (sym is ∙ none)))
 wrong_entry ended n rest more fault e fits is (cut line one not_last few is_fault) = (is_fault, ap (drop 1) (sym is ∙ one))
 wrong_entry ended n rest more fault e fits is (other line behind_line one not_last no_entry many is_fault) =
@@ -103,14 +105,16 @@ nothing_wrong ended n rest fault last (other line more one not_last no_entry man
 nothing_wrong ended n rest fault last (behind line more one is_fault) = omega (arith, ap length (sym last ∙ one))
 
 -- the fault where one line is left that has no end
-wrong_cut : (ended n : ℕ) (rest : List (List ℕ)) (line : List ℕ) (fault : CertFault) → rest ≡ line ∷ [] → ended ≤ n → IsWrong ended n rest fault → fault ≡ Truncated
+wrong_cut : (ended n : ℕ) (rest : List (List ℕ)) (line : List ℕ) (fault : CertFault) → rest ≡ line ∷ [] → ended ≤ n → IsWrong ended n rest fault
+    → fault ≡ Truncated
 wrong_cut ended n rest line fault is few (missing none is_fault) = is_fault
 wrong_cut ended n rest line fault is few (cut another one not_last also_few is_fault) = is_fault
 wrong_cut ended n rest line fault is few (other another more one not_last no_entry many is_fault) = absurd (omega arith)
 wrong_cut ended n rest line fault is few (behind another more one is_fault) = absurd (omega (arith, ap length (sym is ∙ one)))
 
 -- the fault where a line that has its end is not `end`
-wrong_other : (ended n : ℕ) (rest more : List (List ℕ)) (line : List ℕ) (fault : CertFault) → rest ≡ line ∷ more → line ≢ last_line → n < ended → IsWrong ended n rest fault → fault ≡ Line (3 + n)
+wrong_other : (ended n : ℕ) (rest more : List (List ℕ)) (line : List ℕ) (fault : CertFault) → rest ≡ line ∷ more → line ≢ last_line → n < ended
+    → IsWrong ended n rest fault → fault ≡ Line (3 + n)
 wrong_other ended n rest more line fault is not_last many (missing none is_fault) = absurd (omega (arith, ap length (sym is ∙ none)))
 wrong_other ended n rest more line fault is not_last many (cut another one also few is_fault) = absurd (omega arith)
 wrong_other ended n rest more line fault is not_last many (other another rest_more one also no_entry also_many is_fault) = is_fault
@@ -120,7 +124,8 @@ wrong_other ended n rest more line fault is not_last many (behind another rest_m
     absurd (not_last first)
 
 -- the fault where a line stands behind `end`
-wrong_behind : (ended n : ℕ) (rest more : List (List ℕ)) (line : List ℕ) (fault : CertFault) → rest ≡ last_line ∷ line ∷ more → IsWrong ended n rest fault → fault ≡ Line (4 + n)
+wrong_behind : (ended n : ℕ) (rest more : List (List ℕ)) (line : List ℕ) (fault : CertFault) → rest ≡ last_line ∷ line ∷ more → IsWrong ended n rest fault
+    → fault ≡ Line (4 + n)
 wrong_behind ended n rest more line fault is (missing none is_fault) = absurd (omega (arith, ap length (sym is ∙ none)))
 wrong_behind ended n rest more line fault is (cut another one not_last few is_fault) = absurd (omega (arith, ap length (sym is ∙ one)))
 wrong_behind ended n rest more line fault is (other another rest_more one not_last no_entry many is_fault) =
@@ -136,7 +141,8 @@ IsWrong-one ended n rest f g (other line more one not_last no_entry many is_f) o
 IsWrong-one ended n rest f g (behind line more one is_f) of_g = is_f ∙ sym (wrong_behind ended n rest more line g one of_g)
 
 -- where one reading goes on with an entry, both find the end of the text
-wrong_longer : (ended n m : ℕ) (rs ss : List (List ℕ)) (f g : CertFault) (e : Entry) (more : List Entry) → FitsEntry e → rs ≡ entry_line e ∷ map entry_line more ++ ss
+wrong_longer : (ended n m : ℕ) (rs ss : List (List ℕ)) (f g : CertFault) (e : Entry) (more : List Entry) → FitsEntry e
+    → rs ≡ entry_line e ∷ map entry_line more ++ ss
     → IsWrong ended n rs f → IsWrong ended m ss g → f ≡ g
 wrong_longer ended n m rs ss f g e more fits is of_f of_g =
     let first = wrong_entry ended n rs (map entry_line more ++ ss) f e fits is of_f in
@@ -147,15 +153,18 @@ StopsAt-one ended ls f g a b = elim (fronts a.entries b.entries a.rest b.rest a.
   | longer e more fits is ↦ wrong_longer ended (length a.entries) (length b.entries) a.rest b.rest f g e more fits is a.wrong b.wrong
   | shorter e more fits is ↦ sym (wrong_longer ended (length b.entries) (length a.entries) b.rest a.rest g f e more fits is b.wrong a.wrong)
   | equal entries rest ↦
-      IsWrong-one ended (length b.entries) b.rest f g (subst (λ ls. IsWrong ended (length b.entries) ls f) rest (subst (λ es. IsWrong ended (length es) a.rest f) entries a.wrong)) b.wrong
+      IsWrong-one ended (length b.entries) b.rest f g (subst (λ ls. IsWrong ended (length b.entries) ls f) rest
+      (subst (λ es. IsWrong ended (length es) a.rest f) entries a.wrong)) b.wrong
 ]
 
 -- lines that end with `end` go nowhere wrong
-StopsAt-end : (ended : ℕ) (ls : List (List ℕ)) (es : List Entry) (fault : CertFault) → All FitsEntry es → ls ≡ map entry_line es ++ last_line ∷ [] → StopsAt ended ls fault → ⊥
+StopsAt-end : (ended : ℕ) (ls : List (List ℕ)) (es : List Entry) (fault : CertFault) → All FitsEntry es → ls ≡ map entry_line es ++ last_line ∷ []
+    → StopsAt ended ls fault → ⊥
 StopsAt-end ended ls es fault fit same stops = elim (fronts es stops.entries (last_line ∷ []) stops.rest fit stops.fit (sym same ∙ stops.has_lines)) [
   | longer e more fits is ↦ let first : last_line ≡ entry_line e = cc in last_is_no_entry e fits first
   | shorter e more fits is ↦
-      no_lines (map entry_line more) last_line [] (wrong_entry ended (length stops.entries) stops.rest (map entry_line more ++ last_line ∷ []) fault e fits is stops.wrong).1
+      no_lines (map entry_line more) last_line [] (wrong_entry ended (length stops.entries) stops.rest (map entry_line more ++ last_line ∷ []) fault e fits is
+      stops.wrong).1
   | equal entries rest ↦ nothing_wrong ended (length stops.entries) stops.rest fault (sym rest) stops.wrong
 ]
 
@@ -167,7 +176,8 @@ entries_one es fs fit_e fit_f same = elim (fronts es fs (last_line ∷ []) (last
 ]
 
 -- behind the same header stand the same claim and the same lines
-front_one : (text : List ℕ) (c d : Claim) (ls ms : List (List ℕ)) → lines text ≡ header ∷ claim_line c ∷ ls → lines text ≡ header ∷ claim_line d ∷ ms → (claim_line c ≡ claim_line d) × (ls ≡ ms)
+front_one : (text : List ℕ) (c d : Claim) (ls ms : List (List ℕ)) → lines text ≡ header ∷ claim_line c ∷ ls → lines text ≡ header ∷ claim_line d ∷ ms
+    → (claim_line c ≡ claim_line d) × (ls ≡ ms)
 front_one text c d ls ms of_c of_d =
     let same : claim_line c ∷ ls ≡ claim_line d ∷ ms = ap (drop 1) (sym of_c ∙ of_d) in
     let first : claim_line c ≡ claim_line d = cc in
@@ -187,7 +197,8 @@ GoesWrong-one text f g (behind_header c ls fits_c same_c stops_f) (behind_header
     StopsAt-one (ended_lines text - 2) ms f g (subst (λ l. StopsAt (ended_lines text - 2) l f) same.1 stops_f) stops_g
 
 pub Spells-GoesWrong : (text : List ℕ) (claim : Claim) (es : List Entry) (fault : CertFault) → Spells text claim es → GoesWrong text fault → ⊥
-Spells-GoesWrong text claim es fault spells (at_header lacks is_fault) = lacks claim (map entry_line es ++ last_line ∷ []) spells.fits.claim_fits spells.has_lines
+Spells-GoesWrong text claim es fault spells (at_header lacks is_fault) =
+    lacks claim (map entry_line es ++ last_line ∷ []) spells.fits.claim_fits spells.has_lines
 Spells-GoesWrong text claim es fault spells (behind_header other_claim ls fits same stops) =
     let front = front_one text other_claim claim ls (map entry_line es ++ last_line ∷ []) same spells.has_lines in
     StopsAt-end (ended_lines text - 2) ls es fault spells.fits.entries_fit front.1 stops

@@ -12,7 +12,8 @@ use Rattle.sok_entry.specs.Reading.{AreWords, is_space}
 use Rattle.sok_entry.proofs.Numbers.{IsNumeral-decimal}
 
 -- each part is a number
-pub word-AreWords : (text : List ℕ) (ns : List ℕ) (i : ℕ) (word : List ℕ) → AreWords text ns → i < length (slice_split is_space text) → word ≡ get_or (slice_split is_space text) i word
+pub word-AreWords : (text : List ℕ) (ns : List ℕ) (i : ℕ) (word : List ℕ) → AreWords text ns → i < length (slice_split is_space text)
+    → word ≡ get_or (slice_split is_space text) i word
     → IsSmall (get_or ns i 0) × (word ≡ decimal (get_or ns i 0))
 word-AreWords text ns i word words within there =
     let short : i < length ns = omega (arith, ap length words.1, length-map ns decimal) in
@@ -25,7 +26,8 @@ no_space n small =
     (λ i within. let digit = digit_at (decimal n) i (IsNumeral-decimal n small).1 within in grind (arith, nat_tests, digit.0))
 
 -- the parts of a word and of numbers after it
-split-spaced : (word : List ℕ) (ns : List ℕ) → All (λ c. is_space c ≡ false) word → All IsSmall ns → slice_split is_space (word ++ spaced ns) ≡ word ∷ map decimal ns
+split-spaced : (word : List ℕ) (ns : List ℕ) → All (λ c. is_space c ≡ false) word → All IsSmall ns
+    → slice_split is_space (word ++ spaced ns) ≡ word ∷ map decimal ns
 split-spaced word [] free small = ap (slice_split is_space) (append-nil word) ∙ slice_split_none is_space word free
 split-spaced word (n ∷ ns) free small =
     slice_split_at is_space word 32 (decimal n ++ spaced ns) free refl

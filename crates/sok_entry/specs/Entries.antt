@@ -1,8 +1,9 @@
 -- The entry that a letter and numbers make.
-use Rattle.std.specs.Prelude.{ℕ, List, [], ◌∷◌, Option, Some, None, ◌==◌, nat_lt, if◌then◌else◌, drop, length, option_map, take}
+use Rattle.std.specs.Prelude.{ℕ, List, [], ◌∷◌, Option, Some, None, ◌==◌, codes, nat_lt, if◌then◌else◌, drop, length, option_map, take}
 use Rattle.sok_entry.specs.declared.entry.Entry.{Entry}
 use Rattle.sok_entry.specs.declared.entry.Reason.{Reason}
 use Rattle.sok_entry.specs.declared.entry.Reason.TheVariants.{Expanded, Spent, Bound, Crowd, Frozen}
+use Rattle.sok_entry.specs.Text.{code}
 
 -- the members behind their count
 unfoldable pub members_of : List ℕ → Option (List ℕ)
@@ -20,11 +21,11 @@ bound_of boxes more = if nat_lt (length more) boxes then None else Some (Bound (
 -- by the letters x, s, b, c and f, at so many boxes
 unfoldable pub reason_of : ℕ → ℕ → List ℕ → Option Reason
 reason_of letter boxes more =
-    if letter == 120 then bare more Expanded
-    else if letter == 115 then bare more Spent
-    else if letter == 98 then bound_of boxes more
-    else if letter == 99 then option_map Crowd (members_of more)
-    else if letter == 102 then option_map Frozen (members_of more)
+    if letter == code (codes "x") then bare more Expanded
+    else if letter == code (codes "s") then bare more Spent
+    else if letter == code (codes "b") then bound_of boxes more
+    else if letter == code (codes "c") then option_map Crowd (members_of more)
+    else if letter == code (codes "f") then option_map Frozen (members_of more)
     else None
 
 -- depth, player, and boxes behind their count, before the numbers of the reason

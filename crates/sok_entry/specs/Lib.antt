@@ -1,4 +1,6 @@
-pub mod Entries
+-- words of public contracts
 pub mod Faults
 pub mod Reading
 pub mod Text
+-- words of the crate's own contracts
+pub mod Entries

@@ -1,5 +1,5 @@
 -- The text of a certificate: which lines it has.
-use Rattle.std.specs.Prelude.{ℕ, ◌≡◌, ◌≤◌, List, [], ◌∷◌, ◌++◌, All, codes, decimal, length, map}
+use Rattle.std.specs.Prelude.{ℕ, ◌≡◌, ◌≤◌, List, [], ◌∷◌, ◌++◌, All, codes, decimal, length, map, slice_index}
 use Rattle.std.specs.List.{flat_map}
 use Rattle.std.specs.Str.Lines.{lines}
 use Rattle.sok_entry.specs.declared.claim.Claim.{Claim}
@@ -18,13 +18,17 @@ unfoldable pub claim_line : Claim → List ℕ
 claim_line (Pushes k) = codes "pushes " ++ decimal k
 claim_line Unsolvable = codes "unsolvable"
 
--- x, s, b, c or f
+-- the code of a text's first character
+abbrev pub code : List ℕ → ℕ
+code text = slice_index text 0
+
+-- the letter of a reason
 abbrev pub letter_of : Reason → ℕ
-letter_of Expanded = 120
-letter_of Spent = 115
-letter_of (Bound u v) = 98
-letter_of (Crowd members) = 99
-letter_of (Frozen members) = 102
+letter_of Expanded = code (codes "x")
+letter_of Spent = code (codes "s")
+letter_of (Bound u v) = code (codes "b")
+letter_of (Crowd members) = code (codes "c")
+letter_of (Frozen members) = code (codes "f")
 
 -- prices as they stand, and members behind their count
 abbrev pub numbers_of_reason : Reason → List ℕ
@@ -44,7 +48,7 @@ numbers_of e = numbers_of_position e ++ numbers_of_reason e.reason
 
 -- each number after a space
 abbrev pub spaced : List ℕ → List ℕ
-spaced ns = flat_map (λ n. 32 ∷ decimal n) ns
+spaced ns = flat_map (λ n. codes " " ++ decimal n) ns
 
 unfoldable pub entry_line : Entry → List ℕ
 entry_line e = letter_of e.reason ∷ spaced (numbers_of e)
@@ -53,17 +57,25 @@ entry_line e = letter_of e.reason ∷ spaced (numbers_of e)
 abbrev pub lines_of : Claim → List Entry → List (List ℕ)
 lines_of claim entries = header ∷ claim_line claim ∷ map entry_line entries ++ last_line ∷ []
 
+-- LF
+abbrev pub line_feed : ℕ
+line_feed = 10
+
 -- a line with LF behind it
 abbrev pub ended : List ℕ → List ℕ
-ended line = line ++ 10 ∷ []
+ended line = line ++ line_feed ∷ []
 
 -- the text of a certificate, with LF behind each line
 abbrev pub text_of : Claim → List Entry → List ℕ
 text_of claim entries = flat_map ended (lines_of claim entries)
 
+-- the greatest number of a certificate
+abbrev pub number_limit : ℕ
+number_limit = 1000000
+
 -- what a number of a certificate can be
 abbrev pub IsSmall : ℕ → Type 0
-IsSmall n = n ≤ 1000000
+IsSmall n = n ≤ number_limit
 
 abbrev pub FitsClaim : Claim → Type 0
 FitsClaim (Pushes k) = IsSmall k

@@ -11,8 +11,8 @@ pub struct Cert {
     pub entries: Vec<Entry>,
 }
 
-/// A position: the player and the boxes, by numbers of squares, with the pushes that were made before
-/// it. A well-formed entry has its boxes in rising order.
+/// A position: the player and the boxes, by numbers of squares, with the pushes that were made
+/// before it. A well-formed entry has its boxes in rising order.
 #[derive(Debug, Drop)]
 pub struct Entry {
     pub depth: u32,
@@ -28,11 +28,11 @@ pub enum Reason {
     Expanded,
     /// As many pushes as the claim says were made already.
     Spent,
-    /// Prices show how many more pushes there must be: `u` of the boxes and `v` of the goals, both in
-    /// rising order of squares.
+    /// Prices show how many more pushes there must be: `u` of the boxes and `v` of the goals, both
+    /// in rising order of squares.
     Bound { u: Numbers, v: Numbers },
-    /// Some boxes have too few goals within their reach. Members are indices, from 0, in the list of
-    /// the boxes.
+    /// Some boxes have too few goals within their reach. Members are indices, from 0, in the list
+    /// of the boxes.
     Crowd { members: Numbers },
     /// Some boxes block one another for ever. Members as in a crowd.
     Frozen { members: Numbers },

@@ -8,8 +8,8 @@ use sok_rules::cell::Dir;
 use sok_rules::fault::Memory;
 use std::alloc::{AllocError, AllocFailed};
 
-/// Why a text is no certificate, or why a certificate does not show what it claims. Lines are counted
-/// from 1, and entries from 0.
+/// Why a text is no certificate, or why a certificate does not show what it claims. Lines are
+/// counted from 1, and entries from 0.
 #[derive(Clone, Copy, Debug, PartialEq, Eq)]
 pub enum CertFault {
     /// The first line or the second is missing, or has another form.
@@ -26,8 +26,8 @@ pub enum CertFault {
     BadEntry(usize),
     /// This entry is expanded, with all boxes on goals.
     SolvedEntry(usize),
-    /// From this entry the box on this square can be pushed this way, and no entry has the state that
-    /// it leads to, with at most one push more.
+    /// From this entry the box on this square can be pushed this way, and no entry has the state
+    /// that it leads to, with at most one push more.
     OpenPush(usize, u16, Dir),
     /// The reason of this entry does not hold.
     BadReason(usize),

@@ -10,12 +10,16 @@ ghost use Rattle.sok_entry.specs.declared.fault.CertFault.{CertFault};
 /// Where the numbers of a certificate are within the limits, the text that is written of it spells
 /// this certificate.
 pub fn written_texts_spell()
-    ensures { (claim : Claim) (entries : List Entry) → Fits claim entries → Spells (text_of claim entries) claim entries }
+    ensures { (claim : Claim) (entries : List Entry)
+        → Fits claim entries → Spells (text_of claim entries) claim entries }
 {}
 
 /// A text spells one certificate at most, or goes wrong in one way, and never both.
 pub fn texts_have_one_reading()
-    ensures spelled { (text : List ℕ) (c d : Claim) (es fs : List Entry) → Spells text c es → Spells text d fs → (c ≡ d) × (es ≡ fs) }
-    ensures wrong { (text : List ℕ) (f g : CertFault) → GoesWrong text f → GoesWrong text g → f ≡ g }
-    ensures apart { (text : List ℕ) (claim : Claim) (entries : List Entry) (fault : CertFault) → Spells text claim entries → GoesWrong text fault → ⊥ }
+    ensures spelled { (text : List ℕ) (c d : Claim) (es fs : List Entry)
+        → Spells text c es → Spells text d fs → (c ≡ d) × (es ≡ fs) }
+    ensures wrong { (text : List ℕ) (f g : CertFault)
+        → GoesWrong text f → GoesWrong text g → f ≡ g }
+    ensures apart { (text : List ℕ) (claim : Claim) (entries : List Entry) (fault : CertFault)
+        → Spells text claim entries → GoesWrong text fault → ⊥ }
 {}

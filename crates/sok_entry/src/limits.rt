@@ -1,7 +1,8 @@
 //! Which certificates have a text: those whose numbers are within the limits.
 
 ghost use Rattle.std.specs.Prelude.{◌≡◌, ◌↔◌, ◌∷◌, ◌++◌, All, IsTrue, length};
-ghost use Rattle.sok_entry.specs.Text.{IsSmall, FitsClaim, FitsEntry, Fits, FitsReason, numbers_of_position};
+ghost use Rattle.sok_entry.specs.Text.{IsSmall, FitsClaim, FitsEntry, Fits, FitsReason};
+ghost use Rattle.sok_entry.specs.Text.{numbers_of_position};
 
 use crate::claim::Claim;
 use crate::entry::{Cert, Entry, Reason};
@@ -9,8 +10,8 @@ use crate::entry::{Cert, Entry, Reason};
 /// The greatest number of a certificate.
 pub const LIMIT: u32 = 1_000_000;
 
-/// Whether a certificate has a text: each number and the length of each list is at most 1,000,000, and
-/// each bound has as many prices of boxes as its entry has boxes.
+/// Whether a certificate has a text: each number and the length of each list is at most 1,000,000,
+/// and each bound has as many prices of boxes as its entry has boxes.
 pub fn fits(claim: &Claim, cert: &Cert) -> bool
     ensures { IsTrue result ↔ Fits claim.now cert.now.entries.items }
 {

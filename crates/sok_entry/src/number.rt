@@ -1,8 +1,9 @@
 //! Numbers of a certificate's text.
 
-ghost use Rattle.std.specs.Prelude.{◌≡◌, ◌<◌, ◌↔◌, IfOk, IsTrue, decimal, length, option_map, slice_index};
+ghost use Rattle.std.specs.Prelude.{◌≡◌, ◌<◌, ◌↔◌, IfOk, IsTrue, codes, decimal, length};
+ghost use Rattle.std.specs.Prelude.{option_map};
 ghost use Rattle.std.specs.Str.Parse.{AllDigits, digits_value};
-ghost use Rattle.sok_entry.specs.Text.{IsSmall};
+ghost use Rattle.sok_entry.specs.Text.{code, IsSmall};
 ghost use Rattle.sok_entry.specs.Reading.{Tells, AreWords};
 
 use crate::limits::LIMIT;
@@ -10,7 +11,8 @@ use std::alloc::{AllocError, Global};
 
 /// The numbers of a text in which single spaces stand between numbers.
 pub(crate) fn numbers_of(alloc: Global, text: &[u8]) -> Result<Option<Vec<u32>>, AllocError>
-    ensures { IfOk result (λ found. Tells (AreWords text.now) (option_map (λ numbers. numbers.items) found)) }
+    ensures { IfOk result (λ found. Tells (AreWords text.now)
+        (option_map (λ numbers. numbers.items) found)) }
 {
     let mut numbers = Vec::new(alloc);
     for word in text.split(|byte| *byte == b' ') {
@@ -36,14 +38,15 @@ pub(crate) fn number_of(word: &[u8]) -> Option<u32>
 }
 
 fn has_leading_zero(word: &[u8]) -> bool
-    ensures { IsTrue result ↔ ((1 < length word.now) × (slice_index word.now 0 ≡ 48)) }
+    ensures { IsTrue result ↔ ((1 < length word.now) × (code word.now ≡ code (codes "0"))) }
 {
     word.len() > 1 && word[0] == b'0'
 }
 
 /// The value of decimal digits, if it is at most 1,000,000.
 fn value_of(word: &[u8]) -> Option<u32>
-    ensures { Tells (λ n. IsSmall n × AllDigits 10 word.now × (n ≡ digits_value 10 word.now)) result }
+    ensures { Tells (λ n. IsSmall n × AllDigits 10 word.now × (n ≡ digits_value 10 word.now))
+        result }
 {
     let mut number: u32 = 0;
     for byte in word {

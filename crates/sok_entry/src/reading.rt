@@ -1,10 +1,12 @@
 //! Certificates, read from their text.
 
-ghost use Rattle.std.specs.Prelude.{◌≡◌, ◌⊎◌, ◌++◌, ◌∷◌, [], List, All, IfErr, IfOk, MatchResult, codes, map};
+ghost use Rattle.std.specs.Prelude.{◌≡◌, ◌⊎◌, ◌++◌, ◌∷◌, [], List, All, IfErr, IfOk, MatchResult};
+ghost use Rattle.std.specs.Prelude.{codes, map};
 ghost use Rattle.std.specs.Str.Lines.{lines};
 ghost use Rattle.sok_entry.specs.Text.{entry_line, last_line, FitsEntry, Spells};
 ghost use Rattle.sok_entry.specs.Entries.{bare, bound_of, members_of, reason_of, entry_of};
-ghost use Rattle.sok_entry.specs.Reading.{Tells, IsClaimLine, IsEntryLine, StopsAt, GoesWrong, ended_lines};
+ghost use Rattle.sok_entry.specs.Reading.{Tells, IsClaimLine, IsEntryLine, StopsAt, GoesWrong};
+ghost use Rattle.sok_entry.specs.Reading.{ended_lines};
 ghost use Rattle.sok_entry.specs.declared.claim.Claim.{Claim};
 ghost use Rattle.sok_entry.specs.declared.entry.Entry.{Entry};
 ghost use Rattle.sok_entry.specs.declared.fault.CertFault.TheVariants as cert;
@@ -27,17 +29,18 @@ const END: &[u8] = b"end";
 /// The line of the first entry.
 const FIRST: usize = 3;
 
-/// Reads a certificate from its text. Lines end with LF or CR LF, and the last one may have no end. The
-/// fault of another text is the one that comes first in it: `Header` where the first line or the
-/// second is missing or has another form; then, line by line, `Truncated` where no line is left before
-/// `end`, or a line that is not `end` has no end; `Line` where a line that has its end is neither an
-/// entry nor `end`, or stands behind `end`.
+/// Reads a certificate from its text. Lines end with LF or CR LF, and the last one may have no end.
+/// The fault of another text is the one that comes first in it: `Header` where the first line or
+/// the second is missing or has another form; then, line by line, `Truncated` where no line is left
+/// before `end`, or a line that is not `end` has no end; `Line` where a line that has its end is
+/// neither an entry nor `end`, or stands behind `end`.
 pub fn read(alloc: Global, text: &[u8]) -> Result<(Claim, Cert), CertFault>
     // What is read is spelled so.
     ensures found { IfOk result (λ found. Spells text.now found.0 found.1.entries.items) }
     // What is spelled so is read, unless memory runs out.
     ensures only { (claim : Claim) (entries : List Entry) → Spells text.now claim entries
-        → MatchResult result (λ found. (found.0 ≡ claim) × (found.1.entries.items ≡ entries)) (λ fault. fault ≡ cert.Memory) }
+        → MatchResult result (λ found. (found.0 ≡ claim) × (found.1.entries.items ≡ entries))
+        (λ fault. fault ≡ cert.Memory) }
     ensures fault { IfErr result (λ fault. (fault ≡ cert.Memory) ⊎ GoesWrong text.now fault) }
 {
     certificate_of(alloc, text)
@@ -87,7 +90,8 @@ fn pushes_of(word: &[u8]) -> Option<Claim>
 /// The entries of the lines behind the claim, up to `end`.
 fn entries_of(alloc: Global, text: &[u8]) -> Result<Vec<Entry>, CertFault>
     ensures { MatchResult result
-        (λ entries. All FitsEntry entries.items × (lines text.now ≡ map entry_line entries.items ++ last_line ∷ []))
+        (λ entries. All FitsEntry entries.items
+        × (lines text.now ≡ map entry_line entries.items ++ last_line ∷ []))
         (λ fault. (fault ≡ cert.Memory) ⊎ StopsAt (ended_lines text.now) (lines text.now) fault) }
 {
     let mut entries = Vec::new(alloc);

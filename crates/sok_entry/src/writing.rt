@@ -1,7 +1,8 @@
 //! The text of a certificate.
 
 ghost use Rattle.std.specs.Prelude.{◌≡◌, ◌++◌, ◌∷◌, [], IfOk, OnOk, length, string_bytes, decimal};
-ghost use Rattle.sok_entry.specs.Text.{claim_line, entry_line, letter_of, numbers_of_reason, spaced, ended, text_of, Fits, Spells};
+ghost use Rattle.sok_entry.specs.Text.{claim_line, entry_line, letter_of, numbers_of_reason};
+ghost use Rattle.sok_entry.specs.Text.{spaced, ended, text_of, Fits, Spells};
 
 use crate::claim::Claim;
 use crate::entry::{Cert, Entry, Reason};
@@ -9,8 +10,8 @@ use sok_rules::fault::Memory;
 use std::alloc::{AllocError, Global};
 use std::fmt::Write;
 
-/// The text of a certificate: the header, the claim, a line for each entry, and `end`. Each line ends
-/// with LF.
+/// The text of a certificate: the header, the claim, a line for each entry, and `end`. Each line
+/// ends with LF.
 pub fn write(alloc: Global, claim: &Claim, cert: &Cert) -> Result<Vec<u8>, Memory>
     requires { Fits claim.now cert.now.entries.items }
     ensures exact { IfOk result (λ text. text.items ≡ text_of claim.now cert.now.entries.items) }
@@ -27,7 +28,8 @@ pub fn write(alloc: Global, claim: &Claim, cert: &Cert) -> Result<Vec<u8>, Memor
 
 #[tactic(auto, unfolding(crate::specs::Text::claim_line))]
 fn push_claim(text: &mut String, claim: &Claim) -> Result<(), AllocError>
-    ensures { OnOk result (string_bytes text.new ≡ string_bytes text.old ++ ended (claim_line claim.now)) }
+    ensures { OnOk result
+        (string_bytes text.new ≡ string_bytes text.old ++ ended (claim_line claim.now)) }
 {
     match claim {
         Claim::Pushes(pushes) => writeln!(text, "pushes {pushes}"),
@@ -37,7 +39,8 @@ fn push_claim(text: &mut String, claim: &Claim) -> Result<(), AllocError>
 
 #[tactic(auto, unfolding(crate::specs::Text::entry_line))]
 fn push_entry(text: &mut String, entry: &Entry) -> Result<(), AllocError>
-    ensures { OnOk result (string_bytes text.new ≡ string_bytes text.old ++ ended (entry_line entry.now)) }
+    ensures { OnOk result
+        (string_bytes text.new ≡ string_bytes text.old ++ ended (entry_line entry.now)) }
 {
     text.push(letter_of(&entry.reason))?;
     push_number(text, entry.depth)?;
@@ -60,7 +63,8 @@ fn letter_of(reason: &Reason) -> char
 }
 
 fn push_reason(text: &mut String, reason: &Reason) -> Result<(), AllocError>
-    ensures { OnOk result (string_bytes text.new ≡ string_bytes text.old ++ spaced (numbers_of_reason reason.now)) }
+    ensures { OnOk result
+        (string_bytes text.new ≡ string_bytes text.old ++ spaced (numbers_of_reason reason.now)) }
 {
     match reason {
         Reason::Expanded | Reason::Spent => Ok(()),
@@ -76,7 +80,9 @@ fn push_reason(text: &mut String, reason: &Reason) -> Result<(), AllocError>
 
 /// Numbers behind their count.
 fn push_counted(text: &mut String, numbers: &[u32]) -> Result<(), AllocError>
-    ensures { OnOk result (string_bytes text.new ≡ string_bytes text.old ++ spaced (length numbers.now ∷ numbers.now)) }
+    ensures { OnOk result
+        (string_bytes text.new
+        ≡ string_bytes text.old ++ spaced (length numbers.now ∷ numbers.now)) }
 {
     let count = numbers.len();
     write!(text, " {count}")?;

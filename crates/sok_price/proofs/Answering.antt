@@ -1,5 +1,38 @@
 -- What a search for all boxes answers, in the words of the board.
-use Rattle.std.proofs.Common.{ℕ, ◌≡◌, ◌<◌, ◌≤◌, ◌+◌, ◌++◌, ◌∙◌, inl, inr, refl, sym, ap, subst, List, [], ◌∷◌, Option, Some, None, Bool, true, false, true≢false, All, Contains, arith, length, get_or, sum, cond, zero, suc}
+use Rattle.std.proofs.Common.{
+  ℕ,
+  ◌≡◌,
+  ◌<◌,
+  ◌≤◌,
+  ◌+◌,
+  ◌++◌,
+  ◌∙◌,
+  inl,
+  inr,
+  refl,
+  sym,
+  ap,
+  subst,
+  List,
+  [],
+  ◌∷◌,
+  Option,
+  Some,
+  None,
+  Bool,
+  true,
+  false,
+  true≢false,
+  All,
+  Contains,
+  arith,
+  length,
+  get_or,
+  sum,
+  cond,
+  zero,
+  suc,
+}
 use Rattle.std.proofs.lemmas.Bool.{cases_Bool, cases_eq}
 use Rattle.std.proofs.lemmas.Option.{none-some, slice_get_within, get_or_from_slice_get}
 use Rattle.std.proofs.lemmas.List.{get_or_default, get_or_append_left, get_or_push, length_push, take_all}
@@ -9,20 +42,21 @@ use Rattle.sok_board.specs.Area.{Numbered, goals_of}
 use Rattle.sok_board.proofs.Lists.{Contains-cons}
 use Rattle.sok_push.specs.Distances.{goal_at}
 use Rattle.sok_push.specs.Pushing.{Chain, TellsDistance}
-use Rattle.sok_price.specs.Costs.{cost_in, AreTold}
+use Rattle.sok_price.specs.Costs.{TellCosts}
 use Rattle.sok_price.specs.Marked.{ListsMarked}
 use Rattle.sok_price.specs.declared.assign.Match.{Match}
 use Rattle.sok_price.specs.declared.assign.Match.TheVariants.{Prices, Crowd}
 use Rattle.sok_price.specs.declared.search.Search.{Search}
 use Rattle.sok_price.specs.Matches.{ArePrices, HasPrices, IsMatch}
-use Rattle.sok_price.specs.Matchings.{Costing}
-use Rattle.sok_price.specs.Prices.{IsCrowd, Priced}
+use Rattle.sok_price.specs.Matchings.{Costing, low}
+use Rattle.sok_price.specs.Prices.{IsAssignment, IsCrowd, Priced}
 use Rattle.sok_price.specs.Searches.{Growth, IsClosed, IsGrowing, IsReady}
 use Rattle.sok_price.specs.Trees.{count_of, is_marked}
+use Rattle.sok_price.proofs.CrowdLaws.{Excludes-IsCrowd}
 use Rattle.sok_price.proofs.Sums.{prices_of-all, sum-along}
 
 -- a number for each place, listed
-listed : (n : ℕ) (P : ℕ → ℕ → Type 0) → ((i : ℕ) → i < n → (d : ℕ) × P i d) → (ds : List ℕ) × (length ds ≡ n) × ((i : ℕ) → i < n → P i (get_or ds i 0))
+pub listed : (n : ℕ) (P : ℕ → ℕ → Type 0) → ((i : ℕ) → i < n → (d : ℕ) × P i d) → (ds : List ℕ) × (length ds ≡ n) × ((i : ℕ) → i < n → P i (get_or ds i 0))
 listed zero P each = ([], refl, λ i within. absurd (omega (arith, within)))
 listed (suc n) P each =
     let (ds, long, told) = listed n P (λ i within. each i (omega (arith, within))) in
@@ -39,7 +73,8 @@ listed (suc n) P each =
 
 -- the cost of the way of a box to its goal, and that its price is exact
 abbrev Exact : Costing → List ℕ → List ℕ → List ℕ → ℕ → ℕ → Type 0
-Exact cost u v goal_of member pushes = (cost member (get_or goal_of member 0) ≡ Some pushes) × (get_or u member 0 ≡ get_or v (get_or goal_of member 0) 0 + pushes)
+Exact cost u v goal_of member pushes = (cost member (get_or goal_of member 0) ≡ Some pushes)
+    × (get_or u member 0 ≡ get_or v (get_or goal_of member 0) 0 + pushes)
 
 -- the costs of all boxes, whose sum is that of their prices less that of all goals
 pub record HasSums (cost : Costing) (u v goal_of : List ℕ) : Type 0 where
@@ -48,24 +83,38 @@ pub record HasSums (cost : Costing) (u v goal_of : List ℕ) : Type 0 where
   pub exact : (member : ℕ) → member < length goal_of → Exact cost u v goal_of member (get_or distances member 0)
   pub sums : sum u ≡ sum v + sum distances
 
-pub HasSums-ready : (cost : Costing) (members goals : ℕ) (g : Growth) → IsReady cost members goals g → length g.goal_of ≡ members → HasSums cost g.u g.v g.goal_of
-HasSums-ready cost members goals g ready all =
+-- goals that no box has cost nothing
+abbrev pub AreIdle : ℕ → Growth → Type 0
+AreIdle goals g = (goal : ℕ) → goal < goals → (Contains g.goal_of goal → ⊥) → get_or g.v goal 0 ≡ 0
+
+pub idle-floor : (cost : Costing) (members goals : ℕ) (g : Growth) → IsReady cost members goals g → g.floor ≡ 0 → AreIdle goals g
+idle-floor cost members goals g ready none goal within free = let bound = ready.matched.idle goal within free in omega (arith, bound, none)
+
+pub HasSums-ready : (cost : Costing) (members goals : ℕ) (g : Growth) → IsReady cost members goals g → length g.goal_of ≡ members → AreIdle goals g
+    → HasSums cost g.u g.v g.goal_of
+HasSums-ready cost members goals g ready all idle =
     let matched = ready.matched in
-    let (distances, whole, exact) = listed (length g.goal_of) (Exact cost g.u g.v g.goal_of) (λ member within. let tight = matched.exact member within in (tight.pushes, (tight.way, tight.exact))) in
+    let (distances, whole, exact) = listed (length g.goal_of) (Exact cost g.u g.v g.goal_of)
+    (λ member within. let tight = matched.exact member within in (tight.pushes, (tight.way, tight.exact))) in
     let u_long = matched.a_price_a_box in
     let v_long = matched.a_price_a_goal in
-    let along = sum-along g.u g.v g.goal_of distances (omega (arith, all, u_long)) (omega (arith, whole, all, u_long)) (λ member within. (exact member (omega (arith, within, u_long, all))).1) in
-    let others = prices_of-all g.goal_of g.v matched.apart (λ k d within. let exists = matched.exist k d within in omega (arith, exists, v_long)) (λ goal within none. matched.idle goal (omega (arith, within, v_long)) none) in
+    let along = sum-along g.u g.v g.goal_of distances (omega (arith, all, u_long)) (omega (arith, whole, all, u_long))
+    (λ member within. (exact member (omega (arith, within, u_long, all))).1) in
+    let others = prices_of-all g.goal_of g.v matched.apart (λ k d within. let exists = matched.exist k d within in omega (arith, exists, v_long))
+    (λ goal within none. idle goal (omega (arith, within, v_long)) none) in
     record { distances = distances; whole = whole; exact = exact; sums = omega (arith, along, others) }
 
 -- a chain to a goal costs at least what is told
-fair-told : (b : Numbered) (goal square d price goal_price : ℕ) (cost : Option ℕ) → TellsDistance b goal square cost → ((pushes : ℕ) → cost ≡ Some pushes → price ≤ goal_price + pushes) → Chain b square goal d → price ≤ goal_price + d
+pub fair-told : (b : Numbered) (goal square d price goal_price : ℕ) (cost : Option ℕ) → TellsDistance b goal square cost
+    → ((pushes : ℕ) → cost ≡ Some pushes → price ≤ goal_price + pushes) → Chain b square goal d → price ≤ goal_price + d
 fair-told b goal square d price goal_price None tells fair chain = absurd (tells d chain)
-fair-told b goal square d price goal_price (Some pushes) tells fair chain = let least = tells.1 d chain in let bound = fair pushes refl in omega (arith, least, bound)
+fair-told b goal square d price goal_price (Some pushes) tells fair chain = let least = tells.1 d chain in let bound = fair pushes refl in
+    omega (arith, least, bound)
 
-priced-ready : (b : Numbered) (boxes : List ℕ) (goals : ℕ) (entries : List (Option ℕ)) (g : Growth) (total : ℕ) → AreTold b boxes goals (length boxes) entries → goals ≡ length (goals_of b) → IsReady (cost_in goals entries) (length boxes) goals g
+priced-ready : (b : Numbered) (boxes : List ℕ) (goals : ℕ) (cost : Costing) (g : Growth) (total : ℕ) → TellCosts b boxes goals cost
+    → goals ≡ length (goals_of b) → IsReady cost (length boxes) goals g
     → total + sum g.v ≡ sum g.u → Priced b boxes g.u g.v total
-priced-ready b boxes goals entries g total told goals_are ready equal = record {
+priced-ready b boxes goals cost g total told goals_are ready equal = record {
   a_price_a_box = ready.matched.a_price_a_box;
   a_price_a_goal = ready.matched.a_price_a_goal ∙ goals_are;
   fair = λ i j x goal d at at_goal chain.
@@ -75,70 +124,85 @@ priced-ready b boxes goals entries g total told goals_are ready equal = record {
       let v_long = ready.matched.a_price_a_goal in
       let x_is : x ≡ get_or boxes i 0 = sym (get_or_from_slice_get boxes i x 0 at) in
       let goal_is : goal ≡ goal_at b j = sym (get_or_from_slice_get (goals_of b) j goal 0 at_goal) in
-      fair-told b (goal_at b j) (get_or boxes i 0) d (get_or g.u i 0) (get_or g.v j 0) (cost_in goals entries i j) (told.told i j i_within (omega (arith, j_within, goals_are))).exact
+      fair-told b (goal_at b j) (get_or boxes i 0) d (get_or g.u i 0) (get_or g.v j 0) (cost i j) (told i j i_within (omega (arith, j_within, goals_are))).exact
       (λ pushes way. ready.matched.fair i j pushes (omega (arith, i_within, u_long)) (omega (arith, j_within, goals_are, v_long)) way)
       (subst (λ k. Chain b k (goal_at b j) d) x_is (subst (λ k. Chain b x k d) goal_is chain));
   enough = omega (arith, equal);
 }
 
-small : (prices : List ℕ) → All (λ price. price ≤ 262144) prices → All (λ price. price ≤ 1000000) prices
-small prices low = All-weaker (λ price. price ≤ 262144) (λ price. price ≤ 1000000) (λ price bound. omega (arith, bound)) prices low
+small : (limit : ℕ) (prices : List ℕ) → limit ≤ 1000000 → All (λ price. price ≤ limit) prices → All (λ price. price ≤ 1000000) prices
+small limit prices low within = All-weaker (λ price. price ≤ limit) (λ price. price ≤ 1000000) (λ price bound. omega (arith, bound, low)) prices within
 
 -- prices and goals of all boxes, on a board whose distances are told
-pub ArePrices-ready : (b : Numbered) (boxes : List ℕ) (goals : ℕ) (entries : List (Option ℕ)) (g : Growth) (total : ℕ) → AreTold b boxes goals (length boxes) entries → goals ≡ length (goals_of b) → IsReady (cost_in goals entries) (length boxes) goals g
-    → length g.goal_of ≡ length boxes → total + sum g.v ≡ sum g.u → ArePrices b boxes g.u g.v total g.goal_of
-ArePrices-ready b boxes goals entries g total told goals_are ready all equal =
-    let has = HasSums-ready (cost_in goals entries) (length boxes) goals g ready all in
+pub ArePrices-ready : (b : Numbered) (boxes : List ℕ) (goals : ℕ) (cost : Costing) (g : Growth) (total : ℕ) → TellCosts b boxes goals cost
+    → goals ≡ length (goals_of b) → IsReady cost (length boxes) goals g
+    → g.floor ≡ 0 → length boxes ≤ 128 → length g.goal_of ≡ length boxes → total + sum g.v ≡ sum g.u → ArePrices b boxes g.u g.v total g.goal_of
+ArePrices-ready b boxes goals cost g total told goals_are ready none few all equal =
+    let has = HasSums-ready cost (length boxes) goals g ready all (idle-floor cost (length boxes) goals g ready none) in
+    let limit : low (length boxes) g.floor ≤ 1000000 = omega (arith, none, few) in
     let sums = has.sums in
+    let assignment : IsAssignment b boxes g.goal_of has.distances = record {
+      a_goal_a_box = all;
+      a_distance_a_box = has.whole ∙ all;
+      exist = λ k d within. let exists = ready.matched.exist k d within in omega (arith, exists, goals_are);
+      apart = ready.matched.apart;
+      exact = λ member within.
+          let inside : member < length g.goal_of = omega (arith, within, all) in
+          let goal = get_or g.goal_of member 0 in
+          subst (TellsDistance b (goal_at b goal) (get_or boxes member 0)) (has.exact member inside).0
+          (told member goal within (ready.matched.exist member 0 inside)).exact;
+    } in
     record {
-      priced = priced-ready b boxes goals entries g total told goals_are ready equal;
+      priced = priced-ready b boxes goals cost g total told goals_are ready equal;
       equal = equal;
-      small_boxes = small g.u ready.low.boxes;
-      small_goals = small g.v ready.low.goals;
+      small_boxes = small (low (length boxes) g.floor) g.u limit ready.low.boxes;
+      small_goals = small (low (length boxes) g.floor) g.v limit ready.low.goals;
       distances = has.distances;
-      assignment = record {
-        a_goal_a_box = all;
-        a_distance_a_box = has.whole ∙ all;
-        exist = λ k d within. let exists = ready.matched.exist k d within in omega (arith, exists, goals_are);
-        apart = ready.matched.apart;
-        exact = λ member within.
-            let inside : member < length g.goal_of = omega (arith, within, all) in
-            let goal = get_or g.goal_of member 0 in
-            subst (TellsDistance b (goal_at b goal) (get_or boxes member 0)) (has.exact member inside).0 (told.told member goal within (ready.matched.exist member 0 inside)).exact;
-      };
+      assignment = assignment;
       cost = omega (arith, sums, equal);
+      no_crowd = λ members crowd. Excludes-IsCrowd b boxes g.goal_of has.distances members assignment crowd;
     }
 
 -- the sums fit, and that of the goals is the smaller
-pub sum-small : (members : ℕ) (u v : List ℕ) → length u ≡ members → members ≤ 128 → All (λ price. price ≤ 262144) u → sum u ≤ 33554432
-sum-small members u v long few low = let bound = sum_by-le (λ price. price) 262144 u low in omega (arith, bound, long, few)
+pub sum-small : (members floor : ℕ) (u v : List ℕ) → length u ≡ members → members ≤ 128 → floor ≡ 0 → All (λ price. price ≤ low members floor) u
+    → sum u ≤ 33554432
+sum-small members floor u v long few none within =
+    let bound = sum_by-le (λ price. price) 262144 u (All-weaker (λ price. price ≤ low members floor) (λ price. price ≤ 262144)
+    (λ price below. omega (arith, below, few, none)) u within) in
+    omega (arith, bound, long, few)
 
 -- the goals whose marks are set
-abbrev picked : List Bool → List ℕ → List ℕ
+abbrev pub picked : List Bool → List ℕ → List ℕ
 picked [] goals = []
 picked (mark ∷ marks) [] = []
 picked (mark ∷ marks) (goal ∷ goals) = cond mark (goal ∷ picked marks goals) (picked marks goals)
 
-length-picked : (marks : List Bool) (goals : List ℕ) → length (picked marks goals) ≤ count_of marks
+pub length-picked : (marks : List Bool) (goals : List ℕ) → length (picked marks goals) ≤ count_of marks
 length-picked [] goals = omega arith
 length-picked (mark ∷ marks) [] = omega arith
-length-picked (true ∷ marks) (goal ∷ goals) = let rest = length-picked marks goals in let count = sum_by-cons (λ (mark : Bool). cond mark 1 0) true marks in omega (arith, rest, count)
-length-picked (false ∷ marks) (goal ∷ goals) = let rest = length-picked marks goals in let count = sum_by-cons (λ (mark : Bool). cond mark 1 0) false marks in omega (arith, rest, count)
+length-picked (true ∷ marks) (goal ∷ goals) = let rest = length-picked marks goals in let count = sum_by-cons (λ (mark : Bool). cond mark 1 0) true marks in
+    omega (arith, rest, count)
+length-picked (false ∷ marks) (goal ∷ goals) = let rest = length-picked marks goals in let count = sum_by-cons (λ (mark : Bool). cond mark 1 0) false marks in
+    omega (arith, rest, count)
 
-Contains-picked : (marks : List Bool) (goals : List ℕ) (k d : ℕ) → is_marked marks k ≡ true → k < length goals → Contains (picked marks goals) (get_or goals k d)
+pub Contains-picked : (marks : List Bool) (goals : List ℕ) (k d : ℕ) → is_marked marks k ≡ true → k < length goals
+    → Contains (picked marks goals) (get_or goals k d)
 Contains-picked [] goals k d there within = absurd (true≢false (sym there))
 Contains-picked (mark ∷ marks) [] k d there within = absurd (omega (arith, within))
 Contains-picked (true ∷ marks) (goal ∷ goals) zero d there within = (0, omega arith, refl)
 Contains-picked (false ∷ marks) (goal ∷ goals) zero d there within = absurd (true≢false (sym there))
-Contains-picked (true ∷ marks) (goal ∷ goals) (suc k) d there within = Contains-cons goal (get_or goals k d) (picked marks goals) (Contains-picked marks goals k d there (omega (arith, within)))
+Contains-picked (true ∷ marks) (goal ∷ goals) (suc k) d there within =
+    Contains-cons goal (get_or goals k d) (picked marks goals) (Contains-picked marks goals k d there (omega (arith, within)))
 Contains-picked (false ∷ marks) (goal ∷ goals) (suc k) d there within = Contains-picked marks goals k d there (omega (arith, within))
 
-chain-some : (b : Numbered) (goal square d : ℕ) (cost : Option ℕ) → TellsDistance b goal square cost → Chain b square goal d → (pushes : ℕ) × (cost ≡ Some pushes)
+pub chain-some : (b : Numbered) (goal square d : ℕ) (cost : Option ℕ) → TellsDistance b goal square cost → Chain b square goal d
+    → (pushes : ℕ) × (cost ≡ Some pushes)
 chain-some b goal square d None tells chain = absurd (tells d chain)
 chain-some b goal square d (Some pushes) tells chain = (pushes, refl)
 
 -- a goal that a box of a tree reaches is of the tree, where no goal outside it has a slack
-taken-closed : (cost : Costing) (members goals : ℕ) (g : Growth) → IsGrowing cost members goals members g → IsClosed g → (member goal pushes : ℕ) → is_marked g.met member ≡ true → member < members → goal < goals → cost member goal ≡ Some pushes → is_marked g.taken goal ≡ true
+pub taken-closed : (cost : Costing) (members goals : ℕ) (g : Growth) → IsGrowing cost members goals members g → IsClosed g → (member goal pushes : ℕ)
+    → is_marked g.met member ≡ true → member < members → goal < goals → cost member goal ≡ Some pushes → is_marked g.taken goal ≡ true
 taken-closed cost members goals g growing closed member goal pushes met member_within goal_within way = elim (cases_Bool (is_marked g.taken goal)) [
   | inl taken ↦ taken
   | inr free ↦
@@ -148,10 +212,15 @@ taken-closed cost members goals g growing closed member goal pushes met member_w
 ]
 
 -- the boxes of a tree that reaches no other goal are a crowd
-pub IsCrowd-closed : (b : Numbered) (boxes : List ℕ) (goals : ℕ) (entries : List (Option ℕ)) (g : Growth) (members : List ℕ) → AreTold b boxes goals (length boxes) entries → goals ≡ length (goals_of b)
-    → IsGrowing (cost_in goals entries) (length boxes) goals (length boxes) g → IsClosed g → ListsMarked g.met (length g.met) members → IsCrowd b boxes members
-IsCrowd-closed b boxes goals entries g members told goals_are growing closed lists = record {
-  listed = record { rising = lists.rising; within = λ k d inside. let within = lists.within k d inside in let long = growing.roomy.met in omega (arith, within, long) };
+pub IsCrowd-closed : (b : Numbered) (boxes : List ℕ) (goals : ℕ) (cost : Costing) (g : Growth) (members : List ℕ) → TellCosts b boxes goals cost
+    → goals ≡ length (goals_of b)
+    → IsGrowing cost (length boxes) goals (length boxes) g → IsClosed g → ListsMarked g.met (length g.met) members → IsCrowd b boxes members
+IsCrowd-closed b boxes goals cost g members told goals_are growing closed lists = record {
+  listed = record {
+    rising = lists.rising;
+    within = λ k d inside. let within = lists.within k d inside in let long = growing.roomy.met in
+        omega (arith, within, long);
+  };
   goals = picked g.taken (goals_of b);
   all_reached = λ x goal n (i, member, at) (j, j_within, j_is) chain.
       let i_within = slice_get_within boxes i x at in
@@ -159,8 +228,9 @@ IsCrowd-closed b boxes goals entries g members told goals_are growing closed lis
       let x_is : x ≡ get_or boxes i 0 = sym (get_or_from_slice_get boxes i x 0 at) in
       let goal_is : goal ≡ goal_at b j = sym j_is ∙ get_or_default (goals_of b) j goal 0 j_within in
       let inside : j < goals = omega (arith, j_within, goals_are) in
-      let (pushes, way) = chain-some b (goal_at b j) (get_or boxes i 0) n (cost_in goals entries i j) (told.told i j i_within inside).exact (subst (λ k. Chain b k (goal_at b j) n) x_is (subst (λ k. Chain b x k n) goal_is chain)) in
-      let taken = taken-closed (cost_in goals entries) (length boxes) goals g growing closed i j pushes met i_within inside way in
+      let (pushes, way) = chain-some b (goal_at b j) (get_or boxes i 0) n (cost i j) (told i j i_within inside).exact
+      (subst (λ k. Chain b k (goal_at b j) n) x_is (subst (λ k. Chain b x k n) goal_is chain)) in
+      let taken = taken-closed cost (length boxes) goals g growing closed i j pushes met i_within inside way in
       subst (Contains (picked g.taken (goals_of b))) (sym goal_is) (Contains-picked g.taken (goals_of b) j 0 taken j_within);
   fewer =
       let few = length-picked g.taken (goals_of b) in
@@ -172,11 +242,13 @@ IsCrowd-closed b boxes goals entries g members told goals_are growing closed lis
 
 -- what holds of the lists of a search holds of the prices and goals that are answered
 pub IsMatch-prices : (b : Numbered) (boxes : List ℕ) (search : Search) (answer : Match) → HasPrices search answer
-    → ((total : ℕ) → total + sum search.v.items ≡ sum search.u.items → ArePrices b boxes search.u.items search.v.items total search.goal_of.items) → IsMatch b boxes answer
+    → ((total : ℕ) → total + sum search.v.items ≡ sum search.u.items → ArePrices b boxes search.u.items search.v.items total search.goal_of.items)
+    → IsMatch b boxes answer
 IsMatch-prices b boxes search (Prices u v total goal_of) (u_is, v_is, goals_are, equal) prices =
     let u_items : u.items ≡ search.u.items = λ i. (u_is i).items in
     let v_items : v.items ≡ search.v.items = λ i. (v_is i).items in
     let goals_items : goal_of.items ≡ search.goal_of.items = λ i. (goals_are i).items in
     subst (λ us. ArePrices b boxes us v.items total goal_of.items) (sym u_items)
-    (subst (λ vs. ArePrices b boxes search.u.items vs total goal_of.items) (sym v_items) (subst (λ goals. ArePrices b boxes search.u.items search.v.items total goals) (sym goals_items) (prices total equal)))
+    (subst (λ vs. ArePrices b boxes search.u.items vs total goal_of.items) (sym v_items)
+    (subst (λ goals. ArePrices b boxes search.u.items search.v.items total goals) (sym goals_items) (prices total equal)))
 IsMatch-prices b boxes search (Crowd members) none prices = absurd none

@@ -1,22 +1,44 @@
 -- Prices bound the cost of every assignment.
-use Rattle.std.proofs.Common.{ℕ, ◌≤◌, ◌<◌, List, All, arith, length, get_or, sum}
+use Rattle.std.proofs.Common.{ℕ, ◌≡◌, ◌≢◌, ◌≤◌, ◌<◌, List, All, AllPairs, arith, length, get_or, sum}
 use Rattle.std.proofs.lemmas.Option.{slice_get-get_or}
 use Rattle.sok_board.specs.Area.{Numbered, goals_of}
+use Rattle.sok_push.specs.Distances.{goal_at}
+use Rattle.sok_push.specs.Pushing.{Chain}
 use Rattle.sok_price.specs.Prices.{Priced, IsAssignment}
 use Rattle.sok_price.proofs.Sums.{prices_of-le, sum-along-le}
 
-pub AtLeast-IsAssignment : (b : Numbered) (boxes u v goal_of distances : List ℕ) (n : ℕ) → Priced b boxes u v n → IsAssignment b boxes goal_of distances → n ≤ sum distances
-AtLeast-IsAssignment b boxes u v goal_of distances n priced assignment =
+-- a goal of its own for each box, by the goals' indices, and a chain to it, by its length
+pub record IsCarrying (b : Numbered) (boxes goal_of lengths : List ℕ) : Type 0 where
+  pub a_goal_a_box : length goal_of ≡ length boxes
+  pub a_length_a_box : length lengths ≡ length boxes
+  pub exist : All (λ goal. goal < length (goals_of b)) goal_of
+  pub apart : AllPairs ◌≢◌ goal_of
+  pub chain : (i : ℕ) → i < length boxes → Chain b (get_or boxes i 0) (goal_at b (get_or goal_of i 0)) (get_or lengths i 0)
+
+pub AtLeast-IsCarrying : (b : Numbered) (boxes u v goal_of lengths : List ℕ) (n : ℕ) → Priced b boxes u v n → IsCarrying b boxes goal_of lengths
+    → n ≤ sum lengths
+AtLeast-IsCarrying b boxes u v goal_of lengths n priced carrying =
     let u_long = priced.a_price_a_box in
     let v_long = priced.a_price_a_goal in
-    let goals_long = assignment.a_goal_a_box in
-    let distances_long = assignment.a_distance_a_box in
-    let exist : All (λ goal. goal < length v) goal_of = λ k d within. let here = assignment.exist k d within in omega (arith, here, v_long) in
-    let along = sum-along-le u v goal_of distances (omega (arith, u_long, goals_long)) (omega (arith, u_long, distances_long)) (λ i within.
+    let goals_long = carrying.a_goal_a_box in
+    let lengths_long = carrying.a_length_a_box in
+    let exist : All (λ goal. goal < length v) goal_of = λ k d within. let here = carrying.exist k d within in omega (arith, here, v_long) in
+    let along = sum-along-le u v goal_of lengths (omega (arith, u_long, goals_long)) (omega (arith, u_long, lengths_long)) (λ i within.
     let inside : i < length boxes = omega (arith, within, u_long) in
     let goal = get_or goal_of i 0 in
-    let there : goal < length (goals_of b) = assignment.exist i 0 (omega (arith, inside, goals_long)) in
-    priced.fair i goal (get_or boxes i 0) (get_or (goals_of b) goal 0) (get_or distances i 0) (slice_get-get_or boxes i 0 inside) (slice_get-get_or (goals_of b) goal 0 there) (assignment.exact i inside).0) in
-    let all = prices_of-le goal_of v assignment.apart exist in
+    let there : goal < length (goals_of b) = carrying.exist i 0 (omega (arith, inside, goals_long)) in
+    priced.fair i goal (get_or boxes i 0) (get_or (goals_of b) goal 0) (get_or lengths i 0) (slice_get-get_or boxes i 0 inside)
+    (slice_get-get_or (goals_of b) goal 0 there) (carrying.chain i inside)) in
+    let all = prices_of-le goal_of v carrying.apart exist in
     let enough = priced.enough in
     omega (arith, along, all, enough)
+
+pub AtLeast-IsAssignment : (b : Numbered) (boxes u v goal_of distances : List ℕ) (n : ℕ) → Priced b boxes u v n → IsAssignment b boxes goal_of distances
+    → n ≤ sum distances
+AtLeast-IsAssignment b boxes u v goal_of distances n priced assignment = AtLeast-IsCarrying b boxes u v goal_of distances n priced (record {
+  a_goal_a_box = assignment.a_goal_a_box;
+  a_length_a_box = assignment.a_distance_a_box;
+  exist = assignment.exist;
+  apart = assignment.apart;
+  chain = λ i within. (assignment.exact i within).0;
+})

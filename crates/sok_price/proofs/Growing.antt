@@ -15,37 +15,47 @@ use Rattle.sok_price.proofs.Marks.{count_of-set, count_of-lt}
 use Rattle.sok_price.proofs.Raising.{AreRaised, AreShort, IsGrowing-raised, tight-near}
 
 -- a nearest goal of lists that are the same
-pub nearest-same : (taken taken' : List Bool) (slacks slacks' : List (Option Slack)) (goals : ℕ) (near : Near) → taken' ≡ taken → slacks' ≡ slacks → length slacks ≡ goals → IsNearest taken' slacks' (length slacks') near → IsNearest taken slacks goals near
+pub nearest-same : (taken taken' : List Bool) (slacks slacks' : List (Option Slack)) (goals : ℕ) (near : Near) → taken' ≡ taken → slacks' ≡ slacks
+    → length slacks ≡ goals → IsNearest taken' slacks' (length slacks') near → IsNearest taken slacks goals near
 nearest-same taken taken' slacks slacks' goals near taken_is slacks_is long nearest =
     subst (λ n. IsNearest taken slacks n near) long
-    (subst (λ (s : List (Option Slack)). IsNearest taken s (length s) near) slacks_is (subst (λ (t : List Bool). IsNearest t slacks' (length slacks') near) taken_is nearest))
+    (subst (λ (s : List (Option Slack)). IsNearest taken s (length s) near) slacks_is
+    (subst (λ (t : List Bool). IsNearest t slacks' (length slacks') near) taken_is nearest))
 
 -- its slack is small
-pub amount-small : (costs : Costs) (g : Growth) (near : Near) → AreCosts costs → IsGrowing (cost_of costs) costs.members costs.goals costs.members g → IsNearest g.taken g.slacks costs.goals near → near.slack.amount ≤ 525312
+pub amount-small : (costs : Costs) (g : Growth) (near : Near) → AreCosts costs → IsGrowing (cost_of costs) costs.members costs.goals costs.members g
+    → IsNearest g.taken g.slacks costs.goals near → near.slack.amount ≤ 1073741824
 amount-small costs g near are growing nearest =
     let is = growing.slack near.goal near.slack nearest.free nearest.slack in
     let exact = is.exact in
     let short = are.short (branch_at g.branches near.slack.from).member near.goal is.pushes is.way in
     let low = growing.near.goals near.goal nearest.free in
-    omega (arith, exact, short, low)
+    let few = growing.few in
+    let bounded = growing.bounded in
+    omega (arith, exact, short, low, few, bounded)
 
-pub are-raised : (costs : Costs) (g : Growth) (near : Near) (after : Growth) → AreCosts costs → IsGrowing (cost_of costs) costs.members costs.goals costs.members g → IsNearest g.taken g.slacks costs.goals near → IsRaised near.slack.amount g after
+pub are-raised : (costs : Costs) (g : Growth) (near : Near) (after : Growth) → AreCosts costs
+    → IsGrowing (cost_of costs) costs.members costs.goals costs.members g → IsNearest g.taken g.slacks costs.goals near → IsRaised near.slack.amount g after
     → AreRaised (cost_of costs) costs.members costs.goals g near after
 are-raised costs g near after are growing nearest raised = record { short = are.short; growing = growing; nearest = nearest; raised = raised }
 
-from-raised : (cost : Costing) (members goals : ℕ) (g : Growth) (near : Near) (after : Growth) → AreRaised cost members goals g near after → near.slack.from < length after.branches
+from-raised : (cost : Costing) (members goals : ℕ) (g : Growth) (near : Near) (after : Growth) → AreRaised cost members goals g near after
+    → near.slack.from < length after.branches
 from-raised cost members goals g near after are =
     let is = are.growing.slack near.goal near.slack are.nearest.free are.nearest.slack in
     let within = is.within in
     let long = ap (λ (h : Growth). length h.branches) are.raised.same in
     omega (arith, within, long)
 
-tight-raised : (cost : Costing) (members goals : ℕ) (g : Growth) (near : Near) (after : Growth) → AreRaised cost members goals g near after → IsTight cost after.u after.v (branch_at after.branches near.slack.from).member near.goal
+tight-raised : (cost : Costing) (members goals : ℕ) (g : Growth) (near : Near) (after : Growth) → AreRaised cost members goals g near after
+    → IsTight cost after.u after.v (branch_at after.branches near.slack.from).member near.goal
 tight-raised cost members goals g near after are =
-    subst (λ (branches : List Branch). IsTight cost after.u after.v (branch_at branches near.slack.from).member near.goal) (sym (ap (λ (h : Growth). h.branches) are.raised.same)) (tight-near cost members goals g near after are)
+    subst (λ (branches : List Branch). IsTight cost after.u after.v (branch_at branches near.slack.from).member near.goal)
+    (sym (ap (λ (h : Growth). h.branches) are.raised.same)) (tight-near cost members goals g near after are)
 
 -- the goal that the prices were raised to is next
-pub IsNext-raised : (cost : Costing) (members goals : ℕ) (g : Growth) (near : Near) (after : Growth) → AreRaised cost members goals g near after → IsNext cost after near
+pub IsNext-raised : (cost : Costing) (members goals : ℕ) (g : Growth) (near : Near) (after : Growth) → AreRaised cost members goals g near after
+    → IsNext cost after near
 IsNext-raised cost members goals g near after are =
     let within = are.nearest.within in
     let v_long = (IsGrowing-raised cost members goals g near after are).matched.a_price_a_goal in
@@ -57,7 +67,8 @@ IsNext-raised cost members goals g near after are =
     }
 
 -- a next goal that no box has is reached
-pub IsReached-next : (cost : Costing) (members goals : ℕ) (g : Growth) (near : Near) → IsGrowing cost members goals members g → IsNext cost g near → get_or g.takers near.goal None ≡ None → IsReached cost g near
+pub IsReached-next : (cost : Costing) (members goals : ℕ) (g : Growth) (near : Near) → IsGrowing cost members goals members g → IsNext cost g near
+    → get_or g.takers near.goal None ≡ None → IsReached cost g near
 IsReached-next cost members goals g near growing next none =
     let within = next.within in
     let v_long = growing.matched.a_price_a_goal in
@@ -70,7 +81,8 @@ IsReached-next cost members goals g near growing next none =
     }
 
 -- a next goal that a box has joins, with the box
-pub IsJoining-next : (cost : Costing) (members goals : ℕ) (g : Growth) (near : Near) (member : ℕ) → AreShort cost → IsGrowing cost members goals members g → IsNext cost g near → get_or g.takers near.goal None ≡ Some member
+pub IsJoining-next : (cost : Costing) (members goals : ℕ) (g : Growth) (near : Near) (member : ℕ) → AreShort cost → IsGrowing cost members goals members g
+    → IsNext cost g near → get_or g.takers near.goal None ≡ Some member
     → IsJoining cost members goals g near member
 IsJoining-next cost members goals g near member short growing next has =
     let within = next.within in
@@ -89,7 +101,8 @@ IsJoining-next cost members goals g near member short growing next has =
     }
 
 -- what is kept of the next goal's taker, from the entry that is read
-pub taker-next : (cost : Costing) (members goals : ℕ) (g : Growth) (near : Near) (entry taker : Option ℕ) → IsGrowing cost members goals members g → IsNext cost g near → entry ≡ get_or g.takers near.goal entry → entry ≡ taker → get_or g.takers near.goal None ≡ taker
+pub taker-next : (cost : Costing) (members goals : ℕ) (g : Growth) (near : Near) (entry taker : Option ℕ) → IsGrowing cost members goals members g
+    → IsNext cost g near → entry ≡ get_or g.takers near.goal entry → entry ≡ taker → get_or g.takers near.goal None ≡ taker
 taker-next cost members goals g near entry taker growing next read is =
     let within = next.within in
     let v_long = growing.matched.a_price_a_goal in
@@ -100,12 +113,17 @@ pub joined-goal_of : (near : Near) (member : ℕ) (g : Growth) → (joined near 
 unfolding joined
 joined-goal_of near member g = refl
 
+pub joined-floor : (near : Near) (member : ℕ) (g : Growth) → (joined near member g).floor ≡ g.floor
+unfolding joined
+joined-floor near member g = refl
+
 joined-taken : (near : Near) (member : ℕ) (g : Growth) → (joined near member g).taken ≡ set g.taken near.goal true
 unfolding joined
 joined-taken near member g = refl
 
 -- fewer goals are outside the tree
-pub fewer-joined : (cost : Costing) (members goals : ℕ) (g : Growth) (near : Near) (member : ℕ) → IsJoining cost members goals g near member → goals - count_of (joined near member g).taken < goals - count_of g.taken
+pub fewer-joined : (cost : Costing) (members goals : ℕ) (g : Growth) (near : Near) (member : ℕ) → IsJoining cost members goals g near member
+    → goals - count_of (joined near member g).taken < goals - count_of g.taken
 fewer-joined cost members goals g near member is =
     let within = is.within in
     let long = is.growing.roomy.taken in

@@ -1,9 +1,10 @@
 -- Marks of boxes and of goals.
-use Rattle.std.proofs.Common.{ℕ, ◌≡◌, ◌≢◌, ◌<◌, ◌≤◌, ◌+◌, ◌∙◌, ◌⊎◌, inl, inr, sym, ap, List, Option, Some, None, Bool, true, false, true≢false, arith, length, get_or, set, cond}
+use Rattle.std.proofs.Common.{ℕ, ◌≡◌, ◌≢◌, ◌<◌, ◌≤◌, ◌+◌, ◌∙◌, ◌⊎◌, inl, inr, refl, sym, ap, List, [], ◌∷◌, Option, Some, None, Bool, true, false, true≢false}
+use Rattle.std.proofs.Common.{arith, length, get_or, set, cond, map, sum_by, suc}
 use Rattle.std.proofs.lemmas.Bool.{cases_lt, cases_eq}
 use Rattle.std.proofs.lemmas.Option.{none-some}
 use Rattle.std.proofs.lemmas.List.{get_or_past, length-set, get_or-set_same, get_or-set_other}
-use Rattle.std.proofs.lemmas.List.Sums.{sum_by-set, count_by-le-length}
+use Rattle.std.proofs.lemmas.List.Sums.{sum_by-cons, sum_by-set, count_by-le-length}
 use Rattle.sok_price.specs.Trees.{is_marked, count_of}
 
 pub marked-within : (marks : List Bool) (k : ℕ) → is_marked marks k ≡ true → k < length marks
@@ -61,3 +62,21 @@ marked-set_clear marks k j within clear = elim (cases_eq j k) [
   | inl same ↦ absurd (true≢false (sym (ap (is_marked (set marks k true)) same ∙ marked-set_same marks k within) ∙ clear))
   | inr other ↦ (other, sym (marked-set_other marks k j other) ∙ clear)
 ]
+
+-- where each is marked the count is the length
+pub count_of-all : (marks : List Bool) → ((k : ℕ) → k < length marks → is_marked marks k ≡ true) → count_of marks ≡ length marks
+count_of-all [] each = refl
+count_of-all (mark ∷ marks) each =
+    let rest = count_of-all marks (λ k within. each (suc k) (omega (arith, within))) in
+    let first : ◌≡◌ {A = ℕ} (cond mark 1 0) 1 = ap (λ (t : Bool). cond t 1 0) (each 0 (omega arith)) in
+    let all = sum_by-cons (λ (t : Bool). cond t 1 0) mark marks in
+    omega (arith, rest, first, all)
+
+-- the marks of a list that a test gives
+pub count_of-map : (p : ℕ → Bool) (xs : List ℕ) → count_of (map p xs) ≡ sum_by (λ x. cond (p x) 1 0) xs
+count_of-map p [] = refl
+count_of-map p (x ∷ xs) =
+    let rest = count_of-map p xs in
+    let left = sum_by-cons (λ (t : Bool). cond t 1 0) (p x) (map p xs) in
+    let right = sum_by-cons (λ x. cond (p x) 1 0) x xs in
+    omega (arith, rest, left, right)

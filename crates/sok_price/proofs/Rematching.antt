@@ -1,5 +1,30 @@
 -- Goals that move up a path of a tree, each to the box before, so that the next box has one too.
-use Rattle.std.proofs.Common.{ℕ, ◌≡◌, ◌≢◌, ◌<◌, ◌≤◌, ◌+◌, ◌∙◌, ◌++◌, ◌⊎◌, inl, inr, refl, sym, ap, subst, List, [], ◌∷◌, All, AllPairs, Contains, arith, length, get_or}
+use Rattle.std.proofs.Common.{
+  ℕ,
+  ◌≡◌,
+  ◌≢◌,
+  ◌<◌,
+  ◌≤◌,
+  ◌+◌,
+  ◌∙◌,
+  ◌++◌,
+  ◌⊎◌,
+  inl,
+  inr,
+  refl,
+  sym,
+  ap,
+  subst,
+  List,
+  [],
+  ◌∷◌,
+  All,
+  AllPairs,
+  Contains,
+  arith,
+  length,
+  get_or,
+}
 use Rattle.std.specs.List.{SwappedAt}
 use Rattle.std.specs.List.Sorted.{IsPermutation}
 use Rattle.std.proofs.lemmas.Bool.{cases_eq, cases_lt}
@@ -27,7 +52,8 @@ stood_apart a b i j i' j' (inr (inr p)) (inl q) same = absurd (p.1 (omega (arith
 stood_apart a b i j i' j' (inr (inr p)) (inr (inl q)) same = absurd (p.0 (omega (arith, q.1, p.2, same)))
 stood_apart a b i j i' j' (inr (inr p)) (inr (inr q)) same = omega (arith, p.2, q.2, same)
 
-stood : (xs ys : List ℕ) (a b d : ℕ) → a < length xs → b < length xs → SwappedAt xs ys a b → (k : ℕ) → k < length xs → (before : ℕ) × (before < length xs) × (get_or ys k d ≡ get_or xs before d) × Stood a b k before
+stood : (xs ys : List ℕ) (a b d : ℕ) → a < length xs → b < length xs → SwappedAt xs ys a b → (k : ℕ) → k < length xs
+    → (before : ℕ) × (before < length xs) × (get_or ys k d ≡ get_or xs before d) × Stood a b k before
 stood xs ys a b d a_within b_within swapped k within = elim (cases_eq k a) [
   | inl at_a ↦ (b, b_within, ap (λ t. get_or ys t d) at_a ∙ swapped.0 d, inl (at_a, refl))
   | inr not_a ↦ elim (cases_eq k b) [
@@ -37,7 +63,7 @@ stood xs ys a b d a_within b_within swapped k within = elim (cases_eq k a) [
 ]
 
 -- elements that are apart stay so when two are exchanged
-swapped-apart : (xs ys : List ℕ) (a b : ℕ) → length ys ≡ length xs → a < length xs → b < length xs → SwappedAt xs ys a b → AllPairs ◌≢◌ xs → AllPairs ◌≢◌ ys
+pub swapped-apart : (xs ys : List ℕ) (a b : ℕ) → length ys ≡ length xs → a < length xs → b < length xs → SwappedAt xs ys a b → AllPairs ◌≢◌ xs → AllPairs ◌≢◌ ys
 swapped-apart xs ys a b long a_within b_within swapped apart i j d before within same =
     let (i', i_within, i_is, i_stood) = stood xs ys a b d a_within b_within swapped i (omega (arith, before, within, long)) in
     let (j', j_within, j_is, j_stood) = stood xs ys a b d a_within b_within swapped j (omega (arith, within, long)) in
@@ -61,14 +87,18 @@ pub record IsPath (cost : Costing) (g : Growth) (at : ℕ) (goal_of : List ℕ) 
   pub waits : (earlier : ℕ) → 0 < earlier → earlier ≤ at → get_or goal_of (branch_at g.branches earlier).member 0 ≡ (branch_at g.branches earlier).goal
 
 -- the next box is given the goal that was reached
-pub IsPath-begun : (cost : Costing) (members goals : ℕ) (g : Growth) (near : Near) → IsMatched cost members goals g.u g.v g.goal_of → IsTree g.goal_of g.branches → IsReached cost g near → IsPath cost g near.slack.from (g.goal_of ++ near.goal ∷ [])
-IsPath-begun cost members goals g near matched tree reached = record {
+pub IsPath-begun : (cost : Costing) (members goals floor : ℕ) (g : Growth) (near : Near) → IsMatched cost members goals floor g.u g.v g.goal_of
+    → IsTree g.goal_of g.branches → IsReached cost g near → IsPath cost g near.slack.from (g.goal_of ++ near.goal ∷ [])
+IsPath-begun cost members goals floor g near matched tree reached = record {
   more = length_push g.goal_of near.goal;
   apart = all_pairs_push ◌≢◌ g.goal_of near.goal matched.apart (λ k d within same. reached.free k within (get_or_default g.goal_of k 0 d within ∙ same));
   kept = λ goal among. Contains-append_left g.goal_of (near.goal ∷ []) goal among;
-  exist = All-push (λ goal. goal < length g.v) g.goal_of near.goal (λ k d within. let exists = matched.exist k d within in let long = matched.a_price_a_goal in omega (arith, exists, long)) reached.within;
-  exact = λ member within. subst (IsTight cost g.u g.v member) (sym (get_or_append_left g.goal_of (near.goal ∷ []) 0 member within)) (matched.exact member within);
-  next = subst (IsTight cost g.u g.v (branch_at g.branches near.slack.from).member) (sym (get_or_push g.goal_of near.goal 0 (length g.goal_of) refl)) reached.tight;
+  exist = All-push (λ goal. goal < length g.v) g.goal_of near.goal
+      (λ k d within. let exists = matched.exist k d within in let long = matched.a_price_a_goal in omega (arith, exists, long)) reached.within;
+  exact = λ member within. subst (IsTight cost g.u g.v member) (sym (get_or_append_left g.goal_of (near.goal ∷ []) 0 member within))
+      (matched.exact member within);
+  next = subst (IsTight cost g.u g.v (branch_at g.branches near.slack.from).member)
+      (sym (get_or_push g.goal_of near.goal 0 (length g.goal_of) refl)) reached.tight;
   waits = λ earlier later before.
       let from = reached.from in
       let within : earlier < length g.branches = omega (arith, before, from) in
@@ -76,8 +106,10 @@ IsPath-begun cost members goals g near matched tree reached = record {
 }
 
 -- the box at a branch takes the next box's goal, and the next box the goal of the branch
-pub IsPath-swapped : (cost : Costing) (g : Growth) (at : ℕ) (goal_of after : List ℕ) → IsTree g.goal_of g.branches → GoesTight cost g.u g.v g.branches → at < length g.branches → 0 < at → IsPath cost g at goal_of
-    → length after ≡ length goal_of → SwappedAt goal_of after (branch_at g.branches at).member (length g.goal_of) → IsPermutation goal_of after → IsPath cost g (branch_at g.branches at).parent after
+pub IsPath-swapped : (cost : Costing) (g : Growth) (at : ℕ) (goal_of after : List ℕ) → IsTree g.goal_of g.branches → GoesTight cost g.u g.v g.branches
+    → at < length g.branches → 0 < at → IsPath cost g at goal_of
+    → length after ≡ length goal_of → SwappedAt goal_of after (branch_at g.branches at).member (length g.goal_of) → IsPermutation goal_of after
+    → IsPath cost g (branch_at g.branches at).parent after
 IsPath-swapped cost g at goal_of after tree tight within later path long swapped permuted =
     let member = (branch_at g.branches at).member in
     let parent = (branch_at g.branches at).parent in
@@ -94,7 +126,8 @@ IsPath-swapped cost g at goal_of after tree tight within later path long swapped
         | inl same ↦ subst (λ k. IsTight cost g.u g.v k (get_or after k 0)) (sym same) (subst (IsTight cost g.u g.v member) (sym (swapped.0 0)) path.next)
         | inr apart ↦ subst (IsTight cost g.u g.v other) (sym (swapped.2 other 0 apart (omega (arith, inside)))) (path.exact other inside)
       ];
-      next = subst (IsTight cost g.u g.v (branch_at g.branches parent).member) (sym (path.waits at later (omega arith)) ∙ sym (swapped.1 0)) (tight at later within);
+      next = subst (IsTight cost g.u g.v (branch_at g.branches parent).member) (sym (path.waits at later (omega arith)) ∙ sym (swapped.1 0))
+          (tight at later within);
       waits = λ k after_root up.
           let here : k < at = omega (arith, up, before) in
           let own = tree.earlier k after_root (omega (arith, here, within)) in
@@ -109,7 +142,8 @@ IsRematched-path cost g goal_of tree path = record {
   kept = path.kept;
   exist = path.exist;
   exact = λ member within. let more = path.more in elim (cases_eq member (length g.goal_of)) [
-    | inl same ↦ subst (λ k. IsTight cost g.u g.v k (get_or goal_of k 0)) (sym same) (subst (λ k. IsTight cost g.u g.v k (get_or goal_of (length g.goal_of) 0)) tree.root path.next)
+    | inl same ↦ subst (λ k. IsTight cost g.u g.v k (get_or goal_of k 0)) (sym same)
+        (subst (λ k. IsTight cost g.u g.v k (get_or goal_of (length g.goal_of) 0)) tree.root path.next)
     | inr other ↦ path.exact member (omega (arith, within, more, other))
   ];
 }

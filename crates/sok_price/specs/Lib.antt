@@ -1,6 +1,9 @@
 pub mod Costs
+pub mod Exchanges
+pub mod Kept
 pub mod Laws
 pub mod Marked
+pub mod Matched
 pub mod Matches
 pub mod Matchings
 pub mod Prices

@@ -1,5 +1,5 @@
 -- Prices of boxes and goals, and a goal of its own for each of the first boxes.
-use Rattle.std.specs.Prelude.{ℕ, ◌≡◌, ◌≢◌, ◌≤◌, ◌<◌, ◌+◌, List, Option, Some, None, All, AllPairs, Contains, length, slice_index, slice_index_or}
+use Rattle.std.specs.Prelude.{ℕ, ◌≡◌, ◌≢◌, ◌≤◌, ◌<◌, ◌+◌, ◌*◌, List, Option, Some, None, All, AllPairs, Contains, length, slice_index, slice_index_or}
 
 -- what each box, by its index, costs at each goal, by its index
 abbrev pub Costing : Type 0
@@ -13,31 +13,31 @@ pub record IsTight (cost : Costing) (u v : List ℕ) (member goal : ℕ) : Type 
 
 -- no box costs more than a goal and the way there
 abbrev pub AreFair : Costing → List ℕ → List ℕ → Type 0
-AreFair cost u v = (member goal pushes : ℕ) → member < length u → goal < length v → cost member goal ≡ Some pushes → slice_index u member ≤ slice_index v goal + pushes
+AreFair cost u v = (member goal pushes : ℕ) → member < length u → goal < length v → cost member goal ≡ Some pushes
+    → slice_index u member ≤ slice_index v goal + pushes
 
 -- the goals that boxes have lie at exact prices
 abbrev pub AreTight : Costing → List ℕ → List ℕ → List ℕ → Type 0
 AreTight cost u v goal_of = (member : ℕ) → member < length goal_of → IsTight cost u v member (slice_index goal_of member)
 
--- prices are fair everywhere, exact on the pairs that are matched, and 0 at goals that are not
-pub record IsMatched (cost : Costing) (members goals : ℕ) (u v goal_of : List ℕ) : Type 0 where
+-- prices are fair everywhere, exact on the pairs that are matched, and at most a floor at goals that are not
+pub record IsMatched (cost : Costing) (members goals floor : ℕ) (u v goal_of : List ℕ) : Type 0 where
   pub a_price_a_box : length u ≡ members
   pub a_price_a_goal : length v ≡ goals
   pub exist : All (λ goal. goal < goals) goal_of
   pub apart : AllPairs ◌≢◌ goal_of
   pub fair : AreFair cost u v
   pub exact : AreTight cost u v goal_of
-  pub idle : (goal : ℕ) → goal < goals → (Contains goal_of goal → ⊥) → slice_index v goal ≡ 0
+  pub idle : (goal : ℕ) → goal < goals → (Contains goal_of goal → ⊥) → slice_index v goal ≤ floor
 
--- prices between two searches: those of a tree are at most 1,024 apart for each of its goals, and the goal at the end costs nothing
-pub record AreLow (u v : List ℕ) : Type 0 where
-  pub boxes : All (λ price. price ≤ 262144) u
-  pub goals : All (λ price. price ≤ 262144) v
+-- prices between two searches: those of a tree are at most 1,024 apart for each of its goals, and the goal at the end costs no more than the floor
+abbrev pub low : ℕ → ℕ → ℕ
+low members floor = floor + 2048 * members
 
--- prices at all times: while a tree grows they are as much above the price of the goal that it reached last
-pub record AreHigh (u v : List ℕ) : Type 0 where
-  pub boxes : All (λ price. price ≤ 524288) u
-  pub goals : All (λ price. price ≤ 524288) v
+-- no price is above a limit
+pub record AreWithin (limit : ℕ) (u v : List ℕ) : Type 0 where
+  pub boxes : All (λ price. price ≤ limit) u
+  pub goals : All (λ price. price ≤ limit) v
 
 -- what is told of a goal: which of the boxes before an end has it, and None where none does
 abbrev pub TellsTaker : List ℕ → ℕ → ℕ → Option ℕ → Type 0

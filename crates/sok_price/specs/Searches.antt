@@ -1,14 +1,39 @@
 -- A search for a goal for one more box: a tree of boxes and goals that grows from the box, while prices rise.
-use Rattle.std.specs.Prelude.{ℕ, ◌≡◌, ◌≢◌, ◌≤◌, ◌<◌, ◌+◌, ◌-◌, List, [], ◌∷◌, ◌++◌, Option, Some, None, Bool, true, false, All, AllPairs, Contains, length, replicate, slice_index, slice_set, if◌then◌else◌}
+use Rattle.std.specs.Prelude.{
+  vec_capacity,
+  ℕ,
+  ◌≡◌,
+  ◌≢◌,
+  ◌≤◌,
+  ◌<◌,
+  ◌+◌,
+  ◌-◌,
+  List,
+  [],
+  ◌∷◌,
+  ◌++◌,
+  Option,
+  Some,
+  None,
+  Bool,
+  true,
+  false,
+  All,
+  AllPairs,
+  Contains,
+  length,
+  replicate,
+  slice_index,
+  slice_set,
+  if◌then◌else◌,
+}
 use Rattle.sok_price.specs.declared.search.Branch.{Branch}
 use Rattle.sok_price.specs.declared.search.Search.{Search}
-use Rattle.sok_price.specs.declared.search.Found.{Found}
-use Rattle.sok_price.specs.declared.search.Found.TheVariants.{Whole, Short}
 use Rattle.sok_price.specs.declared.slacks.Slack.{Slack}
 use Rattle.sok_price.specs.declared.slacks.Near.{Near}
-use Rattle.sok_price.specs.Matchings.{Costing, IsTight, AreTight, IsMatched, AreLow, AreHigh, TellTakers}
+use Rattle.sok_price.specs.Matchings.{Costing, IsTight, AreTight, IsMatched, low, AreWithin, TellTakers}
 use Rattle.sok_price.specs.Slacks.{lowered}
-use Rattle.sok_price.specs.Trees.{branch_at, is_marked, slack_at, IsTree, GoesTight, IsMet, AreMarked, IsSlack, BoundsSlack, AreNear}
+use Rattle.sok_price.specs.Trees.{branch_at, count_of, is_marked, slack_at, IsTree, GoesTight, IsMet, AreMarked, IsSlack, BoundsSlack, AreNear}
 
 -- prices of boxes and goals, the goals of the first boxes, and a search for a goal for the next box
 pub record Growth : Type 0 where
@@ -20,6 +45,7 @@ pub record Growth : Type 0 where
   pub taken : List Bool
   pub slacks : List (Option Slack)
   pub takers : List (Option ℕ)
+  pub floor : ℕ
 
 abbrev pub growth_of : Search → Growth
 growth_of search = record {
@@ -31,7 +57,17 @@ growth_of search = record {
   taken = search.taken.items;
   slacks = search.slacks.items;
   takers = search.takers.items;
+  floor = search.floor;
 }
+
+-- room for a tree of all boxes and for a goal for each
+pub record HasRoom (members : ℕ) (search : Search) : Type 0 where
+  pub tree : members ≤ vec_capacity search.branches
+  pub matching : members ≤ vec_capacity search.goal_of
+
+-- room that a search had is there still
+abbrev pub KeepsRoom : Search → Search → Type 0
+KeepsRoom before after = (members : ℕ) → HasRoom members before → HasRoom members after
 
 -- scratch lists with an entry for each box or goal
 pub record IsRoomy (members goals : ℕ) (g : Growth) : Type 0 where
@@ -42,19 +78,22 @@ pub record IsRoomy (members goals : ℕ) (g : Growth) : Type 0 where
 
 -- a search for a goal for the next box, of whose tree each box but one is looked at
 pub record IsGrowing (cost : Costing) (members goals unseen : ℕ) (g : Growth) : Type 0 where
-  pub matched : IsMatched cost members goals g.u g.v g.goal_of
+  pub matched : IsMatched cost members goals g.floor g.u g.v g.goal_of
   pub roomy : IsRoomy members goals g
-  pub few : members ≤ 128
+  pub few : members ≤ 1024
+  pub bounded : g.floor ≤ 536870912
   pub more : length g.goal_of < members
   pub tells : TellTakers g.goal_of g.takers
   pub marked : AreMarked g.goal_of g.met g.taken
   pub tree : IsTree g.goal_of g.branches
+  pub counted : length g.branches ≡ count_of g.met
   pub met : IsMet g.met g.branches
   pub tight : GoesTight cost g.u g.v g.branches
   pub slack : (goal : ℕ) (slack : Slack) → is_marked g.taken goal ≡ false → slack_at g.slacks goal ≡ Some slack → IsSlack cost g.u g.v g.branches goal slack
-  pub bounds : (member goal pushes : ℕ) → member ≢ unseen → is_marked g.met member ≡ true → goal < goals → is_marked g.taken goal ≡ false → cost member goal ≡ Some pushes → BoundsSlack g.u g.v g.slacks member goal pushes
-  pub near : AreNear g.u g.v g.goal_of g.met g.taken
-  pub high : AreHigh g.u g.v
+  pub bounds : (member goal pushes : ℕ) → member ≢ unseen → is_marked g.met member ≡ true → goal < goals → is_marked g.taken goal ≡ false
+      → cost member goal ≡ Some pushes → BoundsSlack g.u g.v g.slacks member goal pushes
+  pub near : AreNear (low members g.floor) g.u g.v g.goal_of g.met g.taken
+  pub high : AreWithin 1073741824 g.u g.v
 
 -- the box that joined a tree last
 abbrev pub newest : Growth → ℕ
@@ -62,7 +101,7 @@ newest g = (branch_at g.branches (length g.branches - 1)).member
 
 -- a search that has begun: a tree of the next box alone, of which nothing is looked at
 pub record IsBegun (g after : Growth) : Type 0 where
-  pub same : after ≡ record after { u = g.u; v = g.v; goal_of = g.goal_of }
+  pub same : after ≡ record after { u = g.u; v = g.v; goal_of = g.goal_of; floor = g.floor }
   pub branches : after.branches ≡ record { member = length g.goal_of; goal = 0; parent = 0 } ∷ []
   pub met : after.met ≡ slice_set (replicate (length g.met) false) (length g.goal_of) true
   pub taken : after.taken ≡ replicate (length g.taken) false
@@ -126,11 +165,13 @@ pub record IsRematched (cost : Costing) (g : Growth) (goal_of : List ℕ) : Type
 
 -- prices and goals of the first boxes, with room for a search for the next
 pub record IsReady (cost : Costing) (members goals : ℕ) (g : Growth) : Type 0 where
-  pub matched : IsMatched cost members goals g.u g.v g.goal_of
-  pub low : AreLow g.u g.v
+  pub matched : IsMatched cost members goals g.floor g.u g.v g.goal_of
+  pub bounded : g.floor ≤ 536870912
+  pub low : AreWithin (low members g.floor) g.u g.v
   pub roomy : IsRoomy members goals g
 
 -- how it ends for all boxes: with a goal for each, or with a tree of boxes that reach too few
-abbrev pub TellsFound : Costing → ℕ → ℕ → Found → Type 0
-TellsFound cost members goals (Whole search) = IsReady cost members goals (growth_of search) × (length search.goal_of.items ≡ members)
-TellsFound cost members goals (Short search) = IsGrowing cost members goals members (growth_of search) × IsClosed (growth_of search)
+abbrev pub TellsFound : Costing → ℕ → ℕ → ℕ → Search → Bool → Type 0
+TellsFound cost members goals floor search true = IsReady cost members goals (growth_of search) × (length search.goal_of.items ≡ members)
+    × (search.floor ≡ floor)
+TellsFound cost members goals floor search false = IsGrowing cost members goals members (growth_of search) × IsClosed (growth_of search)

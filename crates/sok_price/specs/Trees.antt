@@ -1,5 +1,25 @@
 -- A tree of boxes and goals that begins at a box without a goal, and goes from a box to a goal at an exact price and on to the box that has it.
-use Rattle.std.specs.Prelude.{ℕ, ◌≡◌, ◌≢◌, ◌≤◌, ◌<◌, ◌+◌, ◌*◌, List, Option, Some, None, Bool, true, false, Contains, count_by, length, slice_index, slice_index_or}
+use Rattle.std.specs.Prelude.{
+  ℕ,
+  ◌≡◌,
+  ◌≢◌,
+  ◌≤◌,
+  ◌<◌,
+  ◌+◌,
+  ◌*◌,
+  List,
+  Option,
+  Some,
+  None,
+  Bool,
+  true,
+  false,
+  Contains,
+  count_by,
+  length,
+  slice_index,
+  slice_index_or,
+}
 use Rattle.sok_price.specs.declared.search.Branch.{Branch}
 use Rattle.sok_price.specs.declared.slacks.Slack.{Slack}
 use Rattle.sok_price.specs.Matchings.{Costing, IsTight}
@@ -27,7 +47,8 @@ pub record IsTree (goal_of : List ℕ) (branches : List Branch) : Type 0 where
 
 -- each branch goes along an exact price from its parent's box to its goal
 abbrev pub GoesTight : Costing → List ℕ → List ℕ → List Branch → Type 0
-GoesTight cost u v branches = (at : ℕ) → 0 < at → at < length branches → IsTight cost u v (branch_at branches (branch_at branches at).parent).member (branch_at branches at).goal
+GoesTight cost u v branches = (at : ℕ) → 0 < at → at < length branches
+    → IsTight cost u v (branch_at branches (branch_at branches at).parent).member (branch_at branches at).goal
 
 -- the boxes of a tree are marked
 abbrev pub IsMet : List Bool → List Branch → Type 0
@@ -54,8 +75,8 @@ pub record BoundsSlack (u v : List ℕ) (slacks : List (Option Slack)) (member g
   pub bound : slice_index u member + slack.amount ≤ slice_index v goal + pushes
 
 -- prices of marked boxes are not far from that of the next box, and what is not marked has kept its price
-pub record AreNear (u v goal_of : List ℕ) (met taken : List Bool) : Type 0 where
+pub record AreNear (limit : ℕ) (u v goal_of : List ℕ) (met taken : List Bool) : Type 0 where
   pub above : (member : ℕ) → is_marked met member ≡ true → slice_index u member ≤ slice_index u (length goal_of) + 1024 * count_of taken
   pub below : (member : ℕ) → is_marked met member ≡ true → slice_index u (length goal_of) ≤ slice_index u member + 1024 * count_of taken
-  pub boxes : (member : ℕ) → is_marked met member ≡ false → slice_index u member ≤ 262144
-  pub goals : (goal : ℕ) → is_marked taken goal ≡ false → slice_index v goal ≤ 262144
+  pub boxes : (member : ℕ) → is_marked met member ≡ false → slice_index u member ≤ limit
+  pub goals : (goal : ℕ) → is_marked taken goal ≡ false → slice_index v goal ≤ limit

@@ -1,12 +1,13 @@
 //! The least assignment of goals to boxes.
 
-ghost use Rattle.std.specs.Prelude.{◌≡◌, ◌<◌, ◌≤◌, ◌+◌, ◌^◌, All, IfOk, length, sum};
-ghost use Rattle.sok_board.specs.Area.{IsAccepted, goals_of};
+ghost use Rattle.std.specs.Prelude.{ℕ, List, ◌≡◌, ◌<◌, ◌≤◌, ◌+◌, ◌^◌, All, IfOk, length, sum};
+ghost use Rattle.sok_board.specs.Area.{IsAccepted, Numbered, goals_of};
+ghost use Rattle.sok_price.specs.Costs.{AreCosts, AreOfBoxes};
 ghost use Rattle.sok_price.specs.Matches.{IsMatch, HasPrices};
 ghost use Rattle.sok_price.specs.Marked.{ListsMarked};
 
 use crate::costs::Costs;
-use crate::search::{Found, Search, match_all};
+use crate::search::{Search, match_all};
 use sok_board::area::Sq;
 use sok_push::tables::Tables;
 use sok_region::box_set::BoxSet;
@@ -28,7 +29,7 @@ pub enum Match {
     },
     /// Boxes by their indices, rising, that reach fewer goals than they are (Hall's condition).
     Crowd {
-        members: Vec<usize>,
+        members: Vec<u32>,
     },
 }
 
@@ -55,13 +56,14 @@ fn total(u: &[u32], v: &[u32]) -> u32
 }
 
 /// The indices of the marks that are set, rising.
-fn marked(alloc: Global, marks: &[bool]) -> Result<Vec<usize>, Memory>
+fn marked(alloc: Global, marks: &[bool]) -> Result<Vec<u32>, Memory>
+    requires { length marks.now ≤ 1024 }
     ensures { IfOk result (λ members. ListsMarked marks.now (length marks.now) members.items) }
 {
     let mut members = Vec::new(alloc);
     for (member, mark) in marks.iter().enumerate() {
         if *mark {
-            members.push(member)?;
+            members.push(member as u32)?;
         }
     }
     Ok(members)
@@ -76,13 +78,23 @@ fn assign_to(alloc: Global, tables: &Tables, goals: usize, boxes: &[Sq]) -> Resu
     ensures { IfOk result (IsMatch tables.now.board boxes.now) }
 {
     let costs = Costs::of(alloc, tables, goals, boxes)?;
-    let search = Search::new(alloc, boxes.len(), goals)?;
-    match match_all(&costs, search)? {
-        Found::Whole(search) => Ok(priced(search)),
-        Found::Short(search) => Ok(Match::Crowd {
-            members: marked(alloc, &search.met)?,
-        }),
+    assign_rows(alloc, &costs)
+}
+
+/// The least assignment of goals to the boxes that some costs are of, or a crowd of them.
+pub(crate) fn assign_rows(alloc: Global, costs: &Costs) -> Result<Match, Memory>
+    requires costs { AreCosts costs.now }
+    requires few { costs.now.members ≤ 128 }
+    ensures { (b : Numbered) (boxes : List ℕ) → AreOfBoxes b boxes costs.now
+        → IfOk result (IsMatch b boxes) }
+{
+    let mut search = Search::new(alloc, costs.members, costs.goals)?;
+    if match_all(costs, &mut search) {
+        return Ok(priced(search));
     }
+    Ok(Match::Crowd {
+        members: marked(alloc, &search.met)?,
+    })
 }
 
 /// The prices and goals of a search that has a goal for each box.
@@ -101,6 +113,7 @@ fn priced(search: Search) -> Match
         taken: _,
         slacks: _,
         takers: _,
+        floor: _,
     } = search;
     Match::Prices {
         u,

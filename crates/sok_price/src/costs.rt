@@ -1,19 +1,36 @@
 //! What it costs to bring each box to each goal.
 
-ghost use Rattle.std.specs.Prelude.{◌≡◌, ◌<◌, ◌≤◌, ◌+◌, ◌*◌, All, IfOk, length};
+ghost use Rattle.std.specs.Prelude.{
+  ℕ,
+  ◌≡◌,
+  ◌<◌,
+  ◌≤◌,
+  ◌+◌,
+  ◌*◌,
+  ◌++◌,
+  All,
+  IfOk,
+  Some,
+  length,
+  replicate,
+  slice_index,
+};
 ghost use Rattle.sok_board.specs.Area.{IsAccepted, goals_of};
-ghost use Rattle.sok_price.specs.Costs.{cost_of, AreCosts, AreTold, IsRow};
+ghost use Rattle.sok_price.specs.Kept.{AreKept};
+ghost use Rattle.sok_price.specs.Costs.{cost_in, cost_of, AreCosts, TellCosts, IsRow};
 
 use sok_board::area::Sq;
 use sok_push::tables::Tables;
 use sok_rules::fault::Memory;
 use std::alloc::Global;
 
-/// The distance of each box to each goal, box by box, so that the goals of a box lie side by side.
+/// The costs of each box at each goal: the row of entries that it has, so that the goals of a box
+/// lie side by side.
 #[derive(Drop)]
 pub(crate) struct Costs {
     pub(crate) members: usize,
     pub(crate) goals: usize,
+    pub(crate) rows: Vec<usize>,
     pub(crate) entries: Vec<Option<u16>>,
 }
 
@@ -32,7 +49,8 @@ impl Costs {
         ensures members { IfOk result (λ costs. costs.members ≡ length boxes.now) }
         ensures goals { IfOk result (λ costs. costs.goals ≡ goals) }
         ensures costs { IfOk result AreCosts }
-        ensures told { IfOk result (λ costs. AreTold tables.now.board boxes.now goals (length boxes.now) costs.entries.items) }
+        ensures told { IfOk result
+            (λ costs. TellCosts tables.now.board boxes.now goals (cost_of costs)) }
     {
         let mut entries = Vec::new(alloc);
         for square in boxes {
@@ -41,18 +59,69 @@ impl Costs {
         Ok(Costs {
             members: boxes.len(),
             goals,
+            rows: places(alloc, boxes.len())?,
+            entries,
+        })
+    }
+
+    /// The distances of each square of a board to each goal, and a last row that costs nothing. All
+    /// boxes have the last row.
+    pub(crate) fn tabled(
+        alloc: Global,
+        tables: &Tables,
+        goals: usize,
+        squares: usize,
+    ) -> Result<Costs, Memory>
+        requires accepted { IsAccepted tables.now.board }
+        requires goals { goals ≡ length (goals_of tables.now.board) }
+        requires few { goals ≤ 1024 }
+        requires squares { squares ≡ length tables.now.board.area }
+        ensures costs { IfOk result AreCosts }
+        ensures kept { IfOk result (AreKept tables.now.board) }
+    {
+        let mut entries = Vec::new(alloc);
+        for square in 0..squares {
+            entries = with_row(tables, goals, square as Sq, entries)?;
+        }
+        let entries = with_spare(goals, entries)?;
+        Ok(Costs {
+            members: goals,
+            goals,
+            rows: spare_rows(alloc, goals, squares)?,
             entries,
         })
     }
 
     /// The cost of bringing a box to a goal, both by their indices. None where no pushes do.
-    #[tactic(auto, unfolding(crate::specs::Costs::cost_in))]
     pub(crate) fn at(&self, member: usize, goal: usize) -> Option<u16>
-        requires { member * self.now.goals + goal < length self.now.entries.items }
+        requires costs { AreCosts self.now }
+        requires member { member < self.now.members }
+        requires goal { goal < self.now.goals }
         ensures { result ≡ cost_of self.now member goal }
     {
-        self.entries[member * self.goals + goal]
+        self.entry(self.rows[member], goal)
     }
+
+    /// The entry of a row and a goal.
+    #[tactic(auto, unfolding(crate::specs::Costs::cost_in))]
+    fn entry(&self, row: usize, goal: usize) -> Option<u16>
+        requires { row * self.now.goals + goal < length self.now.entries.items }
+        ensures { result ≡ cost_in self.now.goals self.now.entries.items row goal }
+    {
+        self.entries[row * self.goals + goal]
+    }
+}
+
+/// The first numbers in order.
+fn places(alloc: Global, count: usize) -> Result<Vec<usize>, Memory>
+    ensures whole { IfOk result (λ rows. length rows.items ≡ count) }
+    ensures each { IfOk result (λ rows. (k : ℕ) → k < count → slice_index rows.items k ≡ k) }
+{
+    let mut rows = Vec::with_capacity(alloc, count)?;
+    for k in 0..count {
+        rows.push(k)?;
+    }
+    Ok(rows)
 }
 
 /// The entries with the distances of one more square.
@@ -69,6 +138,23 @@ fn with_row(
 {
     for goal in 0..goals {
         entries.push(tables.dist(goal, square))?;
+    }
+    Ok(entries)
+}
+
+/// As many spare rows as there are goals.
+fn spare_rows(alloc: Global, goals: usize, squares: usize) -> Result<Vec<usize>, Memory>
+    ensures { IfOk result (λ rows. rows.items ≡ replicate goals squares) }
+{
+    Ok(vec![in alloc; squares; goals]?)
+}
+
+/// The entries with a row that costs nothing.
+fn with_spare(goals: usize, mut entries: Vec<Option<u16>>) -> Result<Vec<Option<u16>>, Memory>
+    ensures { IfOk result (λ after. after.items ≡ entries.items ++ replicate goals (Some 0)) }
+{
+    for _ in 0..goals {
+        entries.push(Some(0))?;
     }
     Ok(entries)
 }

@@ -1,6 +1,22 @@
 //! How much the prices of a tree may rise before a goal joins it.
 
-ghost use Rattle.std.specs.Prelude.{ℕ, ◌≡◌, ◌<◌, ◌≤◌, ◌+◌, List, Option, Bool, All, IfSome, None, false, length, slice_index, slice_index_or};
+ghost use Rattle.std.specs.Prelude.{
+  ℕ,
+  ◌≡◌,
+  ◌<◌,
+  ◌≤◌,
+  ◌+◌,
+  List,
+  Option,
+  Bool,
+  All,
+  IfSome,
+  None,
+  false,
+  length,
+  slice_index,
+  slice_index_or,
+};
 ghost use Rattle.sok_price.specs.Costs.{cost_of, AreCosts};
 ghost use Rattle.sok_price.specs.Slacks.{closer, lowered, smaller, TellsNearest};
 
@@ -47,7 +63,7 @@ fn closer(
     from: usize,
     slack: Option<Slack>,
 ) -> Option<Slack>
-    requires small { goal_price ≤ 524288 }
+    requires small { goal_price ≤ 1073741824 }
     requires fair { IfSome cost (λ pushes. price ≤ goal_price + pushes) }
     ensures { result ≡ closer cost price goal_price from slack }
 {
@@ -72,11 +88,15 @@ pub(crate) fn look(
     requires slacks { length slacks.old.items ≡ costs.now.goals }
     requires costs { AreCosts costs.now }
     requires member { member < costs.now.members }
-    requires small { All (λ goal_price. goal_price ≤ 524288) prices.now }
-    requires fair { (goal pushes : ℕ) → goal < length prices.now → cost_of costs.now member goal ≡ Some pushes → price ≤ slice_index prices.now goal + pushes }
+    requires small { All (λ goal_price. goal_price ≤ 1073741824) prices.now }
+    requires fair { (goal pushes : ℕ) → goal < length prices.now
+        → cost_of costs.now member goal ≡ Some pushes
+        → price ≤ slice_index prices.now goal + pushes }
     ensures whole { length slacks.new.items ≡ length slacks.old.items }
-    ensures closer { (goal : ℕ) → goal < length slacks.new.items → slice_index_or taken.now goal false ≡ false
-        → slice_index_or slacks.new.items goal None ≡ closer (cost_of costs.now member goal) price (slice_index prices.now goal) from (slice_index_or slacks.old.items goal None) }
+    ensures closer { (goal : ℕ) → goal < length slacks.new.items
+        → slice_index_or taken.now goal false ≡ false
+        → slice_index_or slacks.new.items goal None ≡ closer (cost_of costs.now member goal) price
+        (slice_index prices.now goal) from (slice_index_or slacks.old.items goal None) }
 {
     for goal in 0..prices.len() {
         if !taken[goal] {
@@ -93,8 +113,10 @@ pub(crate) fn look(
 
 /// The nearer of two goals: the second if it is nearer than the first.
 fn nearer(best: Option<Near>, goal: usize, slack: Option<Slack>) -> Option<Near>
-    ensures { (taken : List Bool) (slacks : List (Option Slack)) → slice_index_or taken goal false ≡ false
-        → slice_index_or slacks goal None ≡ slack → TellsNearest taken slacks goal best → TellsNearest taken slacks (goal + 1) result }
+    ensures { (taken : List Bool) (slacks : List (Option Slack))
+        → slice_index_or taken goal false ≡ false
+        → slice_index_or slacks goal None ≡ slack → TellsNearest taken slacks goal best
+        → TellsNearest taken slacks (goal + 1) result }
 {
     match (best, slack) {
         (_, None) => best,
@@ -140,7 +162,9 @@ fn lowered(by: u32, slack: Option<Slack>) -> Option<Slack>
 /// The slacks after the prices of the tree are raised.
 pub(crate) fn lower(slacks: &mut Vec<Option<Slack>>, by: u32)
     ensures whole { length slacks.new.items ≡ length slacks.old.items }
-    ensures lowered { (goal : ℕ) → slice_index_or slacks.new.items goal None ≡ lowered by (slice_index_or slacks.old.items goal None) }
+    ensures lowered { (goal : ℕ)
+        → slice_index_or slacks.new.items goal None ≡ lowered by
+        (slice_index_or slacks.old.items goal None) }
 {
     for goal in 0..slacks.len() {
         slacks[goal] = lowered(by, slacks[goal]);

@@ -1,4 +1,5 @@
 pub mod Filled
+pub mod Premises
 pub mod Pulls
 pub mod Pushes
 pub mod PushingLaws

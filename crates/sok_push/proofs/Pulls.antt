@@ -27,4 +27,5 @@ lone_push-pull b area d s t within is =
 pub pull-lone_push : (b : Numbered) → IsArea b.rows b.area → (d : Dir) (s t : ℕ) → s < length b.area → lone_push b d s ≡ Some t → pull b d t ≡ Some s
 pull-lone_push b area d s t within is =
     option_and_then_some (λ _. beside b s d) (beside b s (opposite d)) t is (λ k behind on.
-    ap (option_and_then (λ u. option_and_then (λ _. Some u) (beside b u (opposite d)))) (beside-back b area d s t within on) ∙ ap (option_and_then (λ _. Some s)) behind)
+    ap (option_and_then (λ u. option_and_then (λ _. Some u) (beside b u (opposite d)))) (beside-back b area d s t within on)
+    ∙ ap (option_and_then (λ _. Some s)) behind)

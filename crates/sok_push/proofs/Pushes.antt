@@ -9,7 +9,8 @@ use Rattle.sok_board.proofs.Positions.{known_box}
 use Rattle.sok_push.specs.Pushes.{MovesAlone, PushesAlone, PushesKnownBoxes}
 use Rattle.sok_push.proofs.PushingLaws.{lone_push-push}
 
-lone_push-step : (b : Numbered) → IsArea b.rows b.area → (d : Dir) (x : Position) (a : After) → InArea b.rows x.man → IsPush b.rows d x a → MovesAlone b d x a.position
+lone_push-step : (b : Numbered) → IsArea b.rows b.area → (d : Dir) (x : Position) (a : After) → InArea b.rows x.man → IsPush b.rows d x a
+    → MovesAlone b d x a.position
 lone_push-step b area d x a inside push =
     let lone = lone_push-push b area d x.man push.from push.to inside push.ahead push.from_open push.beyond push.to_open in
     record {

@@ -27,7 +27,8 @@ pub record IsLonePush (b : Numbered) (d : Dir) (man q t : Spot) : Type 0 where
   pub goes : lone_push b d from ≡ Some to
 
 -- a push in the area goes as its box would alone
-pub lone_push-push : (b : Numbered) → IsArea b.rows b.area → (d : Dir) (man q t : Spot) → InArea b.rows man → next d man ≡ Some q → holds is_open b.rows q ≡ true
+pub lone_push-push : (b : Numbered) → IsArea b.rows b.area → (d : Dir) (man q t : Spot) → InArea b.rows man → next d man ≡ Some q
+    → holds is_open b.rows q ≡ true
     → next d q ≡ Some t → holds is_open b.rows t ≡ true → IsLonePush b d man q t
 lone_push-push b area d man q t inside ahead opened beyond opened_beyond =
     let q_inside = InArea-next b.rows d man q inside ahead opened in

@@ -1,7 +1,7 @@
 -- The distances of a board's squares to its goals, goal by goal.
-use Rattle.std.specs.Prelude.{ℕ, ◌≡◌, ◌<◌, ◌≤◌, ◌+◌, ◌*◌, List, Option, None, IfSome, length, slice_index, slice_index_or}
+use Rattle.std.specs.Prelude.{ℕ, ◌≡◌, ◌<◌, ◌≤◌, ◌+◌, ◌*◌, List, Bool, false, IsTrue, ◌↔◌, Option, None, IfSome, length, slice_index, slice_index_or}
 use Rattle.sok_board.specs.Area.{Numbered, IsAccepted, goals_of}
-use Rattle.sok_push.specs.Pushing.{TellsDistance}
+use Rattle.sok_push.specs.Pushing.{IsStuck, TellsDistance}
 
 -- a board, and for each of its goals in turn an entry for each of its squares
 pub record Distances : Type 0 where
@@ -22,8 +22,14 @@ pub record IsFilled (goals : ℕ) (t : Distances) : Type 0 where
   pub exact : (goal square : ℕ) → goal < goals → square < length t.board.area → TellsDistance t.board (goal_at t.board goal) square (distance_at t goal square)
   pub bounded : (goal square : ℕ) → goal < goals → square < length t.board.area → IfSome (distance_at t goal square) (λ pushes. pushes ≤ length t.board.area)
 
--- what tables keep of an accepted level: how many goals it has, and an entry for each goal and square
-pub record IsKept (goals : ℕ) (t : Distances) : Type 0 where
+-- an entry for each of the first squares, which tells whether a box there reaches no goal
+pub record TellsStuck (b : Numbered) (squares : ℕ) (stuck : List Bool) : Type 0 where
+  pub whole : length stuck ≡ squares
+  pub exact : (square : ℕ) → square < squares → IsTrue (slice_index_or stuck square false) ↔ IsStuck b square
+
+-- what tables keep of an accepted level: how many goals it has, an entry for each goal and square, and which squares are stuck
+pub record IsKept (goals : ℕ) (stuck : List Bool) (t : Distances) : Type 0 where
   pub accepted : IsAccepted t.board
   pub count : goals ≡ length (goals_of t.board)
   pub filled : IsFilled goals t
+  pub told : TellsStuck t.board (length t.board.area) stuck

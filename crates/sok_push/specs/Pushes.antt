@@ -19,10 +19,12 @@ pub record MovesAlone (b : Numbered) (d : Dir) (x y : Position) : Type 0 where
 
 -- so it is of each push with the man in the area
 abbrev pub PushesAlone : Numbered → Type 0
-PushesAlone b = (x : Position) (d : Dir) (after : After) → InArea b.rows x.man → step b.rows d x ≡ Some after → after.pushed ≡ true → MovesAlone b d x after.position
+PushesAlone b = (x : Position) (d : Dir) (after : After) → InArea b.rows x.man → step b.rows d x ≡ Some after → after.pushed ≡ true
+    → MovesAlone b d x after.position
 
 -- where the boxes of the area are known, the box that is pushed is one of them
 abbrev pub PushesKnownBoxes : Numbered → Type 0
 PushesKnownBoxes b =
-    (player : ℕ) (boxes : List ℕ) (d : Dir) (after : After) → player < length b.area → All (λ n. n < length b.area) boxes → step b.rows d (position_of b player boxes) ≡ Some after → after.pushed ≡ true
+    (player : ℕ) (boxes : List ℕ) (d : Dir) (after : After) → player < length b.area → All (λ n. n < length b.area) boxes
+    → step b.rows d (position_of b player boxes) ≡ Some after → after.pushed ≡ true
     → (push : MovesAlone b d (position_of b player boxes) after.position) × Contains boxes push.from

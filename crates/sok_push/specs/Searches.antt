@@ -1,5 +1,6 @@
 -- A search outwards from a goal, by pushes in reverse: squares are found at a distance, and then those from which a push leads there.
-use Rattle.std.specs.Prelude.{ℕ, ◌≡◌, ◌<◌, ◌≤◌, ◌+◌, ◌⊎◌, List, [], ◌∷◌, ◌++◌, Option, Some, None, All, Contains, is_some, not, count_by, length, slice_index_or, slice_set, if◌then◌else◌}
+use Rattle.std.specs.Prelude.{ℕ, ◌≡◌, ◌<◌, ◌≤◌, ◌+◌, ◌⊎◌, List, [], ◌∷◌, ◌++◌, Option, Some, None, All, Contains, is_some, not, count_by, length}
+use Rattle.std.specs.Prelude.{slice_index_or, slice_set, if◌then◌else◌}
 use Rattle.sok_rules.specs.declared.cell.Dir.{Dir}
 use Rattle.sok_board.specs.Area.{Numbered}
 use Rattle.sok_push.specs.declared.search.Search.{Search}
@@ -66,7 +67,8 @@ pub record IsSearching (b : Numbered) (n : ℕ) (f : Found) : Type 0 where
   pub bounded : (x m : ℕ) → distance_in f x ≡ Some m → m ≤ n + 1
   pub waiting : All (λ x. distance_in f x ≡ Some n) f.pending
   pub later : All (λ x. distance_in f x ≡ Some (n + 1)) f.beyond
-  pub closed : (x m : ℕ) (d : Dir) (s : ℕ) → s < length b.area → distance_in f x ≡ Some m → lone_push b d s ≡ Some x → Contains f.pending x ⊎ (Contains f.beyond x ⊎ IsNear f s (m + 1))
+  pub closed : (x m : ℕ) (d : Dir) (s : ℕ) → s < length b.area → distance_in f x ≡ Some m → lone_push b d s ≡ Some x
+      → Contains f.pending x ⊎ (Contains f.beyond x ⊎ IsNear f s (m + 1))
 
 -- a search that began at g: a chain of pushes leads there from each square, as long as the distance found
 pub record IsRooted (b : Numbered) (g : ℕ) (f : Found) : Type 0 where
@@ -74,7 +76,7 @@ pub record IsRooted (b : Numbered) (g : ℕ) (f : Found) : Type 0 where
   pub sound : (x m : ℕ) → distance_in f x ≡ Some m → Chain b x g m
 
 -- a search over some squares that has found g alone
-pub record IsBegun (g squares : ℕ) (f : Found) : Type 0 where
+pub record HasFoundAlone (g squares : ℕ) (f : Found) : Type 0 where
   pub whole : length f.distances ≡ squares
   pub only : (x m : ℕ) → distance_in f x ≡ Some m → (g ≡ x) × (m ≡ 0)
   pub started : distance_in f g ≡ Some 0

@@ -2,8 +2,11 @@
 
 ghost use Rattle.std.specs.Prelude.{ℕ, ◌≡◌, ◌<◌, ◌≤◌, ◌+◌, [], All, IfOk, IfSome, None, length};
 ghost use Rattle.sok_board.specs.Area.{IsAccepted};
+ghost use Rattle.sok_board.specs.Limits.{square_limit};
 ghost use Rattle.sok_push.specs.Pushing.{pull, TellsDistance};
-ghost use Rattle.sok_push.specs.Searches.{found_of, distance_in, reach, left_of, GrowsAlong, GrowsAround, IsSearching, IsRooted, IsBegun};
+ghost use Rattle.sok_push.specs.Searches.{found_of, distance_in, reach, left_of};
+ghost use Rattle.sok_push.specs.Searches.{GrowsAlong, GrowsAround};
+ghost use Rattle.sok_push.specs.Searches.{IsSearching, IsRooted, HasFoundAlone};
 
 use sok_board::area::Sq;
 use sok_board::board::Board;
@@ -28,26 +31,15 @@ impl Search {
         ensures beyond { IfOk result (λ search. search.beyond.items ≡ []) }
     {
         Ok(Search {
-            distances: blank(alloc, squares)?,
+            distances: vec![in alloc; None; squares]?,
             pending: Vec::new(alloc),
             beyond: Vec::new(alloc),
         })
     }
 }
 
-/// A row without a distance.
-fn blank(alloc: Global, squares: usize) -> Result<Vec<Option<u16>>, Memory>
-    ensures { IfOk result (λ row. length row.items ≡ squares) }
-{
-    let mut row = Vec::with_capacity(alloc, squares)?;
-    for _ in 0..squares {
-        row.push(None)?;
-    }
-    Ok(row)
-}
-
 /// The row with no distance left in it.
-fn cleared(mut row: Vec<Option<u16>>) -> Vec<Option<u16>>
+fn clear(mut row: Vec<Option<u16>>) -> Vec<Option<u16>>
     ensures whole { length result.items ≡ length row.items }
     ensures blank { All (λ distance. distance ≡ None) result.items }
 {
@@ -98,7 +90,8 @@ fn reach_along(
     requires accepted { IsAccepted board.now }
     requires exists { square < length board.now.area }
     requires whole { length search.distances.items ≡ length board.now.area }
-    ensures { IfOk result (λ after. GrowsAlong board.now square pushes dir (found_of search) (found_of after)) }
+    ensures { IfOk result
+        (λ after. GrowsAlong board.now square pushes dir (found_of search) (found_of after)) }
 {
     match pushed_from(board, square, dir) {
         Some(from) => reach(from, pushes, search),
@@ -111,7 +104,8 @@ fn reach_around(board: &Board, square: Sq, pushes: u16, search: Search) -> Resul
     requires accepted { IsAccepted board.now }
     requires exists { square < length board.now.area }
     requires whole { length search.distances.items ≡ length board.now.area }
-    ensures { IfOk result (λ after. GrowsAround board.now square pushes (found_of search) (found_of after)) }
+    ensures { IfOk result
+        (λ after. GrowsAround board.now square pushes (found_of search) (found_of after)) }
 {
     let search = reach_along(board, square, Dir::Left, pushes, search)?;
     let search = reach_along(board, square, Dir::Up, pushes, search)?;
@@ -122,12 +116,14 @@ fn reach_around(board: &Board, square: Sq, pushes: u16, search: Search) -> Resul
 /// Looks at the squares at one distance: finds those that need one push more.
 fn look_around(board: &Board, pushes: u16, mut search: Search) -> Result<Search, Memory>
     requires accepted { IsAccepted board.now }
-    requires few { pushes < 1024 }
+    requires few { pushes < square_limit }
     requires searching { IsSearching board.now pushes (found_of search) }
     ensures searching { IfOk result (λ after. IsSearching board.now pushes (found_of after)) }
-    ensures rooted { (g : ℕ) → IsRooted board.now g (found_of search) → IfOk result (λ after. IsRooted board.now g (found_of after)) }
+    ensures rooted { (g : ℕ) → IsRooted board.now g (found_of search)
+        → IfOk result (λ after. IsRooted board.now g (found_of after)) }
     ensures pending { IfOk result (λ after. after.pending.items ≡ []) }
-    ensures left { IfOk result (λ after. left_of (found_of after) + length search.pending.items ≡ left_of (found_of search)) }
+    ensures left { IfOk result (λ after. left_of (found_of after) + length search.pending.items
+        ≡ left_of (found_of search)) }
 {
     while let Some(square) = search.pending.pop() {
         search = reach_around(board, square, pushes + 1, search)?;
@@ -136,8 +132,13 @@ fn look_around(board: &Board, pushes: u16, mut search: Search) -> Result<Search,
 }
 
 /// The squares found one push further are next to be looked at.
-fn advanced(search: Search) -> Search
-    ensures { found_of result ≡ record { distances = search.distances.items; pending = search.beyond.items; beyond = search.pending.items } }
+fn advance(search: Search) -> Search
+    ensures { found_of result
+        ≡ record {
+          distances = search.distances.items;
+          pending = search.beyond.items;
+          beyond = search.pending.items;
+        } }
 {
     let Search {
         distances,
@@ -152,18 +153,19 @@ fn advanced(search: Search) -> Search
 }
 
 /// A search that has found the goal, at no push, and nothing else.
-fn begun(goal: Sq, search: Search) -> Result<Search, Memory>
+fn begin(goal: Sq, search: Search) -> Result<Search, Memory>
     requires goal { goal < length search.distances.items }
     requires pending { search.pending.items ≡ [] }
     requires beyond { search.beyond.items ≡ [] }
-    ensures { IfOk result (λ after. IsBegun goal (length search.distances.items) (found_of after)) }
+    ensures { IfOk result
+        (λ after. HasFoundAlone goal (length search.distances.items) (found_of after)) }
 {
     let Search {
         distances,
         mut pending,
         beyond,
     } = search;
-    let mut distances = cleared(distances);
+    let mut distances = clear(distances);
     distances[goal as usize] = Some(0);
     pending.push(goal)?;
     Ok(Search {
@@ -186,12 +188,13 @@ pub(crate) fn search_from(board: &Board, goal: Sq, search: Search) -> Result<Sea
     ensures beyond { IfOk result (λ after. after.beyond.items ≡ []) }
     ensures exact { IfOk result (λ after. (square : ℕ) → square < length board.now.area
         → TellsDistance board.now goal square (distance_in (found_of after) square)) }
-    ensures bounded { IfOk result (λ after. (square : ℕ) → IfSome (distance_in (found_of after) square) (λ pushes. pushes ≤ length board.now.area)) }
+    ensures bounded { IfOk result (λ after. (square : ℕ)
+        → IfSome (distance_in (found_of after) square) (λ pushes. pushes ≤ length board.now.area)) }
 {
-    let mut search = begun(goal, search)?;
+    let mut search = begin(goal, search)?;
     let mut pushes = 0;
     while !search.pending.is_empty() {
-        search = advanced(look_around(board, pushes, search)?);
+        search = advance(look_around(board, pushes, search)?);
         pushes += 1;
     }
     Ok(search)

@@ -3,7 +3,7 @@
 ghost use Rattle.std.specs.Prelude.{◌≡◌, ◌<◌, ◌≤◌, ◌↔◌, IfOk, IfSome, IsTrue, length};
 ghost use Rattle.sok_board.specs.Area.{IsAccepted, goals_of};
 ghost use Rattle.sok_push.specs.Pushing.{IsStuck, TellsDistance};
-ghost use Rattle.sok_push.specs.Distances.{goal_at, distance_at, IsFilled};
+ghost use Rattle.sok_push.specs.Distances.{goal_at, distance_at, IsFilled, TellsStuck};
 
 use crate::search::{Search, search_from};
 use sok_board::area::Sq;
@@ -23,6 +23,7 @@ pub struct Tables {
     squares: Vec<Spot>,
     goals: usize,
     entries: Vec<Option<u16>>,
+    stuck: Vec<bool>,
 }
 
 impl Model for Tables {
@@ -30,9 +31,15 @@ impl Model for Tables {
 
     ghost Value = { Distances };
 
-    ghost view = { λ tables. record { board = record { rows = tables.level; area = tables.squares.items }; entries = tables.entries.items } };
+    ghost view = { λ tables. record {
+      board = record { rows = tables.level; area = tables.squares.items };
+      entries = tables.entries.items;
+    } };
 
-    ghost invariant = { λ tables. IsKept tables.goals (record { board = record { rows = tables.level; area = tables.squares.items }; entries = tables.entries.items }) };
+    ghost invariant = { λ tables. IsKept tables.goals tables.stuck.items (record {
+      board = record { rows = tables.level; area = tables.squares.items };
+      entries = tables.entries.items;
+    }) };
 }
 
 impl Tables {
@@ -44,11 +51,13 @@ impl Tables {
         let level = board.level().copy(alloc)?;
         let squares = spots(alloc, board)?;
         let entries = entries(alloc, board)?;
+        let stuck = list_stuck(alloc, board, &entries)?;
         Ok(Tables {
             level,
             squares,
             goals: board.goals().len(),
             entries,
+            stuck,
         })
     }
 
@@ -77,12 +86,7 @@ impl Tables {
         requires { square < length self.now.board.area }
         ensures { IsTrue result ↔ IsStuck self.now.board square }
     {
-        for goal in 0..self.goals {
-            if self.dist(goal, square).is_some() {
-                return false;
-            }
-        }
-        true
+        self.stuck[square as usize]
     }
 }
 
@@ -99,7 +103,8 @@ fn spots(alloc: Global, board: &Board) -> Result<Vec<Spot>, Memory>
 
 /// The distances from each goal in turn.
 fn entries(alloc: Global, board: &Board) -> Result<Vec<Option<u16>>, Memory>
-    ensures { IfOk result (λ entries. IsFilled (length (goals_of board.now)) (record { board = board.now; entries = entries.items })) }
+    ensures { IfOk result (λ entries. IsFilled (length (goals_of board.now))
+        (record { board = board.now; entries = entries.items })) }
 {
     let mut entries = Vec::new(alloc);
     let mut search = Search::new(alloc, board.squares())?;
@@ -108,4 +113,33 @@ fn entries(alloc: Global, board: &Board) -> Result<Vec<Option<u16>>, Memory>
         entries.extend_from_slice(&search.distances)?;
     }
     Ok(entries)
+}
+
+/// For each square whether a box on it reaches no goal.
+fn list_stuck(alloc: Global, board: &Board, entries: &[Option<u16>]) -> Result<Vec<bool>, Memory>
+    requires { IsFilled (length (goals_of board.now))
+        (record { board = board.now; entries = entries.now }) }
+    ensures { IfOk result (λ list. TellsStuck board.now (length board.now.area) list.items) }
+{
+    let mut list = Vec::with_capacity(alloc, board.squares())?;
+    for square in 0..board.squares() {
+        list.push(is_stuck(board, entries, square as Sq))?;
+    }
+    Ok(list)
+}
+
+/// Whether no goal has a distance from a square.
+fn is_stuck(board: &Board, entries: &[Option<u16>], square: Sq) -> bool
+    requires filled { IsFilled (length (goals_of board.now))
+        (record { board = board.now; entries = entries.now }) }
+    requires exists { square < length board.now.area }
+    ensures { IsTrue result ↔ IsStuck board.now square }
+{
+    let squares = board.squares();
+    for goal in 0..board.goals().len() {
+        if entries[goal * squares + square as usize].is_some() {
+            return false;
+        }
+    }
+    true
 }

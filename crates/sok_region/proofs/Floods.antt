@@ -1,5 +1,6 @@
 -- What a flood keeps while it meets squares.
-use Rattle.std.proofs.Common.{ℕ, ◌≡◌, ◌<◌, ◌+◌, ◌⊎◌, inl, inr, refl, sym, ap, ◌∙◌, subst, List, [], ◌∷◌, ◌++◌, Bool, true, false, true≢false, Option, Some, None, arith, length, get_or, set, count_by, cond, not, ◌&&◌, if◌then◌else◌, slice_get}
+use Rattle.std.proofs.Common.{ℕ, ◌≡◌, ◌<◌, ◌+◌, ◌⊎◌, inl, inr, refl, sym, ap, ◌∙◌, subst, List, [], ◌∷◌, ◌++◌, Bool, true, false, true≢false, Option, Some}
+use Rattle.std.proofs.Common.{None, arith, length, get_or, set, count_by, cond, not, ◌&&◌, if◌then◌else◌, slice_get}
 use Rattle.std.proofs.lemmas.Bool.{cases_Bool, cases_eq, cases_lt}
 use Rattle.std.proofs.lemmas.Option.{none-some, same_Some, slice_get_within, get_or_from_slice_get, slice_get-get_or}
 use Rattle.std.proofs.lemmas.List.{length-set, length-append, get_or-set_same, get_or-set_other, get_or_append_left}
@@ -10,8 +11,7 @@ use Rattle.sok_board.specs.Area.{Numbered, beside}
 use Rattle.sok_board.proofs.Lists.{slice_get-push}
 use Rattle.sok_region.specs.declared.flood.Step.{Step}
 use Rattle.sok_region.specs.declared.flood.Origin.{Origin}
-use Rattle.sok_region.specs.Trails.{marked}
-use Rattle.sok_region.specs.Floods.{Met, meet, IsReached, left_of, IsFlood, Extends, IsMetBeside, MeetsBeside, MeetsAround}
+use Rattle.sok_region.specs.Floods.{marked, Met, meet, IsStepOf, left_of, IsFlood, Extends, IsMetBeside, MeetsBeside, MeetsAround}
 
 -- the elements of a longer list
 pub slice_get-append : {X : Type 0} (xs ys : List X) (k : ℕ) (x : X) → slice_get xs k ≡ Some x → slice_get (xs ++ ys) k ≡ Some x
@@ -20,12 +20,14 @@ slice_get-append xs ys k x at =
     let longer = length-append xs ys in
     slice_get-get_or (xs ++ ys) k x (omega (arith, within, longer)) ∙ ap Some (get_or_append_left xs ys x k within ∙ get_or_from_slice_get xs k x x at)
 
-slice_get-push_cases : {X : Type 0} (xs : List X) (x : X) (k : ℕ) (y : X) → slice_get (xs ++ x ∷ []) k ≡ Some y → (slice_get xs k ≡ Some y) ⊎ ((k ≡ length xs) × (x ≡ y))
+slice_get-push_cases : {X : Type 0} (xs : List X) (x : X) (k : ℕ) (y : X) → slice_get (xs ++ x ∷ []) k ≡ Some y
+    → (slice_get xs k ≡ Some y) ⊎ ((k ≡ length xs) × (x ≡ y))
 slice_get-push_cases xs x k y at =
     let within = slice_get_within (xs ++ x ∷ []) k y at in
     let longer = length-append xs (x ∷ []) in
     elim (cases_lt k (length xs)) [
-      | inl below ↦ inl (slice_get-get_or xs k y below ∙ ap Some (sym (get_or_append_left xs (x ∷ []) y k below) ∙ get_or_from_slice_get (xs ++ x ∷ []) k y y at))
+      | inl below ↦ inl (slice_get-get_or xs k y below ∙ ap Some (sym (get_or_append_left xs (x ∷ []) y k below) ∙ get_or_from_slice_get (xs ++ x ∷ []) k y
+          y at))
       | inr past ↦
           let last : k ≡ length xs = omega (arith, within, longer, past) in
           inr (last, same_Some x y (sym (slice_get-push xs x) ∙ ap (slice_get (xs ++ x ∷ [])) (sym last) ∙ at))
@@ -79,10 +81,12 @@ Extends-added step f within = record {
 }
 
 -- what an earlier step has led to stays so in a longer list
-IsReached-more : (b : Numbered) (lets : ℕ → Bool) (start : ℕ) (steps more : List Step) → ((k : ℕ) (step : Step) → slice_get steps k ≡ Some step → slice_get more k ≡ Some step)
-    → (k : ℕ) (step : Step) (origin : Option Origin) → IsReached b lets start steps k step origin → IsReached b lets start more k step origin
-IsReached-more b lets start steps more kept k step None is = is
-IsReached-more b lets start steps more kept k step (Some origin) (before, earlier, at, leads, through) = (before, earlier, kept origin.before earlier at, leads, through)
+IsStepOf-more : (b : Numbered) (lets : ℕ → Bool) (start : ℕ) (steps more : List Step)
+    → ((k : ℕ) (step : Step) → slice_get steps k ≡ Some step → slice_get more k ≡ Some step)
+    → (k : ℕ) (step : Step) (origin : Option Origin) → IsStepOf b lets start steps k step origin → IsStepOf b lets start more k step origin
+IsStepOf-more b lets start steps more kept k step None is = is
+IsStepOf-more b lets start steps more kept k step (Some origin) (before, earlier, at, leads, through) =
+    (before, earlier, kept origin.before earlier at, leads, through)
 
 -- what a mark counts among those of squares not met
 abbrev pub unmet : Bool → ℕ
@@ -96,7 +100,8 @@ left_of-added step f within new =
     let one : unmet (get_or f.marks step.square false) ≡ 1 = ap unmet new in
     omega (arith, sum, one)
 
-IsFlood-added : (b : Numbered) (lets : ℕ → Bool) (start : ℕ) (step : Step) (f : Met) → IsReached b lets start f.steps (length f.steps) step step.origin → step.square < length f.marks
+IsFlood-added : (b : Numbered) (lets : ℕ → Bool) (start : ℕ) (step : Step) (f : Met) → IsStepOf b lets start f.steps (length f.steps) step step.origin
+    → step.square < length f.marks
     → marked f.marks step.square ≡ false → IsFlood b lets start f → IsFlood b lets start (added step f)
 IsFlood-added b lets start step f is_reached within new flood =
     let extends = Extends-added step f within in
@@ -104,10 +109,10 @@ IsFlood-added b lets start step f is_reached within new flood =
       whole = extends.whole ∙ flood.whole;
       begun = extends.more start flood.begun;
       reached = λ k one e. elim (slice_get-push_cases f.steps step k one e) [
-        | inl old ↦ IsReached-more b lets start f.steps (added step f).steps extends.kept k one one.origin (flood.reached k one old)
-        | inr (last, same) ↦ subst (λ (s : Step). IsReached b lets start (added step f).steps k s s.origin) same
-            (subst (λ n. IsReached b lets start (added step f).steps n step step.origin) (sym last)
-            (IsReached-more b lets start f.steps (added step f).steps extends.kept (length f.steps) step step.origin is_reached))
+        | inl old ↦ IsStepOf-more b lets start f.steps (added step f).steps extends.kept k one one.origin (flood.reached k one old)
+        | inr (last, same) ↦ subst (λ (s : Step). IsStepOf b lets start (added step f).steps k s s.origin) same
+            (subst (λ n. IsStepOf b lets start (added step f).steps n step step.origin) (sym last)
+            (IsStepOf-more b lets start f.steps (added step f).steps extends.kept (length f.steps) step step.origin is_reached))
       ];
       met = λ k one e. elim (slice_get-push_cases f.steps step k one e) [
         | inl old ↦ extends.more one.square (flood.met k one old)
@@ -132,7 +137,8 @@ pub MeetsBeside-wall : (b : Numbered) (lets : ℕ → Bool) (step : Step) (d : D
 MeetsBeside-wall b lets step d f wall = MeetsBeside-same b lets step d f (λ t e through. absurd (none-some t (sym wall ∙ e)))
 
 -- the square beside is met
-pub MeetsBeside-meet : (b : Numbered) (lets : ℕ → Bool) (at : ℕ) (step : Step) (d : Dir) (t : ℕ) (f : Met) → slice_get f.steps at ≡ Some step → beside b step.square d ≡ Some t → t < length f.marks
+pub MeetsBeside-meet : (b : Numbered) (lets : ℕ → Bool) (at : ℕ) (step : Step) (d : Dir) (t : ℕ) (f : Met) → slice_get f.steps at ≡ Some step
+    → beside b step.square d ≡ Some t → t < length f.marks
     → MeetsBeside b lets step d f (meet lets (record { square = t; origin = Some (record { before = at; dir = d }) }) f)
 MeetsBeside-meet b lets at step d t f there leads within =
     let new : Step = record { square = t; origin = Some (record { before = at; dir = d }) } in
@@ -141,7 +147,8 @@ MeetsBeside-meet b lets at step d t f there leads within =
       | inr closed ↦ subst (MeetsBeside b lets step d f) (sym (meet-closed lets new f closed))
           (MeetsBeside-same b lets step d f (λ u e through. absurd (true≢false (sym through ∙ ap lets (sym (only u e)) ∙ closed))))
       | inl through ↦ elim (cases_Bool (marked f.marks t)) [
-        | inl met ↦ subst (MeetsBeside b lets step d f) (sym (meet-met lets new f through met)) (MeetsBeside-same b lets step d f (λ u e _. ap (marked f.marks) (sym (only u e)) ∙ met))
+        | inl met ↦ subst (MeetsBeside b lets step d f) (sym (meet-met lets new f through met))
+            (MeetsBeside-same b lets step d f (λ u e _. ap (marked f.marks) (sym (only u e)) ∙ met))
         | inr unmet ↦ subst (MeetsBeside b lets step d f) (sym (meet-new lets new f through unmet)) (record {
           extends = Extends-added new f within;
           keeps = λ start flood. IsFlood-added b lets start new f (slice_get_within f.steps at step there, step, there, leads, through) within unmet flood;
@@ -150,11 +157,13 @@ MeetsBeside-meet b lets at step d t f there leads within =
       ]
     ]
 
-meets-more : (b : Numbered) (lets : ℕ → Bool) (step : Step) (d : Dir) (f after : Met) → Extends f after → IsMetBeside b lets step d f → IsMetBeside b lets step d after
+meets-more : (b : Numbered) (lets : ℕ → Bool) (step : Step) (d : Dir) (f after : Met) → Extends f after → IsMetBeside b lets step d f
+    → IsMetBeside b lets step d after
 meets-more b lets step d f after extends meets = λ t e through. extends.more t (meets t e through)
 
 -- one letter after another
-pub MeetsAround-each : (b : Numbered) (lets : ℕ → Bool) (step : Step) (f left up right down : Met) → MeetsBeside b lets step Left f left → MeetsBeside b lets step Up left up
+pub MeetsAround-each : (b : Numbered) (lets : ℕ → Bool) (step : Step) (f left up right down : Met) → MeetsBeside b lets step Left f left
+    → MeetsBeside b lets step Up left up
     → MeetsBeside b lets step Right up right → MeetsBeside b lets step Down right down → MeetsAround b lets step f down
 MeetsAround-each b lets step f left up right down first second third fourth =
     let from_up = Extends-trans up right down third.extends fourth.extends in

@@ -4,5 +4,4 @@ pub mod Moves
 pub mod Putting
 pub mod Regions
 pub mod Tracing
-pub mod Trails
 pub mod Walks

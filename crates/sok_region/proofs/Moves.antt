@@ -1,5 +1,6 @@
 -- A rising list without one square and with another.
-use Rattle.std.proofs.Common.{ℕ, ◌≡◌, ◌<◌, ◌≤◌, ◌+◌, ◌⊎◌, inl, inr, refl, sym, List, [], ◌∷◌, false, ◌∙◌, not, ◌==◌, nat_lt, arith, All, AllPairs, Contains, length, get_or, subst}
+use Rattle.std.proofs.Common.{ℕ, ◌≡◌, ◌<◌, ◌≤◌, ◌+◌, ◌⊎◌, inl, inr, refl, sym, List, [], ◌∷◌, false, ◌∙◌, not, ◌==◌, nat_lt, arith, All, AllPairs, Contains}
+use Rattle.std.proofs.Common.{length, get_or, subst}
 use Rattle.std.proofs.lemmas.Bool.{cases_Bool}
 use Rattle.std.proofs.lemmas.Bool.Decides.{nat_tests}
 use Rattle.std.proofs.lemmas.List.Kept.{AllPairs-cons, AllPairs-from_increasing, AllPairs-filter}
@@ -34,7 +35,8 @@ put-sound : (from to : ℕ) (boxes : List ℕ) (s : ℕ) → Contains (put_in_or
 unfolding put_in_order
 put-sound from to [] s = λ there. elim (Contains-cons_cases to s [] there) [ inl is ↦ inl (sym is) | inr rest ↦ absurd (none rest) ]
 put-sound from to (x ∷ boxes) s = elim (cases_Bool (nat_lt to x)) [
-  | inl past ↦ rw past λ there. elim (Contains-cons_cases to s (without from (x ∷ boxes)) there) [ inl is ↦ inl (sym is) | inr rest ↦ inr (without-from from s (x ∷ boxes) rest) ]
+  | inl past ↦ rw past λ there. elim (Contains-cons_cases to s (without from (x ∷ boxes)) there)
+      [ inl is ↦ inl (sym is) | inr rest ↦ inr (without-from from s (x ∷ boxes) rest) ]
   | inr before ↦ elim (cases_Bool (x == from)) [
     | inl leaves ↦ rw before rw leaves λ there. IsPut-later s x boxes from to (put-sound from to boxes s there)
     | inr stays ↦ rw before rw stays λ there. elim (Contains-cons_cases x s (put_in_order from to boxes) there) [

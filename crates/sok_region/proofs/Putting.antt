@@ -8,7 +8,8 @@ abbrev pub left_to_put : Bool → ℕ → ℕ → List ℕ → List ℕ
 left_to_put put from to todo = cond put (without from todo) (put_in_order from to todo)
 
 -- to is put before the first square past it
-pub put-here : (after : List ℕ) (from to s : ℕ) (todo : List ℕ) → nat_lt to s ≡ true → (after ++ to ∷ []) ++ left_to_put true from to (s ∷ todo) ≡ after ++ left_to_put false from to (s ∷ todo)
+pub put-here : (after : List ℕ) (from to s : ℕ) (todo : List ℕ) → nat_lt to s ≡ true
+    → (after ++ to ∷ []) ++ left_to_put true from to (s ∷ todo) ≡ after ++ left_to_put false from to (s ∷ todo)
 unfolding put_in_order
 put-here after from to s todo past =
     append_assoc after (to ∷ []) (without from (s ∷ todo))

@@ -1,5 +1,6 @@
 -- Letters without a push, over positions and over the numbers of squares.
-use Rattle.std.proofs.Common.{ℕ, ◌≡◌, ◌<◌, ◌+◌, refl, sym, ap, ◌∙◌, subst, List, [], ◌∷◌, Bool, true, false, true≢false, Some, None, All, Contains, arith, length, if◌then◌else◌}
+use Rattle.std.proofs.Common.{ℕ, ◌≡◌, ◌<◌, ◌+◌, refl, sym, ap, ◌∙◌, subst, List, [], ◌∷◌, Bool, true, false, true≢false, Some, None, All, Contains, arith}
+use Rattle.std.proofs.Common.{length, if◌then◌else◌}
 use Rattle.std.proofs.lemmas.Option.{same_Some, option_and_then_some}
 use Rattle.std.specs.Option.{option_and_then, option_map_or}
 use Rattle.sok_rules.specs.declared.cell.Dir.{Dir}
@@ -14,8 +15,8 @@ use Rattle.sok_board.proofs.AreaLaws.{InArea-next, InArea-spot_of, number-InArea
 use Rattle.sok_board.proofs.Beside.{beside-is, beside-within}
 use Rattle.sok_board.proofs.Inside.{InArea-open, if_some}
 use Rattle.sok_board.proofs.Positions.{listed_box, no_box}
-use Rattle.sok_region.specs.Trails.{trail}
-use Rattle.sok_region.proofs.Trails.{trail-one}
+use Rattle.sok_field.specs.Trails.{trail}
+use Rattle.sok_field.proofs.Trails.{trail-one}
 
 -- boxes on squares of a proper level's area
 pub record AreBoxes (b : Numbered) (boxes : List ℕ) : Type 0 where
@@ -23,7 +24,8 @@ pub record AreBoxes (b : Numbered) (boxes : List ℕ) : Type 0 where
   pub area : IsArea b.rows b.area
   pub exist : All (λ n. n < length b.area) boxes
 
-pub standing : (b : Numbered) (boxes : List ℕ) → AreBoxes b boxes → (n : ℕ) → n < length b.area → (Contains boxes n → ⊥) → IsStanding b.rows (position_of b n boxes)
+pub standing : (b : Numbered) (boxes : List ℕ) → AreBoxes b boxes → (n : ℕ) → n < length b.area → (Contains boxes n → ⊥)
+    → IsStanding b.rows (position_of b n boxes)
 standing b boxes are n within out = record {
   on_open = InArea-open b.rows are.proper (spot_of b n) (InArea-spot_of b are.area n within);
   no_box = no_box b are.area n boxes are.exist n within out;
@@ -39,13 +41,15 @@ step-beside b boxes are d s u on within out =
     let x = position_of b s boxes in
     option_and_then_some (number_of b) (next d x.man) u on (λ q ahead number.
     let there : spot_of b u ≡ q = (spot_of-number_of b q u number).1 in
-    let opened : holds is_open b.rows q ≡ true = ap (holds is_open b.rows) (sym there) ∙ InArea-open b.rows are.proper (spot_of b u) (InArea-spot_of b are.area u within) in
+    let opened : holds is_open b.rows q ≡ true = ap (holds is_open b.rows) (sym there) ∙ InArea-open b.rows are.proper (spot_of b u)
+    (InArea-spot_of b are.area u within) in
     let free : x.boxes q ≡ false = ap x.boxes (sym there) ∙ no_box b are.area s boxes are.exist u within out in
     step-walk b.rows d x q ahead opened free ∙ (λ i. Some (record { position = record { man = sym there i; boxes = x.boxes }; pushed = false })))
 
 -- letters over squares without a box are legal, and none of them pushes
 pub run-trail : (b : Numbered) (boxes : List ℕ) → AreBoxes b boxes → (lets : ℕ → Bool) → ((n : ℕ) → n < length b.area → lets n ≡ true → Contains boxes n → ⊥)
-    → (w : List Dir) (s t : ℕ) → trail b lets s w ≡ Some t → (run b.rows (position_of b s boxes) w ≡ Some (position_of b t boxes)) × (pushes b.rows (position_of b s boxes) w ≡ 0)
+    → (w : List Dir) (s t : ℕ) → trail b lets s w ≡ Some t → (run b.rows (position_of b s boxes) w ≡ Some (position_of b t boxes)) × (pushes b.rows
+    (position_of b s boxes) w ≡ 0)
 run-trail b boxes are lets free [] s t leads = (ap (λ n. Some (position_of b n boxes)) (same_Some s t leads), refl)
 run-trail b boxes are lets free (d ∷ w) s t leads = option_and_then_some (λ u. if lets u then trail b lets u w else None) (beside b s d) t leads (λ u on rest.
     let (through, further) = if_some (lets u) (trail b lets u w) t rest in
@@ -77,7 +81,8 @@ trail-run b boxes are lets (d ∷ w) s y within through e z =
     let on : beside b s d ≡ Some u = beside-is b d s x.man walk.to u refl walk.ahead number in
     let arrived : a.position ≡ position_of b u boxes = ap (λ (y : After). y.position) walk.leads ∙ (λ i. record { man = sym there i; boxes = x.boxes }) in
     let same : Same b.rows x (position_of b u boxes) = subst (Same b.rows x) arrived (Same-step b.rows d x a stepped unpushed) in
-    let rest = trail-run b boxes are lets w u y u_within (λ k k_within further. through k k_within (Same-trans b.rows x (position_of b u boxes) (position_of b k boxes) same further))
+    let rest = trail-run b boxes are lets w u y u_within (λ k k_within further. through k k_within
+    (Same-trans b.rows x (position_of b u boxes) (position_of b k boxes) same further))
     (ap (λ p. run b.rows p w) (sym arrived) ∙ r) (ap (λ p. pushes b.rows p w) (sym arrived) ∙ n) in
     record { to = rest.to; within = rest.within; leads = trail-one b lets s u d w on (through u u_within same) ∙ rest.leads; is = rest.is })
 

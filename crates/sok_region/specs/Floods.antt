@@ -1,11 +1,16 @@
 -- A flood over squares that are let through: each square is met once, by a letter from one met before.
-use Rattle.std.specs.Prelude.{ℕ, ◌≡◌, ◌<◌, ◌+◌, List, [], ◌∷◌, ◌++◌, Option, Some, None, IfSome, IfNone, Vec, Bool, true, not, ◌&&◌, count_by, length, slice_get, slice_set, if◌then◌else◌}
+use Rattle.std.specs.Prelude.{ℕ, ◌≡◌, ◌<◌, ◌+◌, List, [], ◌∷◌, ◌++◌, Option, Some, None, IfSome, IfNone, Vec, Bool, true, false, not, ◌&&◌, count_by, length}
+use Rattle.std.specs.Prelude.{slice_get, slice_set, slice_index_or, if◌then◌else◌}
 use Rattle.sok_rules.specs.declared.cell.Dir.{Dir}
 use Rattle.sok_board.specs.Area.{Numbered, beside}
 use Rattle.sok_region.specs.declared.flood.Step.{Step}
 use Rattle.sok_region.specs.declared.flood.Origin.{Origin}
 use Rattle.sok_region.specs.declared.flood.Flood.{Flood}
-use Rattle.sok_region.specs.Trails.{marked, trail}
+use Rattle.sok_field.specs.Trails.{trail}
+
+-- a set of squares as a table of marks, square by square
+abbrev pub marked : List Bool → ℕ → Bool
+marked marks s = slice_index_or marks s false
 
 -- the marks of the squares met, and the squares in the order in which they were met
 pub record Met : Type 0 where
@@ -21,13 +26,14 @@ meet lets step f =
     if lets step.square && not (marked f.marks step.square) then record { marks = slice_set f.marks step.square true; steps = f.steps ++ step ∷ [] } else f
 
 -- a step leads from one before it along a letter to a square that is let through, and the first is the start
-abbrev pub IsReached : Numbered → (ℕ → Bool) → ℕ → List Step → ℕ → Step → Option Origin → Type 0
-IsReached b lets start steps k step None = step.square ≡ start
-IsReached b lets start steps k step (Some origin) =
-    (origin.before < k) × (earlier : Step) × (slice_get steps origin.before ≡ Some earlier) × (beside b earlier.square origin.dir ≡ Some step.square) × (lets step.square ≡ true)
+abbrev pub IsStepOf : Numbered → (ℕ → Bool) → ℕ → List Step → ℕ → Step → Option Origin → Type 0
+IsStepOf b lets start steps k step None = step.square ≡ start
+IsStepOf b lets start steps k step (Some origin) =
+    (origin.before < k) × (earlier : Step) × (slice_get steps origin.before ≡ Some earlier) × (beside b earlier.square origin.dir ≡ Some step.square) ×
+    (lets step.square ≡ true)
 
-abbrev pub AreReached : Numbered → (ℕ → Bool) → ℕ → List Step → Type 0
-AreReached b lets start steps = (k : ℕ) (step : Step) → slice_get steps k ≡ Some step → IsReached b lets start steps k step step.origin
+abbrev pub AreStepsOf : Numbered → (ℕ → Bool) → ℕ → List Step → Type 0
+AreStepsOf b lets start steps = (k : ℕ) (step : Step) → slice_get steps k ≡ Some step → IsStepOf b lets start steps k step step.origin
 
 -- how many squares are not met
 unfoldable pub left_of : Met → ℕ
@@ -37,7 +43,7 @@ left_of f = count_by not f.marks
 pub record IsFlood (b : Numbered) (lets : ℕ → Bool) (start : ℕ) (f : Met) : Type 0 where
   pub whole : length f.marks ≡ length b.area
   pub begun : marked f.marks start ≡ true
-  pub reached : AreReached b lets start f.steps
+  pub reached : AreStepsOf b lets start f.steps
   pub met : (k : ℕ) (step : Step) → slice_get f.steps k ≡ Some step → marked f.marks step.square ≡ true
   pub listed : (s : ℕ) → marked f.marks s ≡ true → (k : ℕ) × (step : Step) × (slice_get f.steps k ≡ Some step) × (step.square ≡ s)
   pub count : length f.steps + left_of f ≡ length b.area
@@ -65,15 +71,15 @@ pub record MeetsAround (b : Numbered) (lets : ℕ → Bool) (step : Step) (f aft
   pub meets : (d : Dir) → IsMetBeside b lets step d after
 
 -- the squares beside those of the first steps are met, if they are let through
-abbrev pub IsClosed : Numbered → (ℕ → Bool) → ℕ → Met → Type 0
-IsClosed b lets at f = (k : ℕ) (step : Step) → k < at → slice_get f.steps k ≡ Some step → (d : Dir) → IsMetBeside b lets step d f
+abbrev pub HasMetAround : Numbered → (ℕ → Bool) → ℕ → Met → Type 0
+HasMetAround b lets at f = (k : ℕ) (step : Step) → k < at → slice_get f.steps k ≡ Some step → (d : Dir) → IsMetBeside b lets step d f
 
 -- each step comes from an earlier one
 abbrev pub GoesBack : List Step → Type 0
 GoesBack steps = (k : ℕ) (step : Step) (origin : Origin) → slice_get steps k ≡ Some step → step.origin ≡ Some origin → origin.before < k
 
 -- a flood over some squares that has met its start alone
-pub record IsBegun (start squares : ℕ) (f : Met) : Type 0 where
+pub record HasMetStart (start squares : ℕ) (f : Met) : Type 0 where
   pub whole : length f.marks ≡ squares
   pub begun : marked f.marks start ≡ true
   pub only : (s : ℕ) → marked f.marks s ≡ true → start ≡ s
@@ -81,6 +87,6 @@ pub record IsBegun (start squares : ℕ) (f : Met) : Type 0 where
   pub count : 1 + left_of f ≡ squares
 
 -- letters that lead from the start to a square, or None where no step has met it
-pub record LeadsTo {A : Type 0} (steps : List Step) (square : ℕ) (letters : Option (Vec Dir A)) : Type 0 where
+pub record FindsWay {A : Type 0} (steps : List Step) (square : ℕ) (letters : Option (Vec Dir A)) : Type 0 where
   pub met : IfNone letters ((k : ℕ) (step : Step) → slice_get steps k ≡ Some step → step.square ≡ square → ⊥)
-  pub lead : (b : Numbered) (lets : ℕ → Bool) (start : ℕ) → AreReached b lets start steps → IfSome letters (λ w. trail b lets start w.items ≡ Some square)
+  pub lead : (b : Numbered) (lets : ℕ → Bool) (start : ℕ) → AreStepsOf b lets start steps → IfSome letters (λ w. trail b lets start w.items ≡ Some square)

@@ -1,5 +1,6 @@
+-- Words of public contracts
 pub mod BoxSets
-pub mod Floods
 pub mod Regions
 pub mod States
-pub mod Trails
+-- Words of the proofs alone
+pub mod Floods

@@ -1,12 +1,12 @@
 -- Where the player comes without a push, as squares by their numbers.
-use Rattle.std.specs.Prelude.{ℕ, ◌≡◌, ◌<◌, ◌≤◌, ◌↔◌, List, Some, Bool, true, All, Contains, filter, length}
+use Rattle.std.specs.Prelude.{ℕ, ◌≡◌, ◌<◌, ◌↔◌, ◌*◌, List, Some, true, All, Contains, filter, length}
 use Rattle.std.specs.List.{range_with_len}
 use Rattle.std.specs.List.Sorted.{IsStrictlyIncreasing}
 use Rattle.sok_rules.specs.declared.cell.Dir.{Dir}
 use Rattle.sok_rules.specs.Play.{run, pushes}
 use Rattle.sok_rules.specs.States.{Same}
 use Rattle.sok_board.specs.Area.{Numbered, position_of}
-use Rattle.sok_region.specs.Trails.{marked}
+use Rattle.sok_field.specs.Numbers.{has_number}
 
 -- numbers of squares that make a position: boxes rising, and the player on none of them
 pub record IsPlaced (b : Numbered) (boxes : List ℕ) (player : ℕ) : Type 0 where
@@ -32,11 +32,10 @@ pub record IsWalkBetween (b : Numbered) (boxes : List ℕ) (from to : ℕ) (w : 
   pub leads : run b.rows (position_of b from boxes) w ≡ Some (position_of b to boxes)
   pub quiet : pushes b.rows (position_of b from boxes) w ≡ 0
 
--- the squares that a table marks, rising
-unfoldable pub squares_of : List Bool → List ℕ
-squares_of marks = filter (marked marks) (range_with_len 0 (length marks))
+-- the squares whose bits are set, rising
+unfoldable pub squares_of : List ℕ → List ℕ
+squares_of words = filter (has_number words) (range_with_len 0 (64 * length words))
 
--- a table that marks a square among at most 1,024
-pub record IsMarking (marks : List Bool) : Type 0 where
-  pub few : length marks ≤ 1024
-  pub some : (s : ℕ) × (marked marks s ≡ true)
+-- the bit of some square is set
+abbrev pub HasSquare : List ℕ → Type 0
+HasSquare words = (s : ℕ) × (has_number words s ≡ true)

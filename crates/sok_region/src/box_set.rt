@@ -67,6 +67,7 @@ impl BoxSet {
         requires from { Contains self.now from }
         requires to { Contains self.now to → ⊥ }
         ensures moved { IfOk result (IsMoved self.now from to) }
+        ensures rising { IfOk result IsStrictlyIncreasing }
         ensures as_many { IfOk result (λ after. length after ≡ length self.now) }
     {
         let squares = put_in_order(alloc, self.list(), from, to)?;

@@ -1,13 +1,16 @@
 //! A flood over squares of a board, and the walks that it finds.
 
-ghost use Rattle.std.specs.Prelude.{ℕ, ◌≡◌, ◌<◌, ◌↔◌, IfOk, Some, Bool, length, position, slice_get, true, ◌==◌};
-ghost use Rattle.sok_rules.specs.Levels.{IsProper};
+ghost use Rattle.std.specs.Prelude.{ℕ, ◌≡◌, ◌<◌, ◌↔◌, IfOk, Some, Bool, length, position};
+ghost use Rattle.std.specs.Prelude.{slice_get, true, ◌==◌};
 ghost use Rattle.sok_board.specs.Area.{Numbered, IsAccepted};
-ghost use Rattle.sok_region.specs.Trails.{marked, trail, Leads};
-ghost use Rattle.sok_region.specs.Floods.{met_of, meet, AreReached, GoesBack, LeadsTo, IsBegun, IsFlood, MeetsBeside, MeetsAround};
+ghost use Rattle.sok_field.specs.Numbers.{has_number};
+ghost use Rattle.sok_field.specs.Trails.{trail, Leads};
+ghost use Rattle.sok_region.specs.Floods.{marked, met_of, meet, AreStepsOf, GoesBack, FindsWay};
+ghost use Rattle.sok_region.specs.Floods.{HasMetStart, IsFlood, MeetsBeside, MeetsAround};
 
 use sok_board::area::Sq;
 use sok_board::board::Board;
+use sok_field::numbers;
 use sok_rules::cell::Dir;
 use sok_rules::fault::Memory;
 use std::alloc::Global;
@@ -33,22 +36,12 @@ pub(crate) struct Flood {
     steps: Vec<Step>,
 }
 
-/// Whether a table marks a square.
-pub(crate) fn is_marked(table: &[bool], square: Sq) -> bool
-    ensures { result ≡ marked table.now square }
-{
-    match table.get(square as usize) {
-        Some(mark) => *mark,
-        None => false,
-    }
-}
-
 /// Meets a square, if it is let through and not met yet.
-fn meet(lets: &[bool], step: Step, mut flood: Flood) -> Result<Flood, Memory>
+fn meet(lets: &[u64], step: Step, mut flood: Flood) -> Result<Flood, Memory>
     requires exists { step.square < length flood.marks.items }
-    ensures { IfOk result (λ after. met_of after ≡ meet (marked lets.now) step (met_of flood)) }
+    ensures { IfOk result (λ after. met_of after ≡ meet (has_number lets.now) step (met_of flood)) }
 {
-    if !is_marked(lets, step.square) {
+    if !numbers::has(lets, step.square) {
         return Ok(flood);
     }
     if flood.marks[step.square as usize] {
@@ -62,7 +55,7 @@ fn meet(lets: &[bool], step: Step, mut flood: Flood) -> Result<Flood, Memory>
 /// Meets the square beside that of a step in a direction, if there is one.
 fn meet_beside(
     board: &Board,
-    lets: &[bool],
+    lets: &[u64],
     at: usize,
     step: Step,
     dir: Dir,
@@ -72,7 +65,9 @@ fn meet_beside(
     requires whole { length flood.marks.items ≡ length board.now.area }
     requires exists { step.square < length board.now.area }
     requires at { slice_get flood.steps.items at ≡ Some step }
-    ensures { IfOk result (λ after. MeetsBeside board.now (marked lets.now) step dir (met_of flood) (met_of after)) }
+    ensures { IfOk result
+        (λ after. MeetsBeside board.now (has_number lets.now) step dir
+        (met_of flood) (met_of after)) }
 {
     match board.neighbour(step.square, dir) {
         Some(square) => {
@@ -86,7 +81,7 @@ fn meet_beside(
 /// Meets the squares beside that of a step.
 fn meet_around(
     board: &Board,
-    lets: &[bool],
+    lets: &[u64],
     at: usize,
     step: Step,
     flood: Flood,
@@ -95,7 +90,8 @@ fn meet_around(
     requires whole { length flood.marks.items ≡ length board.now.area }
     requires exists { step.square < length board.now.area }
     requires at { slice_get flood.steps.items at ≡ Some step }
-    ensures { IfOk result (λ after. MeetsAround board.now (marked lets.now) step (met_of flood) (met_of after)) }
+    ensures { IfOk result
+        (λ after. MeetsAround board.now (has_number lets.now) step (met_of flood) (met_of after)) }
 {
     let flood = meet_beside(board, lets, at, step, Dir::Left, flood)?;
     let flood = meet_beside(board, lets, at, step, Dir::Up, flood)?;
@@ -106,7 +102,7 @@ fn meet_around(
 /// A flood that has met its start, and nothing else.
 fn begun(alloc: Global, squares: usize, start: Sq) -> Result<Flood, Memory>
     requires { start < squares }
-    ensures { IfOk result (λ flood. IsBegun start squares (met_of flood)) }
+    ensures { IfOk result (λ flood. HasMetStart start squares (met_of flood)) }
 {
     let mut marks = vec![in alloc; false; squares]?;
     marks[start as usize] = true;
@@ -118,20 +114,20 @@ fn begun(alloc: Global, squares: usize, start: Sq) -> Result<Flood, Memory>
     Ok(Flood { marks, steps })
 }
 
-/// Meets the squares to which letters lead from a start over squares that a table lets through:
-/// a flood fill, breadth first.
+/// Meets the squares to which letters lead from a start over squares that are let through, given
+/// by bits of their numbers: a flood fill, breadth first.
 pub(crate) fn flood_from(
     alloc: Global,
     board: &Board,
-    lets: &[bool],
+    lets: &[u64],
     start: Sq,
 ) -> Result<Flood, Memory>
     requires start { start < length board.now.area }
     ensures accepted { IsAccepted board.now }
-    ensures proper { IsProper board.now.rows }
-    ensures flood { IfOk result (λ flood. IsFlood board.now (marked lets.now) start (met_of flood)) }
+    ensures flood { IfOk result
+        (λ flood. IsFlood board.now (has_number lets.now) start (met_of flood)) }
     ensures exact { IfOk result (λ flood. (s : ℕ)
-        → (marked flood.marks.items s ≡ true) ↔ Leads board.now (marked lets.now) start s) }
+        → (marked flood.marks.items s ≡ true) ↔ Leads board.now (has_number lets.now) start s) }
 {
     let mut flood = begun(alloc, board.squares(), start)?;
     let mut at = 0;
@@ -147,7 +143,7 @@ impl Flood {
     /// The letters that lead from the start of a flood to a square, if it has met the square.
     pub(crate) fn letters_to(&self, alloc: Global, square: Sq) -> Result<Option<Vec<Dir>>, Memory>
         requires back { GoesBack self.now.steps.items }
-        ensures { IfOk result (LeadsTo self.now.steps.items square) }
+        ensures { IfOk result (FindsWay self.now.steps.items square) }
     {
         match place_of(&self.steps, square) {
             Some(last) => Ok(Some(letters(alloc, &self.steps, last)?)),
@@ -167,8 +163,9 @@ fn place_of(steps: &[Step], square: Sq) -> Option<usize>
 fn letters(alloc: Global, steps: &[Step], last: usize) -> Result<Vec<Dir>, Memory>
     requires back { GoesBack steps.now }
     requires last { last < length steps.now }
-    ensures { (b : Numbered) (lets : ℕ → Bool) (start : ℕ) → AreReached b lets start steps.now
-        → IfOk result (λ w. (step : Step) → slice_get steps.now last ≡ Some step → trail b lets start w.items ≡ Some step.square) }
+    ensures { (b : Numbered) (lets : ℕ → Bool) (start : ℕ) → AreStepsOf b lets start steps.now
+        → IfOk result (λ w. (step : Step) → slice_get steps.now last ≡ Some step
+        → trail b lets start w.items ≡ Some step.square) }
 {
     let mut letters = Vec::new(alloc);
     let mut at = last;

@@ -3,7 +3,8 @@
 ghost use Rattle.sok_rules.specs.Squares.{Rows};
 ghost use Rattle.sok_rules.specs.Levels.{IsProper};
 ghost use Rattle.sok_board.specs.Area.{Numbered, IsArea};
-ghost use Rattle.sok_region.specs.States.{IsReflexive, IsTransitive, IsSymmetric, KeepsBoxes, KeepsNumbers};
+ghost use Rattle.sok_region.specs.States.{IsReflexive, IsTransitive, IsSymmetric, KeepsBoxes};
+ghost use Rattle.sok_region.specs.States.{KeepsNumbers};
 
 /// Being the same state is reflexive and transitive, and symmetric wherever the player stands on a
 /// square of the area without a box: walking back undoes walking.

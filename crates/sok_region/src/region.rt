@@ -1,52 +1,68 @@
 //! Where the player comes without a push.
 
-ghost use Rattle.std.specs.Prelude.{ℕ, ◌≡◌, ◌<◌, ◌≤◌, ◌↔◌, IfOk, IfSome, IsSome, IsTrue, List, All, Contains, length, position, true};
+ghost use Rattle.std.specs.Prelude.{ℕ, ◌≡◌, ◌≤◌, ◌↔◌, IfOk, IfSome, IsOk, IsSome, IsTrue, List};
+ghost use Rattle.std.specs.Prelude.{Contains, length};
+ghost use Rattle.sok_board.specs.Area.{IsAccepted};
 ghost use Rattle.sok_region.specs.Regions.{IsPlaced, IsRegion, IsRegionOf, IsWalkBetween};
-ghost use Rattle.sok_region.specs.Trails.{marked};
+ghost use Rattle.sok_region.specs.Regions.{squares_of};
 
 use crate::box_set::BoxSet;
-use crate::flood::{flood_from, is_marked};
+use crate::flood::flood_from;
 use sok_board::area::Sq;
 use sok_board::board::Board;
+use sok_field::drawing;
+use sok_field::field::Field;
+use sok_field::numbers::{self, WORDS};
 use sok_rules::cell::Dir;
 use sok_rules::fault::Memory;
 use std::alloc::Global;
 use std::marker::Model;
 
-/// The squares to which the player comes without a push. A region is seen as the list of its
-/// squares, rising.
+/// The squares to which the player comes without a push, a bit for each. A region is seen as the
+/// list of its squares, rising. It takes no memory.
 #[derive(Debug, Drop)]
 pub struct Region {
-    marks: Vec<bool>,
+    words: [u64; WORDS],
 }
 
 impl Model for Region {
     ghost use Rattle.std.specs.Prelude.{ℕ, List};
-    ghost use Rattle.sok_region.specs.Regions.{IsMarking, squares_of};
+    ghost use Rattle.sok_region.specs.Regions.{HasSquare, squares_of};
 
     ghost Value = { List ℕ };
 
-    ghost view = { λ region. squares_of region.marks.items };
+    ghost view = { λ region. squares_of region.words };
 
-    ghost invariant = { λ region. IsMarking region.marks.items };
+    ghost invariant = { λ region. HasSquare region.words };
 }
 
 impl Region {
-    /// The region of the player among boxes, by a flood fill. It refuses only for want of memory.
-    pub fn of(alloc: Global, board: &Board, boxes: &BoxSet, player: Sq) -> Result<Region, Memory>
+    /// The region of the player among boxes. It takes no memory, and never refuses.
+    pub fn of(_alloc: Global, board: &Board, boxes: &BoxSet, player: Sq) -> Result<Region, Memory>
         requires { IsPlaced board.now boxes.now player }
-        ensures { IfOk result (λ region. IsRegion board.now boxes.now player region) }
+        ensures region { IfOk result (λ region. IsRegion board.now boxes.now player region) }
+        ensures answers { IsOk result }
+        ensures accepted { IsAccepted board.now }
     {
-        let free = free_squares(alloc, board, boxes)?;
-        let flood = flood_from(alloc, board, &free, player)?;
-        Ok(Region { marks: flood.marks })
+        let mut words = [0; WORDS];
+        write(&mut words, board, boxes, player);
+        Ok(Region { words })
+    }
+
+    /// Makes it the region that `of` gives. It takes no memory.
+    pub fn again(&mut self, board: &Board, boxes: &BoxSet, player: Sq)
+        requires { IsPlaced board.now boxes.now player }
+        ensures region { IsRegion board.now boxes.now player self.new }
+        ensures accepted { IsAccepted board.now }
+    {
+        write(&mut self.words, board, boxes, player);
     }
 
     /// Whether the player comes to a square.
     pub fn has(&self, square: Sq) -> bool
         ensures { IsTrue result ↔ Contains self.now square }
     {
-        is_marked(&self.marks, square)
+        numbers::has(&self.words, square)
     }
 
     /// The square with the least number.
@@ -54,8 +70,8 @@ impl Region {
         ensures among { Contains self.now result }
         ensures least { (s : ℕ) → Contains self.now s → result ≤ s }
     {
-        match first_marked(&self.marks) {
-            Some(square) => square as Sq,
+        match numbers::first(&self.words) {
+            Some(square) => square,
             None => 0,
         }
     }
@@ -71,34 +87,29 @@ impl Region {
         to: Sq,
     ) -> Result<Option<Vec<Dir>>, Memory>
         requires own { IsRegionOf board.now self.now }
-        ensures exact { IfOk result (λ walk. IsSome walk ↔ (Contains self.now from × Contains self.now to)) }
+        ensures exact { IfOk result
+            (λ walk. IsSome walk ↔ (Contains self.now from × Contains self.now to)) }
         ensures legal { (boxes : List ℕ) (player : ℕ) → IsRegion board.now boxes player self.now
-            → IfOk result (λ walk. IfSome walk (λ w. IsWalkBetween board.now boxes from to w.items)) }
+            → IfOk result
+            (λ walk. IfSome walk (λ w. IsWalkBetween board.now boxes from to w.items)) }
     {
         if !self.has(from) {
             return Ok(None);
         }
-        let flood = flood_from(alloc, board, &self.marks, from)?;
+        let flood = flood_from(alloc, board, &self.words, from)?;
         flood.letters_to(alloc, to)
     }
 }
 
-/// The first of the squares that are marked.
-fn first_marked(marks: &[bool]) -> Option<usize>
-    ensures { result ≡ position (λ mark. mark) marks.now }
+/// Makes words the region of the player among boxes, a bit for each square: a flood over bit rows.
+fn write(words: &mut [u64], board: &Board, boxes: &BoxSet, player: Sq)
+    requires placed { IsPlaced board.now boxes.now player }
+    requires room { length words.old ≡ WORDS }
+    ensures region { IsRegion board.now boxes.now player (squares_of words.new) }
+    ensures accepted { IsAccepted board.now }
 {
-    marks.iter().position(|mark| *mark)
-}
-
-/// A table that marks the squares of a board without a box.
-fn free_squares(alloc: Global, board: &Board, boxes: &BoxSet) -> Result<Vec<bool>, Memory>
-    requires { All (λ square. square < length board.now.area) boxes.now }
-    ensures whole { IfOk result (λ free. length free.items ≡ length board.now.area) }
-    ensures exact { IfOk result (λ free. (s : ℕ) → s < length board.now.area → (marked free.items s ≡ true) ↔ (Contains boxes.now s → ⊥)) }
-{
-    let mut free = vec![in alloc; true; board.squares()]?;
-    for square in boxes.list() {
-        free[*square as usize] = false;
-    }
-    Ok(free)
+    let free = drawing::free_squares(board, boxes.list());
+    let mut seen = Field::new();
+    drawing::flood_from(&mut seen, &free, board, player);
+    numbers::write(words, &seen, board);
 }

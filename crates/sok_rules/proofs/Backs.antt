@@ -1,30 +1,14 @@
 -- A letter is taken back.
-use Rattle.std.proofs.Common.{◌≡◌, refl, sym, ap, ◌∙◌, inl, inr, Bool, true, false, Some, if◌then◌else◌}
-use Rattle.std.proofs.lemmas.Bool.{cases_Bool}
+use Rattle.std.proofs.Common.{◌≡◌, refl, sym, ap, ◌∙◌, Bool, true, false, Some}
 use Rattle.sok_rules.specs.declared.cell.Dir.{Dir}
 use Rattle.sok_rules.specs.declared.cell.Spot.{Spot}
-use Rattle.sok_rules.specs.Squares.{Rows, holds, is_box, is_open, next, opposite, same_spot}
+use Rattle.sok_rules.specs.Squares.{Rows, holds, is_box, is_open, next, opposite}
 use Rattle.sok_rules.specs.Play.{After, Position, moved, start}
 use Rattle.sok_rules.specs.Scene.{CameBy}
-use Rattle.sok_rules.proofs.Spots.{next-opposite, same_spot-is, same_spot-refl}
+use Rattle.sok_rules.proofs.Moved.{moved-back}
+pub use Rattle.sok_rules.proofs.Moved.{moved-to}
+use Rattle.sok_rules.proofs.Spots.{next-opposite}
 use Rattle.sok_rules.proofs.Steps.{push_step, walk_step}
-
--- the square that a box has come to
-pub moved-to : (boxes : Spot → Bool) (from to : Spot) → moved boxes from to to ≡ true
-unfolding moved
-moved-to boxes from to = ap (λ b. if b then true else if same_spot to from then false else boxes to) (same_spot-refl to)
-
--- a box that goes back where it was
-pub moved-back : (boxes : Spot → Bool) (from to : Spot) → boxes from ≡ true → boxes to ≡ false → (s : Spot) → moved (moved boxes from to) to from s ≡ boxes s
-unfolding moved
-moved-back boxes from to there free s = elim (cases_Bool (same_spot s from)) [
-  | inl back ↦ ap (λ b. if b then true else if same_spot s to then false else moved boxes from to s) back ∙ sym there ∙ ap boxes (sym (same_spot-is s from back))
-  | inr elsewhere ↦
-      ap (λ b. if b then true else if same_spot s to then false else moved boxes from to s) elsewhere ∙ elim (cases_Bool (same_spot s to)) [
-        | inl left ↦ ap (λ b. if b then false else moved boxes from to s) left ∙ sym free ∙ ap boxes (sym (same_spot-is s to left))
-        | inr stays ↦ (λ i. if stays i then false else if stays i then true else if elsewhere i then false else boxes s)
-      ]
-]
 
 -- what a scene tells of the position before a walk
 pub record BackByWalk (now : Rows) (d : Dir) (man : Spot) (x : Position) : Type 0 where
@@ -32,7 +16,8 @@ pub record BackByWalk (now : Rows) (d : Dir) (man : Spot) (x : Position) : Type 
   pub free : holds is_box now x.man ≡ false
   pub back : record { man = x.man; boxes = holds is_box now } ≡ x
 
-pub BackByWalk-from_CameBy : (now : Rows) (d : Dir) (man : Spot) (x : Position) → start now ≡ record { man = man; boxes = holds is_box now } → CameBy now d false x → BackByWalk now d man x
+pub BackByWalk-from_CameBy : (now : Rows) (d : Dir) (man : Spot) (x : Position) → start now ≡ record { man = man; boxes = holds is_box now }
+    → CameBy now d false x → BackByWalk now d man x
 BackByWalk-from_CameBy now d man x shows came =
     let walk = walk_step now d x (record { position = start now; pushed = false }) came.led refl in
     let there : record { man = man; boxes = holds is_box now } ≡ record x { man = walk.to } = sym shows ∙ ap (λ (a : After). a.position) walk.leads in
@@ -52,11 +37,13 @@ pub record BackByPush (now : Rows) (d : Dir) (man ahead : Spot) (x : Position) :
   pub man_free : moved (holds is_box now) ahead man x.man ≡ false
   pub back : record { man = x.man; boxes = moved (holds is_box now) ahead man } ≡ x
 
-pub BackByPush-from_CameBy : (now : Rows) (d : Dir) (man : Spot) (x : Position) → start now ≡ record { man = man; boxes = holds is_box now } → CameBy now d true x
+pub BackByPush-from_CameBy : (now : Rows) (d : Dir) (man : Spot) (x : Position) → start now ≡ record { man = man; boxes = holds is_box now }
+    → CameBy now d true x
     → (ahead : Spot) × BackByPush now d man ahead x
 BackByPush-from_CameBy now d man x shows came =
     let push = push_step now d x (record { position = start now; pushed = true }) came.led refl in
-    let there : record { man = man; boxes = holds is_box now } ≡ record { man = push.from; boxes = moved x.boxes push.from push.to } = sym shows ∙ ap (λ (a : After). a.position) push.leads in
+    let there : record { man = man; boxes = holds is_box now } ≡ record { man = push.from; boxes = moved x.boxes push.from push.to } = sym shows
+    ∙ ap (λ (a : After). a.position) push.leads in
     let man_is : man ≡ push.from = ap (λ (p : Position). p.man) there in
     let boxes : holds is_box now ≡ moved x.boxes push.from push.to = ap (λ (p : Position). p.boxes) there in
     let back = λ (s : Spot). (λ i. moved (boxes i) push.to (man_is i) s) ∙ moved-back x.boxes push.from push.to push.box_there push.to_free s in (
@@ -71,8 +58,9 @@ BackByPush-from_CameBy now d man x shows came =
       },
     )
 
--- the man came from behind
-pub behind-from_CameBy : (now : Rows) (d : Dir) (pushed : Bool) (man : Spot) (x : Position) → start now ≡ record { man = man; boxes = holds is_box now } → CameBy now d pushed x
+-- the player came from behind
+pub behind-from_CameBy : (now : Rows) (d : Dir) (pushed : Bool) (man : Spot) (x : Position) → start now ≡ record { man = man; boxes = holds is_box now }
+    → CameBy now d pushed x
     → next (opposite d) man ≡ Some x.man
 behind-from_CameBy now d false man x shows came = (BackByWalk-from_CameBy now d man x shows came).behind
 behind-from_CameBy now d true man x shows came = (BackByPush-from_CameBy now d man x shows came).1.behind

@@ -1,5 +1,7 @@
--- The one man of a proper level, where he is found.
-use Rattle.std.proofs.Common.{Vec, ℕ, ◌≡◌, ◌<◌, refl, sym, ap, ◌∙◌, inl, inr, List, [], length, get_or, Bool, true, false, true≢false, Some, None, if◌then◌else◌, position, find, unwrap_or, count_by, sum_by, ◌*◌, ◌≤◌, arith, subst}
+-- The one player of a proper level, where he is found.
+use Rattle.std.proofs.Common.{Vec, ℕ, ◌≡◌, ◌<◌, refl, sym, ap, ◌∙◌, inl, inr, List, [], length, get_or, Bool, true, false}
+use Rattle.std.proofs.Common.{true≢false, Some, None, if◌then◌else◌, position, find, unwrap_or, count_by, sum_by, ◌*◌, ◌≤◌, arith}
+use Rattle.std.proofs.Common.{subst}
 use Rattle.std.proofs.lemmas.Bool.{cases_Bool}
 use Rattle.std.proofs.lemmas.List.{length-map}
 use Rattle.std.proofs.lemmas.List.Folds.{list_any_at, list_any_none}
@@ -21,7 +23,8 @@ use Rattle.sok_rules.proofs.Spots.{same_spot-is}
 use Rattle.sok_rules.proofs.Steps.{IsStanding}
 
 -- what is counted once stands nowhere else
-pub only_one : (test : Cell → Bool) (rows : Rows) (one : Spot) → test Wall ≡ false → count_in test rows ≡ 1 → holds test rows one ≡ true → (s : Spot) → holds test rows s ≡ same_spot one s
+pub only_one : (test : Cell → Bool) (rows : Rows) (one : Spot) → test Wall ≡ false → count_in test rows ≡ 1 → holds test rows one ≡ true → (s : Spot)
+    → holds test rows s ≡ same_spot one s
 only_one test rows one wall once there s = elim (cases_Bool (same_spot one s)) [
   | inl same ↦ ap (holds test rows) (sym (same_spot-is one s same)) ∙ there ∙ sym same
   | inr apart ↦ elim (cases_Bool (holds test rows s)) [
@@ -53,17 +56,20 @@ list_any-counted test rows some = elim (cases_Bool (list_any (list_any test) row
   ))
 ]
 
--- no row with the man is found only where there is none
-pub row_found : {A : Type 0} (test : Cell → Bool) (rows : List (Vec Cell A)) → 0 < count_in test (cells_of rows) → position (λ row. list_any test row.items) rows ≡ None → ⊥
+-- no row with the player is found only where there is none
+pub row_found : {A : Type 0} (test : Cell → Bool) (rows : List (Vec Cell A)) → 0 < count_in test (cells_of rows)
+    → position (λ row. list_any test row.items) rows ≡ None → ⊥
 row_found test rows some none =
-    true≢false (sym (list_any-counted test (cells_of rows) some) ∙ list_any-cells_of (list_any test) rows ∙ list_any_none (λ row. list_any test row.items) rows (position-none (λ row. list_any test row.items) rows none))
+    true≢false (sym (list_any-counted test (cells_of rows) some) ∙ list_any-cells_of (list_any test) rows
+    ∙ list_any_none (λ row. list_any test row.items) rows (position-none (λ row. list_any test row.items) rows none))
 
 -- nor a column of a row with him
 pub col_found : (test : Cell → Bool) (row : List Cell) → list_any test row ≡ true → position test row ≡ None → ⊥
 col_found test row some none = true≢false (sym some ∙ list_any_none test row (position-none test row none))
 
 -- where he is found he is
-pub holds-found : {A : Type 0} (test : Cell → Bool) (rows : List (Vec Cell A)) (row : Vec Cell A) (r c : ℕ) → r < length rows → row ≡ get_or rows r row → position test row.items ≡ Some c
+pub holds-found : {A : Type 0} (test : Cell → Bool) (rows : List (Vec Cell A)) (row : Vec Cell A) (r c : ℕ) → r < length rows → row ≡ get_or rows r row
+    → position test row.items ≡ Some c
     → (c < length row.items) × (holds test (cells_of rows) (record { row = r; col = c }) ≡ true)
 holds-found test rows row r c within there found =
     let place = position-Some test row.items c Wall found in
@@ -71,11 +77,15 @@ holds-found test rows row r c within there found =
     let inside : IsWithin (cells_of rows) (record { row = r; col = c }) = record {
       row = omega (arith, within, length-map rows (λ (v : Vec Cell _). v.items));
       col = subst (λ (line : List Cell). c < length line) (sym cells) place.0;
-    } in
-    (place.0, holds-within test (cells_of rows) (record { row = r; col = c }) Wall inside ∙ ap (λ (line : List Cell). test (get_or line c Wall)) cells ∙ place.1)
+    } in (
+      place.0,
+      holds-within test (cells_of rows) (record { row = r; col = c }) Wall inside ∙ ap (λ (line : List Cell). test (get_or line c Wall)) cells
+          ∙ place.1,
+    )
 
 -- and in a level that is near
-pub col_near : {A : Type 0} (test : Cell → Bool) (rows : List (Vec Cell A)) (row : Vec Cell A) (r c : ℕ) → IsProper (cells_of rows) → r < length rows → row ≡ get_or rows r row
+pub col_near : {A : Type 0} (test : Cell → Bool) (rows : List (Vec Cell A)) (row : Vec Cell A) (r c : ℕ) → IsProper (cells_of rows) → r < length rows
+    → row ≡ get_or rows r row
     → position test row.items ≡ Some c → c < 64
 col_near test rows row r c proper within there found =
     let place = holds-found test rows row r c within there found in
@@ -83,11 +93,18 @@ col_near test rows row r c proper within there found =
     omega (arith, place.0, short, ap length (row-cells_of rows r row within there))
 
 -- the cells of a level that are counted are few
-pub few_counted : {A : Type 0} (test : Cell → Bool) (rows : List (Vec Cell A)) → IsProper (cells_of rows) → sum_by (λ row. count_by test row.items) rows ≤ 64 * 64
-few_counted test rows proper = omega (arith, sum_by-cells_of (count_by test) rows, count_by-few (λ row. row) test (cells_of rows) proper.few_rows proper.few_columns)
+pub few_counted : {A : Type 0} (test : Cell → Bool) (rows : List (Vec Cell A)) → IsProper (cells_of rows)
+    → sum_by (λ row. count_by test row.items) rows ≤ 64 * 64
+few_counted test rows proper = omega (
+  arith,
+  sum_by-cells_of (count_by test) rows,
+  count_by-few (λ row. row) test
+      (cells_of rows) proper.few_rows proper.few_columns,
+)
 
 -- a level is a scene
-pub IsScene-from_IsProper : (rows : Rows) (man : Spot) (astray : ℕ) → IsProper rows → holds is_man rows man ≡ true → astray ≡ count_in is_astray rows → IsScene rows man astray
+pub IsScene-from_IsProper : (rows : Rows) (man : Spot) (astray : ℕ) → IsProper rows → holds is_man rows man ≡ true → astray ≡ count_in is_astray rows
+    → IsScene rows man astray
 IsScene-from_IsProper rows man astray proper there counted = record {
   few_rows = proper.few_rows;
   few_columns = proper.few_columns;
@@ -95,7 +112,7 @@ IsScene-from_IsProper rows man astray proper there counted = record {
   astray_are = counted;
 }
 
--- the man of a level, who is met first in reading order
+-- the player of a level, who is met first in reading order
 found_man : (rows : Rows) → 0 < count_in is_man rows → (s : Spot) × (find (holds is_man rows) (places rows) ≡ Some s) × (holds is_man rows s ≡ true)
 found_man rows some = elim (cases_Bool (list_any (holds is_man rows) (places rows))) [
   | inl found ↦ find-list_any (holds is_man rows) (places rows) found
@@ -115,7 +132,7 @@ find-man rows proper =
     let found = found_man rows (omega (arith, proper.one_man)) in
     found.1 ∙ sym (ap (λ o. Some (unwrap_or o (record { row = 0; col = 0 }))) found.1)
 
--- the start of a level shows its man
+-- the start of a level shows its player
 pub holds-man : (rows : Rows) → IsProper rows → holds is_man rows (start rows).man ≡ true
 unfolding start
 holds-man rows proper =

@@ -1,15 +1,20 @@
 -- Rows without a fault are those of a proper level.
-use Rattle.std.proofs.Common.{ℕ, ◌≡◌, ◌≤◌, ◌<◌, ◌*◌, refl, sym, ap, ◌∙◌, inl, inr, List, [], ◌∷◌, length, get_or, Bool, true, false, true≢false, not, Option, Some, None, Result, Ok, Err, map, if◌then◌else◌, nat_lt, All, position, count_by, sum_by, arith}
+use Rattle.std.proofs.Common.{ℕ, ◌≡◌, ◌≤◌, ◌<◌, ◌*◌, refl, sym, ap, ◌∙◌, inl, inr, List, [], ◌∷◌, length, get_or, Bool, true}
+use Rattle.std.proofs.Common.{false, true≢false, not, Option, Some, None, Result, Ok, Err, map, if◌then◌else◌, nat_lt, All}
+use Rattle.std.proofs.Common.{position, count_by, sum_by, option_map, ◌==◌, arith}
 use Rattle.std.proofs.lemmas.Bool.{cases_Bool}
 use Rattle.std.proofs.lemmas.Bool.Decides.{nat_tests}
 use Rattle.std.proofs.lemmas.Option.{none-some}
+use Rattle.std.proofs.lemmas.List.{length-map}
 use Rattle.std.proofs.lemmas.List.Folds.{list_any_at, list_any_none}
 use Rattle.std.proofs.lemmas.List.Sums.{fails_before_first, passes_at_first, sum_by-le, count_by-le-length}
 use Rattle.std.specs.List.{list_any, position_or_len}
+use Rattle.std.specs.Option.{option_or}
 use Rattle.sok_rules.specs.declared.cell.Cell.{Cell}
 use Rattle.sok_rules.specs.declared.fault.LevelFault.{LevelFault}
-use Rattle.sok_rules.specs.Squares.{Rows, is_man, is_wall}
-use Rattle.sok_rules.specs.Levels.{IsProper, fault_of, first_fault, count_in, level_of, trimmed}
+use Rattle.sok_rules.specs.declared.fault.LevelFault.TheVariants.{TooWide, TooTall, NoPlayer, ManyPlayers, NoBox, NoSuchLevel, NoWall}
+use Rattle.sok_rules.specs.Squares.{Rows, is_box, is_man, is_wall}
+use Rattle.sok_rules.specs.Levels.{IsLevel, IsProper, fault_of, count_in, level_of, row_without_wall, trimmed}
 
 -- a test that none passes fails at each element
 fails_at_each : {X : Type 0} (test : X → Bool) (xs : List X) → list_any test xs ≡ false → (k : ℕ) (d : X) → k < length xs → test (get_or xs k d) ≡ false
@@ -24,7 +29,7 @@ position-none test xs none k d within = elim (cases_Bool (nat_lt (position_or_le
   | inr past ↦ fails_before_first test xs k d (grind (arith, nat_tests))
 ]
 
-none-position : {X : Type 0} (test : X → Bool) (xs : List X) → ((k : ℕ) (d : X) → k < length xs → test (get_or xs k d) ≡ false) → position test xs ≡ None
+pub none-position : {X : Type 0} (test : X → Bool) (xs : List X) → ((k : ℕ) (d : X) → k < length xs → test (get_or xs k d) ≡ false) → position test xs ≡ None
 none-position test [] fails = refl
 none-position test (x ∷ xs) fails = elim (cases_Bool (nat_lt (position_or_len test (x ∷ xs)) (length (x ∷ xs)))) [
   | inl found ↦
@@ -37,6 +42,15 @@ not_false : (b : Bool) → not b ≡ false → b ≡ true
 not_false true e = refl
 not_false false e = absurd (true≢false e)
 
+-- the first fault, by what is found of each cause
+abbrev pub first_fault : Bool → Bool → Option ℕ → ℕ → Bool → Option LevelFault
+first_fault tall wide unwalled men has_box =
+    if tall then Some TooTall
+    else if wide then Some TooWide
+    else option_or (option_map (λ row. NoWall row) unwalled) (
+    if men == 0 then Some NoPlayer else if nat_lt 1 men then Some ManyPlayers else if has_box then None else Some NoBox
+    )
+
 record HasNoFault (tall wide : Bool) (unwalled : Option ℕ) (men : ℕ) (has_box : Bool) : Type 0 where
   not_tall : tall ≡ false
   not_wide : wide ≡ false
@@ -44,18 +58,21 @@ record HasNoFault (tall wide : Bool) (unwalled : Option ℕ) (men : ℕ) (has_bo
   one_man : men ≡ 1
   boxed : has_box ≡ true
 
-HasNoFault-from_none : (tall wide : Bool) (unwalled : Option ℕ) (men : ℕ) (has_box : Bool) → first_fault tall wide unwalled men has_box ≡ None → HasNoFault tall wide unwalled men has_box
+HasNoFault-from_none : (tall wide : Bool) (unwalled : Option ℕ) (men : ℕ) (has_box : Bool) → first_fault tall wide unwalled men has_box ≡ None
+    → HasNoFault tall wide unwalled men has_box
 HasNoFault-from_none true wide unwalled men has_box none = absurd (none-some _ (sym none))
 HasNoFault-from_none false true unwalled men has_box none = absurd (none-some _ (sym none))
 HasNoFault-from_none false false (Some r) men has_box none = absurd (none-some _ (sym none))
-HasNoFault-from_none false false None men true none = record { not_tall = refl; not_wide = refl; walled = refl; one_man = grind (arith, nat_tests, none-some); boxed = refl }
+HasNoFault-from_none false false None men true none =
+    record { not_tall = refl; not_wide = refl; walled = refl; one_man = grind (arith, nat_tests, none-some); boxed = refl }
 HasNoFault-from_none false false None men false none = absurd (grind (arith, nat_tests, none-some))
 
 -- rows without a fault are a level's
 pub IsProper-from_none : (rows : Rows) → fault_of rows ≡ None → IsProper rows
 unfolding fault_of
 IsProper-from_none rows none =
-    let clean = HasNoFault-from_none _ (list_any (λ row. nat_lt 64 (length row)) rows) (position (λ row. not (list_any is_wall row)) rows) (count_in is_man rows) _ none in
+    let clean = HasNoFault-from_none _ (list_any (λ row. nat_lt 64 (length row)) rows) (position (λ row. not (list_any is_wall row)) rows)
+    (count_in is_man rows) _ none in
     let not_tall : nat_lt 64 (length rows) ≡ false = clean.not_tall in
     record {
       few_rows = grind (arith, nat_tests);
@@ -70,7 +87,8 @@ unfolding fault_of
 none-from_IsProper rows proper =
     let few_rows : length rows ≤ 64 = proper.few_rows in
     let not_tall : nat_lt 64 (length rows) ≡ false = grind (arith, nat_tests) in
-    let not_wide = list_any_none (λ row. nat_lt 64 (length row)) rows (λ k d within. let short : length (get_or rows k d) ≤ 64 = proper.few_columns k d within in grind (arith, nat_tests)) in
+    let not_wide = list_any_none (λ row. nat_lt 64 (length row)) rows (λ k d within. let short : length (get_or rows k d) ≤ 64 =
+    proper.few_columns k d within in grind (arith, nat_tests)) in
     let walled = none-position (λ row. not (list_any is_wall row)) rows (λ k d within. ap not (proper.walls k d within)) in
     λ i. first_fault (not_tall i) (not_wide i) (walled i) (proper.one_man i) (proper.some_box i)
 
@@ -78,10 +96,15 @@ none-from_IsProper rows proper =
 pub count_by-few : {R : Type 0} (cells : R → List Cell) (test : Cell → Bool) (rows : List R) → length rows ≤ 64 → All (λ row. length (cells row) ≤ 64) rows
     → sum_by (λ row. count_by test (cells row)) rows ≤ 64 * 64
 count_by-few cells test rows few short =
-    omega (arith, sum_by-le (λ row. count_by test (cells row)) 64 rows (λ k d within. omega (arith, count_by-le-length test (cells (get_or rows k d)), short k d within)))
+    omega (
+      arith,
+      sum_by-le (λ row. count_by test (cells row)) 64 rows
+          (λ k d within. omega (arith, count_by-le-length test (cells (get_or rows k d)), short k d within)),
+    )
 
 -- few rows, none of them long
-pub count_by-fits : {R : Type 0} (cells : R → List Cell) (test : Cell → Bool) (rows : List R) → length rows ≤ 64 → list_any (λ row. nat_lt 64 (length (cells row))) rows ≡ false
+pub count_by-fits : {R : Type 0} (cells : R → List Cell) (test : Cell → Bool) (rows : List R) → length rows ≤ 64
+    → list_any (λ row. nat_lt 64 (length (cells row))) rows ≡ false
     → sum_by (λ row. count_by test (cells row)) rows ≤ 64 * 64
 count_by-fits cells test rows few none_long = count_by-few cells test rows few (λ k d within.
     let short = fails_at_each (λ row. nat_lt 64 (length (cells row))) rows none_long k d within in grind (arith, nat_tests))
@@ -94,3 +117,73 @@ level_of-none rows none = ap (λ o. elim o as (λ _. Result Rows LevelFault) [ N
 pub level_of-some : (rows : Rows) (fault : LevelFault) → fault_of (map trimmed rows) ≡ Some fault → level_of rows ≡ Err fault
 unfolding level_of
 level_of-some rows fault some = ap (λ o. elim o as (λ _. Result Rows LevelFault) [ None ↦ Ok (map trimmed rows) | Some f ↦ Err f ]) some
+
+-- rows of which there are too many
+fault_of-tall : (rows : Rows) → 64 < length rows → fault_of rows ≡ Some TooTall
+unfolding fault_of
+fault_of-tall rows tall =
+    let so : nat_lt 64 (length rows) ≡ true = grind (arith, nat_tests) in
+    ap (λ b. first_fault b (list_any (λ row. nat_lt 64 (length row)) rows) (row_without_wall rows) (count_in is_man rows) (list_any (list_any is_box) rows)) so
+
+pub level_of-tall : (rows : Rows) → 64 < length rows → level_of rows ≡ Err TooTall
+level_of-tall rows tall = level_of-some rows TooTall (fault_of-tall (map trimmed rows) (omega (arith, length-map rows trimmed)))
+
+-- a fault of what stands in rows
+abbrev fault_of_pieces : Bool → Bool → Bool → Option LevelFault
+fault_of_pieces none many has_box = if none then Some NoPlayer else if many then Some ManyPlayers else if has_box then None else Some NoBox
+
+pieces-missing : (none many has_box : Bool) → fault_of_pieces none many has_box ≡ Some NoSuchLevel → ⊥
+pieces-missing true many has_box e = cc
+pieces-missing false true has_box e = cc
+pieces-missing false false true e = cc
+pieces-missing false false false e = cc
+
+pieces-wall : (none many has_box : Bool) (row : ℕ) → fault_of_pieces none many has_box ≡ Some (NoWall row) → ⊥
+pieces-wall true many has_box row e = cc
+pieces-wall false true has_box row e = cc
+pieces-wall false false true row e = cc
+pieces-wall false false false row e = cc
+
+first-missing : (tall wide : Bool) (unwalled : Option ℕ) (men : ℕ) (has_box : Bool) → first_fault tall wide unwalled men has_box ≡ Some NoSuchLevel → ⊥
+first-missing true wide unwalled men has_box e = cc
+first-missing false true unwalled men has_box e = cc
+first-missing false false (Some r) men has_box e = cc
+first-missing false false None men has_box e = pieces-missing (men == 0) (nat_lt 1 men) has_box e
+
+first-wall : (tall wide : Bool) (unwalled : Option ℕ) (men : ℕ) (has_box : Bool) (row : ℕ)
+    → first_fault tall wide unwalled men has_box ≡ Some (NoWall row) → unwalled ≡ Some row
+first-wall true wide unwalled men has_box row e = absurd cc
+first-wall false true unwalled men has_box row e = absurd cc
+first-wall false false (Some r) men has_box row e = let same : r ≡ row = cc in ap Some same
+first-wall false false None men has_box row e = absurd (pieces-wall (men == 0) (nat_lt 1 men) has_box row e)
+
+-- the fault of rows that are no level
+fault-from_level_of : (rows : Rows) (fault : LevelFault) → level_of rows ≡ Err fault → fault_of (map trimmed rows) ≡ Some fault
+unfolding level_of
+fault-from_level_of rows fault =
+    elim (fault_of (map trimmed rows)) as (λ o. elim o as (λ _. Result Rows LevelFault) [ None ↦ Ok (map trimmed rows) | Some f ↦ Err f ] ≡ Err fault
+    → o ≡ Some fault) [
+      | None ↦ λ e. absurd cc
+      | Some f ↦ λ e. let same : f ≡ fault = cc in ap Some same
+    ]
+
+-- rows are never refused as a level that is missing
+pub level_of-missing : (rows : Rows) → level_of rows ≡ Err NoSuchLevel → ⊥
+unfolding fault_of
+level_of-missing rows e =
+    let clean = map trimmed rows in
+    first-missing (nat_lt 64 (length clean)) (list_any (λ row. nat_lt 64 (length row)) clean) (row_without_wall clean) (count_in is_man clean)
+    (list_any (list_any is_box) clean) (fault-from_level_of rows NoSuchLevel e)
+
+-- and for a row without a wall only where there is one
+pub level_of-wall : (rows : Rows) (row : ℕ) → level_of rows ≡ Err (NoWall row) → row_without_wall (map trimmed rows) ≡ Some row
+unfolding fault_of
+level_of-wall rows row e =
+    let clean = map trimmed rows in
+    first-wall (nat_lt 64 (length clean)) (list_any (λ r. nat_lt 64 (length r)) clean) (row_without_wall clean) (count_in is_man clean)
+    (list_any (list_any is_box) clean) row (fault-from_level_of rows (NoWall row) e)
+
+-- a level is read as it is
+pub level_of-IsLevel : (rows : Rows) → IsLevel rows → level_of rows ≡ Ok rows
+level_of-IsLevel rows level =
+    level_of-none rows (ap fault_of level.trimmed ∙ none-from_IsProper rows level.proper) ∙ ap Ok level.trimmed

@@ -1,5 +1,6 @@
 -- A scene that is played letter by letter follows the run.
-use Rattle.std.proofs.Common.{IsSome, IsNone, ℕ, ◌≡◌, ◌<◌, ◌≤◌, ◌+◌, ◌↔◌, refl, sym, ap, ◌∙◌, subst, List, length, take, get_or, Bool, true, false, not, ◌&&◌, Option, Some, None, IsSomeAnd, if◌then◌else◌, arith}
+use Rattle.std.proofs.Common.{IsSome, IsNone, ℕ, ◌≡◌, ◌<◌, ◌≤◌, ◌+◌, ◌↔◌, refl, sym, ap, ◌∙◌, subst, List, length, take, get_or}
+use Rattle.std.proofs.Common.{Bool, true, false, not, ◌&&◌, Option, Some, None, IsSomeAnd, if◌then◌else◌, arith}
 use Rattle.std.specs.Option.{option_and_then}
 use Rattle.sok_rules.specs.declared.cell.Dir.{Dir}
 use Rattle.sok_rules.specs.declared.cell.Spot.{Spot}
@@ -14,7 +15,8 @@ use Rattle.sok_rules.proofs.Scenes.{SameGround-trans}
 step_over : (Spot → Bool) → Dir → Position → Option After
 step_over opened d x =
     option_and_then (λ q. if not (opened q) then None
-    else if x.boxes q then option_and_then (λ t. if opened t && not (x.boxes t) then Some (record { position = record { man = q; boxes = moved x.boxes q t }; pushed = true }) else None) (next d q)
+    else if x.boxes q then option_and_then (λ t. if opened t && not (x.boxes t) then Some
+    (record { position = record { man = q; boxes = moved x.boxes q t }; pushed = true }) else None) (next d q)
     else Some (record { position = record x { man = q }; pushed = false })) (next d x.man)
 
 -- on the same ground a letter does the same
@@ -23,7 +25,8 @@ unfolding step_over
 step-SameGround rows now d x ground = λ i. step_over (λ s. sym (ground.opened s) i) d x
 
 -- all boxes are on goals, on the same ground
-pub solved-SameGround : (rows now : Rows) (w : List Dir) → SameGround rows now → run rows (start rows) w ≡ Some (start now) → AllOnGoals now (start now) ↔ SolvesFrom rows (start rows) w
+pub solved-SameGround : (rows now : Rows) (w : List Dir) → SameGround rows now → run rows (start rows) w ≡ Some (start now)
+    → AllOnGoals now (start now) ↔ SolvesFrom rows (start rows) w
 solved-SameGround rows now w ground ran = (
   λ solved. subst (λ o. IsSomeAnd o (AllOnGoals rows)) (sym ran) (λ s boxed. sym (ground.goals s) ∙ solved s boxed),
   λ solves. let there : AllOnGoals rows (start now) = subst (λ o. IsSomeAnd o (AllOnGoals rows)) ran solves in λ s boxed. ground.goals s ∙ there s boxed,

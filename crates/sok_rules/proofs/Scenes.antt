@@ -1,5 +1,6 @@
 -- Scenes: what letting another one stand on a square leaves, and the position that a scene shows.
-use Rattle.std.proofs.Common.{ℕ, ◌≡◌, ◌<◌, ◌≤◌, ◌+◌, ◌*◌, ◌&&◌, refl, sym, ap, ◌∙◌, inl, inr, List, [], length, get_or, Bool, true, false, true≢false, not, Some, None, if◌then◌else◌, All, arith, subst}
+use Rattle.std.proofs.Common.{ℕ, ◌≡◌, ◌<◌, ◌≤◌, ◌+◌, ◌*◌, ◌&&◌, refl, sym, ap, ◌∙◌, inl, inr, List, [], length, get_or, Bool}
+use Rattle.std.proofs.Common.{true, false, true≢false, not, Some, None, if◌then◌else◌, All, arith, subst}
 use Rattle.std.proofs.lemmas.Bool.{cases_Bool}
 use Rattle.std.proofs.lemmas.List.{length-map}
 use Rattle.std.proofs.lemmas.Option.{same_Some}
@@ -71,18 +72,22 @@ is_astray-standing Box false = refl
 
 -- a test after one stands elsewhere
 put_tells : (test : Cell → Bool) (answer : Occupant → Bool) → ((who : Occupant) (goal : Bool) → test (standing who goal) ≡ answer who)
-    → (rows : Rows) (t s : Spot) (who : Occupant) → holds is_open rows t ≡ true → holds test (with_occupant rows t who) s ≡ (if same_spot t s then answer who else holds test rows s)
+    → (rows : Rows) (t s : Spot) (who : Occupant) → holds is_open rows t ≡ true
+    → holds test (with_occupant rows t who) s ≡ (if same_spot t s then answer who else holds test rows s)
 put_tells test answer tells rows t s who opened =
     holds-with_cell test rows t s _ (IsWithin-from_holds is_open rows t opened) ∙ ap (λ b. if same_spot t s then b else holds test rows s) (tells who _)
 
-pub holds_box-with_occupant : (rows : Rows) (t s : Spot) (who : Occupant) → holds is_open rows t ≡ true → holds is_box (with_occupant rows t who) s ≡ (if same_spot t s then seen_box who else holds is_box rows s)
+pub holds_box-with_occupant : (rows : Rows) (t s : Spot) (who : Occupant) → holds is_open rows t ≡ true
+    → holds is_box (with_occupant rows t who) s ≡ (if same_spot t s then seen_box who else holds is_box rows s)
 holds_box-with_occupant = put_tells is_box seen_box is_box-standing
 
-pub holds_man-with_occupant : (rows : Rows) (t s : Spot) (who : Occupant) → holds is_open rows t ≡ true → holds is_man (with_occupant rows t who) s ≡ (if same_spot t s then seen_man who else holds is_man rows s)
+pub holds_man-with_occupant : (rows : Rows) (t s : Spot) (who : Occupant) → holds is_open rows t ≡ true
+    → holds is_man (with_occupant rows t who) s ≡ (if same_spot t s then seen_man who else holds is_man rows s)
 holds_man-with_occupant = put_tells is_man seen_man is_man-standing
 
 -- a test that is the same there as before is the same everywhere
-same_everywhere : (test : Cell → Bool) (rows : Rows) (t s : Spot) (cell : Cell) → IsWithin rows t → test cell ≡ holds test rows t → holds test (with_cell rows t cell) s ≡ holds test rows s
+same_everywhere : (test : Cell → Bool) (rows : Rows) (t s : Spot) (cell : Cell) → IsWithin rows t → test cell ≡ holds test rows t
+    → holds test (with_cell rows t cell) s ≡ holds test rows s
 same_everywhere test rows t s cell within same = holds-with_cell test rows t s cell within ∙ elim (cases_Bool (same_spot t s)) [
   | inl there ↦ ap (λ b. if b then test cell else holds test rows s) there ∙ same ∙ ap (holds test rows) (same_spot-is t s there)
   | inr elsewhere ↦ ap (λ b. if b then test cell else holds test rows s) elsewhere
@@ -108,7 +113,8 @@ SameGround-sym a b p = record { shape = sym p.shape; opened = λ s. sym (p.opene
 
 -- boxes off goals, after one stands elsewhere
 pub count_astray-with_occupant : (rows : Rows) (t : Spot) (who : Occupant) → holds is_open rows t ≡ true
-    → count_in is_astray (with_occupant rows t who) + (if holds is_astray rows t then 1 else 0) ≡ count_in is_astray rows + (if seen_box who && not (holds is_goal rows t) then 1 else 0)
+    → count_in is_astray (with_occupant rows t who) + (if holds is_astray rows t then 1 else 0)
+    ≡ count_in is_astray rows + (if seen_box who && not (holds is_goal rows t) then 1 else 0)
 count_astray-with_occupant rows t who opened =
     count_in-with_cell is_astray rows t _ (IsWithin-from_holds is_open rows t opened)
     ∙ ap (λ b. count_in is_astray rows + (if b then 1 else 0)) (is_astray-standing who (holds is_goal rows t))
@@ -124,14 +130,22 @@ is_astray-is ManOn = refl
 
 pub holds_astray-is : (rows : Rows) (s : Spot) → holds is_astray rows s ≡ (holds is_box rows s && not (holds is_goal rows s))
 unfolding holds
-holds_astray-is rows s = elim (cell_at rows s) as (λ o. option_map_or is_astray o false ≡ (option_map_or is_box o false && not (option_map_or is_goal o false))) [
-  | None ↦ refl
-  | Some cell ↦ is_astray-is cell
-]
+holds_astray-is rows s = elim (cell_at rows s) as (λ o. option_map_or is_astray o false
+    ≡ (option_map_or is_box o false && not (option_map_or is_goal o false))) [
+      | None ↦ refl
+      | Some cell ↦ is_astray-is cell
+    ]
 
 -- few rows stay few
 pub few_rows-SameGround : (old new : Rows) → SameGround old new → length old ≤ 64 → length new ≤ 64
-few_rows-SameGround old new ground few = omega (arith, few, length-map old (λ (row : List Cell). length row), length-map new (λ (row : List Cell). length row), ap length ground.shape)
+few_rows-SameGround old new ground few = omega (
+  arith,
+  few,
+  length-map old (λ (row : List Cell). length row),
+  length-map new
+      (λ (row : List Cell). length row),
+  ap length ground.shape,
+)
 
 pub few_columns-SameGround : (old new : Rows) → SameGround old new → All (λ row. length row ≤ 64) old → All (λ row. length row ≤ 64) new
 few_columns-SameGround old new ground few = λ k row within.
@@ -141,7 +155,7 @@ few_columns-SameGround old new ground few = λ k row within.
     sym (get_or-map size new k row) ∙ ap (λ sizes. get_or sizes k (length row)) ground.shape ∙ get_or-map size old k row in
     omega (arith, same, few k row there)
 
--- the man stands on an open square without a box
+-- the player stands on an open square without a box
 man_cell : (cell : Cell) → is_man cell ≡ true → (is_open cell ≡ true) × (is_box cell ≡ false)
 man_cell Wall e = absurd (true≢false (sym e))
 man_cell Floor e = absurd (true≢false (sym e))
@@ -153,10 +167,11 @@ man_cell ManOn e = (refl, refl)
 
 pub man_stands : (rows : Rows) (s : Spot) → holds is_man rows s ≡ true → (holds is_open rows s ≡ true) × (holds is_box rows s ≡ false)
 unfolding holds
-man_stands rows s = elim (cell_at rows s) as (λ o. option_map_or is_man o false ≡ true → (option_map_or is_open o false ≡ true) × (option_map_or is_box o false ≡ false)) [
-  | None ↦ λ e. absurd (true≢false (sym e))
-  | Some cell ↦ man_cell cell
-]
+man_stands rows s = elim (cell_at rows s) as (λ o. option_map_or is_man o false ≡ true
+    → (option_map_or is_open o false ≡ true) × (option_map_or is_box o false ≡ false)) [
+      | None ↦ λ e. absurd (true≢false (sym e))
+      | Some cell ↦ man_cell cell
+    ]
 
 -- an answer that is given again where it was given before
 answer_stays : (answers : Spot → Bool) (t s : Spot) (b : Bool) → answers t ≡ b → (if same_spot t s then b else answers s) ≡ answers s
@@ -177,7 +192,7 @@ flipped : (b : Bool) → ◌≡◌ {A = ℕ} (if not b then 1 else 0) (if b then
 flipped true = refl
 flipped false = refl
 
--- rows after the man has gone
+-- rows after the player has gone
 record ManIsGone (rows : Rows) (man : Spot) (astray : ℕ) (gone : Rows) : Type 0 where
   ground : SameGround rows gone
   boxes : (s : Spot) → holds is_box gone s ≡ holds is_box rows s
@@ -200,7 +215,8 @@ leaves rows man astray scene =
     record {
       ground = SameGround-with_occupant rows man Nobody stands.0;
       boxes = λ s. holds_box-with_occupant rows man s Nobody stands.0 ∙ answer_stays (holds is_box rows) man s false stands.1;
-      no_man = λ s. holds_man-with_occupant rows man s Nobody stands.0 ∙ ap (λ b. if same_spot man s then false else b) (scene.man_is s) ∙ cleared (same_spot man s);
+      no_man = λ s. holds_man-with_occupant rows man s Nobody stands.0 ∙ ap (λ b. if same_spot man s then false else b) (scene.man_is s)
+          ∙ cleared (same_spot man s);
       astray_stay = omega (arith, counted, not_there, scene.astray_are);
     }
 
@@ -211,7 +227,8 @@ pub record LeadsTo (rows new : Rows) (man : Spot) (boxes : Spot → Bool) (astra
   pub man_is : (s : Spot) → holds is_man new s ≡ same_spot man s
   pub counted : count_in is_astray new ≡ astray
 
-pub IsScene-LeadsTo : (rows new : Rows) (old_man man : Spot) (boxes : Spot → Bool) (n astray : ℕ) → IsScene rows old_man n → LeadsTo rows new man boxes astray → IsScene new man astray
+pub IsScene-LeadsTo : (rows new : Rows) (old_man man : Spot) (boxes : Spot → Bool) (n astray : ℕ) → IsScene rows old_man n
+    → LeadsTo rows new man boxes astray → IsScene new man astray
 IsScene-LeadsTo rows new old_man man boxes n astray scene leads = record {
   few_rows = few_rows-SameGround rows new leads.ground scene.few_rows;
   few_columns = few_columns-SameGround rows new leads.ground scene.few_columns;
@@ -219,10 +236,11 @@ IsScene-LeadsTo rows new old_man man boxes n astray scene leads = record {
   astray_are = sym leads.counted;
 }
 
-pub start-LeadsTo : (rows new : Rows) (man : Spot) (boxes : Spot → Bool) (astray : ℕ) → LeadsTo rows new man boxes astray → start new ≡ record { man = man; boxes = boxes }
+pub start-LeadsTo : (rows new : Rows) (man : Spot) (boxes : Spot → Bool) (astray : ℕ) → LeadsTo rows new man boxes astray
+    → start new ≡ record { man = man; boxes = boxes }
 start-LeadsTo rows new man boxes astray leads = start-scene new man leads.man_is ∙ (λ i. record { man = man; boxes = λ s. leads.boxes_are s i })
 
--- the man walks to an open square without a box
+-- the player walks to an open square without a box
 pub walks : (rows : Rows) (man to : Spot) (astray : ℕ) → IsScene rows man astray → holds is_open rows to ≡ true → holds is_box rows to ≡ false
     → LeadsTo rows (with_occupant (with_occupant rows man Nobody) to Man) to (holds is_box rows) astray
 walks rows man to astray scene opened free =
@@ -239,12 +257,13 @@ walks rows man to astray scene opened free =
       counted = omega (arith, counted, not_there, gone.astray_stay);
     }
 
--- a box goes from one square to another, which is open and has none, and the man to one where no box is then
+-- a box goes from one square to another, which is open and has none, and the player to one where no box is then
 pub shifts : (rows : Rows) (man from to next_man : Spot) (astray after : ℕ) → IsScene rows man astray
     → holds is_open rows from ≡ true → holds is_box rows from ≡ true → holds is_open rows to ≡ true → holds is_box rows to ≡ false
     → holds is_open rows next_man ≡ true → moved (holds is_box rows) from to next_man ≡ false
     → after + (if holds is_goal rows from then 0 else 1) ≡ astray + (if holds is_goal rows to then 0 else 1)
-    → LeadsTo rows (with_occupant (with_occupant (with_occupant (with_occupant rows man Nobody) from Nobody) to Box) next_man Man) next_man (moved (holds is_box rows) from to) after
+    → LeadsTo rows (with_occupant (with_occupant (with_occupant (with_occupant rows man Nobody) from Nobody) to Box) next_man Man) next_man
+    (moved (holds is_box rows) from to) after
 unfolding moved
 shifts rows man from to next_man astray after scene from_open box_there to_open to_free man_open man_free balance =
     let gone = leaves rows man astray scene in
@@ -268,16 +287,19 @@ shifts rows man from to next_man astray after scene from_open box_there to_open 
     let entered = count_astray-with_occupant set_down next_man Man man_open' in
     let box_goes : holds is_astray rest from ≡ not (holds is_goal rows from) =
     holds_astray-is rest from ∙ (λ i. (gone.boxes from ∙ box_there) i && not (gone.ground.goals from i)) in
-    let none_at_to = ap {B = ℕ} (λ b. if b then 1 else 0) (no_astray lifted to (lifted_boxes to ∙ ap (λ b. if b then false else holds is_box rows to) apart ∙ to_free)) in
+    let none_at_to = ap {B = ℕ} (λ b. if b then 1 else 0)
+    (no_astray lifted to (lifted_boxes to ∙ ap (λ b. if b then false else holds is_box rows to) apart ∙ to_free)) in
     let none_at_man = ap {B = ℕ} (λ b. if b then 1 else 0) (no_astray set_down next_man (boxes next_man ∙ man_free)) in
     let one_goes = ap {B = ℕ} (λ b. if b then 1 else 0) box_goes ∙ flipped (holds is_goal rows from) in
     let one_comes = ap {B = ℕ} (λ b. if not b then 1 else 0) (lifted_ground.goals to) ∙ flipped (holds is_goal rows to) in
     record {
       ground = SameGround-trans rows set_down (with_occupant set_down next_man Man) ground (SameGround-with_occupant set_down next_man Man man_open');
-      boxes_are = λ s. holds_box-with_occupant set_down next_man s Man man_open' ∙ answer_stays (holds is_box set_down) next_man s false (boxes next_man ∙ man_free) ∙ boxes s;
+      boxes_are = λ s. holds_box-with_occupant set_down next_man s Man man_open'
+          ∙ answer_stays (holds is_box set_down) next_man s false (boxes next_man ∙ man_free) ∙ boxes s;
       man_is = λ s. holds_man-with_occupant set_down next_man s Man man_open' ∙ ap (λ b. if same_spot next_man s then true else b)
           (holds_man-with_occupant lifted to s Box to_open' ∙ ap (λ b. if same_spot to s then false else b)
-          (holds_man-with_occupant rest from s Nobody from_open' ∙ ap (λ b. if same_spot from s then false else b) (gone.no_man s) ∙ none_either (same_spot from s)) ∙ none_either (same_spot to s))
+          (holds_man-with_occupant rest from s Nobody from_open' ∙ ap (λ b. if same_spot from s then false else b) (gone.no_man s)
+          ∙ none_either (same_spot from s)) ∙ none_either (same_spot to s))
           ∙ chosen (same_spot next_man s);
       counted = omega (arith, taken, given, entered, one_goes, one_comes, none_at_to, none_at_man, gone.astray_stay, balance);
     }
@@ -319,18 +341,21 @@ pub NoneBeside-closed : (now : Rows) (s t : Spot) (d : Dir) → next d s ≡ Som
 NoneBeside-closed now s t d there closed = λ u e. ap (holds is_open now) (same_Some u t (sym e ∙ there)) ∙ closed
 
 -- a box off a goal is counted
-pub some_astray : (rows : Rows) (man from : Spot) (astray : ℕ) → IsScene rows man astray → holds is_box rows from ≡ true → (goal : Bool) → goal ≡ holds is_goal rows from
+pub some_astray : (rows : Rows) (man from : Spot) (astray : ℕ) → IsScene rows man astray → holds is_box rows from ≡ true → (goal : Bool)
+    → goal ≡ holds is_goal rows from
     → (if goal then 0 else 1) ≤ astray
 some_astray rows man from astray scene boxed true on_goal = omega arith
 some_astray rows man from astray scene boxed false off_goal =
     let off : holds is_astray rows from ≡ true = holds_astray-is rows from ∙ (λ i. boxed i && not (sym off_goal i)) in
     omega (arith, count_in-holds is_astray rows from off, scene.astray_are)
 
--- the position that a scene shows, by its man
+-- the position that a scene shows, by its player
 pub start-IsScene : (rows : Rows) (man : Spot) (astray : ℕ) → IsScene rows man astray → start rows ≡ record { man = man; boxes = holds is_box rows }
 start-IsScene rows man astray scene = start-scene rows man scene.man_is
 
 -- one more stands elsewhere, on the ground of a scene
-pub SameGround-after : (now rows new : Rows) (t : Spot) (who : Occupant) → SameGround now rows → new ≡ with_occupant rows t who → holds is_open now t ≡ true → SameGround now new
+pub SameGround-after : (now rows new : Rows) (t : Spot) (who : Occupant) → SameGround now rows → new ≡ with_occupant rows t who → holds is_open now t ≡ true
+    → SameGround now new
 SameGround-after now rows new t who ground is opened =
-    subst (SameGround now) (sym is) (SameGround-trans now rows (with_occupant rows t who) ground (SameGround-with_occupant rows t who (ground.opened t ∙ opened)))
+    subst (SameGround now) (sym is) (SameGround-trans now rows (with_occupant rows t who) ground
+    (SameGround-with_occupant rows t who (ground.opened t ∙ opened)))

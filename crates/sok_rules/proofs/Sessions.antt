@@ -1,76 +1,21 @@
 -- Sessions: letters played one by one, taken back and played again.
-use Rattle.std.proofs.Common.{ℕ, ◌≡◌, ◌≢◌, ◌<◌, ◌≤◌, ◌+◌, ◌-◌, refl, sym, ap, ◌∙◌, subst, List, [], ◌∷◌, ◌++◌, length, take, drop, get_or, Bool, false, true≢false, Option, Some, None, IsSome, IsNone, IsSomeAnd, MatchOption, arith}
-use Rattle.std.proofs.lemmas.List.{drop_more, length-append, length-take-le, take-append-drop, take_all, take_more, drop_all}
-use Rattle.std.proofs.lemmas.Option.{same_Some, none-some, option_and_then_some}
-use Rattle.std.proofs.Math.Seq.{get_or-append_seam, take-append_seam}
+use Rattle.std.proofs.Common.{ℕ, ◌≡◌, ◌≢◌, ◌<◌, ◌≤◌, ◌+◌, ◌-◌, refl, sym, ap, ◌∙◌, subst, List, [], ◌∷◌, ◌++◌, length, take, drop}
+use Rattle.std.proofs.Common.{get_or, Bool, false, Option, Some, None, IsSome, IsNone, IsSomeAnd, MatchOption, arith}
+use Rattle.std.proofs.lemmas.List.{length-append, length-take-le, take_all, take_more, drop_all}
+use Rattle.std.proofs.lemmas.Option.{same_Some, option_and_then_some}
 use Rattle.std.specs.Option.{option_and_then, option_map_or}
 use Rattle.sok_rules.specs.declared.cell.Dir.{Dir}
 use Rattle.sok_rules.specs.Squares.{Rows}
 use Rattle.sok_rules.specs.Play.{After, Position, one_if, pushes, run, start, step}
-use Rattle.sok_rules.specs.Kept.{IsSession, pushing}
-use Rattle.sok_rules.specs.Session.{Letters, StepsOn, position_of, stepped}
+use Rattle.sok_rules.specs.Kept.{IsSession}
+use Rattle.sok_rules.specs.Replay.{push_marks}
+use Rattle.sok_rules.specs.Session.{Letters, StepsOn, position_of, with_letter}
 use Rattle.sok_rules.specs.Scene.{CameBy, SameGround, Steps}
 use Rattle.sok_rules.proofs.Man.{IsStanding-start}
+use Rattle.sok_rules.proofs.Marks.{IsLetter-at, length-push_marks, push_marks-append, some_of, take-push_marks}
 use Rattle.sok_rules.proofs.Replays.{step-SameGround}
 use Rattle.sok_rules.proofs.Runs.{IsStanding-run, pushes-append, pushes-le-length, pushes-take_more, run-append, run-take_more}
 use Rattle.sok_rules.proofs.Scenes.{SameGround-trans}
-
-pub pushing-append : (rows : Rows) (w v : List Dir) (x y : Position) → run rows x w ≡ Some y → pushing rows x (w ++ v) ≡ pushing rows x w ++ pushing rows y v
-pushing-append rows [] v x y = λ e. ap (λ p. pushing rows p v) (same_Some x y e)
-pushing-append rows (d ∷ w) v x y = elim (step rows d x) as (λ o. option_and_then (λ after. run rows after.position w) o ≡ Some y
-    → option_map_or (λ after. after.pushed ∷ pushing rows after.position (w ++ v)) o [] ≡ option_map_or (λ after. after.pushed ∷ pushing rows after.position w) o [] ++ pushing rows y v) [
-      | None ↦ λ e. absurd (none-some y e)
-      | Some a ↦ λ e. ap (λ rest. a.pushed ∷ rest) (pushing-append rows w v a.position y e)
-    ]
-
-length-pushing : (rows : Rows) (w : List Dir) (x y : Position) → run rows x w ≡ Some y → length (pushing rows x w) ≡ length w
-length-pushing rows [] x y = λ e. refl
-length-pushing rows (d ∷ w) x y = elim (step rows d x) as (λ o. option_and_then (λ after. run rows after.position w) o ≡ Some y
-    → length (option_map_or (λ after. after.pushed ∷ pushing rows after.position w) o []) ≡ length (d ∷ w)) [
-      | None ↦ λ e. absurd (none-some y e)
-      | Some a ↦ λ e. let rest = length-pushing rows w a.position y e in omega (arith, rest)
-    ]
-
--- the front of a legal list
-pub take-pushing : (rows : Rows) (w : List Dir) (x y : Position) (at : ℕ) → at ≤ length w → run rows x (take at w) ≡ Some y → take at (pushing rows x w) ≡ pushing rows x (take at w)
-take-pushing rows w x y at within legal =
-    let front = take at w in
-    let split : pushing rows x w ≡ pushing rows x front ++ pushing rows y (drop at w) =
-    ap (pushing rows x) (sym (take-append-drop at w)) ∙ pushing-append rows front (drop at w) x y legal in
-    let whole : length (pushing rows x front) ≡ at = length-pushing rows front x y legal ∙ length-take-le at w within in
-    ap (take at) split ∙ ap (λ n. take n (pushing rows x front ++ pushing rows y (drop at w))) (sym whole) ∙ take-append_seam (pushing rows x front) (pushing rows y (drop at w))
-
--- the letter at a place of a legal list
-pub record IsLetter (rows : Rows) (y : Position) (d : Dir) (pushed : Bool) (a : After) : Type 0 where
-  pub leads : step rows d y ≡ Some a
-  pub pushed_is : pushed ≡ a.pushed
-
-some_of : {A : Type 0} (o : Option A) → IsSome o → (x : A) × (o ≡ Some x)
-some_of None none = absurd (true≢false (sym none))
-some_of (Some x) _ = (x, refl)
-
-legal_letter : (rows : Rows) (y : Position) (d : Dir) (rest : List Dir) → IsSome (run rows y (d ∷ rest)) → (a : After) × (step rows d y ≡ Some a)
-legal_letter rows y d rest = elim (step rows d y) as (λ o. IsSome (option_and_then (λ after. run rows after.position rest) o) → (a : After) × (o ≡ Some a)) [
-  | None ↦ λ none. absurd (true≢false (sym none))
-  | Some a ↦ λ _. (a, refl)
-]
-
-at_seam : {X : Type 0} (front : List X) (x : X) (rest all : List X) (at : ℕ) (none : X) → all ≡ front ++ (x ∷ rest) → length front ≡ at → get_or all at none ≡ x
-at_seam front x rest all at none is length_front = ap (λ xs. get_or xs at none) is ∙ ap (λ n. get_or (front ++ (x ∷ rest)) n none) (sym length_front) ∙ get_or-append_seam front x rest none
-
-pub IsLetter-at : (rows : Rows) (w : List Dir) (x y : Position) (at : ℕ) (other : Dir) (none : Bool) → at < length w → IsSome (run rows x w) → run rows x (take at w) ≡ Some y
-    → (a : After) × IsLetter rows y (get_or w at other) (get_or (pushing rows x w) at none) a
-IsLetter-at rows w x y at other none within legal so_far =
-    let d = get_or w at other in
-    let rest = drop (at + 1) w in
-    let front = take at w in
-    let split : w ≡ front ++ (d ∷ rest) = sym (take-append-drop at w) ∙ ap (λ back. front ++ back) (drop_more w at other within) in
-    let ran : run rows x w ≡ run rows y (d ∷ rest) = ap (run rows x) split ∙ run-append rows front (d ∷ rest) x ∙ ap (option_and_then (λ z. run rows z (d ∷ rest))) so_far in
-    let letter = legal_letter rows y d rest (subst IsSome ran legal) in
-    let length_front : length (pushing rows x front) ≡ at = length-pushing rows front x y so_far ∙ length-take-le at w (omega (arith, within)) in
-    let head : pushing rows y (d ∷ rest) ≡ letter.0.pushed ∷ pushing rows letter.0.position rest = ap (λ o. option_map_or (λ (one : After). one.pushed ∷ pushing rows one.position rest) o []) letter.1 in
-    let flags = ap (pushing rows x) split ∙ pushing-append rows front (d ∷ rest) x y so_far ∙ ap (λ flags. pushing rows x front ++ flags) head in
-    (letter.0, record { leads = letter.1; pushed_is = at_seam (pushing rows x front) letter.0.pushed (pushing rows letter.0.position rest) (pushing rows x w) at none flags length_front })
 
 -- a session after one more letter
 pub IsSession-stepped : (rows scene new : Rows) (letters : List Dir) (pushed : List Bool) (played count : ℕ) (d : Dir) (p : Bool)
@@ -85,7 +30,7 @@ IsSession-stepped rows scene new letters pushed played count d p session few ste
     let leads : step rows d y ≡ Some (record { position = start new; pushed = p }) = step-SameGround rows scene d y session.ground ∙ steps.leads in
     let ran : run rows x (w ++ d ∷ []) ≡ Some (start new) =
     run-append rows w (d ∷ []) x ∙ ap (option_and_then (λ z. run rows z (d ∷ []))) session.ran ∙ ap (option_and_then (λ (a : After). Some a.position)) leads in
-    let one : pushing rows y (d ∷ []) ≡ p ∷ [] = ap (λ o. option_map_or (λ (a : After). a.pushed ∷ []) o []) leads in
+    let one : push_marks rows y (d ∷ []) ≡ p ∷ [] = ap (λ o. option_map_or (λ (a : After). a.pushed ∷ []) o []) leads in
     let counted_one : pushes rows y (d ∷ []) ≡ one_if p + 0 = ap (λ o. option_map_or (λ (a : After). one_if a.pushed + 0) o 0) leads in
     let all : take (played + 1) (w ++ d ∷ []) ≡ w ++ d ∷ [] = take_all (played + 1) (w ++ d ∷ []) (omega (arith, longer)) in
     record {
@@ -93,8 +38,8 @@ IsSession-stepped rows scene new letters pushed played count d p session few ste
       mark = omega (arith, longer);
       few = omega (arith, longer, few);
       legal = subst IsSome (sym ran) refl;
-      pushed_are = ap (λ front. front ++ p ∷ []) (ap (take played) session.pushed_are ∙ take-pushing rows letters x y played session.mark session.ran)
-          ∙ ap (λ back. pushing rows x w ++ back) (sym one) ∙ sym (pushing-append rows w (d ∷ []) x y session.ran);
+      pushed_are = ap (λ front. front ++ p ∷ []) (ap (take played) session.pushed_are ∙ take-push_marks rows letters x y played session.mark session.ran)
+          ∙ ap (λ back. push_marks rows x w ++ back) (sym one) ∙ sym (push_marks-append rows w (d ∷ []) x y session.ran);
       ground = SameGround-trans rows scene new session.ground steps.ground;
       ran = ap (run rows x) all ∙ ran;
       counted = omega (arith, session.counted, counted_one, pushes-append rows w (d ∷ []) x y session.ran, ap (pushes rows x) all);
@@ -117,12 +62,14 @@ IsSession-redone rows scene new letters pushed played count other p session more
       pushed_are = session.pushed_are;
       ground = SameGround-trans rows scene new session.ground steps.ground;
       ran = run-take_more rows x y letters played other more session.ran ∙ ap (option_and_then (λ (a : After). Some a.position)) leads;
-      counted = let one = pushes-take_more rows x y letters played other (record { position = start new; pushed = p }) more session.ran leads in omega (arith, session.counted, one);
+      counted = let one = pushes-take_more rows x y letters played other (record { position = start new; pushed = p }) more session.ran leads in
+          omega (arith, session.counted, one);
     }
 
 -- the next undone letter is legal
 pub legal_redo : (rows scene : Rows) (letters : List Dir) (pushed : List Bool) (played count : ℕ) (other : Dir)
-    → IsSession rows scene letters pushed played count → played < length letters → (a : After) × (step scene (get_or letters played other) (start scene) ≡ Some a)
+    → IsSession rows scene letters pushed played count → played < length letters
+    → (a : After) × (step scene (get_or letters played other) (start scene) ≡ Some a)
 legal_redo rows scene letters pushed played count other session more =
     let letter = IsLetter-at rows letters (start rows) (start scene) played other false more session.legal session.ran in
     (letter.0, sym (step-SameGround rows scene _ (start scene) session.ground) ∙ letter.1.leads)
@@ -141,7 +88,8 @@ WasBefore-from_IsSession rows scene letters pushed at count other none session =
     let d = get_or letters at other in
     let within : at < length letters = omega (arith, session.mark) in
     let split = ap (run rows x) (sym (take_more letters at other within)) ∙ session.ran in
-    option_and_then_some (λ z. run rows z (d ∷ [])) (run rows x (take at letters)) (start scene) (sym (run-append rows (take at letters) (d ∷ []) x) ∙ split) (λ y so_far last.
+    option_and_then_some (λ z. run rows z (d ∷ [])) (run rows x (take at letters)) (start scene) (sym (run-append rows (take at letters) (d ∷ []) x) ∙ split)
+    (λ y so_far last.
     let letter = IsLetter-at rows letters x y at other none within session.legal so_far in
     let flag : get_or pushed at none ≡ letter.0.pushed = ap (λ flags. get_or flags at none) session.pushed_are ∙ letter.1.pushed_is in
     let leads : step rows d y ≡ Some letter.0 = letter.1.leads in
@@ -160,8 +108,10 @@ WasBefore-from_IsSession rows scene letters pushed at count other none session =
     })
 
 -- a session whose last letter is taken back
-pub IsSession-undone : (rows scene new : Rows) (letters : List Dir) (pushed : List Bool) (at count left : ℕ) (d : Dir) (p : Bool) → IsSession rows scene letters pushed (at + 1) count
-    → (before : WasBefore rows scene letters pushed at count d p) → SameGround scene new → start new ≡ before.x → left + one_if p ≡ count → IsSession rows new letters pushed at left
+pub IsSession-undone : (rows scene new : Rows) (letters : List Dir) (pushed : List Bool) (at count left : ℕ) (d : Dir) (p : Bool)
+    → IsSession rows scene letters pushed (at + 1) count
+    → (before : WasBefore rows scene letters pushed at count d p) → SameGround scene new → start new ≡ before.x → left + one_if p ≡ count
+    → IsSession rows new letters pushed at left
 IsSession-undone rows scene new letters pushed at count left d p session before ground back rest = record {
   proper = session.proper;
   mark = omega (arith, session.mark);
@@ -174,25 +124,38 @@ IsSession-undone rows scene new letters pushed at count left d p session before 
 }
 
 -- each letter has its flag
-pub length-IsSession : (rows scene : Rows) (letters : List Dir) (pushed : List Bool) (played count : ℕ) → IsSession rows scene letters pushed played count → length pushed ≡ length letters
+pub length-IsSession : (rows scene : Rows) (letters : List Dir) (pushed : List Bool) (played count : ℕ) → IsSession rows scene letters pushed played count
+    → length pushed ≡ length letters
 length-IsSession rows scene letters pushed played count session =
-    ap length session.pushed_are ∙ (let legal = some_of (run rows (start rows) letters) session.legal in length-pushing rows letters (start rows) legal.0 legal.1)
+    ap length session.pushed_are ∙ (let legal = some_of (run rows (start rows) letters) session.legal in
+    length-push_marks rows letters (start rows) legal.0 legal.1)
 
-pub few_pushes : (rows scene : Rows) (letters : List Dir) (pushed : List Bool) (played count : ℕ) → IsSession rows scene letters pushed played count → count ≤ 1000000
+pub few_pushes : (rows scene : Rows) (letters : List Dir) (pushed : List Bool) (played count : ℕ) → IsSession rows scene letters pushed played count
+    → count ≤ 1000000
 few_pushes rows scene letters pushed played count session =
-    omega (arith, session.counted, pushes-le-length rows (take played letters) (start rows), length-take-le played letters session.mark, session.mark, session.few)
+    omega (
+      arith,
+      session.counted,
+      pushes-le-length rows (take played letters)
+          (start rows),
+      length-take-le played letters session.mark,
+      session.mark,
+      session.few,
+    )
 
 -- what is seen of a session
 abbrev pub viewed : Rows → List Dir → ℕ → Letters
 viewed rows letters played = record { rows = rows; played = take played letters; undone = drop played letters }
 
-pub IsNone-blocked : (rows scene : Rows) (letters : List Dir) (pushed : List Bool) (played count : ℕ) (d : Dir) → IsSession rows scene letters pushed played count
-    → step scene d (start scene) ≡ None → IsNone (position_of (stepped (viewed rows letters played) d))
+pub IsNone-blocked : (rows scene : Rows) (letters : List Dir) (pushed : List Bool) (played count : ℕ) (d : Dir)
+    → IsSession rows scene letters pushed played count
+    → step scene d (start scene) ≡ None → IsNone (position_of (with_letter (viewed rows letters played) d))
 IsNone-blocked rows scene letters pushed played count d session none =
     subst IsNone (sym (run-append rows (take played letters) (d ∷ []) (start rows) ∙ ap (option_and_then (λ z. run rows z (d ∷ []))) session.ran
     ∙ ap (option_and_then (λ (a : After). Some a.position)) (step-SameGround rows scene d (start scene) session.ground ∙ none))) refl
 
-pub StepsOn-stepped : (rows scene new : Rows) (letters later : List Dir) (pushed : List Bool) (played count : ℕ) (d : Dir) (p : Bool) → IsSession rows scene letters pushed played count
+pub StepsOn-stepped : (rows scene new : Rows) (letters later : List Dir) (pushed : List Bool) (played count : ℕ) (d : Dir) (p : Bool)
+    → IsSession rows scene letters pushed played count
     → played < 1000000 → Steps scene d p new → later ≡ take played letters ++ d ∷ [] → StepsOn (viewed rows letters played) d (viewed rows later (played + 1)) p
 StepsOn-stepped rows scene new letters later pushed played count d p session few steps is =
     let w = take played letters in
@@ -206,7 +169,8 @@ StepsOn-stepped rows scene new letters later pushed played count d p session few
       legal = subst (λ o. IsSomeAnd o (λ x. IsSomeAnd (step rows d x) (λ (a : After). a.pushed ≡ p))) (sym session.ran) here;
     }
 
-pub IsSession-same : (rows scene : Rows) (letters letters' : List Dir) (pushed pushed' : List Bool) (played count count' : ℕ) → letters' ≡ letters → pushed' ≡ pushed → count' ≡ count
+pub IsSession-same : (rows scene : Rows) (letters letters' : List Dir) (pushed pushed' : List Bool) (played count count' : ℕ) → letters' ≡ letters
+    → pushed' ≡ pushed → count' ≡ count
     → IsSession rows scene letters pushed played count → IsSession rows scene letters' pushed' played count'
 IsSession-same rows scene letters letters' pushed pushed' played count count' l p n session =
     subst (λ xs. IsSession rows scene xs pushed' played count') (sym l)
@@ -218,10 +182,12 @@ some_step P Q None p none = absurd (none p)
 some_step P Q (Some b) q none = refl
 
 -- the position before the last of some letters
-pub was_before : (rows scene : Rows) (letters : List Dir) (pushed : List Bool) (played count : ℕ) (d : Dir) (p : Bool) → IsSession rows scene letters pushed played count
+pub was_before : (rows scene : Rows) (letters : List Dir) (pushed : List Bool) (played count : ℕ) (d : Dir) (p : Bool)
+    → IsSession rows scene letters pushed played count
     → played ≢ 0 → d ≡ get_or letters (played - 1) d → p ≡ get_or pushed (played - 1) p → WasBefore rows scene letters pushed (played - 1) count d p
 was_before rows scene letters pushed played count d p session some letter flag =
     let one_more : played ≡ (played - 1) + 1 = omega (arith, some) in
-    let before = WasBefore-from_IsSession rows scene letters pushed (played - 1) count d p (subst (λ n. IsSession rows scene letters pushed n count) one_more session) in
+    let before = WasBefore-from_IsSession rows scene letters pushed (played - 1) count d p
+    (subst (λ n. IsSession rows scene letters pushed n count) one_more session) in
     subst (λ e. WasBefore rows scene letters pushed (played - 1) count e p) (sym letter)
     (subst (λ b. WasBefore rows scene letters pushed (played - 1) count (get_or letters (played - 1) d) b) (sym flag) before)

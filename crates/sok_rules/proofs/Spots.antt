@@ -1,5 +1,6 @@
 -- Squares that are the same, and squares beside one another.
-use Rattle.std.proofs.Common.{ℕ, ◌≡◌, ◌+◌, refl, sym, ap, ◌∙◌, Option, Some, None, true, false, arith, suc, zero, option_map}
+use Rattle.std.proofs.Common.{ℕ, ◌≡◌, ◌+◌, refl, sym, ap, ◌∙◌, inl, inr, Option, Some, None, true, false, arith, suc, zero, option_map}
+use Rattle.std.proofs.lemmas.Bool.{cases_Bool}
 use Rattle.std.proofs.lemmas.Bool.Decides.{nat_tests}
 use Rattle.std.proofs.lemmas.Option.{same_Some, none-some}
 use Rattle.sok_rules.specs.declared.cell.Dir.{Dir}
@@ -19,6 +20,12 @@ same_spot-refl a = grind (arith, nat_tests)
 
 pub same_spot-sym : (a b : Spot) → same_spot a b ≡ same_spot b a
 same_spot-sym a b = grind (arith, nat_tests)
+
+pub same_spot-apart : (a b : Spot) → (a ≡ b → ⊥) → same_spot a b ≡ false
+same_spot-apart a b apart = elim (cases_Bool (same_spot a b)) [ inl same ↦ absurd (apart (same_spot-is a b same)) | inr other ↦ other ]
+
+pub apart_back : (a b : Spot) → same_spot a b ≡ false → same_spot b a ≡ false
+apart_back a b apart = same_spot-sym b a ∙ apart
 
 before-suc : (n m : ℕ) → before n ≡ Some m → n ≡ m + 1
 before-suc zero m e = absurd (none-some m e)
@@ -43,8 +50,10 @@ next-opposite Left s q e = moved_back (λ c. record s { col = c }) (before s.col
     ap (λ (t : Spot). next Right t) (sym f) ∙ ap (λ n. Some (record s { col = n })) (sym (before-suc s.col c b)))
 next-opposite Up s q e = moved_back (λ r. record s { row = r }) (before s.row) q e (λ r b f.
     ap (λ (t : Spot). next Down t) (sym f) ∙ ap (λ n. Some (record s { row = n })) (sym (before-suc s.row r b)))
-next-opposite Right s q e = ap (next Left) (sym (same_Some (record s { col = s.col + 1 }) q e)) ∙ ap (option_map (λ c. record s { col = c })) (before-add_one s.col)
-next-opposite Down s q e = ap (next Up) (sym (same_Some (record s { row = s.row + 1 }) q e)) ∙ ap (option_map (λ r. record s { row = r })) (before-add_one s.row)
+next-opposite Right s q e = ap (next Left) (sym (same_Some (record s { col = s.col + 1 }) q e))
+    ∙ ap (option_map (λ c. record s { col = c })) (before-add_one s.col)
+next-opposite Down s q e = ap (next Up) (sym (same_Some (record s { row = s.row + 1 }) q e))
+    ∙ ap (option_map (λ r. record s { row = r })) (before-add_one s.row)
 
 -- a square and the next one are apart
 pub apart_next : (d : Dir) (q t : Spot) → next d q ≡ Some t → same_spot q t ≡ false

@@ -8,7 +8,8 @@ use Rattle.sok_rules.specs.declared.cell.Spot.{Spot}
 use Rattle.sok_rules.specs.Squares.{Rows, holds, is_open, next, opposite, same_spot}
 use Rattle.sok_rules.specs.Play.{After, Position, enter, moved, push, step}
 use Rattle.sok_rules.specs.Scene.{NoneBeside}
-use Rattle.sok_rules.proofs.Spots.{apart_next, next-opposite, same_spot-is, same_spot-refl}
+use Rattle.sok_rules.proofs.Moved.{moved-from, moved-left, moved-other}
+use Rattle.sok_rules.proofs.Spots.{apart_next, next-opposite, same_spot-is}
 
 -- the letter, once it is known what stands ahead
 abbrev met : Rows → Dir → Position → Spot → Bool → Bool → Option After
@@ -32,7 +33,8 @@ pub step-walk : (rows : Rows) (d : Dir) (x : Position) (q : Spot) → next d x.m
 step-walk rows d x q ahead opened free = ap (option_and_then (enter rows d x)) ahead ∙ (λ i. met rows d x q (opened i) (free i))
 
 -- a box ahead, and a wall beyond it
-pub step-box_at_wall : (rows : Rows) (d : Dir) (x : Position) (q : Spot) → next d x.man ≡ Some q → holds is_open rows q ≡ true → x.boxes q ≡ true → NoneBeside rows q d → step rows d x ≡ None
+pub step-box_at_wall : (rows : Rows) (d : Dir) (x : Position) (q : Spot) → next d x.man ≡ Some q → holds is_open rows q ≡ true → x.boxes q ≡ true
+    → NoneBeside rows q d → step rows d x ≡ None
 step-box_at_wall rows d x q ahead opened boxed wall =
     ap (option_and_then (enter rows d x)) ahead ∙ (λ i. met rows d x q (opened i) (boxed i))
     ∙ nothing_beyond (push rows x q) (next d q) (λ t there. ap (λ b. pushed_to x q t (b && not (x.boxes t))) (wall t there))
@@ -116,17 +118,12 @@ push_step rows d x a e pushed = elim (step_cases rows d x a e) [
   | inr push ↦ push
 ]
 
--- the man stands where he may: on an open square without a box
+-- the player stands where he may: on an open square without a box
 pub record IsStanding (rows : Rows) (x : Position) : Type 0 where
   pub on_open : holds is_open rows x.man ≡ true
   pub no_box : x.boxes x.man ≡ false
 
--- the square that a box has left
-pub moved-from : (boxes : Spot → Bool) (q t : Spot) → same_spot q t ≡ false → moved boxes q t q ≡ false
-unfolding moved
-moved-from boxes q t apart = ap (λ b. if b then true else if same_spot q q then false else boxes q) apart ∙ ap (λ b. if b then false else boxes q) (same_spot-refl q)
-
--- after any letter the man stands where he may
+-- after any letter the player stands where he may
 pub IsStanding-step : (rows : Rows) (d : Dir) (x : Position) (a : After) → step rows d x ≡ Some a → IsStanding rows a.position
 IsStanding-step rows d x a e = elim (step_cases rows d x a e) [
   | inl walk ↦ subst (λ (y : After). IsStanding rows y.position) (sym walk.leads) (record { on_open = walk.to_open; no_box = walk.to_free })
@@ -146,16 +143,14 @@ step-back rows d x a standing e unpushed =
 abbrev pub HasOpenBoxes : Rows → Position → Type 0
 HasOpenBoxes rows x = (s : Spot) → x.boxes s ≡ true → holds is_open rows s ≡ true
 
-HasOpenBoxes-moved : (rows : Rows) (x : Position) (from to : Spot) → HasOpenBoxes rows x → holds is_open rows to ≡ true → (s : Spot) → moved x.boxes from to s ≡ true → holds is_open rows s ≡ true
-unfolding moved
+HasOpenBoxes-moved : (rows : Rows) (x : Position) (from to : Spot) → HasOpenBoxes rows x → holds is_open rows to ≡ true
+    → (s : Spot) → moved x.boxes from to s ≡ true → holds is_open rows s ≡ true
 HasOpenBoxes-moved rows x from to opened to_open s boxed = elim (cases_Bool (same_spot s to)) [
   | inl there ↦ ap (holds is_open rows) (same_spot-is s to there) ∙ to_open
-  | inr elsewhere ↦
-      let stayed = ap (λ b. if b then true else if same_spot s from then false else x.boxes s) (sym elsewhere) ∙ boxed in
-      elim (cases_Bool (same_spot s from)) [
-        | inl left ↦ absurd (true≢false (sym (ap (λ b. if b then false else x.boxes s) (sym left) ∙ stayed)))
-        | inr kept ↦ opened s (ap (λ b. if b then false else x.boxes s) (sym kept) ∙ stayed)
-      ]
+  | inr elsewhere ↦ elim (cases_Bool (same_spot s from)) [
+    | inl left ↦ absurd (true≢false (sym boxed ∙ moved-left x.boxes from to s elsewhere left))
+    | inr kept ↦ opened s (sym (moved-other x.boxes from to s elsewhere kept) ∙ boxed)
+  ]
 ]
 
 pub HasOpenBoxes-step : (rows : Rows) (d : Dir) (x : Position) (a : After) → HasOpenBoxes rows x → step rows d x ≡ Some a → HasOpenBoxes rows a.position

@@ -1,4 +1,4 @@
--- Walking: being the same state is reflexive, transitive and, where the man stands where he may, symmetric.
+-- Walking: being the same state is reflexive, transitive and, where the player stands where he may, symmetric.
 use Rattle.std.proofs.Common.{ℕ, ◌≡◌, ◌+◌, refl, sym, ap, ◌∙◌, subst, List, [], ◌∷◌, ◌++◌, Bool, true, false, Some, None, arith}
 use Rattle.std.proofs.lemmas.Option.{same_Some, none-some}
 use Rattle.std.specs.Option.{option_and_then, option_map_or}
@@ -9,17 +9,19 @@ use Rattle.sok_rules.specs.States.{Same}
 use Rattle.sok_rules.proofs.Runs.{IsStanding-run, pushes-append, run-append}
 use Rattle.sok_rules.proofs.Steps.{IsStanding, IsStanding-step, step-back, walk_step}
 
-not_pushed : (b : Bool) (n : ℕ) → one_if b + n ≡ 0 → b ≡ false
+-- where no letter pushes, the first does not, nor do those after it
+pub not_pushed : (b : Bool) (n : ℕ) → one_if b + n ≡ 0 → (b ≡ false) × (n ≡ 0)
 not_pushed true n e = absurd (omega (arith, e))
-not_pushed false n e = refl
+not_pushed false n e = (refl, omega (arith, e))
 
 -- a list without a push begins with a letter without one
 pub quiet_step : {P : Type 0} (rows : Rows) (d : Dir) (w : List Dir) (x y : Position) → run rows x (d ∷ w) ≡ Some y → pushes rows x (d ∷ w) ≡ 0
     → ((a : After) → step rows d x ≡ Some a → a.pushed ≡ false → run rows a.position w ≡ Some y → pushes rows a.position w ≡ 0 → P) → P
-quiet_step {P} rows d w x y = elim (step rows d x) as (λ o. option_and_then (λ after. run rows after.position w) o ≡ Some y → option_map_or (λ after. one_if after.pushed + pushes rows after.position w) o 0 ≡ 0
+quiet_step {P} rows d w x y = elim (step rows d x) as (λ o. option_and_then (λ after. run rows after.position w) o ≡ Some y
+    → option_map_or (λ after. one_if after.pushed + pushes rows after.position w) o 0 ≡ 0
     → ((a : After) → o ≡ Some a → a.pushed ≡ false → run rows a.position w ≡ Some y → pushes rows a.position w ≡ 0 → P) → P) [
       | None ↦ λ e _ _. absurd (none-some y e)
-      | Some a ↦ λ e z k. k a refl (not_pushed a.pushed (pushes rows a.position w) z) e (omega (arith, z))
+      | Some a ↦ λ e z k. let none = not_pushed a.pushed (pushes rows a.position w) z in k a refl none.0 e none.1
     ]
 
 -- a letter without a push leaves the boxes
@@ -43,8 +45,12 @@ Same-trans rows x y z p q =
     (p.0 ++ q.0, run-append rows p.0 q.0 x ∙ ap (option_and_then (λ t. run rows t q.0)) p.1 ∙ q.1, pushes-append rows p.0 q.0 x y p.1 ∙ omega (arith, p.2, q.2))
 
 pub Same-step : (rows : Rows) (d : Dir) (x : Position) (a : After) → step rows d x ≡ Some a → a.pushed ≡ false → Same rows x a.position
-Same-step rows d x a e unpushed =
-    (d ∷ [], ap (option_and_then (λ (after : After). Some after.position)) e, ap (λ o. option_map_or (λ (after : After). one_if after.pushed + 0) o 0) e ∙ ap (λ b. one_if b + 0) unpushed)
+Same-step rows d x a e unpushed = (
+  d ∷ [],
+  ap (option_and_then (λ (after : After). Some after.position)) e,
+  ap (λ o. option_map_or (λ (after : After). one_if after.pushed + 0) o 0) e
+      ∙ ap (λ b. one_if b + 0) unpushed,
+)
 
 -- walking back leads back
 Same-back : (rows : Rows) (w : List Dir) (x y : Position) → IsStanding rows x → run rows x w ≡ Some y → pushes rows x w ≡ 0 → Same rows y x

@@ -23,7 +23,8 @@ solves_by_test rows w legal none = subst (λ o. IsSomeAnd o (AllOnGoals rows)) (
   | inl on_goal ↦ on_goal
   | inr off_goal ↦
       let opened = HasOpenBoxes-run rows w (start rows) (end_of rows w) (HasOpenBoxes-start rows) legal s boxed in
-      let found = list_any-places (λ t. (end_of rows w).boxes t && not (holds is_goal rows t)) rows s (IsWithin-from_holds _ rows s opened) (λ i. boxed i && not (off_goal i)) in
+      let found = list_any-places (λ t. (end_of rows w).boxes t && not (holds is_goal rows t)) rows s (IsWithin-from_holds _ rows s opened)
+      (λ i. boxed i && not (off_goal i)) in
       absurd (true≢false (sym found ∙ none))
 ])
 

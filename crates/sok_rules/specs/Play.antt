@@ -1,11 +1,12 @@
 -- Play: what one letter does, and what a list of letters does (Sokoban Wiki, "Game rules").
-use Rattle.std.specs.Prelude.{ℕ, ◌≡◌, ◌+◌, List, [], ◌∷◌, Option, Some, None, Bool, true, false, not, ◌&&◌, if◌then◌else◌, find, unwrap_or, IsTrue, IsSomeAnd, ◌≤◌}
+use Rattle.std.specs.Prelude.{ℕ, ◌≡◌, ◌+◌, List, [], ◌∷◌, Option, Some, None, Bool, true, false, not, ◌&&◌, if◌then◌else◌, find}
+use Rattle.std.specs.Prelude.{unwrap_or, IsTrue, IsSomeAnd, ◌≤◌}
 use Rattle.std.specs.Option.{option_and_then, option_map_or}
 use Rattle.sok_rules.specs.declared.cell.Dir.{Dir}
 use Rattle.sok_rules.specs.declared.cell.Spot.{Spot}
 use Rattle.sok_rules.specs.Squares.{Rows, holds, is_open, is_box, is_goal, is_man, next, same_spot, places}
 
--- where the man stands, and which squares hold a box
+-- where the player stands, and which squares hold a box
 pub record Position : Type 0 where
   pub man : Spot
   pub boxes : Spot → Bool
@@ -23,7 +24,7 @@ pub record After : Type 0 where
 unfoldable pub moved : (Spot → Bool) → Spot → Spot → Spot → Bool
 moved boxes from to s = if same_spot s to then true else if same_spot s from then false else boxes s
 
--- the man enters q, and a box there goes on to t
+-- the player enters q, and a box there goes on to t
 abbrev pub push : Rows → Position → Spot → Spot → Option After
 push rows x q t =
     if holds is_open rows t && not (x.boxes t) then Some (record { position = record { man = q; boxes = moved x.boxes q t }; pushed = true }) else None

@@ -1,4 +1,4 @@
--- A scene of play: rows in which the man and the boxes stand as they do now. Its position is the start of its rows.
+-- A scene of play: rows in which the player and the boxes stand as they do now. Its position is the start of its rows.
 use Rattle.std.specs.Prelude.{ℕ, ◌≡◌, ◌≤◌, [], Bool, true, false, Some, All, length, map, slice_index_or, slice_set}
 use Rattle.sok_rules.specs.declared.cell.Cell.{Cell}
 use Rattle.sok_rules.specs.declared.cell.Cell.TheVariants.{Floor, Goal, BoxOff, BoxOn, ManOff, ManOn}
@@ -7,6 +7,7 @@ use Rattle.sok_rules.specs.declared.cell.Spot.{Spot}
 use Rattle.sok_rules.specs.declared.scene.Occupant.{Occupant}
 use Rattle.sok_rules.specs.declared.scene.Occupant.TheVariants.{Nobody, Man, Box}
 use Rattle.sok_rules.specs.Levels.{count_in}
+use Rattle.sok_rules.specs.Limits.{size_limit}
 use Rattle.sok_rules.specs.Play.{Position, start, step}
 use Rattle.sok_rules.specs.Squares.{Rows, holds, is_astray, is_box, is_goal, is_man, is_open, next, same_spot}
 
@@ -33,10 +34,10 @@ pub record SameGround (old new : Rows) : Type 0 where
   pub opened : (s : Spot) → holds is_open new s ≡ holds is_open old s
   pub goals : (s : Spot) → holds is_goal new s ≡ holds is_goal old s
 
--- what is kept beside the rows: where the man stands, and how many boxes stand off goals
+-- what is kept beside the rows: where the player stands, and how many boxes stand off goals
 pub record IsScene (now : Rows) (man : Spot) (astray : ℕ) : Type 0 where
-  pub few_rows : length now ≤ 64
-  pub few_columns : All (λ row. length row ≤ 64) now
+  pub few_rows : length now ≤ size_limit
+  pub few_columns : All (λ row. length row ≤ size_limit) now
   pub man_is : (s : Spot) → holds is_man now s ≡ same_spot man s
   pub astray_are : astray ≡ count_in is_astray now
 
@@ -55,7 +56,7 @@ pub record IsBeside (now : Rows) (s : Spot) (d : Dir) (seen : Spot × Bool) : Ty
 abbrev pub NoneBeside : Rows → Spot → Dir → Type 0
 NoneBeside now s d = (t : Spot) → next d s ≡ Some t → holds is_open now t ≡ false
 
--- the letter has led from the position, in which the man stood where he may, to the scene
+-- the letter has led from the position, in which the player stood where he may, to the scene
 pub record CameBy (now : Rows) (d : Dir) (pushed : Bool) (x : Position) : Type 0 where
   pub man_open : holds is_open now x.man ≡ true
   pub man_free : x.boxes x.man ≡ false

@@ -6,6 +6,7 @@ use Rattle.sok_rules.specs.declared.cell.Dir.{Dir}
 use Rattle.sok_rules.specs.declared.cell.Spot.{Spot}
 use Rattle.sok_rules.specs.declared.fault.PlayFault.{PlayFault}
 use Rattle.sok_rules.specs.declared.fault.PlayFault.TheVariants.{Blocked, TooLong, Memory}
+use Rattle.sok_rules.specs.Limits.{letter_limit}
 use Rattle.sok_rules.specs.Squares.{Rows, cell_at, is_goal, is_open, same_spot}
 use Rattle.sok_rules.specs.Play.{Position, run, start, step}
 
@@ -20,24 +21,24 @@ abbrev pub position_of : Letters → Option Position
 position_of letters = run letters.rows (start letters.rows) letters.played
 
 -- a level before any letter
-abbrev pub begun : Rows → Letters
-begun rows = record { rows = rows; played = []; undone = [] }
+abbrev pub at_start : Rows → Letters
+at_start rows = record { rows = rows; played = []; undone = [] }
 
--- what a step that succeeds leaves
-abbrev pub stepped : Letters → Dir → Letters
-stepped old d = record old { played = old.played ++ d ∷ []; undone = [] }
+-- one letter more is played, and none is undone
+abbrev pub with_letter : Letters → Dir → Letters
+with_letter old d = record old { played = old.played ++ d ∷ []; undone = [] }
 
 -- the letter is legal after those played, and pushes or not
 pub record StepsOn (old : Letters) (d : Dir) (new : Letters) (pushed : Bool) : Type 0 where
-  pub after : new ≡ stepped old d
-  pub few : length old.played < 1000000
+  pub after : new ≡ with_letter old d
+  pub few : length old.played < letter_limit
   pub legal : IsSomeAnd (position_of old) (λ x. IsSomeAnd (step old.rows d x) (λ a. a.pushed ≡ pushed))
 
 -- why a letter is not played
 abbrev pub IsStepFault : Letters → Dir → PlayFault → Type 0
-IsStepFault old d TooLong = length old.played ≡ 1000000
-IsStepFault old d (Blocked at) = (length old.played < 1000000) × (at ≡ length old.played) × IsNone (position_of (stepped old d))
-IsStepFault old d Memory = length old.played < 1000000
+IsStepFault old d TooLong = length old.played ≡ letter_limit
+IsStepFault old d (Blocked at) = (length old.played < letter_limit) × (at ≡ length old.played) × IsNone (position_of (with_letter old d))
+IsStepFault old d Memory = length old.played < letter_limit
 
 -- a step that is refused changes nothing
 pub record StaysAt (old : Letters) (d : Dir) (new : Letters) (fault : PlayFault) : Type 0 where
@@ -58,9 +59,9 @@ pub record Redoes (old new : Letters) : Type 0 where
   pub undone : old.undone ≡ d ∷ new.undone
   pub played : new.played ≡ old.played ++ d ∷ []
 
--- what shows at a cell, where a box or the man may stand now
-abbrev pub seen : Cell → Bool → Bool → Cell
-seen cell box_there man_there =
+-- what shows at a cell, where a box or the player may stand now
+abbrev pub shown_cell : Cell → Bool → Bool → Cell
+shown_cell cell box_there man_there =
     if not (is_open cell) then Wall
     else if box_there then (if is_goal cell then BoxOn else BoxOff)
     else if man_there then (if is_goal cell then ManOn else ManOff)
@@ -68,4 +69,4 @@ seen cell box_there man_there =
 
 -- what shows at a square in a position, if a row has the square
 abbrev pub cell_in_play : Rows → Position → Spot → Option Cell
-cell_in_play rows x s = option_map (λ cell. seen cell (x.boxes s) (same_spot x.man s)) (cell_at rows s)
+cell_in_play rows x s = option_map (λ cell. shown_cell cell (x.boxes s) (same_spot x.man s)) (cell_at rows s)

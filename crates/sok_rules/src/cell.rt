@@ -1,7 +1,8 @@
 //! What stands on a square, the four directions, and squares by row and column.
 
 ghost use Rattle.std.specs.Prelude.{◌≡◌, ◌+◌, ◌<◌, ◌^◌};
-ghost use Rattle.sok_rules.specs.Squares.{is_wall, is_box, is_astray, is_goal, is_man, next, opposite};
+ghost use Rattle.sok_rules.specs.Squares.{is_wall, is_box, is_astray, is_goal, is_man};
+ghost use Rattle.sok_rules.specs.Squares.{next, opposite};
 
 /// What stands on a square of a level's text.
 #[derive(Clone, Copy, Debug, PartialEq, Eq)]

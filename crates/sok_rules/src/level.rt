@@ -1,9 +1,11 @@
 //! Rows of cells that are a level.
 
-ghost use Rattle.std.specs.Prelude.{◌≡◌, ◌↔◌, IsOk, IfOk, map, take, count_by, ◌<◌, ◌^◌, nat_lt, length, position, not, sum_by};
+ghost use Rattle.std.specs.Prelude.{◌≡◌, ◌↔◌, IsOk, IfOk, map, take, count_by, ◌<◌, ◌^◌, nat_lt};
+ghost use Rattle.std.specs.Prelude.{length, position, not, sum_by};
 ghost use Rattle.std.specs.List.{list_any};
+ghost use Rattle.sok_rules.specs.Limits.{size_limit};
 ghost use Rattle.sok_rules.specs.Squares.{cell_at, is_wall, is_astray, is_box, is_man};
-ghost use Rattle.sok_rules.specs.Levels.{cells_of, level_of, trimmed, IsProper, first_fault};
+ghost use Rattle.sok_rules.specs.Levels.{cells_of, fault_of, level_of, trimmed, IsProper};
 
 use crate::cell::{Cell, Spot};
 use crate::fault::{LevelFault, Memory};
@@ -22,19 +24,20 @@ pub struct Level {
 
 impl Model for Level {
     ghost use Rattle.sok_rules.specs.Squares.{Rows};
-    ghost use Rattle.sok_rules.specs.Levels.{cells_of, IsProper};
+    ghost use Rattle.sok_rules.specs.Levels.{cells_of, IsLevel};
 
     ghost Value = { Rows };
 
     ghost view = { λ level. cells_of level.rows.items };
 
-    ghost invariant = { λ level. IsProper (cells_of level.rows.items) };
+    ghost invariant = { λ level. IsLevel (cells_of level.rows.items) };
 }
 
 impl Level {
     /// Makes a level of rows. Floor at the ends of rows is dropped first. Refused are, in this
     /// order, more than 64 rows, a row of more than 64 cells, a row without a wall (the first such
-    /// row), no player, several players, and no box. It takes no memory, and refused rows are dropped.
+    /// row), no player, several players, and no box. It takes no memory, and refused rows are
+    /// dropped.
     pub fn new(rows: Vec<Vec<Cell>>) -> Result<Level, LevelFault>
         ensures made { result ≡ level_of (cells_of rows.items) }
         ensures proper { IsOk result ↔ IsProper (map trimmed (cells_of rows.items)) }
@@ -59,6 +62,7 @@ impl Level {
     pub fn rows(&self) -> &[Vec<Cell>]
         ensures cells { cells_of result.now ≡ self.now }
         ensures proper { IsProper self.now }
+        ensures trimmed { map trimmed self.now ≡ self.now }
     {
         &self.rows
     }
@@ -93,23 +97,16 @@ fn trim(row: &mut Vec<Cell>)
 fn length_without_floor(row: &[Cell]) -> usize
     ensures { take result row.now ≡ trimmed row.now }
 {
-    let mut kept = 0;
-    for (place, cell) in row.iter().enumerate() {
-        match cell {
-            Cell::Floor => {}
-            _ => kept = place + 1,
-        }
+    let mut kept = row.len();
+    while kept > 0 && matches!(row[kept - 1], Cell::Floor) {
+        kept -= 1;
     }
     kept
 }
 
 /// The first fault of rows, if they are no level.
 fn fault_in(rows: &[Vec<Cell>]) -> Option<LevelFault>
-    ensures fault { result ≡ first_fault (nat_lt 64 (length rows.now))
-        (list_any (λ row. nat_lt 64 (length row.items)) rows.now)
-        (position (λ row. not (list_any is_wall row.items)) rows.now)
-        (sum_by (λ row. count_by is_man row.items) rows.now)
-        (list_any (λ row. list_any is_box row.items) rows.now) }
+    ensures { result ≡ fault_of (cells_of rows.now) }
 {
     if rows.len() > LIMIT {
         return Some(LevelFault::TooTall);
@@ -133,13 +130,13 @@ fn fault_in(rows: &[Vec<Cell>]) -> Option<LevelFault>
 }
 
 fn has_long_row(rows: &[Vec<Cell>]) -> bool
-    ensures { result ≡ list_any (λ row. nat_lt 64 (length row.items)) rows.now }
+    ensures { result ≡ list_any (λ row. nat_lt size_limit (length row.items)) rows.now }
 {
     rows.iter().any(|row| is_long(row))
 }
 
 fn is_long(row: &[Cell]) -> bool
-    ensures { result ≡ nat_lt 64 (length row.now) }
+    ensures { result ≡ nat_lt size_limit (length row.now) }
 {
     row.len() > LIMIT
 }

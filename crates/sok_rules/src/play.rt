@@ -19,7 +19,7 @@ pub struct Tally {
     pub moves: u64,
 }
 
-ghost use Rattle.sok_rules.specs.Replay.{IsTally, IsReplayFault};
+ghost use Rattle.sok_rules.specs.Replay.{AreMarks, IsTally, IsReplayFault};
 
 /// Plays a list of letters of any length from the start of a level. The last position alone says
 /// whether it solves. Refused where a letter is not legal, with the place of the first such letter.
@@ -39,4 +39,21 @@ pub fn replay(alloc: Global, level: &Level, dirs: &[Dir]) -> Result<Tally, PlayF
         pushes,
         moves: dirs.len() as u64,
     })
+}
+
+/// Tells which letters of a list, of any length, push when they are played from the start of a
+/// level. Refused where a letter is not legal, with the place of the first such letter.
+pub fn mark_pushes(alloc: Global, level: &Level, dirs: &[Dir]) -> Result<Vec<bool>, PlayFault>
+    ensures { MatchResult result
+        (λ marks. AreMarks level.now dirs.now marks.items) (IsReplayFault level.now dirs.now) }
+{
+    let mut scene = Scene::new(alloc, level)?;
+    let mut marks = Vec::with_capacity(alloc, dirs.len())?;
+    for (place, dir) in dirs.iter().enumerate() {
+        match scene.step(*dir) {
+            Some(pushed) => marks.push(pushed)?,
+            None => return Err(PlayFault::Blocked(place)),
+        }
+    }
+    Ok(marks)
 }

@@ -1,8 +1,11 @@
 //! A level's cells as they stand in the middle of play.
 
-ghost use Rattle.std.specs.Prelude.{◌≡◌, ◌↔◌, IsTrue, IfOk, IsSomeAnd, length, map, MatchOption, position, None, true, false, if◌then◌else◌, ◌≤◌, ◌<◌, ◌^◌, ◌+◌};
+ghost use Rattle.std.specs.Prelude.{◌≡◌, ◌↔◌, ◌≤◌, ◌<◌, ◌^◌, ◌+◌, true, false, if◌then◌else◌};
+ghost use Rattle.std.specs.Prelude.{IsTrue, IfOk, IsSomeAnd, MatchOption, None};
+ghost use Rattle.std.specs.Prelude.{length, map, position};
 ghost use Rattle.sok_rules.specs.Levels.{cells_of, IsProper};
-ghost use Rattle.sok_rules.specs.Squares.{cell_at, holds, is_box, is_goal, is_man, is_open, same_spot};
+ghost use Rattle.sok_rules.specs.Squares.{cell_at, holds, is_box, is_goal, is_man, is_open};
+ghost use Rattle.sok_rules.specs.Squares.{same_spot};
 ghost use Rattle.std.specs.List.{list_any};
 ghost use Rattle.sok_rules.specs.Play.{Position, start, step, moved, AllOnGoals};
 
@@ -20,7 +23,7 @@ pub(crate) enum Occupant {
     Box,
 }
 
-/// The cells of a level, with the man and the boxes where they stand now. It is seen as rows,
+/// The cells of a level, with the player and the boxes where they stand now. It is seen as rows,
 /// whose start is the position.
 #[derive(Drop)]
 pub(crate) struct Scene {
@@ -81,7 +84,8 @@ impl Scene {
         self.astray == 0
     }
 
-    /// Plays one letter, and answers whether it pushed. None, with no change, where it is not legal.
+    /// Plays one letter, and answers whether it pushed. None, with no change, where it is not
+    /// legal.
     pub(crate) fn step(&mut self, dir: Dir) -> Option<bool>
         ensures { MatchOption result
             ((step self.old dir (start self.old) ≡ None) × (self.new ≡ self.old))
@@ -100,7 +104,7 @@ impl Scene {
         Some(true)
     }
 
-    /// Takes the last letter back: the man walks back, and a box that he pushed follows him.
+    /// Takes the last letter back: the player walks back, and a box that he pushed follows him.
     pub(crate) fn back(&mut self, dir: Dir, pushed: bool)
         requires { (x : Position) × CameBy self.old dir pushed x }
         ensures ground { SameGround self.old self.new }
@@ -131,7 +135,7 @@ impl Scene {
         }
     }
 
-    /// The man walks to a square.
+    /// The player walks to a square.
     fn walk(&mut self, to: Spot)
         requires opened { holds is_open self.old to ≡ true }
         requires free { holds is_box self.old to ≡ false }
@@ -143,7 +147,7 @@ impl Scene {
         self.man = to;
     }
 
-    /// A box goes from one square to another, and the man to a third.
+    /// A box goes from one square to another, and the player to a third.
     fn shift(&mut self, from: Spot, to: Spot, man: Spot)
         requires from_open { holds is_open self.old from ≡ true }
         requires box_there { holds is_box self.old from ≡ true }
@@ -152,7 +156,8 @@ impl Scene {
         requires man_open { holds is_open self.old man ≡ true }
         requires man_free { moved (holds is_box self.old) from to man ≡ false }
         ensures ground { SameGround self.old self.new }
-        ensures position { start self.new ≡ record { man = man; boxes = moved (holds is_box self.old) from to } }
+        ensures position { start self.new
+            ≡ record { man = man; boxes = moved (holds is_box self.old) from to } }
     {
         put(&mut self.cells, self.man, Occupant::Nobody);
         let left_goal = put(&mut self.cells, from, Occupant::Nobody);
@@ -211,7 +216,8 @@ fn put(cells: &mut Vec<Vec<Cell>>, spot: Spot, who: Occupant) -> bool
 
 /// Writes cells over others, row by row.
 fn copy_over(cells: &mut Vec<Vec<Cell>>, rows: &[Vec<Cell>])
-    requires { map (λ row. length row) (cells_of cells.old.items) ≡ map (λ row. length row) (cells_of rows.now) }
+    requires { map (λ row. length row) (cells_of cells.old.items)
+        ≡ map (λ row. length row) (cells_of rows.now) }
     ensures { cells_of cells.new.items ≡ cells_of rows.now }
 {
     for (place, row) in rows.iter().enumerate() {

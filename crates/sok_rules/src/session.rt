@@ -1,6 +1,7 @@
 //! Play letter by letter, with undo and redo.
 
-ghost use Rattle.std.specs.Prelude.{◌≡◌, ◌↔◌, ◌≤◌, [], IsTrue, IfOk, IsSomeAnd, MatchBool, MatchResult, length};
+ghost use Rattle.std.specs.Prelude.{◌≡◌, ◌↔◌, ◌≤◌, [], length};
+ghost use Rattle.std.specs.Prelude.{IsTrue, IfOk, IsOk, IsSome, IsSomeAnd, MatchBool, MatchResult};
 ghost use Rattle.sok_rules.specs.Play.{start, pushes, Solves};
 
 use crate::cell::{Cell, Dir, Spot};
@@ -36,17 +37,23 @@ impl Model for Session {
 
     ghost use Rattle.sok_rules.specs.Kept.{IsSession};
 
-    ghost view = { λ s. record { rows = s.level; played = take s.played s.letters.items; undone = drop s.played s.letters.items } };
+    ghost view = { λ s. record {
+      rows = s.level;
+      played = take s.played s.letters.items;
+      undone = drop s.played s.letters.items;
+    } };
 
-    ghost invariant = { λ s. IsSession s.level s.scene s.letters.items s.pushed.items s.played s.pushes };
+    ghost invariant = { λ s.
+        IsSession s.level s.scene s.letters.items s.pushed.items s.played s.pushes };
 }
 
 impl Session {
-    ghost use Rattle.sok_rules.specs.Session.{begun, cell_in_play, position_of, Redoes, StaysAt, StepsOn, Undoes};
+    ghost use Rattle.sok_rules.specs.Session.{at_start, cell_in_play, position_of};
+    ghost use Rattle.sok_rules.specs.Session.{Redoes, StaysAt, StepsOn, Undoes};
 
     /// A level before any letter.
     pub fn new(alloc: Global, level: &Level) -> Result<Session, Memory>
-        ensures { IfOk result (λ session. session ≡ begun level.now) }
+        ensures { IfOk result (λ session. session ≡ at_start level.now) }
     {
         Ok(Session {
             level: level.copy(alloc)?,
@@ -62,18 +69,19 @@ impl Session {
     /// 1,000,000 and one that is not legal, with the number of letters played so far. A letter that
     /// is played drops those undone, and a refused one changes nothing.
     pub fn step(&mut self, dir: Dir) -> Result<bool, PlayFault>
-        ensures { MatchResult result (StepsOn self.old dir self.new) (StaysAt self.old dir self.new) }
+        ensures { MatchResult result
+            (StepsOn self.old dir self.new) (StaysAt self.old dir self.new) }
     {
         if self.played == LIMIT {
             return Err(PlayFault::TooLong);
         }
-        self.letters.reserve(1)?;
-        self.pushed.reserve(1)?;
+        reserve_behind(&mut self.letters, self.played)?;
+        reserve_behind(&mut self.pushed, self.played)?;
         match self.scene.step(dir) {
             None => Err(PlayFault::Blocked(self.played)),
             Some(pushed) => {
-                put_after(&mut self.letters, self.played, dir);
-                put_after(&mut self.pushed, self.played, pushed);
+                put_behind(&mut self.letters, self.played, dir);
+                put_behind(&mut self.pushed, self.played, pushed);
                 self.played += 1;
                 self.pushes += u64::from(pushed);
                 Ok(pushed)
@@ -83,7 +91,8 @@ impl Session {
 
     /// Takes back the last letter played. False, with no change, where none is.
     pub fn undo(&mut self) -> bool
-        ensures { MatchBool result (Undoes self.old self.new) ((self.old.played ≡ []) × (self.new ≡ self.old)) }
+        ensures { MatchBool result
+            (Undoes self.old self.new) ((self.old.played ≡ []) × (self.new ≡ self.old)) }
     {
         if self.played == 0 {
             return false;
@@ -98,7 +107,8 @@ impl Session {
 
     /// Plays the first letter undone again. False, with no change, where none is.
     pub fn redo(&mut self) -> bool
-        ensures { MatchBool result (Redoes self.old self.new) ((self.old.undone ≡ []) × (self.new ≡ self.old)) }
+        ensures { MatchBool result
+            (Redoes self.old self.new) ((self.old.undone ≡ []) × (self.new ≡ self.old)) }
     {
         if self.played == self.letters.len() {
             return false;
@@ -111,7 +121,7 @@ impl Session {
 
     /// Goes back to the start, with no letter played and none undone.
     pub fn reset(&mut self)
-        ensures { self.new ≡ begun self.old.rows }
+        ensures { self.new ≡ at_start self.old.rows }
     {
         self.scene.restore(&self.level);
         self.letters.clear();
@@ -143,14 +153,16 @@ impl Session {
 
     /// The letters played, in order.
     pub fn dirs(&self) -> &[Dir]
-        ensures { result.now ≡ self.now.played }
+        ensures letters { result.now ≡ self.now.played }
+        ensures legal { IsSome (position_of self.now) }
     {
         &self.letters[..self.played]
     }
 
     /// What stands on a square now, and None where no row has the square.
     pub fn cell(&self, spot: Spot) -> Option<Cell>
-        ensures { IsSomeAnd (position_of self.now) (λ x. result ≡ cell_in_play self.now.rows x spot) }
+        ensures { IsSomeAnd (position_of self.now)
+            (λ x. result ≡ cell_in_play self.now.rows x spot) }
     {
         self.scene.cell(spot)
     }
@@ -158,10 +170,22 @@ impl Session {
 
 ghost use Rattle.std.specs.Prelude.{◌∷◌, ◌++◌, ◌<◌, take, vec_len, vec_capacity};
 
+/// Makes room for one item behind so many others. Where there are more, it has room already.
+fn reserve_behind<T>(items: &mut Vec<T>, place: usize) -> Result<(), Memory>
+    requires { place ≤ vec_len items.old }
+    ensures same { items.new.items ≡ items.old.items }
+    ensures room { IsOk result → place < vec_capacity items.new }
+{
+    if place == items.len() {
+        items.reserve(1)?;
+    }
+    Ok(())
+}
+
 /// Drops all behind a place, and puts an item there.
-fn put_after<T: Drop>(items: &mut Vec<T>, place: usize, item: T)
+fn put_behind<T: Drop>(items: &mut Vec<T>, place: usize, item: T)
     requires within { place ≤ vec_len items.old }
-    requires room { vec_len items.old < vec_capacity items.old }
+    requires room { place < vec_capacity items.old }
     ensures { items.new.items ≡ take place items.old.items ++ item ∷ [] }
 {
     items.truncate(place);

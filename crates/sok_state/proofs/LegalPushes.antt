@@ -29,11 +29,13 @@ use Rattle.sok_state.proofs.States.{key_position}
 
 -- the square beside a numbered one
 beside-next : (b : Numbered) (d : Dir) (n m : ℕ) → beside b n d ≡ Some m → next d (spot_of b n) ≡ Some (spot_of b m)
-beside-next b d n m is = option_and_then_some (number_of b) (next d (spot_of b n)) m is (λ s ahead number. ahead ∙ ap Some (sym (spot_of-number_of b s m number).1))
+beside-next b d n m is = option_and_then_some (number_of b) (next d (spot_of b n)) m is
+    (λ s ahead number. ahead ∙ ap Some (sym (spot_of-number_of b s m number).1))
 
 -- a number beside a square, and one that is beside it
 next_behind : (b : Numbered) (d : Dir) (n m : ℕ) → beside b n (opposite d) ≡ Some m → next d (spot_of b m) ≡ Some (spot_of b n)
-next_behind b d n m is = ap (λ e. next e (spot_of b m)) (sym (opposite-twice d)) ∙ next-opposite (opposite d) (spot_of b n) (spot_of b m) (beside-next b (opposite d) n m is)
+next_behind b d n m is = ap (λ e. next e (spot_of b m)) (sym (opposite-twice d)) ∙ next-opposite (opposite d) (spot_of b n) (spot_of b m)
+    (beside-next b (opposite d) n m is)
 
 -- the man comes behind the box, and it can go ahead
 pub record IsFree (b : Numbered) (key : Key) (region : List ℕ) (push : Push) : Type 0 where
@@ -42,30 +44,34 @@ pub record IsFree (b : Numbered) (key : Key) (region : List ℕ) (push : Push) :
   pub comes : Contains region behind
   pub onward : IsClear b key push
 
-module _ (b : Numbered) (area : IsArea b.rows b.area) (proper : IsProper b.rows) (key : Key) (region : List ℕ) (is : IsRegion b key.boxes key.least region) where
-  -- such a push of a box is legal
-  pub legal-free : (push : Push) → Contains key.boxes push.from → IsFree b key region push → IsLegal b key push
-  legal-free push among free =
-      let exists : push.from < length b.area = All-contains (λ n. n < length b.area) key.boxes push.from is.placed.boxes_exist among in
-      let there = (is.exact free.behind).0 free.comes in
-      let ahead_exists = beside-within b push.dir push.from free.onward.ahead free.onward.ahead_is in
-      let before : Position = position_of b free.behind key.boxes in
-      record {
-        after = record { man = spot_of b push.from; boxes = moved before.boxes (spot_of b push.from) (spot_of b free.onward.ahead) };
-        leads = record {
-          before = before;
-          same = there.1;
-          steps = step-box b.rows push.dir before (spot_of b push.from) (spot_of b free.onward.ahead) false (next_behind b push.dir push.from free.behind free.behind_is)
-              (InArea-open b.rows proper (spot_of b push.from) (InArea-spot_of b area push.from exists)) (listed_box b free.behind key.boxes push.from among)
-              (beside-next b push.dir push.from free.onward.ahead free.onward.ahead_is) (InArea-open b.rows proper (spot_of b free.onward.ahead) (InArea-spot_of b area free.onward.ahead ahead_exists))
-              (no_box b area free.behind key.boxes is.placed.boxes_exist free.onward.ahead ahead_exists free.onward.clear);
-          man = refl;
-          exists = exists;
-        };
-      }
+module _ (b : Numbered) (area : IsArea b.rows b.area) (proper : IsProper b.rows) (key : Key) (region : List ℕ) (is : IsRegion b key.boxes key.least region)
+  where
+    -- such a push of a box is legal
+    pub legal-free : (push : Push) → Contains key.boxes push.from → IsFree b key region push → IsLegal b key push
+    legal-free push among free =
+        let exists : push.from < length b.area = All-contains (λ n. n < length b.area) key.boxes push.from is.placed.boxes_exist among in
+        let there = (is.exact free.behind).0 free.comes in
+        let ahead_exists = beside-within b push.dir push.from free.onward.ahead free.onward.ahead_is in
+        let before : Position = position_of b free.behind key.boxes in
+        record {
+          after = record { man = spot_of b push.from; boxes = moved before.boxes (spot_of b push.from) (spot_of b free.onward.ahead) };
+          leads = record {
+            before = before;
+            same = there.1;
+            steps = step-box b.rows push.dir before (spot_of b push.from) (spot_of b free.onward.ahead) false
+                (next_behind b push.dir push.from free.behind free.behind_is)
+                (InArea-open b.rows proper (spot_of b push.from) (InArea-spot_of b area push.from exists)) (listed_box b free.behind key.boxes push.from among)
+                (beside-next b push.dir push.from free.onward.ahead free.onward.ahead_is)
+                (InArea-open b.rows proper (spot_of b free.onward.ahead) (InArea-spot_of b area free.onward.ahead ahead_exists))
+                (no_box b area free.behind key.boxes is.placed.boxes_exist free.onward.ahead ahead_exists free.onward.clear);
+            man = refl;
+            exists = exists;
+          };
+        }
 
 -- a legal push is one of a box that can go ahead
-pub clear-legal : (b : Numbered) → IsArea b.rows b.area → (key : Key) → IsPlaced b key.boxes key.least → (push : Push) → IsLegal b key push → Contains key.boxes push.from × IsClear b key push
+pub clear-legal : (b : Numbered) → IsArea b.rows b.area → (key : Key) → IsPlaced b key.boxes key.least → (push : Push) → IsLegal b key push
+    → Contains key.boxes push.from × IsClear b key push
 clear-legal b area key placed push legal =
     let after = legal.after in
     let leads = legal.leads in
@@ -73,7 +79,8 @@ clear-legal b area key placed push legal =
     let pushed = push_step b.rows push.dir leads.before (record { position = after; pushed = true }) leads.steps refl in
     let from_is : pushed.from ≡ spot_of b push.from = ap (λ (y : After). y.position.man) (sym pushed.leads) ∙ leads.man in
     let from_inside = subst (InArea b.rows) (sym from_is) (InArea-spot_of b area push.from leads.exists) in
-    let (ahead, ahead_number, ahead_exists, ahead_spot) = number-InArea b area pushed.to (InArea-next b.rows push.dir pushed.from pushed.to from_inside pushed.beyond pushed.to_open) in
+    let (ahead, ahead_number, ahead_exists, ahead_spot) = number-InArea b area pushed.to
+    (InArea-next b.rows push.dir pushed.from pushed.to from_inside pushed.beyond pushed.to_open) in
     let boxed : (key_position b key).boxes (spot_of b push.from) ≡ true = (λ i. sym kept i (sym from_is i)) ∙ pushed.box_there in
     let free_ahead : leads.before.boxes (spot_of b ahead) ≡ false = ap leads.before.boxes ahead_spot ∙ pushed.to_free in (
       known_box b area key.least key.boxes placed.boxes_exist push.from leads.exists boxed,
@@ -85,25 +92,29 @@ clear-legal b area key placed push legal =
     )
 
 -- and the man comes behind it
-pub free-legal : (b : Numbered) → IsArea b.rows b.area → (key : Key) (region : List ℕ) → IsRegion b key.boxes key.least region → (push : Push) → IsLegal b key push → IsFree b key region push
+pub free-legal : (b : Numbered) → IsArea b.rows b.area → (key : Key) (region : List ℕ) → IsRegion b key.boxes key.least region → (push : Push)
+    → IsLegal b key push → IsFree b key region push
 free-legal b area key region is push legal =
     let after = legal.after in
     let leads = legal.leads in
     let kept = boxes-Same b.rows (key_position b key) leads.before leads.same in
     let pushed = push_step b.rows push.dir leads.before (record { position = after; pushed = true }) leads.steps refl in
     let from_is : pushed.from ≡ spot_of b push.from = ap (λ (y : After). y.position.man) (sym pushed.leads) ∙ leads.man in
-    let man_inside = (confines-play b.rows (key_position b key) leads.before leads.same.0 (InArea-spot_of b area key.least is.placed.player_exists) leads.same.1).man in
+    let man_inside = (confines-play b.rows (key_position b key) leads.before leads.same.0 (InArea-spot_of b area key.least is.placed.player_exists)
+    leads.same.1).man in
     let (behind, behind_number, behind_exists, behind_spot) = number-InArea b area leads.before.man man_inside in
     let stands : leads.before ≡ position_of b behind key.boxes = λ i. record { man = sym behind_spot i; boxes = kept i } in
     record {
       behind = behind;
-      behind_is = beside-is b (opposite push.dir) push.from pushed.from leads.before.man behind (sym from_is) (next-opposite push.dir leads.before.man pushed.from pushed.ahead) behind_number;
+      behind_is = beside-is b (opposite push.dir) push.from pushed.from leads.before.man behind (sym from_is)
+          (next-opposite push.dir leads.before.man pushed.from pushed.ahead) behind_number;
       comes = (is.exact behind).1 (behind_exists, subst (Same b.rows (key_position b key)) stands leads.same);
       onward = (clear-legal b area key is.placed push legal).1;
     }
 
 -- the position to which a push leads, by the numbers of its boxes
-pub LeadsTo-position : (b : Numbered) → IsArea b.rows b.area → (key : Key) (push : Push) (ahead : ℕ) (boxes : List ℕ) (after : Position) → IsPlaced b key.boxes key.least
+pub LeadsTo-position : (b : Numbered) → IsArea b.rows b.area → (key : Key) (push : Push) (ahead : ℕ) (boxes : List ℕ) (after : Position)
+    → IsPlaced b key.boxes key.least
     → beside b push.from push.dir ≡ Some ahead → IsMoved key.boxes push.from ahead boxes → LeadsTo b key push after → position_of b push.from boxes ≡ after
 LeadsTo-position b area key push ahead boxes after placed ahead_is moves leads =
     let kept = boxes-Same b.rows (key_position b key) leads.before leads.same in
@@ -112,7 +123,8 @@ LeadsTo-position b area key push ahead boxes after placed ahead_is moves leads =
     let beyond : next push.dir pushed.from ≡ Some (spot_of b ahead) = ap (next push.dir) from_is ∙ beside-next b push.dir push.from ahead ahead_is in
     let to_is : pushed.to ≡ spot_of b ahead = same_Some pushed.to (spot_of b ahead) (sym pushed.beyond ∙ beyond) in
     let new : moved (key_position b key).boxes (spot_of b push.from) (spot_of b ahead) ≡ (position_of b push.from boxes).boxes =
-    boxes_moved b area key.least push.from key.boxes boxes push.from ahead placed.boxes_exist leads.exists (beside-within b push.dir push.from ahead ahead_is) moves in
+    boxes_moved b area key.least push.from key.boxes boxes push.from ahead placed.boxes_exist leads.exists
+    (beside-within b push.dir push.from ahead ahead_is) moves in
     let came : after.boxes ≡ moved (key_position b key).boxes (spot_of b push.from) (spot_of b ahead) =
     ap (λ (y : After). y.position.boxes) pushed.leads ∙ (λ i. moved (kept i) (from_is i) (to_is i)) in
     λ i. record { man = sym leads.man i; boxes = sym (came ∙ new) i }
@@ -124,18 +136,32 @@ beside-apart b d n m is same =
     true≢false (sym (same_spot-refl (spot_of b n)) ∙ ap (λ k. same_spot (spot_of b n) (spot_of b k)) same ∙ apart)
 
 -- the square ahead is the one that is clear
-pub clear_ahead : (b : Numbered) (key : Key) (push : Push) → IsClear b key push → (ahead : ℕ) → beside b push.from push.dir ≡ Some ahead → Contains key.boxes ahead → ⊥
+pub clear_ahead : (b : Numbered) (key : Key) (push : Push) → IsClear b key push → (ahead : ℕ) → beside b push.from push.dir ≡ Some ahead
+    → Contains key.boxes ahead → ⊥
 clear_ahead b key push clear ahead is = subst (λ n. Contains key.boxes n → ⊥) (same_Some clear.ahead ahead (sym clear.ahead_is ∙ is)) clear.clear
 
 -- after a legal push the man stands where the box stood, and the boxes are one rising list
-pub IsPlaced-after : (b : Numbered) → IsArea b.rows b.area → (key : Key) → IsPlaced b key.boxes key.least → (push : Push) (ahead : ℕ) (boxes : List ℕ) → IsLegal b key push
+pub IsPlaced-after : (b : Numbered) → IsArea b.rows b.area → (key : Key) → IsPlaced b key.boxes key.least → (push : Push) (ahead : ℕ) (boxes : List ℕ)
+    → IsLegal b key push
     → beside b push.from push.dir ≡ Some ahead → IsMoved key.boxes push.from ahead boxes → IsStrictlyIncreasing boxes → IsPlaced b boxes push.from
 IsPlaced-after b area key placed push ahead boxes legal ahead_is moves rising =
-    IsPlaced-moved b area key.least push.from key.boxes boxes push.from ahead placed.boxes_exist legal.leads.exists (beside-within b push.dir push.from ahead ahead_is) moves
+    IsPlaced-moved b area key.least push.from key.boxes boxes push.from ahead placed.boxes_exist legal.leads.exists
+    (beside-within b push.dir push.from ahead ahead_is) moves
     (beside-apart b push.dir push.from ahead ahead_is) rising
 
--- the key of the position with these numbers is that of each position to which the push leads
+-- two facts of what a call gives make a third
+pub IfOk-both : {X E : Type 0} (r : Result X E) (P Q R : X → Type 0) → ((x : X) → P x → Q x → R x) → IfOk r P → IfOk r Q → IfOk r R
+IfOk-both (Ok x) P Q R make p q = make x p q
+IfOk-both (Err e) P Q R make p q = tt
+
+-- the key of the position with these numbers is that of a position to which the push leads
+pub key_after : (b : Numbered) (next : Key) (push : Push) (boxes : List ℕ) (after : Position) → position_of b push.from boxes ≡ after
+    → IsKeyOf b (position_of b push.from boxes) next → IsKeyOf b after next
+key_after b next push boxes after is of_numbers = subst (λ x. IsKeyOf b x next) is of_numbers
+
+-- and so of each
 pub keys_after : {E : Type 0} (b : Numbered) (key : Key) (push : Push) (boxes : List ℕ) (r : Result Key E) → IfOk r (IsKeyOf b (position_of b push.from boxes))
-    → ((after : Position) → LeadsTo b key push after → position_of b push.from boxes ≡ after) → IfOk r (λ next. (after : Position) → LeadsTo b key push after → IsKeyOf b after next)
-keys_after b key push boxes (Ok next) is leads = λ after led. subst (λ x. IsKeyOf b x next) (leads after led) is
+    → ((after : Position) → LeadsTo b key push after → position_of b push.from boxes ≡ after)
+    → IfOk r (λ next. (after : Position) → LeadsTo b key push after → IsKeyOf b after next)
+keys_after b key push boxes (Ok next) is leads = λ after led. key_after b next push boxes after (leads after led) is
 keys_after b key push boxes (Err fault) is leads = tt

@@ -1,7 +1,8 @@
 pub mod Keyed
-pub mod Order
-pub mod Placed
-pub mod Moves
-pub mod States
 pub mod LegalPushes
 pub mod Listed
+pub mod Moves
+pub mod Order
+pub mod Packing
+pub mod Placed
+pub mod States

@@ -1,5 +1,6 @@
 -- Listing pushes in order.
-use Rattle.std.proofs.Common.{ℕ, ◌≡◌, ◌<◌, ◌≤◌, ◌+◌, ◌*◌, inl, inr, ap, subst, List, [], ◌∷◌, ◌++◌, zero, suc, All, AllPairs, Contains, arith, length, get_or, slice_index}
+use Rattle.std.proofs.Common.{ℕ, ◌≡◌, ◌<◌, ◌≤◌, ◌+◌, ◌*◌, inl, inr, ap, subst, List, [], ◌∷◌, ◌++◌, zero, suc, All, AllPairs, Contains, arith, length, get_or}
+use Rattle.std.proofs.Common.{slice_index}
 use Rattle.std.specs.List.Sorted.{IsStrictlyIncreasing}
 use Rattle.std.proofs.lemmas.Bool.{cases_lt}
 use Rattle.std.proofs.lemmas.List.Elements.{Contains-append_left, Contains-push, Contains-push_cases, Contains-get_or}
@@ -22,7 +23,8 @@ Lists-none b key = record {
 }
 
 -- where no legal push has a place in between
-pub Lists-raise : (b : Numbered) (key : Key) (bound higher : ℕ) (pushes : List Push) → bound ≤ higher → ((push : Push) → IsLegal b key push → place push < higher → place push < bound) → Lists b key bound pushes → Lists b key higher pushes
+pub Lists-raise : (b : Numbered) (key : Key) (bound higher : ℕ) (pushes : List Push) → bound ≤ higher
+    → ((push : Push) → IsLegal b key push → place push < higher → place push < bound) → Lists b key bound pushes → Lists b key higher pushes
 Lists-raise b key bound higher pushes up none lists = record {
   exact = λ push. (
     λ there. let (legal, below) = (lists.exact push).0 there in (legal, omega (arith, below, up)),
@@ -32,14 +34,17 @@ Lists-raise b key bound higher pushes up none lists = record {
 }
 
 -- a push that is not legal is not listed
-pub Lists-illegal : (b : Numbered) (key : Key) (push : Push) (pushes : List Push) → (IsLegal b key push → ⊥) → Lists b key (place push) pushes → Lists b key (place push + 1) pushes
-Lists-illegal b key push pushes illegal lists = Lists-raise b key (place push) (place push + 1) pushes (omega arith) (λ p legal below. elim (cases_lt (place p) (place push)) [
-  | inl earlier ↦ earlier
-  | inr later ↦ absurd (illegal (subst (IsLegal b key) (same_place p push (omega (arith, below, later))) legal))
-]) lists
+pub Lists-illegal : (b : Numbered) (key : Key) (push : Push) (pushes : List Push) → (IsLegal b key push → ⊥) → Lists b key (place push) pushes
+    → Lists b key (place push + 1) pushes
+Lists-illegal b key push pushes illegal lists = Lists-raise b key (place push) (place push + 1) pushes (omega arith)
+    (λ p legal below. elim (cases_lt (place p) (place push)) [
+      | inl earlier ↦ earlier
+      | inr later ↦ absurd (illegal (subst (IsLegal b key) (same_place p push (omega (arith, below, later))) legal))
+    ]) lists
 
 -- a legal push goes last
-pub Lists-legal : (b : Numbered) (key : Key) (push : Push) (pushes : List Push) → IsLegal b key push → Lists b key (place push) pushes → Lists b key (place push + 1) (pushes ++ push ∷ [])
+pub Lists-legal : (b : Numbered) (key : Key) (push : Push) (pushes : List Push) → IsLegal b key push → Lists b key (place push) pushes
+    → Lists b key (place push + 1) (pushes ++ push ∷ [])
 Lists-legal b key push pushes legal lists = record {
   exact = λ p. (
     λ there. elim (Contains-push_cases pushes push p there) [
@@ -52,7 +57,8 @@ Lists-legal b key push pushes legal lists = record {
     ],
   );
   in_order = AllPairs-append (λ p q. place p < place q) pushes (push ∷ []) lists.in_order (λ i j d below within. absurd (omega (arith, below, within)))
-      (λ k d within. λ j e last. elim_last j e last (get_or pushes k d) (let is = ((lists.exact (get_or pushes k d)).0 (Contains-get_or pushes k d within)).1 in is));
+      (λ k d within. λ j e last. elim_last j e last (get_or pushes k d)
+      (let is = ((lists.exact (get_or pushes k d)).0 (Contains-get_or pushes k d within)).1 in is));
 }
   where
     elim_last : (j : ℕ) (e : Push) → j < length (push ∷ []) → (p : Push) → place p < place push → place p < place (get_or (push ∷ []) j e)
@@ -73,7 +79,8 @@ rising_at : (xs : List ℕ) → IsStrictlyIncreasing xs → (i j : ℕ) → i < 
 rising_at xs rising i j below within = AllPairs-from_increasing xs rising i j 0 below within
 
 -- where the box of a legal push stands in the list
-box_index : (b : Numbered) → IsArea b.rows b.area → (key : Key) → IsPlaced b key.boxes key.least → (push : Push) → IsLegal b key push → (k : ℕ) × (k < length key.boxes) × (slice_index key.boxes k ≡ push.from)
+box_index : (b : Numbered) → IsArea b.rows b.area → (key : Key) → IsPlaced b key.boxes key.least → (push : Push) → IsLegal b key push
+    → (k : ℕ) × (k < length key.boxes) × (slice_index key.boxes k ≡ push.from)
 box_index b area key placed push legal =
     let (k, within, is) = (clear-legal b area key placed push legal).0 in (k, within, read key.boxes k push.from within is)
   where
@@ -83,8 +90,10 @@ box_index b area key placed push legal =
     read (x ∷ xs) (suc k) n within is = read xs k n (omega (arith, within)) is
 
 -- before the next box nothing is to be listed
-pub Lists-next : (b : Numbered) → IsArea b.rows b.area → (key : Key) → IsPlaced b key.boxes key.least → (done : ℕ) (pushes : List Push) → done < length key.boxes → IsListing b key done pushes → Lists b key (slice_index key.boxes done * 4) pushes
-Lists-next b area key placed done pushes within listing = Lists-raise b key listing.bound (slice_index key.boxes done * 4) pushes up nothing_between listing.lists
+pub Lists-next : (b : Numbered) → IsArea b.rows b.area → (key : Key) → IsPlaced b key.boxes key.least → (done : ℕ) (pushes : List Push)
+    → done < length key.boxes → IsListing b key done pushes → Lists b key (slice_index key.boxes done * 4) pushes
+Lists-next b area key placed done pushes within listing = Lists-raise b key listing.bound (slice_index key.boxes done * 4) pushes up nothing_between
+    listing.lists
   where
     up : listing.bound ≤ slice_index key.boxes done * 4
     up = listing.ahead done (omega arith) within
@@ -102,7 +111,8 @@ Lists-next b area key placed done pushes within listing = Lists-raise b key list
         ]
 
 -- once its pushes are listed, one more box is done
-pub IsListing-more : (b : Numbered) (key : Key) → IsPlaced b key.boxes key.least → (done : ℕ) (pushes after : List Push) → done < length key.boxes → IsListing b key done pushes
+pub IsListing-more : (b : Numbered) (key : Key) → IsPlaced b key.boxes key.least → (done : ℕ) (pushes after : List Push) → done < length key.boxes
+    → IsListing b key done pushes
     → Lists b key (slice_index key.boxes done * 4 + 4) after → IsListing b key (done + 1) after
 IsListing-more b key placed done pushes after within listing lists = record {
   bound = slice_index key.boxes done * 4 + 4;
@@ -119,7 +129,8 @@ pub listed_legal : (b : Numbered) (key : Key) (done : ℕ) (pushes : List Push) 
 listed_legal b key done pushes listing = λ k d within. ((listing.lists.exact (get_or pushes k d)).0 (Contains-get_or pushes k d within)).0
 
 -- once all boxes are done, all legal pushes are listed
-pub listed_whole : (b : Numbered) → IsArea b.rows b.area → (key : Key) → IsPlaced b key.boxes key.least → (done : ℕ) (pushes : List Push) → length key.boxes ≤ done → IsListing b key done pushes → (push : Push) → IsLegal b key push → Contains pushes push
+pub listed_whole : (b : Numbered) → IsArea b.rows b.area → (key : Key) → IsPlaced b key.boxes key.least → (done : ℕ) (pushes : List Push)
+    → length key.boxes ≤ done → IsListing b key done pushes → (push : Push) → IsLegal b key push → Contains pushes push
 listed_whole b area key placed done pushes all listing push legal =
     let (k, within, is) = box_index b area key placed push legal in
     let ranked = rank_below push.dir in

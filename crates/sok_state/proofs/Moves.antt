@@ -40,15 +40,17 @@ module _ (b : Numbered) (area : IsArea b.rows b.area) (player other : ℕ) (boxe
     (from_exists : from < length b.area) (to_exists : to < length b.area) (moves : IsMoved boxes from to after) where
   forth : (s : Spot) → moved (position_of b player boxes).boxes (spot_of b from) (spot_of b to) s ≡ true → (position_of b other after).boxes s ≡ true
   forth s there = elim (cases_Bool (same_spot s (spot_of b to))) [
-    | inl come ↦ subst (λ t. (position_of b other after).boxes t ≡ true) (sym (same_spot-is s (spot_of b to) come)) (listed_box b other after to ((moves to).1 (inl refl)))
+    | inl come ↦ subst (λ t. (position_of b other after).boxes t ≡ true) (sym (same_spot-is s (spot_of b to) come))
+        (listed_box b other after to ((moves to).1 (inl refl)))
     | inr elsewhere ↦ elim (cases_Bool (same_spot s (spot_of b from))) [
       | inl left ↦ absurd (true≢false (sym there ∙ moved-from (position_of b player boxes).boxes (spot_of b from) (spot_of b to) s elsewhere left))
-      | inr stays ↦ elim (box_cases b player boxes s (sym (moved-other (position_of b player boxes).boxes (spot_of b from) (spot_of b to) s elsewhere stays) ∙ there)) [
-        | inr decoration ↦ decoration_there b other after s decoration
-        | inl (n, among, is) ↦
-            let differs : n ≡ from → ⊥ = λ same. true≢false (sym (same_spot-refl s) ∙ ap (same_spot s) (is ∙ ap (spot_of b) same) ∙ stays) in
-            subst (λ t. (position_of b other after).boxes t ≡ true) (sym is) (listed_box b other after n ((moves n).1 (inr (among, differs))))
-      ]
+      | inr stays ↦ elim (box_cases b player boxes s (sym
+          (moved-other (position_of b player boxes).boxes (spot_of b from) (spot_of b to) s elsewhere stays) ∙ there)) [
+            | inr decoration ↦ decoration_there b other after s decoration
+            | inl (n, among, is) ↦
+                let differs : n ≡ from → ⊥ = λ same. true≢false (sym (same_spot-refl s) ∙ ap (same_spot s) (is ∙ ap (spot_of b) same) ∙ stays) in
+                subst (λ t. (position_of b other after).boxes t ≡ true) (sym is) (listed_box b other after n ((moves n).1 (inr (among, differs))))
+          ]
     ]
   ]
 
@@ -57,19 +59,23 @@ module _ (b : Numbered) (area : IsArea b.rows b.area) (player other : ℕ) (boxe
 
   back : (s : Spot) → (position_of b other after).boxes s ≡ true → moved (position_of b player boxes).boxes (spot_of b from) (spot_of b to) s ≡ true
   back s there = elim (box_cases b other after s there) [
-    | inr decoration ↦ moved-there (position_of b player boxes).boxes (spot_of b from) (spot_of b to) s (decoration_there b player boxes s decoration) (outside s from from_exists decoration)
+    | inr decoration ↦ moved-there (position_of b player boxes).boxes (spot_of b from) (spot_of b to) s (decoration_there b player boxes s decoration)
+        (outside s from from_exists decoration)
     | inl (n, among, is) ↦ elim ((moves n).0 among) [
-      | inl come ↦ moved-to (position_of b player boxes).boxes (spot_of b from) (spot_of b to) s (ap (same_spot s) (sym (is ∙ ap (spot_of b) come)) ∙ same_spot-refl s)
+      | inl come ↦ moved-to (position_of b player boxes).boxes (spot_of b from) (spot_of b to) s
+          (ap (same_spot s) (sym (is ∙ ap (spot_of b) come)) ∙ same_spot-refl s)
       | inr (was, differs) ↦
           let within = All-contains (λ n. n < length b.area) boxes n exist was in
-          moved-there (position_of b player boxes).boxes (spot_of b from) (spot_of b to) s (ap (position_of b player boxes).boxes is ∙ listed_box b player boxes n was)
+          moved-there (position_of b player boxes).boxes (spot_of b from) (spot_of b to) s
+          (ap (position_of b player boxes).boxes is ∙ listed_box b player boxes n was)
           (λ same. differs (same_number b area n from within from_exists (sym is ∙ same)))
     ]
   ]
 
   -- the boxes of the new numbers are the old ones with one moved
   pub boxes_moved : moved (position_of b player boxes).boxes (spot_of b from) (spot_of b to) ≡ (position_of b other after).boxes
-  boxes_moved = λ i s. both_ways (moved (position_of b player boxes).boxes (spot_of b from) (spot_of b to) s) ((position_of b other after).boxes s) (forth s) (back s) i
+  boxes_moved = λ i s. both_ways (moved (position_of b player boxes).boxes (spot_of b from) (spot_of b to) s) ((position_of b other after).boxes s)
+      (forth s) (back s) i
 
   -- with the man where the box stood they make a position
   pub IsPlaced-moved : (from ≡ to → ⊥) → IsStrictlyIncreasing after → IsPlaced b after from

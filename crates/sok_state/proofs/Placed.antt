@@ -1,5 +1,6 @@
 -- Positions for which numbers of squares stand.
-use Rattle.std.proofs.Common.{ℕ, ◌≡◌, ◌<◌, ◌⊎◌, inl, inr, refl, sym, ap, ◌∙◌, List, [], ◌∷◌, true, zero, suc, All, AllPairs, Contains, arith, length, get_or, map, ◌||◌}
+use Rattle.std.proofs.Common.{ℕ, ◌≡◌, ◌<◌, ◌⊎◌, inl, inr, refl, sym, ap, ◌∙◌, List, [], ◌∷◌, true, zero, suc, Contains, arith, length, get_or}
+use Rattle.std.proofs.Common.{map, ◌||◌}
 use Rattle.std.specs.List.Sorted.{IsStrictlyIncreasing}
 use Rattle.std.proofs.lemmas.Bool.{cases_Bool}
 use Rattle.std.proofs.lemmas.List.{get_or-map, length-map}
@@ -8,14 +9,12 @@ use Rattle.std.proofs.lemmas.List.Folds.{Any-from_list_any}
 use Rattle.std.proofs.lemmas.List.Kept.{AllPairs-from_increasing}
 use Rattle.sok_rules.specs.declared.cell.Spot.{Spot}
 use Rattle.sok_rules.specs.Squares.{same_spot}
-use Rattle.sok_rules.specs.Levels.{IsProper}
 use Rattle.sok_rules.proofs.Spots.{same_spot-is}
-use Rattle.sok_rules.proofs.Steps.{IsStanding}
 use Rattle.sok_board.specs.Area.{Numbered, IsArea, spot_of, position_of, is_among, is_decoration}
 use Rattle.sok_board.proofs.Lists.{same_ordered}
 use Rattle.sok_board.proofs.Positions.{known_box, listed_box}
 use Rattle.sok_region.specs.Regions.{IsPlaced}
-use Rattle.sok_region.proofs.Walks.{standing}
+pub use Rattle.sok_region.proofs.Regions.{IsStanding-placed}
 
 -- a decoration is a box
 pub decoration_there : (b : Numbered) (player : ℕ) (boxes : List ℕ) (s : Spot) → is_decoration b s ≡ true → (position_of b player boxes).boxes s ≡ true
@@ -24,25 +23,26 @@ decoration_there b player boxes s decoration = elim (cases_Bool (is_among (map (
   | inr apart ↦ ap (λ t. t || is_decoration b s) apart ∙ decoration
 ]
 
--- the man stands where he may
-pub IsStanding-placed : (b : Numbered) → IsArea b.rows b.area → IsProper b.rows → (player : ℕ) (boxes : List ℕ) → IsPlaced b boxes player → IsStanding b.rows (position_of b player boxes)
-IsStanding-placed b area proper player boxes placed =
-    standing b boxes (record { proper = proper; area = area; exist = placed.boxes_exist }) player placed.player_exists placed.free
-
 -- rising lists with the same numbers are the same
-pub same_rising : (xs ys : List ℕ) → IsStrictlyIncreasing xs → IsStrictlyIncreasing ys → ((s : ℕ) → Contains xs s → Contains ys s) → ((s : ℕ) → Contains ys s → Contains xs s) → xs ≡ ys
-same_rising xs ys rising_xs rising_ys = same_ordered (λ x y. x < y) (λ x y below above. omega (arith, below, above)) xs ys (AllPairs-from_increasing xs rising_xs) (AllPairs-from_increasing ys rising_ys)
+pub same_rising : (xs ys : List ℕ) → IsStrictlyIncreasing xs → IsStrictlyIncreasing ys → ((s : ℕ) → Contains xs s → Contains ys s)
+    → ((s : ℕ) → Contains ys s → Contains xs s) → xs ≡ ys
+same_rising xs ys rising_xs rising_ys = same_ordered (λ x y. x < y) (λ x y below above. omega (arith, below, above)) xs ys
+    (AllPairs-from_increasing xs rising_xs) (AllPairs-from_increasing ys rising_ys)
 
 -- positions with the same boxes have them from the same numbers
-pub same_boxes : (b : Numbered) → IsArea b.rows b.area → (player other_player : ℕ) (boxes other_boxes : List ℕ) → IsPlaced b boxes player → IsPlaced b other_boxes other_player
+pub same_boxes : (b : Numbered) → IsArea b.rows b.area → (player other_player : ℕ) (boxes other_boxes : List ℕ) → IsPlaced b boxes player
+    → IsPlaced b other_boxes other_player
     → (position_of b player boxes).boxes ≡ (position_of b other_player other_boxes).boxes → boxes ≡ other_boxes
 same_boxes b area player other_player boxes other_boxes placed other_placed same =
     same_rising boxes other_boxes placed.rising other_placed.rising
-    (λ s there. known_box b area other_player other_boxes other_placed.boxes_exist s (All-contains (λ n. n < length b.area) boxes s placed.boxes_exist there) ((λ i. sym same i (spot_of b s)) ∙ listed_box b player boxes s there))
-    (λ s there. known_box b area player boxes placed.boxes_exist s (All-contains (λ n. n < length b.area) other_boxes s other_placed.boxes_exist there) ((λ i. same i (spot_of b s)) ∙ listed_box b other_player other_boxes s there))
+    (λ s there. known_box b area other_player other_boxes other_placed.boxes_exist s
+    (All-contains (λ n. n < length b.area) boxes s placed.boxes_exist there) ((λ i. sym same i (spot_of b s)) ∙ listed_box b player boxes s there))
+    (λ s there. known_box b area player boxes placed.boxes_exist s (All-contains (λ n. n < length b.area) other_boxes s other_placed.boxes_exist there)
+    ((λ i. same i (spot_of b s)) ∙ listed_box b other_player other_boxes s there))
 
 -- what stands on a square is a box by its number, or a decoration
-pub box_cases : (b : Numbered) (player : ℕ) (boxes : List ℕ) (s : Spot) → (position_of b player boxes).boxes s ≡ true → ((n : ℕ) × Contains boxes n × (s ≡ spot_of b n)) ⊎ (is_decoration b s ≡ true)
+pub box_cases : (b : Numbered) (player : ℕ) (boxes : List ℕ) (s : Spot) → (position_of b player boxes).boxes s ≡ true
+    → ((n : ℕ) × Contains boxes n × (s ≡ spot_of b n)) ⊎ (is_decoration b s ≡ true)
 box_cases b player boxes s there = elim (cases_Bool (is_among (map (spot_of b) boxes) s)) [
   | inr apart ↦ inr (sym (ap (λ t. t || is_decoration b s) apart) ∙ there)
   | inl among ↦

@@ -1,15 +1,15 @@
 -- Keys tell states apart.
-use Rattle.std.proofs.Common.{ℕ, ◌≡◌, ◌≤◌, sym, true≢false, ◌∙◌, subst, List, Contains, arith}
+use Rattle.std.proofs.Common.{ℕ, ◌≡◌, ◌≤◌, sym, ◌∙◌, subst, List, Contains, arith}
 use Rattle.sok_rules.specs.Levels.{IsProper}
 use Rattle.sok_rules.specs.Play.{Position}
 use Rattle.sok_rules.specs.States.{Same}
 use Rattle.sok_rules.proofs.Steps.{IsStanding}
-use Rattle.sok_rules.proofs.Walking.{Same-trans, Same-sym, boxes-Same, IsStanding-Same}
+use Rattle.sok_rules.proofs.Walking.{Same-trans, Same-sym, boxes-Same}
 use Rattle.sok_board.specs.Area.{Numbered, IsArea, position_of}
-use Rattle.sok_board.proofs.Positions.{listed_box}
 use Rattle.sok_region.specs.Regions.{IsRegion}
 use Rattle.sok_state.specs.declared.key.Key.{Key}
 use Rattle.sok_state.specs.Keys.{IsKeyOf, TellsStates}
+use Rattle.sok_region.proofs.Regions.{IsRegion-again}
 use Rattle.sok_state.proofs.Placed.{IsStanding-placed, same_boxes}
 
 -- the position that a key stands for
@@ -21,12 +21,14 @@ pub Same-keys : (b : Numbered) (x y : Position) (key : Key) → IsStanding b.row
 Same-keys b x y key standing of_x of_y = Same-trans b.rows x (key_position b key) y of_x.same (Same-sym b.rows y (key_position b key) standing of_y.same)
 
 -- positions of one state have one key
-pub keys_equal : (b : Numbered) → IsArea b.rows b.area → (x y : Position) (key other : Key) → IsStanding b.rows x → IsKeyOf b x key → IsKeyOf b y other → Same b.rows x y → key ≡ other
+pub keys_equal : (b : Numbered) → IsArea b.rows b.area → (x y : Position) (key other : Key) → IsStanding b.rows x → IsKeyOf b x key → IsKeyOf b y other
+    → Same b.rows x y → key ≡ other
 keys_equal b area x y key other standing of_x of_y same =
     let there : Same b.rows x (key_position b other) = Same-trans b.rows x y (key_position b other) same of_y.same in
     let lists : key.boxes ≡ other.boxes = same_boxes b area key.least other.least key.boxes other.boxes of_x.placed of_y.placed
     (boxes-Same b.rows x (key_position b key) of_x.same ∙ sym (boxes-Same b.rows x (key_position b other) there)) in
-    let below : key.least ≤ other.least = of_x.least other.least of_y.placed.player_exists (subst (λ l. Same b.rows x (position_of b other.least l)) (sym lists) there) in
+    let below : key.least ≤ other.least = of_x.least other.least of_y.placed.player_exists
+    (subst (λ l. Same b.rows x (position_of b other.least l)) (sym lists) there) in
     let back : Same b.rows y x = Same-sym b.rows x y standing same in
     let above : other.least ≤ key.least = of_y.least key.least of_x.placed.player_exists (Same-trans b.rows y x (position_of b key.least other.boxes) back
     (subst (λ l. Same b.rows x (position_of b key.least l)) lists of_x.same)) in
@@ -45,20 +47,18 @@ IsKeyOf-Same b x y key standing same of_x =
 
 pub tells-states : (b : Numbered) → IsArea b.rows b.area → IsProper b.rows → TellsStates b
 tells-states b area proper player boxes key placed of_key other_player other_boxes other other_placed of_other = (
-  λ same. Same-keys b (position_of b player boxes) (position_of b other_player other_boxes) other (IsStanding-placed b area proper other_player other_boxes other_placed)
+  λ same. Same-keys b (position_of b player boxes) (position_of b other_player other_boxes) other
+      (IsStanding-placed b area proper other_player other_boxes other_placed)
       (subst (IsKeyOf b (position_of b player boxes)) same of_key) of_other,
-  λ same. keys_equal b area (position_of b player boxes) (position_of b other_player other_boxes) key other (IsStanding-placed b area proper player boxes placed) of_key of_other same,
+  λ same. keys_equal b area (position_of b player boxes) (position_of b other_player other_boxes) key other
+      (IsStanding-placed b area proper player boxes placed) of_key of_other same,
 )
 
 -- the least square of a region makes the key
-pub IsKeyOf-region : (b : Numbered) → IsArea b.rows b.area → IsProper b.rows → (player : ℕ) (boxes region : List ℕ) (least : ℕ) → IsRegion b boxes player region → Contains region least → ((s : ℕ) → Contains region s → least ≤ s)
+pub IsKeyOf-region : (b : Numbered) → IsArea b.rows b.area → IsProper b.rows → (player : ℕ) (boxes region : List ℕ) (least : ℕ)
+    → IsRegion b boxes player region → Contains region least → ((s : ℕ) → Contains region s → least ≤ s)
     → IsKeyOf b (position_of b player boxes) (record { boxes = boxes; least = least })
 IsKeyOf-region b area proper player boxes region least is among lowest =
-    let there = (is.exact least).0 among in
-    let standing = IsStanding-Same b.rows (position_of b player boxes) (position_of b least boxes) (IsStanding-placed b area proper player boxes is.placed) there.1 in
-    let free : Contains boxes least → ⊥ = λ on. true≢false (sym (listed_box b least boxes least on) ∙ standing.no_box) in
-    record {
-      placed = record { rising = is.placed.rising; boxes_exist = is.placed.boxes_exist; player_exists = there.0; free = free };
-      same = there.1;
-      least = λ s within same. lowest s ((is.exact s).1 (within, same));
-    }
+    let there = IsRegion-again b boxes player region proper area is least among in
+    let (within, same) = (is.exact least).0 among in
+    record { placed = there.placed; same = same; least = λ s s_within reached. lowest s ((is.exact s).1 (s_within, reached)) }

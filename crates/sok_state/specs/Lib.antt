@@ -1,4 +1,6 @@
+-- Words of public contracts
 pub mod Keys
-pub mod Listing
 pub mod Pushes
 pub mod Tables
+-- Words of the proofs alone
+pub mod Listing

@@ -1,5 +1,6 @@
 -- A table of states: distinct keys with depths, in the order of their insertion.
-use Rattle.std.specs.Prelude.{ℕ, ◌≡◌, ◌≢◌, ◌<◌, ◌⊎◌, ◌↔◌, List, [], ◌∷◌, ◌++◌, Some, Bool, IsTrue, if◌then◌else◌, AllPairs, Contains, length, slice_get, slice_set, slice_index}
+use Rattle.std.specs.Prelude.{ℕ, ◌≡◌, ◌≢◌, ◌<◌, ◌⊎◌, ◌↔◌, List, [], ◌∷◌, ◌++◌, Some, Bool, IsTrue, if◌then◌else◌, AllPairs, Contains, length, slice_get}
+use Rattle.std.specs.Prelude.{slice_set, slice_index}
 use Rattle.std.specs.Map.{keys_of, values_of}
 use Rattle.sok_state.specs.declared.key.Key.{Key}
 

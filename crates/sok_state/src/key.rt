@@ -57,8 +57,6 @@ pub(crate) fn key_of(alloc: Global, board: &Board, boxes: BoxSet, player: Sq) ->
     ensures of_board { IfOk result (IsKey board.now) }
     ensures tells { IfOk result (TellsState board.now player boxes) }
 {
-    // The clauses of `level` tell that a board's level is accepted.
-    let _level = board.level();
     let region = Region::of(alloc, board, &boxes, player)?;
     let least = region.least();
     Ok(Key { boxes, least })

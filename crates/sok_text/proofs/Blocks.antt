@@ -1,6 +1,7 @@
 -- The blocks of a collection, from the slices that it keeps.
-use Rattle.std.proofs.Common.{ℕ, ◌≡◌, ◌<◌, ◌≤◌, ◌+◌, List, [], ◌∷◌, ◌++◌, Option, Some, None, true, false, zero, suc, map, option_map, slice_get, length, sym, ap, ◌∙◌, refl, subst, arith, add-one, take, true≢false, ◌-◌}
-use Rattle.std.proofs.lemmas.Option.{slice_get-map}
+use Rattle.std.proofs.Common.{ℕ, ◌≡◌, ◌<◌, ◌≤◌, ◌+◌, List, [], ◌∷◌, ◌++◌, Option, Some, None, true, false, zero, suc, map}
+use Rattle.std.proofs.Common.{slice_get, length, sym, ap, ◌∙◌, refl, subst, arith, add-one, take, true≢false, ◌-◌}
+use Rattle.std.proofs.lemmas.Option.{none-some, same_Some}
 use Rattle.std.proofs.lemmas.List.{append_assoc, append-nil, length-append}
 use Rattle.std.specs.Option.{SomeIff}
 use Rattle.std.specs.Str.Lines.{lines}
@@ -14,21 +15,49 @@ pub length-blocks_from : (notes : List (List ℕ)) (parts : List Part) → lengt
 length-blocks_from notes [] = refl
 length-blocks_from notes (part ∷ parts) = ap suc (length-blocks_from part.after parts)
 
-board-blocks_from : (notes : List (List ℕ)) (parts : List Part) (i : ℕ) → option_map (λ block. block.board) (slice_get (blocks_from notes parts) i) ≡ option_map (λ part. part.board) (slice_get parts i)
-board-blocks_from notes [] i = refl
-board-blocks_from notes (part ∷ parts) zero = refl
-board-blocks_from notes (part ∷ parts) (suc i) = board-blocks_from part.after parts i
+-- the notes before a board, of parts that are kept in another form
+abbrev pub before_of : {X : Type 0} → (X → Part) → List (List ℕ) → ℕ → List X → List (List ℕ)
+before_of part notes zero parts = notes
+before_of part notes (suc i) [] = []
+before_of part notes (suc i) (x ∷ parts) = before_of part (part x).after i parts
 
-board-part : {X : Type 0} (part : X → Part) (o : Option X) → option_map (λ p. p.board) (option_map part o) ≡ option_map (λ x. (part x).board) o
-board-part part None = refl
-board-part part (Some x) = refl
+pub before_of-suc : {X : Type 0} (part : X → Part) (notes : List (List ℕ)) (i : ℕ) (parts : List X) (x : X) → slice_get parts i ≡ Some x
+    → before_of part notes (suc i) parts ≡ (part x).after
+before_of-suc part notes i [] x there = absurd (none-some x there)
+before_of-suc part notes zero (y ∷ parts) x there = ap (λ z. (part z).after) (same_Some y x there)
+before_of-suc part notes (suc i) (y ∷ parts) x there = before_of-suc part (part y).after i parts x there
 
--- a board, counted from 1, of parts that are kept in another form
-pub board-block_at : {X : Type 0} (part : X → Part) (notes : List (List ℕ)) (parts : List X) (n i : ℕ) (o : Option X) → n ≡ i + 1 → slice_get parts i ≡ o
-    → option_map (λ block. block.board) (block_at (blocks_from notes (map part parts)) n) ≡ option_map (λ x. (part x).board) o
-board-block_at part notes parts n i o counted there =
-    ap (λ k. option_map (λ block. block.board) (block_at (blocks_from notes (map part parts)) k)) (counted ∙ add-one i)
-    ∙ board-blocks_from notes (map part parts) i ∙ ap (option_map (λ p. p.board)) (slice_get-map part parts i ∙ ap (option_map part) there) ∙ board-part part o
+block-blocks_from : {X : Type 0} (part : X → Part) (notes : List (List ℕ)) (i : ℕ) (parts : List X) (x : X) → slice_get parts i ≡ Some x
+    → slice_get (blocks_from notes (map part parts)) i ≡ Some (record { before = before_of part notes i parts; board = (part x).board; after = (part x).after })
+block-blocks_from part notes i [] x there = absurd (none-some x there)
+block-blocks_from part notes zero (y ∷ parts) x there =
+    ap (λ z. Some (record { before = notes; board = (part z).board; after = (part z).after })) (same_Some y x there)
+block-blocks_from part notes (suc i) (y ∷ parts) x there = block-blocks_from part (part y).after i parts x there
+
+none-blocks_from : {X : Type 0} (part : X → Part) (notes : List (List ℕ)) (i : ℕ) (parts : List X) → slice_get parts i ≡ None
+    → slice_get (blocks_from notes (map part parts)) i ≡ None
+none-blocks_from part notes i [] none = refl
+none-blocks_from part notes zero (y ∷ parts) none = absurd (none-some y (sym none))
+none-blocks_from part notes (suc i) (y ∷ parts) none = none-blocks_from part (part y).after i parts none
+
+-- a block, counted from 1
+pub block_at-some : {X : Type 0} (part : X → Part) (notes : List (List ℕ)) (parts : List X) (n i : ℕ) (x : X) → n ≡ i + 1 → slice_get parts i ≡ Some x
+    → block_at (blocks_from notes (map part parts)) n ≡ Some (record { before = before_of part notes i parts; board = (part x).board; after = (part x).after })
+block_at-some part notes parts n i x counted there =
+    ap (block_at (blocks_from notes (map part parts))) (counted ∙ add-one i) ∙ block-blocks_from part notes i parts x there
+
+pub block_at-none : {X : Type 0} (part : X → Part) (notes : List (List ℕ)) (parts : List X) (n i : ℕ) → n ≡ i + 1 → slice_get parts i ≡ None
+    → block_at (blocks_from notes (map part parts)) n ≡ None
+block_at-none part notes parts n i counted none =
+    ap (block_at (blocks_from notes (map part parts))) (counted ∙ add-one i) ∙ none-blocks_from part notes i parts none
+
+-- the notes before the first block, and before one that is not the first
+pub before-first : {X : Type 0} (part : X → Part) (notes : List (List ℕ)) (parts : List X) (i : ℕ) → i ≡ 0 → before_of part notes i parts ≡ notes
+before-first part notes parts i first = ap (λ k. before_of part notes k parts) first
+
+pub before-later : {X : Type 0} (part : X → Part) (notes : List (List ℕ)) (parts : List X) (i j : ℕ) (x : X) → i ≡ suc j → slice_get parts j ≡ Some x
+    → before_of part notes i parts ≡ (part x).after
+before-later part notes parts i j x later there = ap (λ k. before_of part notes k parts) later ∙ before_of-suc part notes j parts x there
 
 -- the notes before the first board
 pub parts_of-start : (text rest : List ℕ) (passed : Passes false text rest) → StartsWith true (lines rest)
@@ -52,11 +81,13 @@ has_bytes [] some = absurd (omega arith)
 has_bytes (byte ∷ text) some = omega arith
 
 -- a board and the notes after it are passed
-pub board_passed : (here behind : List ℕ) (board : Passes true here behind) → 0 < length here → StartsWith true (lines here) → StartsWith false (lines behind) → 0 < length (lines board.front)
+pub board_passed : (here behind : List ℕ) (board : Passes true here behind) → 0 < length here → StartsWith true (lines here)
+    → StartsWith false (lines behind) → 0 < length (lines board.front)
 board_passed here behind board some starts ends =
     some_of_kind (lines here) (lines board.front) (lines behind) (lines-Passes true here behind board) (has_lines here some) starts ends
 
-pub length-board_passed : (here behind next : List ℕ) (board : Passes true here behind) → Passes false behind next → 0 < length here → StartsWith true (lines here) → StartsWith false (lines behind)
+pub length-board_passed : (here behind next : List ℕ) (board : Passes true here behind) → Passes false behind next → 0 < length here
+    → StartsWith true (lines here) → StartsWith false (lines behind)
     → length next < length here
 length-board_passed here behind next board after some starts ends =
     let full = has_bytes board.front (board_passed here behind board some starts ends) in
@@ -72,7 +103,8 @@ boards-passed here behind next board after some starts ends on =
     (subst (StartsWith false) rest ends) on
 
 -- one more board is kept, by the slices of its lines and of the notes after it
-pub parts_of-more : (whole : Parts) (notes : List (List ℕ)) (done : List Part) (here behind next board after : List ℕ) (b : Passes true here behind) (a : Passes false behind next) → 0 < length here
+pub parts_of-more : (whole : Parts) (notes : List (List ℕ)) (done : List Part) (here behind next board after : List ℕ) (b : Passes true here behind)
+    (a : Passes false behind next) → 0 < length here
     → StartsWith true (lines here) → StartsWith false (lines behind) → StartsWith true (lines next)
     → board ≡ take (length here - length behind) here → after ≡ take (length behind - length next) behind
     → whole ≡ record { notes = notes; boards = done ++ (parts_of (lines here)).boards }
@@ -83,7 +115,8 @@ parts_of-more whole notes done here behind next board after b a some starts ends
     let boards = boards-passed here behind next b a some starts ends on
     ∙ (λ i. record { board = lines (sym same_board i); after = lines (sym same_after i) } ∷ (parts_of (lines next)).boards) in
     so_far ∙ ap (λ bs. record { notes = notes; boards = done ++ bs }) boards
-    ∙ ap (λ bs. record { notes = notes; boards = bs }) (sym (append_assoc done (record { board = lines board; after = lines after } ∷ []) (parts_of (lines next)).boards))
+    ∙ ap (λ bs. record { notes = notes; boards = bs })
+    (sym (append_assoc done (record { board = lines board; after = lines after } ∷ []) (parts_of (lines next)).boards))
 
 -- what `checked_sub` tells
 pub one_less : (o : Option ℕ) (n i : ℕ) → SomeIff o (1 ≤ n) (n - 1) → o ≡ Some i → n ≡ i + 1

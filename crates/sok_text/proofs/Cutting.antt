@@ -8,23 +8,33 @@ use Rattle.sok_text.specs.Lines.{AreOf, StartsWith}
 use Rattle.sok_text.specs.Collections.{Part, Parts, onto_board, parts_of, joined, AreRuns, IsCut}
 
 -- a first line that is a note
-parts_of-note : (line : List ℕ) (rest : List (List ℕ)) → is_board_line line ≡ false → parts_of (line ∷ rest) ≡ record { notes = line ∷ (parts_of rest).notes; boards = (parts_of rest).boards }
+parts_of-note : (line : List ℕ) (rest : List (List ℕ)) → is_board_line line ≡ false
+    → parts_of (line ∷ rest) ≡ record { notes = line ∷ (parts_of rest).notes; boards = (parts_of rest).boards }
 parts_of-note line rest note =
     let parts = parts_of rest in
-    ap (λ b. if b then record { notes = []; boards = onto_board line parts.notes parts.boards } else record { notes = line ∷ parts.notes; boards = parts.boards }) note
+    ap (λ b. if b then record { notes = []; boards = onto_board line parts.notes parts.boards } else record {
+      notes = line ∷ parts.notes;
+      boards = parts.boards;
+    }) note
 
 -- a first line that is of a board
-parts_of-line : (line : List ℕ) (rest : List (List ℕ)) → is_board_line line ≡ true → parts_of (line ∷ rest) ≡ record { notes = []; boards = onto_board line (parts_of rest).notes (parts_of rest).boards }
+parts_of-line : (line : List ℕ) (rest : List (List ℕ)) → is_board_line line ≡ true
+    → parts_of (line ∷ rest) ≡ record { notes = []; boards = onto_board line (parts_of rest).notes (parts_of rest).boards }
 parts_of-line line rest board =
     let parts = parts_of rest in
-    ap (λ b. if b then record { notes = []; boards = onto_board line parts.notes parts.boards } else record { notes = line ∷ parts.notes; boards = parts.boards }) board
+    ap (λ b. if b then record { notes = []; boards = onto_board line parts.notes parts.boards } else record {
+      notes = line ∷ parts.notes;
+      boards = parts.boards;
+    }) board
 
 -- notes at the front
-pub parts_of-notes : (notes rest : List (List ℕ)) → AreOf false notes → parts_of (notes ++ rest) ≡ record { notes = notes ++ (parts_of rest).notes; boards = (parts_of rest).boards }
+pub parts_of-notes : (notes rest : List (List ℕ)) → AreOf false notes
+    → parts_of (notes ++ rest) ≡ record { notes = notes ++ (parts_of rest).notes; boards = (parts_of rest).boards }
 parts_of-notes [] rest same = refl
 parts_of-notes (note ∷ notes) rest same =
     parts_of-note note (notes ++ rest) (All-head (λ line. is_board_line line ≡ false) note notes same)
-    ∙ ap (λ parts. record { notes = note ∷ parts.notes; boards = parts.boards }) (parts_of-notes notes rest (All-tail (λ line. is_board_line line ≡ false) note notes same))
+    ∙ ap (λ parts. record { notes = note ∷ parts.notes; boards = parts.boards })
+    (parts_of-notes notes rest (All-tail (λ line. is_board_line line ≡ false) note notes same))
 
 -- no notes stand before a board line
 pub notes-board : (ls : List (List ℕ)) → StartsWith true ls → (parts_of ls).notes ≡ []
@@ -41,9 +51,13 @@ onto_board-last line (note ∷ rest) starts =
 
 -- a board at the front
 pub parts_of-board : (line : List ℕ) (board rest : List (List ℕ)) → AreOf true (line ∷ board) → StartsWith false rest
-    → parts_of ((line ∷ board) ++ rest) ≡ record { notes = []; boards = record { board = line ∷ board; after = (parts_of rest).notes } ∷ (parts_of rest).boards }
+    → parts_of ((line ∷ board) ++ rest) ≡ record {
+      notes = [];
+      boards = record { board = line ∷ board; after = (parts_of rest).notes } ∷ (parts_of rest).boards;
+    }
 parts_of-board line [] rest same ends =
-    parts_of-line line rest (All-head (λ l. is_board_line l ≡ true) line [] same) ∙ ap (λ boards. record { notes = []; boards = boards }) (onto_board-last line rest ends)
+    parts_of-line line rest (All-head (λ l. is_board_line l ≡ true) line [] same)
+    ∙ ap (λ boards. record { notes = []; boards = boards }) (onto_board-last line rest ends)
 parts_of-board line (next ∷ board) rest same ends =
     parts_of-line line ((next ∷ board) ++ rest) (All-head (λ l. is_board_line l ≡ true) line (next ∷ board) same)
     ∙ ap (λ parts. record { notes = []; boards = onto_board line parts.notes parts.boards })
@@ -55,7 +69,8 @@ parts_of-front [] rest some same ends = absurd (omega arith)
 parts_of-front (line ∷ board) rest some same ends = parts_of-board line board rest same ends
 
 -- a board at the front and the notes after it, up to the next board
-pub boards-more : (board after rest : List (List ℕ)) → 0 < length board → AreOf true board → AreOf false after → StartsWith false (after ++ rest) → StartsWith true rest
+pub boards-more : (board after rest : List (List ℕ)) → 0 < length board → AreOf true board → AreOf false after → StartsWith false (after ++ rest)
+    → StartsWith true rest
     → (parts_of (board ++ (after ++ rest))).boards ≡ record { board = board; after = after } ∷ (parts_of rest).boards
 boards-more board after rest some lines notes ends starts =
     ap (λ parts. parts.boards) (parts_of-front board (after ++ rest) some lines ends)
@@ -64,7 +79,8 @@ boards-more board after rest some lines notes ends starts =
     ∙ ap (λ notes. record { board = board; after = notes } ∷ (parts_of rest).boards) (append-nil after)
 
 -- a note before a cut
-IsCut-note : (line : List ℕ) (ls : List (List ℕ)) (parts : Parts) → is_board_line line ≡ false → IsCut ls parts → IsCut (line ∷ ls) (record { notes = line ∷ parts.notes; boards = parts.boards })
+IsCut-note : (line : List ℕ) (ls : List (List ℕ)) (parts : Parts) → is_board_line line ≡ false → IsCut ls parts
+    → IsCut (line ∷ ls) (record { notes = line ∷ parts.notes; boards = parts.boards })
 IsCut-note line ls parts note cut = record {
   whole = ap (λ rest. line ∷ rest) cut.whole;
   notes = All-cons (λ l. is_board_line l ≡ false) line parts.notes note cut.notes;
@@ -105,7 +121,8 @@ IsCut-line line ls (note ∷ notes) boards board cut = record {
 pub IsCut-parts_of : (ls : List (List ℕ)) → IsCut ls (parts_of ls)
 IsCut-parts_of [] = record { whole = refl; notes = All-nil (λ l. is_board_line l ≡ false); runs = tt }
 IsCut-parts_of (line ∷ ls) = elim (cases_Bool (is_board_line line)) [
-  | inl board ↦ subst (IsCut (line ∷ ls)) (sym (parts_of-line line ls board)) (IsCut-line line ls (parts_of ls).notes (parts_of ls).boards board (IsCut-parts_of ls))
+  | inl board ↦ subst (IsCut (line ∷ ls)) (sym (parts_of-line line ls board))
+      (IsCut-line line ls (parts_of ls).notes (parts_of ls).boards board (IsCut-parts_of ls))
   | inr note ↦ subst (IsCut (line ∷ ls)) (sym (parts_of-note line ls note)) (IsCut-note line ls (parts_of ls) note (IsCut-parts_of ls))
 ]
 
@@ -120,7 +137,8 @@ parts_of-joined (part ∷ parts) runs =
     let run = runs.0 in
     parts_of-front part.board (part.after ++ joined parts) run.some run.lines (starts_after part.after parts run.notes run.apart)
     ∙ ap (λ rest. record { notes = []; boards = record { board = part.board; after = rest.notes } ∷ rest.boards })
-    (parts_of-notes part.after (joined parts) run.notes ∙ ap (λ rest. record { notes = part.after ++ rest.notes; boards = rest.boards }) (parts_of-joined parts runs.1))
+    (parts_of-notes part.after (joined parts) run.notes
+    ∙ ap (λ rest. record { notes = part.after ++ rest.notes; boards = rest.boards }) (parts_of-joined parts runs.1))
     ∙ ap (λ after. record { notes = []; boards = record { board = part.board; after = after } ∷ parts }) (append-nil part.after)
 
 -- there is no other cut into notes and runs

@@ -1,5 +1,6 @@
 -- Where a text of letters goes wrong.
-use Rattle.std.proofs.Common.{ℕ, ◌≡◌, ◌<◌, ◌≤◌, ◌+◌, List, ◌++◌, Some, None, false, length, take, drop, get_or, sym, ap, ◌∙◌, subst, refl, arith, map, filter, not, [], Bool, if◌then◌else◌, ◌∷◌, Option}
+use Rattle.std.proofs.Common.{ℕ, ◌≡◌, ◌<◌, ◌≤◌, ◌+◌, List, ◌++◌, Some, None, false, length, take, drop, get_or, sym, ap, ◌∙◌}
+use Rattle.std.proofs.Common.{subst, refl, arith, map, filter, not, [], Bool, if◌then◌else◌, ◌∷◌, Option}
 use Rattle.std.proofs.lemmas.List.{take-append-drop, drop_more, length-take-le, length-append, length-map, map-append}
 use Rattle.std.proofs.lemmas.List.Elements.{filter-append}
 use Rattle.sok_rules.specs.declared.cell.Dir.{Dir}
@@ -75,7 +76,8 @@ wrong_letter front u w (Some d) fault rest wrong few same =
 pub Spells-GoesWrong : (text : List ℕ) (w : List Dir) (fault : LurdFault) → Spells text w → GoesWrong text fault → ⊥
 Spells-GoesWrong text w fault spells goes =
     wrong_letter goes.front goes.w w (direction goes.byte) fault (map direction (filter is_full goes.rest)) goes.wrong spells.few
-    (sym (letters_at goes.front goes.rest goes.byte goes.w goes.spelled goes.full) ∙ ap (λ t. map direction (filter is_full t)) (sym goes.whole) ∙ spells.letters)
+    (sym (letters_at goes.front goes.rest goes.byte goes.w goes.spelled goes.full) ∙ ap (λ t. map direction (filter is_full t)) (sym goes.whole)
+    ∙ spells.letters)
 
 -- of two fronts of a text one goes on behind the other, or they are the same
 data Fronts (p q : List ℕ) (x y : ℕ) : Type 0 where
@@ -103,7 +105,9 @@ same_fault p q u v (Some d) f g same of_f of_g = of_f.1 ∙ sym of_g.1
 -- a text goes wrong in one way
 pub GoesWrong-one : (text : List ℕ) (f g : LurdFault) → GoesWrong text f → GoesWrong text g → f ≡ g
 GoesWrong-one text f g a b = elim (fronts a.front b.front a.rest b.rest a.byte b.byte (sym a.whole ∙ b.whole)) [
-  | longer more same ↦ absurd (Spells-GoesWrong b.front b.w f b.spelled (record { front = a.front; byte = a.byte; rest = more; whole = same; w = a.w; spelled = a.spelled; full = a.full; wrong = a.wrong }))
-  | shorter more same ↦ absurd (Spells-GoesWrong a.front a.w g a.spelled (record { front = b.front; byte = b.byte; rest = more; whole = same; w = b.w; spelled = b.spelled; full = b.full; wrong = b.wrong }))
+  | longer more same ↦ absurd (Spells-GoesWrong b.front b.w f b.spelled
+      (record { front = a.front; byte = a.byte; rest = more; whole = same; w = a.w; spelled = a.spelled; full = a.full; wrong = a.wrong }))
+  | shorter more same ↦ absurd (Spells-GoesWrong a.front a.w g a.spelled
+      (record { front = b.front; byte = b.byte; rest = more; whole = same; w = b.w; spelled = b.spelled; full = b.full; wrong = b.wrong }))
   | equal same at ↦ same_fault a.front b.front a.w b.w (direction b.byte) f g same (subst (λ c. IsWrong a.front a.w (direction c) f) at a.wrong) b.wrong
 ]

@@ -1,6 +1,8 @@
 -- A text and its lines: the first line, and a front of whole lines.
-use Rattle.std.proofs.Common.{ℕ, ◌≡◌, ◌<◌, ◌≤◌, ◌+◌, List, [], ◌∷◌, ◌++◌, Some, None, true, false, All, if◌then◌else◌, nat_lt, length, take, drop, position, sym, ap, ◌∙◌, refl, inl, inr, arith}
-use Rattle.std.proofs.lemmas.Bool.{cases_Bool, eqb-true, ne_eqb}
+use Rattle.std.proofs.Common.{ℕ, ◌≡◌, ◌<◌, ◌≤◌, ◌+◌, List, [], ◌∷◌, ◌++◌, Some, None, true, false, All, if◌then◌else◌, nat_lt}
+use Rattle.std.proofs.Common.{length, take, drop, position, sym, ap, ◌∙◌, refl, inl, inr, arith}
+use Rattle.std.proofs.lemmas.Bool.{cases_Bool, cases_lt, eqb-true, ne_eqb}
+use Rattle.std.proofs.Common.{◌-◌, ◌==◌, slice_index}
 use Rattle.std.proofs.lemmas.Bool.Decides.{nat_tests}
 use Rattle.std.proofs.lemmas.Option.{none-some}
 use Rattle.std.proofs.lemmas.List.{take-append-drop, take_more, drop_all, take_all, append_assoc, append-nil, length-drop, length-take, get_or-take}
@@ -11,7 +13,7 @@ use Rattle.std.specs.Str.Lines.{lines, lines_of_parts, strip_carriage_return}
 use Rattle.sok_text.specs.Lines.{is_newline, first_line, after_line, IsLineEnd}
 
 -- where the first line ends
-abbrev end_of : List ℕ → ℕ
+abbrev pub end_of : List ℕ → ℕ
 end_of text = position_or_len is_newline text
 
 has_end : (text : List ℕ) (end : ℕ) → position is_newline text ≡ Some end → (nat_lt (end_of text) (length text) ≡ true) × (end_of text ≡ end)
@@ -66,14 +68,15 @@ lines_of_parts-cons x [] some = absurd (omega arith)
 lines_of_parts-cons x (y ∷ more) some = refl
 
 -- lines after a line end
-lines-newline : (front more : List ℕ) → All (λ byte. is_newline byte ≡ false) front → lines (front ++ 10 ∷ more) ≡ strip_carriage_return front ∷ lines more
+pub lines-newline : (front more : List ℕ) → All (λ byte. is_newline byte ≡ false) front → lines (front ++ 10 ∷ more) ≡ strip_carriage_return front ∷ lines more
 lines-newline front more none =
     ap lines_of_parts (slice_split_at is_newline front 10 more none refl)
     ∙ lines_of_parts-cons front (slice_split is_newline more) (omega (arith, length-slice_split is_newline more))
 
 -- a text without a line end
 lines-last : (text : List ℕ) → 0 < length text → All (λ byte. is_newline byte ≡ false) text → lines text ≡ text ∷ []
-lines-last text some none = ap lines_of_parts (slice_split_none is_newline text none) ∙ ap (λ b. if b then [] else text ∷ []) (ne_eqb (length text) 0 (λ e. omega arith))
+lines-last text some none = ap lines_of_parts (slice_split_none is_newline text none)
+    ∙ ap (λ b. if b then [] else text ∷ []) (ne_eqb (length text) 0 (λ e. omega arith))
 
 none_before : (text : List ℕ) (n : ℕ) → n ≤ end_of text → All (λ byte. is_newline byte ≡ false) (take n text)
 none_before text n within k d inside =
@@ -95,7 +98,8 @@ head-newline text ended =
     take_more text (end_of text) 0 ended
     ∙ ap (λ byte. before_first is_newline text ++ byte ∷ []) (eqb-true _ 10 (passes_at_first is_newline text 0 ended))
 
-lines-head_of-append : (text more : List ℕ) → end_of text < length text → lines (head_of text ++ more) ≡ strip_carriage_return (before_first is_newline text) ∷ lines more
+lines-head_of-append : (text more : List ℕ) → end_of text < length text
+    → lines (head_of text ++ more) ≡ strip_carriage_return (before_first is_newline text) ∷ lines more
 lines-head_of-append text more ended =
     ap (λ head. lines (head ++ more)) (head-newline text ended) ∙ ap lines (append_assoc (before_first is_newline text) (10 ∷ []) more)
     ∙ lines-newline (before_first is_newline text) more (none_before text (end_of text) (omega arith))
@@ -137,3 +141,38 @@ IsLineEnd-head_of text some = elim (cases_Bool (nat_lt (end_of text) (length tex
   | inl found ↦ inr (λ more. lines-found text more found ∙ ap (λ ls. ls ++ lines more) (sym (lines-head_of text some)))
   | inr past ↦ inl (after_line-past text past)
 ]
+
+length-strip : (line : List ℕ) → length (strip_carriage_return line) ≤ length line
+length-strip line = elim (cases_Bool (slice_index line (length line - 1) == 13)) [
+  | inl return ↦ omega (arith, ap (λ b. length (if b then take (length line - 1) line else line)) return, length-take (length line - 1) line)
+  | inr plain ↦ omega (arith, ap (λ b. length (if b then take (length line - 1) line else line)) plain)
+]
+
+-- a first line that has its end is shorter than the text
+pub length-first_line-ended : (text : List ℕ) → end_of text < length text → length (first_line text) < length text
+length-first_line-ended text ended =
+    let found : nat_lt (end_of text) (length text) ≡ true = grind (arith, nat_tests) in
+    omega (arith, ap length (first_line-found text found), length-strip (before_first is_newline text), length-take (end_of text) text)
+
+-- and one that has none is all of it
+pub length-first_line-unended : (text : List ℕ) → length text ≤ end_of text → length (first_line text) ≡ length text
+length-first_line-unended text past =
+    let none : nat_lt (end_of text) (length text) ≡ false = grind (arith, nat_tests) in
+    ap length (first_line-past text none)
+
+-- nothing stands behind a line that has no end
+pub after_line-unended : (text : List ℕ) → length text ≤ length (first_line text) → after_line text ≡ []
+unfolding after_line
+after_line-unended text long = elim (cases_lt (end_of text) (length text)) [
+  | inl ended ↦ absurd (omega (arith, length-first_line-ended text ended))
+  | inr past ↦ drop_all (end_of text + 1) text (omega arith)
+]
+
+-- the first of the lines, and those behind it
+pub lines-cons : (text line : List ℕ) (ls : List (List ℕ)) → lines text ≡ line ∷ ls → (first_line text ≡ line) × (lines (after_line text) ≡ ls)
+lines-cons [] line ls same = absurd (omega (arith, ap length same))
+lines-cons (byte ∷ text) line ls same =
+    let cons : first_line (byte ∷ text) ∷ lines (after_line (byte ∷ text)) ≡ line ∷ ls = sym (lines-first (byte ∷ text) (omega arith)) ∙ same in
+    let first : first_line (byte ∷ text) ≡ line = cc in
+    let rest : lines (after_line (byte ∷ text)) ≡ ls = cc in
+    (first, rest)

@@ -1,5 +1,6 @@
 -- Passing over the lines of one kind.
-use Rattle.std.proofs.Common.{ℕ, ◌≡◌, ◌<◌, ◌≤◌, ◌+◌, ◌-◌, List, [], ◌∷◌, ◌++◌, Bool, true, false, not, length, take, sym, ap, ◌∙◌, refl, subst, inl, inr, arith, true≢false, ◌==◌}
+use Rattle.std.proofs.Common.{ℕ, ◌≡◌, ◌<◌, ◌≤◌, ◌+◌, ◌-◌, List, [], ◌∷◌, ◌++◌, Bool, true, false, not, length, take, sym, ap, ◌∙◌}
+use Rattle.std.proofs.Common.{refl, subst, inl, inr, arith, true≢false, ◌==◌}
 use Rattle.std.proofs.lemmas.List.{append_assoc, append-nil, take_at, length-append}
 use Rattle.std.proofs.lemmas.List.Elements.{All-push}
 use Rattle.std.proofs.Math.Bool.{beq}
@@ -20,20 +21,24 @@ cut_before : (front rest : List ℕ) → IsLineEnd front rest → 0 < length res
 cut_before front rest (inl done) some = absurd (omega (arith, ap length done))
 cut_before front rest (inr cut) some = cut
 
-IsLineEnd-append : (front head rest : List ℕ) → ((more : List ℕ) → lines (front ++ more) ≡ lines front ++ lines more) → IsLineEnd head rest → IsLineEnd (front ++ head) rest
+IsLineEnd-append : (front head rest : List ℕ) → ((more : List ℕ) → lines (front ++ more) ≡ lines front ++ lines more) → IsLineEnd head rest
+    → IsLineEnd (front ++ head) rest
 IsLineEnd-append front head rest before (inl done) = inl done
 IsLineEnd-append front head rest before (inr cut) =
     inr (λ more. ap lines (append_assoc front head more) ∙ before (head ++ more) ∙ ap (λ ls. lines front ++ ls) (cut more)
     ∙ sym (append_assoc (lines front) (lines head) (lines more)) ∙ ap (λ ls. ls ++ lines more) (sym (before head)))
 
 -- one more line is passed
-pub Passes-more : (kind : Bool) (from here : List ℕ) → Passes kind from here → 0 < length here → is_board_line (first_line here) ≡ kind → Passes kind from (after_line here)
+pub Passes-more : (kind : Bool) (from here : List ℕ) → Passes kind from here → 0 < length here → is_board_line (first_line here) ≡ kind
+    → Passes kind from (after_line here)
 Passes-more kind from here passed some same =
     let before = cut_before passed.front here passed.cut some in
-    let grown : lines (passed.front ++ head_of here) ≡ lines passed.front ++ first_line here ∷ [] = before (head_of here) ∙ ap (λ ls. lines passed.front ++ ls) (lines-head_of here some) in
+    let grown : lines (passed.front ++ head_of here) ≡ lines passed.front ++ first_line here ∷ [] = before (head_of here)
+    ∙ ap (λ ls. lines passed.front ++ ls) (lines-head_of here some) in
     record {
       front = passed.front ++ head_of here;
-      whole = passed.whole ∙ ap (λ rest. passed.front ++ rest) (head_of-append-after_line here) ∙ sym (append_assoc passed.front (head_of here) (after_line here));
+      whole = passed.whole ∙ ap (λ rest. passed.front ++ rest) (head_of-append-after_line here)
+          ∙ sym (append_assoc passed.front (head_of here) (after_line here));
       cut = IsLineEnd-append passed.front (head_of here) (after_line here) before (IsLineEnd-head_of here some);
       same = subst (AreOf kind) (sym grown) (All-push (λ line. is_board_line line ≡ kind) (lines passed.front) (first_line here) passed.same same);
     }

@@ -39,6 +39,10 @@ pub record Block : Type 0 where
   pub board : List (List ℕ)
   pub after : List (List ℕ)
 
+-- a block, by its texts
+abbrev pub block_of : List ℕ → List ℕ → List ℕ → Block
+block_of before board after = record { before = lines before; board = lines board; after = lines after }
+
 -- each board with the notes on both sides
 abbrev pub blocks_from : List (List ℕ) → List Part → List Block
 blocks_from before [] = []

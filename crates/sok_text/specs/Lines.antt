@@ -1,11 +1,12 @@
 -- Lines of one kind, and reading a text line by line.
-use Rattle.std.specs.Prelude.{ℕ, ◌≡◌, List, [], ◌∷◌, ◌++◌, ◌⊎◌, Bool, All, if◌then◌else◌, ◌==◌, length, nat_lt}
+use Rattle.std.specs.Prelude.{ℕ, ◌≡◌, List, [], ◌∷◌, ◌++◌, ◌⊎◌, Bool, All, if◌then◌else◌, ◌==◌, length, nat_lt, codes}
 use Rattle.std.specs.List.{position_or_len, before_first, after_first}
 use Rattle.std.specs.Str.Lines.{lines, strip_carriage_return}
+use Rattle.sok_text.specs.Characters.{code}
 use Rattle.sok_text.specs.Xsb.{is_board_line}
 
 abbrev pub is_newline : ℕ → Bool
-is_newline c = c == 10
+is_newline c = c == code (codes "\n")
 
 -- the first line of a text, without its end
 unfoldable pub first_line : List ℕ → List ℕ

@@ -1,32 +1,34 @@
 -- LURD, the notation of solutions (Sokoban Wiki, "Level format", "Solution").
-use Rattle.std.specs.Prelude.{ℕ, ◌≡◌, ◌≤◌, List, ◌∷◌, ◌++◌, Option, Some, None, Bool, false, if◌then◌else◌, ◌==◌, ◌||◌, length, map, filter, not}
+use Rattle.std.specs.Prelude.{ℕ, ◌≡◌, ◌≤◌, List, ◌∷◌, ◌++◌, Option, Some, None, Bool, false, if◌then◌else◌, ◌==◌, ◌||◌, length, map, filter, not, codes}
 use Rattle.sok_rules.specs.declared.cell.Dir.{Dir}
 use Rattle.sok_rules.specs.declared.cell.Dir.TheVariants.{Left, Up, Right, Down}
+use Rattle.sok_rules.specs.Limits.{letter_limit}
+use Rattle.sok_text.specs.Characters.{code}
 use Rattle.sok_text.specs.declared.lurd.LurdFault.{LurdFault}
 use Rattle.sok_text.specs.declared.lurd.LurdFault.TheVariants.{BadLetter, TooLong, Memory}
 
 -- space, tab, LF or CR
 abbrev pub is_blank : ℕ → Bool
-is_blank c = c == 32 || c == 9 || c == 10 || c == 13
+is_blank c = c == code (codes " ") || c == code (codes "\t") || c == code (codes "\n") || c == code (codes "\r")
 
 -- the letters L U R D, in either case
 abbrev pub direction : ℕ → Option Dir
 direction c =
-    if c == 76 || c == 108 then Some Left
-    else if c == 85 || c == 117 then Some Up
-    else if c == 82 || c == 114 then Some Right
-    else if c == 68 || c == 100 then Some Down
+    if c == code (codes "L") || c == code (codes "l") then Some Left
+    else if c == code (codes "U") || c == code (codes "u") then Some Up
+    else if c == code (codes "R") || c == code (codes "r") then Some Right
+    else if c == code (codes "D") || c == code (codes "d") then Some Down
     else None
 
 -- the bytes spell these letters, in either case and with blanks anywhere
 pub record Spells (bytes : List ℕ) (w : List Dir) : Type 0 where
   pub letters : map direction (filter (λ c. not (is_blank c)) bytes) ≡ map Some w
-  pub few : length w ≤ 1000000
+  pub few : length w ≤ letter_limit
 
 -- what is wrong with a byte that is no blank, after these letters
 abbrev pub IsWrong : List ℕ → List Dir → Option Dir → LurdFault → Type 0
 IsWrong front w None fault = fault ≡ BadLetter (length front)
-IsWrong front w (Some d) fault = (length w ≡ 1000000) × (fault ≡ TooLong)
+IsWrong front w (Some d) fault = (length w ≡ letter_limit) × (fault ≡ TooLong)
 
 -- a front of the bytes spells letters, and the byte after it is where the text goes wrong
 pub record GoesWrong (bytes : List ℕ) (fault : LurdFault) : Type 0 where

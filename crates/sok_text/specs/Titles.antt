@@ -2,19 +2,24 @@
 use Rattle.std.specs.Prelude.{ℕ, List, [], ◌∷◌, Option, Some, None, Bool, not, ◌||◌, if◌then◌else◌, ◌==◌, nat_eq, length, map, find, codes, drop, reverse}
 use Rattle.std.specs.List.{list_all, starts_with}
 use Rattle.std.specs.Option.{option_and_then}
+use Rattle.sok_text.specs.Characters.{code}
 use Rattle.sok_text.specs.Collections.{Block}
 
 abbrev pub is_space : ℕ → Bool
-is_space c = c == 32 || c == 9
+is_space c = c == code (codes " ") || c == code (codes "\t")
 
 -- without the spaces and tabs at its front
 abbrev pub trimmed_front : List ℕ → List ℕ
 trimmed_front [] = []
 trimmed_front (c ∷ text) = if is_space c then trimmed_front text else c ∷ text
 
+-- without those at its back
+abbrev pub trimmed_back : List ℕ → List ℕ
+trimmed_back text = reverse (trimmed_front (reverse text))
+
 -- without the spaces and tabs at both ends
 abbrev pub trimmed_text : List ℕ → List ℕ
-trimmed_text text = reverse (trimmed_front (reverse (trimmed_front text)))
+trimmed_text text = trimmed_back (trimmed_front text)
 
 -- an empty title is no title
 abbrev pub some_text : List ℕ → Option (List ℕ)

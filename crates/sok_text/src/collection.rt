@@ -1,14 +1,19 @@
 //! Collections: the levels of a text that has notes around them.
 
-ghost use Rattle.std.specs.Prelude.{◌≡◌, ◌⊎◌, ℕ, List, Err, IfOk, length, map, option_map};
+ghost use Rattle.std.specs.Prelude.{◌≡◌, ◌⊎◌, ◌↔◌, ℕ, List, None, Err, IfOk};
+ghost use Rattle.std.specs.Prelude.{length, map, option_map};
 ghost use Rattle.std.specs.List.{filter_map};
+ghost use Rattle.std.specs.Option.{option_and_then};
 ghost use Rattle.std.specs.Str.Lines.{lines};
 ghost use Rattle.sok_rules.specs.Levels.{cells_of, level_of};
 ghost use Rattle.sok_rules.specs.declared.fault.LevelFault.TheVariants as fault;
 ghost use Rattle.sok_text.specs.Xsb.{cell_of};
-ghost use Rattle.sok_text.specs.Collections.{blocks_of, block_at, level_at, Parts, IsCut, parts_of};
+ghost use Rattle.sok_text.specs.Collections.{blocks_of, block_at, block_of, level_at};
+ghost use Rattle.sok_text.specs.Collections.{Parts, IsCut, parts_of};
+ghost use Rattle.sok_text.specs.Titles.{title_of};
 
 use crate::line::{before, cut_line, pass, place_at};
+use crate::title::title_between;
 use crate::xsb::cell_of;
 use sok_rules::cell::Cell;
 use sok_rules::fault::{LevelFault, Memory};
@@ -31,6 +36,14 @@ struct Part<'a> {
     after: &'a [u8],
 }
 
+/// The texts of a block: the lines of a board, and the notes before it and after it.
+#[derive(Clone, Copy)]
+struct Texts<'a> {
+    before: &'a [u8],
+    board: &'a [u8],
+    after: &'a [u8],
+}
+
 impl<'a> Model for Collection<'a> {
     ghost use Rattle.std.specs.Prelude.{List, map};
     ghost use Rattle.std.specs.Str.Lines.{lines};
@@ -38,13 +51,15 @@ impl<'a> Model for Collection<'a> {
 
     ghost Value = { List Block };
 
-    ghost view = { λ c. blocks_from (lines c.notes.now) (map (λ part. record { board = lines part.board.now; after = lines part.after.now }) c.parts.items) };
+    ghost view = { λ c. blocks_from (lines c.notes.now) (map
+        (λ part. record { board = lines part.board.now; after = lines part.after.now })
+        c.parts.items) };
 }
 
 impl<'a> Collection<'a> {
-    /// Reads a text in one pass. A line that has only characters of XSB, and a wall among them, is a
-    /// board line, and a level is a run of such lines, as long as it can be. Every other line is a
-    /// note, and may hold any bytes. A line ends with LF, CR LF or the end of the text.
+    /// Reads a text in one pass. A line that has only characters of XSB, and a wall among them, is
+    /// a board line, and a level is a run of such lines, as long as it can be. Every other line is
+    /// a note, and may hold any bytes. A line ends with LF, CR LF or the end of the text.
     #[tactic(auto, unfolding(crate::specs::Collections::blocks_of))]
     pub fn read(alloc: Global, text: &'a [u8]) -> Result<Collection<'a>, Memory>
         ensures { IfOk result (λ collection. collection ≡ blocks_of text.now) }
@@ -75,7 +90,8 @@ impl<'a> Collection<'a> {
     /// `Level::new`. A faulty level leaves the others readable.
     #[tactic(auto, unfolding(crate::specs::Collections::level_at))]
     pub fn level(&self, alloc: Global, n: usize) -> Result<Level, LevelFault>
-        ensures { (result ≡ Err fault.Memory) ⊎ (result ≡ level_at self.now n) }
+        ensures level { (result ≡ Err fault.Memory) ⊎ (result ≡ level_at self.now n) }
+        ensures missing { (result ≡ Err fault.NoSuchLevel) ↔ (block_at self.now n ≡ None) }
     {
         match self.board(n) {
             Some(board) => Level::new(rows_of(alloc, board)?),
@@ -83,20 +99,50 @@ impl<'a> Collection<'a> {
         }
     }
 
+    /// The title of the n-th level, counted from 1, as a slice of the text: what stands behind the
+    /// first `Title:` after its board, or else behind the semicolon of the last note before its
+    /// board that is not blank. None where there is no title, and where there is no such level.
+    pub fn title(&self, n: usize) -> Option<&'a [u8]>
+        ensures { option_map (λ title. title.now) result
+            ≡ option_and_then title_of (block_at self.now n) }
+    {
+        let block = self.block(n)?;
+        title_between(block.before, block.after)
+    }
+
     /// The text of the n-th board.
     fn board(&self, n: usize) -> Option<&'a [u8]>
         ensures { option_map (λ board. lines board.now) result
             ≡ option_map (λ block. block.board) (block_at self.now n) }
     {
+        let block = self.block(n)?;
+        Some(block.board)
+    }
+
+    /// The texts of the n-th block.
+    fn block(&self, n: usize) -> Option<Texts<'a>>
+        ensures { option_map (λ texts. block_of texts.before.now texts.board.now texts.after.now)
+            result ≡ block_at self.now n }
+    {
         let part = self.parts.get(n.checked_sub(1)?)?;
-        Some(part.board)
+        let before = if n == 1 {
+            self.notes
+        } else {
+            self.parts[n - 2].after
+        };
+        Some(Texts {
+            before,
+            board: part.board,
+            after: part.after,
+        })
     }
 }
 
 /// The cells of each line of a board, up to the row that is one too many.
 fn rows_of(alloc: Global, board: &[u8]) -> Result<Vec<Vec<Cell>>, AllocError>
     ensures { IfOk result
-        (λ rows. level_of (cells_of rows.items) ≡ level_of (map (filter_map cell_of) (lines board.now))) }
+        (λ rows. level_of (cells_of rows.items)
+        ≡ level_of (map (filter_map cell_of) (lines board.now))) }
 {
     let mut rows = Vec::new(alloc);
     let mut rest = board;
@@ -112,7 +158,14 @@ fn rows_of(alloc: Global, board: &[u8]) -> Result<Vec<Vec<Cell>>, AllocError>
 fn row_of(alloc: Global, line: &[u8]) -> Result<Vec<Cell>, AllocError>
     ensures { IfOk result (λ row. row.items ≡ filter_map cell_of line.now) }
 {
-    line.iter().filter_map(|byte| cell_of(*byte)).collect(alloc)
+    let mut row = Vec::with_capacity(alloc, line.len())?;
+    for byte in line {
+        match cell_of(*byte) {
+            Some(cell) => row.push(cell)?,
+            None => {}
+        }
+    }
+    Ok(row)
 }
 
 /// Cutting lines into notes and boards loses none of them, takes board lines alone into boards, and
@@ -120,4 +173,10 @@ fn row_of(alloc: Global, line: &[u8]) -> Result<Vec<Cell>, AllocError>
 pub fn boards_are_maximal_runs()
     ensures cut { (ls : List (List ℕ)) → IsCut ls (parts_of ls) }
     ensures only { (ls : List (List ℕ)) (parts : Parts) → IsCut ls parts → parts ≡ parts_of ls }
+{}
+
+/// No level of a collection is refused for a row without a wall.
+pub fn levels_have_a_wall_in_each_row()
+    ensures { (text : List ℕ) (n row : ℕ)
+        → level_at (blocks_of text) n ≡ Err (fault.NoWall row) → ⊥ }
 {}

@@ -1,12 +1,17 @@
 //! LURD: the letters of a text (Sokoban Wiki, "Level format", "Solution").
 
-ghost use Rattle.std.specs.Prelude.{◌≡◌, ◌⊎◌, ℕ, List, MatchResult};
+ghost use Rattle.std.specs.Prelude.{◌≡◌, ◌⊎◌, ◌∷◌, ℕ, List, [], MatchResult};
 ghost use Rattle.sok_rules.specs.declared.cell.Dir.{Dir};
+ghost use Rattle.sok_rules.specs.Replay.{IsReplayFault};
 ghost use Rattle.sok_text.specs.Lurd.{is_blank, direction, Spells, GoesWrong, lurd_fault_number};
+ghost use Rattle.sok_text.specs.Marked.{marked_letter, IsMarkedText, MarkedTextsSpell};
 ghost use Rattle.sok_text.specs.declared.lurd.LurdFault.{LurdFault};
 ghost use Rattle.sok_text.specs.declared.lurd.LurdFault.TheVariants as lurd;
 
 use sok_rules::cell::Dir;
+use sok_rules::fault::PlayFault;
+use sok_rules::level::Level;
+use sok_rules::play::mark_pushes;
 use std::alloc::{AllocError, AllocFailed, Global};
 
 /// The most letters of a text.
@@ -94,9 +99,48 @@ fn direction(letter: u8) -> Option<Dir>
     }
 }
 
+/// The marked text of a list of letters, of any length, that is played from the start of a level:
+/// a letter for each direction, in upper case exactly where it pushes. Refused where a letter is
+/// not legal, with the place of the first such letter.
+pub fn print_lurd(alloc: Global, level: &Level, dirs: &[Dir]) -> Result<Vec<u8>, PlayFault>
+    ensures { MatchResult result
+        (λ text. IsMarkedText level.now dirs.now text.items) (IsReplayFault level.now dirs.now) }
+{
+    let marks = mark_pushes(alloc, level, dirs)?;
+    let mut text = Vec::with_capacity(alloc, dirs.len())?;
+    for (at, dir) in dirs.iter().enumerate() {
+        text.push(letter(*dir, marks[at]))?;
+    }
+    Ok(text)
+}
+
+/// The letter of a direction, in upper case where it pushes.
+fn letter(dir: Dir, pushes: bool) -> u8
+    ensures { result ∷ [] ≡ marked_letter dir pushes }
+{
+    match (dir, pushes) {
+        (Dir::Left, true) => b'L',
+        (Dir::Left, false) => b'l',
+        (Dir::Up, true) => b'U',
+        (Dir::Up, false) => b'u',
+        (Dir::Right, true) => b'R',
+        (Dir::Right, false) => b'r',
+        (Dir::Down, true) => b'D',
+        (Dir::Down, false) => b'd',
+    }
+}
+
+/// A marked text spells its letters, so that `read_lurd` gives them back, where they are no more
+/// than a text may have.
+pub fn marked_texts_spell_their_letters()
+    ensures { MarkedTextsSpell }
+{}
+
 /// A text spells one list of letters at most, or goes wrong in one way, and never both.
 pub fn texts_have_one_reading()
     ensures spelled { (text : List ℕ) (v w : List Dir) → Spells text v → Spells text w → v ≡ w }
-    ensures wrong { (text : List ℕ) (f g : LurdFault) → GoesWrong text f → GoesWrong text g → f ≡ g }
-    ensures apart { (text : List ℕ) (w : List Dir) (f : LurdFault) → Spells text w → GoesWrong text f → ⊥ }
+    ensures wrong { (text : List ℕ) (f g : LurdFault)
+        → GoesWrong text f → GoesWrong text g → f ≡ g }
+    ensures apart { (text : List ℕ) (w : List Dir) (f : LurdFault)
+        → Spells text w → GoesWrong text f → ⊥ }
 {}

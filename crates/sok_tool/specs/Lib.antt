@@ -1,5 +1,2 @@
-pub mod Checks
-pub mod Faults
-pub mod Inputs
-pub mod Plays
-pub mod Written
+-- Words of public contracts: how the program ends (Endings).
+pub mod Endings

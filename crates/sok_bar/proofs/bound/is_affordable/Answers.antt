@@ -7,8 +7,10 @@ returns-in-Some c =
     let price = c.from.ensures in
     let goal_price = c.from-in-Some.ensures in
     let pushes = c.from-in-Some-2.ensures in
-    let test : nat_le c.from.result (c.from-in-Some.result + c.from-in-Some-2.result) ≡ nat_le c.args.price (c.args.goal_price + c.in-Some.pushes) = λ i. nat_le (price i) (goal_price i + pushes i) in
-    let (there, back) = affordable_at c.args.tables.now.board c.args.square c.args.price c.args.goal c.args.goal_price c.in-Some.pushes c.in-Some.ensures.exact in
+    let test : nat_le c.from.result (c.from-in-Some.result + c.from-in-Some-2.result) ≡ nat_le c.args.price (c.args.goal_price + c.in-Some.pushes) =
+    λ i. nat_le (price i) (goal_price i + pushes i) in
+    let (there, back) = affordable_at c.args.tables.now.board c.args.square c.args.price c.args.goal c.args.goal_price c.in-Some.pushes
+    c.in-Some.ensures.exact in
     ((λ yes. there (sym test ∙ yes)), λ cheap. test ∙ back cheap)
 
 pub returns-in-None : goal.returns-in-None

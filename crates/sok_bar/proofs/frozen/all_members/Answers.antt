@@ -5,7 +5,8 @@ use Rattle.sok_bar.proofs.Removal.{range-more, AreAllMembers-range}
 use Rattle.sok_bar.proofs.frozen.all_members.Goals as goal
 
 pub loop-index-preserved : goal.loop-index-preserved
-loop-index-preserved c = c.in_ok-push.ensures.items ∙ ap (λ members. members ++ c.loop-index.index ∷ []) c.loop-index.invariant ∙ sym (range-more c.loop-index.index)
+loop-index-preserved c = c.in_ok-push.ensures.items ∙ ap (λ members. members ++ c.loop-index.index ∷ []) c.loop-index.invariant ∙ sym
+    (range-more c.loop-index.index)
 
 pub returns : goal.returns
 returns c =

@@ -1,9 +1,9 @@
 use Rattle.std.proofs.Common.{vec_len}
-use Rattle.sok_bar.proofs.Removal.{IsShrinking}
+use Rattle.sok_bar.specs.Settings.{HasJams}
 use Rattle.sok_bar.proofs.frozen.held_members.Given as goal
 
-abbrev pub invariant-loop-loose : goal.invariant-loop-loose
-invariant-loop-loose l = IsShrinking l.board l.boxes l.members.items
+abbrev pub invariant-passes : goal.invariant-passes
+invariant-passes l = HasJams l.board l.boxes l.members.items
 
-abbrev pub decreases-loop-loose : goal.decreases-loop-loose
-decreases-loop-loose l = vec_len l.members
+abbrev pub decreases-passes : goal.decreases-passes
+decreases-passes l = vec_len l.members

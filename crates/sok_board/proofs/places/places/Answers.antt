@@ -2,7 +2,7 @@ use Rattle.std.proofs.Common.{◌≤◌, ◌<◌, ◌+◌, ◌++◌, ap, sym, �
 use Rattle.std.proofs.lemmas.List.{length-map, append-nil, drop_all}
 use Rattle.sok_rules.specs.Levels.{cells_of}
 use Rattle.sok_rules.specs.Squares.{places_from, places_in_row}
-use Rattle.sok_board.proofs.ReadingOrder.{places_from-nil, places_from-drop, places_from_none, cells_of-row}
+use Rattle.sok_rules.proofs.ReadingOrder.{places_from-nil, places_from-drop, places_from_none, cells_of-row}
 use Rattle.sok_board.proofs.places.places.Goals as goal
 
 pub loop-row-init : goal.loop-row-init
@@ -25,12 +25,14 @@ loop-row-preserved c =
     let rest = places_from (r + 1) (drop (r + 1) (cells_of rows)) in
     ap (λ front. front ++ rest) (c.in_ok-spots.ensures ∙ ap (λ cells. c.loop-row.spots.items ++ places_in_row r 0 cells) c.deref.ensures.value)
     ∙ append_assoc c.loop-row.spots.items (places_in_row r 0 row) rest
-    ∙ ap (λ after. c.loop-row.spots.items ++ after) (sym (places_from-drop (cells_of rows) r row within (cells_of-row rows r c.index-rows-row.result c.index-rows-row.is)))
+    ∙ ap (λ after. c.loop-row.spots.items ++ after) (sym (places_from-drop (cells_of rows) r row within
+    (cells_of-row rows r c.index-rows-row.result c.index-rows-row.is)))
     ∙ c.loop-row.invariant
 
 pub returns : goal.returns
 returns c =
     let rows = c.args.rows.now in
     let past : length (cells_of rows) ≤ c.loop-row.row = omega (arith, length-map rows (λ row. row.items)) in
-    sym (append-nil c.loop-row.spots.items) ∙ ap (λ rest. c.loop-row.spots.items ++ rest) (sym (ap (places_from c.loop-row.row) (drop_all c.loop-row.row (cells_of rows) past) ∙ places_from-nil c.loop-row.row))
+    sym (append-nil c.loop-row.spots.items) ∙ ap (λ rest. c.loop-row.spots.items ++ rest)
+    (sym (ap (places_from c.loop-row.row) (drop_all c.loop-row.row (cells_of rows) past) ∙ places_from-nil c.loop-row.row))
     ∙ c.loop-row.invariant

@@ -1,7 +1,7 @@
 use Rattle.std.proofs.Common.{◌++◌, ◌∷◌, [], ap, sym, ◌∙◌, arith, append_assoc, take}
 use Rattle.sok_rules.specs.declared.cell.Spot.{Spot}
 use Rattle.sok_rules.specs.Squares.{places_in_row}
-use Rattle.sok_board.proofs.ReadingOrder.{take_more-places_in_row, take_all-places_in_row}
+use Rattle.sok_rules.proofs.ReadingOrder.{take_more-places_in_row, take_all-places_in_row}
 use Rattle.sok_board.proofs.places.with_row.Goals as goal
 
 pub loop-col-preserved : goal.loop-col-preserved

@@ -20,11 +20,13 @@ returns-then-has_gap c =
     let i = c.loop-spot.spot-index in
     let s : Spot = get_or squares i origin in
     let inside : i < length squares = omega arith in
-    first_leak-some c.args.level.now squares i s c.requires.area inside (get_or_default squares i s origin inside) c.loop-spot.invariant (sym c.if-has_gap.ensures)
+    first_leak-some c.args.level.now squares i s c.requires.area inside (get_or_default squares i s origin inside) c.loop-spot.invariant
+    (sym c.if-has_gap.ensures)
 
 pub loop-spot-preserved : goal.loop-spot-preserved
 loop-spot-preserved c =
-    All-more (λ s. has_gap c.args.level.now s ≡ false) c.args.squares.now c.loop-spot.spot-index origin (omega arith) c.loop-spot.invariant (sym c.if-has_gap.ensures)
+    All-more (λ s. has_gap c.args.level.now s ≡ false) c.args.squares.now c.loop-spot.spot-index origin (omega arith) c.loop-spot.invariant
+    (sym c.if-has_gap.ensures)
 
 pub returns : goal.returns
 returns c = first_leak-none c.args.level.now c.args.squares.now c.loop-spot.spot-index c.requires.area (omega arith) c.loop-spot.invariant

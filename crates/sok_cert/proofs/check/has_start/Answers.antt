@@ -19,7 +19,8 @@ of-requires-2 c =
       rising = told.rising;
       boxes_exist = told.boxes_exist;
       player_exists = told.player_exists;
-      free = not_listed b c.start-player.result.1.now player (subst (IsStanding b.rows) (sym told.position) (IsStanding-start b.rows c.level-level.ensures.proper));
+      free = not_listed b c.start-player.result.1.now player
+          (subst (IsStanding b.rows) (sym told.position) (IsStanding-start b.rows c.start-player.ensures.accepted.proper));
     })
 
 pub depth-requires : goal.depth-requires
@@ -28,17 +29,24 @@ depth-requires c = at-within c.args.table.now c.in_ok-start.start c.in-Some.inde
 pub returns-in-Some : goal.returns-in-Some
 returns-in-Some c = λ entries looking.
     let b = c.args.board.now in
-    let level = c.level-level.ensures in
-    let standing = IsStanding-start b.rows level.proper in
-    let key : IsKeyOf b (start b.rows) c.in_ok-start.start = subst (λ x. IsKeyOf b x c.in_ok-start.start) (ap (position_of b c.start-player.result.0) c.in_ok-boxes.ensures.list ∙ c.start-player.ensures.position) c.in_ok-start.ensures.key in (
-      λ zero_deep. one-starts b entries c.args.table.now looking standing c.in_ok-start.start key c.in-Some.index c.depth.result c.in-Some.ensures c.depth.ensures (grind (arith, nat_tests, zero_deep)),
-      λ starter. let zero_deep = starts-at-zero b entries c.args.table.now looking standing c.in_ok-start.start key c.in-Some.index c.depth.result c.in-Some.ensures c.depth.ensures starter in grind (arith, nat_tests, zero_deep),
+    let standing = IsStanding-start b.rows c.start-player.ensures.accepted.proper in
+    let key : IsKeyOf b (start b.rows) c.in_ok-start.start =
+    subst (λ x. IsKeyOf b x c.in_ok-start.start) (ap (position_of b c.start-player.result.0) c.in_ok-boxes.ensures.list ∙ c.start-player.ensures.position)
+    c.in_ok-start.ensures.key in (
+      λ zero_deep. one-starts b entries c.args.table.now looking standing c.in_ok-start.start key c.in-Some.index c.depth.result c.in-Some.ensures
+          c.depth.ensures (grind (arith, nat_tests, zero_deep)),
+      λ starter. let zero_deep = starts-at-zero b entries c.args.table.now looking standing c.in_ok-start.start key c.in-Some.index c.depth.result
+          c.in-Some.ensures c.depth.ensures starter in grind (arith, nat_tests, zero_deep),
     )
 
 pub returns : goal.returns
 returns c = λ entries looking.
     let b = c.args.board.now in
-    let level = c.level-level.ensures in
-    let standing = IsStanding-start b.rows level.proper in
-    let key : IsKeyOf b (start b.rows) c.in_ok-start.start = subst (λ x. IsKeyOf b x c.in_ok-start.start) (ap (position_of b c.start-player.result.0) c.in_ok-boxes.ensures.list ∙ c.start-player.ensures.position) c.in_ok-start.ensures.key in
-    (λ none. absurd (true≢false (sym none)), λ (e, starter). absurd (none-starts b entries c.args.table.now looking standing c.in_ok-start.start key c.in-None.ensures e starter))
+    let standing = IsStanding-start b.rows c.start-player.ensures.accepted.proper in
+    let key : IsKeyOf b (start b.rows) c.in_ok-start.start =
+    subst (λ x. IsKeyOf b x c.in_ok-start.start) (ap (position_of b c.start-player.result.0) c.in_ok-boxes.ensures.list ∙ c.start-player.ensures.position)
+    c.in_ok-start.ensures.key in (
+      λ none. absurd (true≢false (sym none)),
+      λ (e, starter). absurd
+          (none-starts b entries c.args.table.now looking standing c.in_ok-start.start key c.in-None.ensures e starter),
+    )

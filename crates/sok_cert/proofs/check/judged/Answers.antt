@@ -8,15 +8,17 @@ use Rattle.sok_cert.proofs.check.judged.Goals as goal
 pub returns-in_err-table-clause-refused : goal.returns-in_err-table-clause-refused
 returns-in_err-table-clause-refused c =
     let p = err_from_is_err_and c.from_residual-in_err-table.result c.from_residual-in_err-table.ensures.1 in
-    rw (p.1, p.2) (subst (λ es. IsRefused c.args.board.now c.args.claim es c.in_err-table.field-0.0) c.as_slice-entries.ensures.value c.in_err-table.ensures.refused)
+    rw (p.1, p.2) (subst (λ es. IsRefused c.args.board.now c.args.claim es c.in_err-table.field-0.0) c.as_slice-entries.ensures.value
+    c.in_err-table.ensures.refused)
 
 pub returns-in_err-check_list-clause-refused : goal.returns-in_err-check_list-clause-refused
 returns-in_err-check_list-clause-refused c =
     let p = err_from_is_err_and c.from_residual-in_err-check_list.result c.from_residual-in_err-check_list.ensures.1 in
-    rw (p.1, p.2) (subst (λ es. IsRefused c.args.board.now c.args.claim es c.in_err-check_list.field-0.0) c.as_slice-entries.ensures.value c.in_err-check_list.ensures.refused)
+    rw (p.1, p.2) (subst (λ es. IsRefused c.args.board.now c.args.claim es c.in_err-check_list.field-0.0) c.as_slice-entries.ensures.value
+    c.in_err-check_list.ensures.refused)
 
 pub new-requires-2 : goal.new-requires-2
 new-requires-2 c =
     let level = c.level-level.ensures in
     subst (λ rows. IsTrueOf rows c.args.claim) (sym (c.in_ok-copy.ensures.same ∙ level.level))
-    (ShowsClaims-accepted c.args.board.now level.accepted level.proper c.args.claim c.as_slice-entries.result.now c.in_ok-check_list.ensures.closed)
+    (ShowsClaims-accepted c.args.board.now level.accepted c.args.claim c.as_slice-entries.result.now c.in_ok-check_list.ensures.closed)

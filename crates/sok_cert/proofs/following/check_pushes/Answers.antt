@@ -12,7 +12,12 @@ pub open_push-requires-clause-key : goal.open_push-requires-clause-key
 open_push-requires-clause-key c =
     let b = c.args.board.now in
     let entries = c.args.entries.now in
-    let looking : IsLooking b entries c.args.table.now = record { area = c.requires.area; proper = c.requires.proper; positions = c.requires.positions; entered = c.requires.table } in
+    let looking : IsLooking b entries c.args.table.now = record {
+      accepted = c.requires.accepted;
+      positions = c.requires.positions;
+      entered =
+          c.requires.table;
+    } in
     let e = c.index-entries-index.result in
     let i = c.loop-index.index in
     let there : slice_get entries i ≡ Some e = slice_get-get_or entries i e c.loop-index-test.true ∙ ap Some (sym c.index-entries-index.is) in
@@ -27,7 +32,12 @@ pub returns-in-Some-clause-refused : goal.returns-in-Some-clause-refused
 returns-in-Some-clause-refused c =
     let b = c.args.board.now in
     let entries = c.args.entries.now in
-    let looking : IsLooking b entries c.args.table.now = record { area = c.requires.area; proper = c.requires.proper; positions = c.requires.positions; entered = c.requires.table } in
+    let looking : IsLooking b entries c.args.table.now = record {
+      accepted = c.requires.accepted;
+      positions = c.requires.positions;
+      entered =
+          c.requires.table;
+    } in
     let e = c.index-entries-index.result in
     let i = c.loop-index.index in
     let there : slice_get entries i ≡ Some e = slice_get-get_or entries i e c.loop-index-test.true ∙ ap Some (sym c.index-entries-index.is) in
@@ -38,14 +48,20 @@ pub loop-index-preserved : goal.loop-index-preserved
 loop-index-preserved c = λ i f below f_there.
     let b = c.args.board.now in
     let entries = c.args.entries.now in
-    let looking : IsLooking b entries c.args.table.now = record { area = c.requires.area; proper = c.requires.proper; positions = c.requires.positions; entered = c.requires.table } in
+    let looking : IsLooking b entries c.args.table.now = record {
+      accepted = c.requires.accepted;
+      positions = c.requires.positions;
+      entered =
+          c.requires.table;
+    } in
     let e = c.index-entries-index.result in
     let n = c.loop-index.index in
     let there : slice_get entries n ≡ Some e = slice_get-get_or entries n e c.loop-index-test.true ∙ ap Some (sym c.index-entries-index.is) in
     elim (cases_eq i n) [
       | inl last ↦
           let is : e ≡ f = same_Some e f (sym there ∙ ap (slice_get entries) (sym last) ∙ f_there) in
-          let followed = IsFollowed-found b entries c.args.table.now looking e (Contains-at entries e n there) c.in_ok-key.key (key-at b entries c.args.table.now looking n e c.in_ok-key.key there c.in_ok-key.ensures)
+          let followed = IsFollowed-found b entries c.args.table.now looking e (Contains-at entries e n there) c.in_ok-key.key
+          (key-at b entries c.args.table.now looking n e c.in_ok-key.key there c.in_ok-key.ensures)
           (subst (TellsOpen b c.args.table.now c.in_ok-key.key e.depth) c.in_default.is c.in_ok-push.ensures) in
           subst (IsClosedAt b entries) is (λ _. followed)
       | inr other ↦ c.loop-index.invariant i f (omega (arith, below, other)) f_there

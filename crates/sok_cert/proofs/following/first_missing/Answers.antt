@@ -26,7 +26,8 @@ loop-place-preserved c = λ i push below there.
     let here = get_or c.args.pushes.now at no_push in
     elim (cases_eq i at) [
       | inl same ↦
-          let is : here ≡ push = same_Some here push (sym (slice_get-get_or c.args.pushes.now at no_push c.loop-place-test.true) ∙ ap (slice_get c.args.pushes.now) (sym same) ∙ there) in
+          let is : here ≡ push = same_Some here push (sym (slice_get-get_or c.args.pushes.now at no_push c.loop-place-test.true) ∙ ap
+          (slice_get c.args.pushes.now) (sym same) ∙ there) in
           subst (IsFound c.args.board.now c.args.table.now c.args.key.now c.args.depth) is
           (subst (TellsFound c.args.board.now c.args.table.now c.args.key.now c.args.depth here) c.if-not-branch.false c.in_ok-is_found.ensures)
       | inr other ↦ c.loop-place.invariant i push (omega (arith, below, other)) there

@@ -1,18 +1,21 @@
 use Rattle.std.proofs.Common.{ℕ, List, MatchBool, true≢false, sym, ◌∙◌, subst}
 use Rattle.sok_rules.specs.Play.{AllOnGoals}
 use Rattle.sok_board.specs.Area.{position_of}
-use Rattle.sok_cert.specs.Closed.{Bars, place_of, rest_of}
+use Rattle.sok_cert.specs.Closed.{IsBarredBy, entry_position}
 use Rattle.sok_cert.proofs.judging.judge.Goals as goal
 
 pub returns-then-is_solved : goal.returns-then-is_solved
 returns-then-is_solved c = (
   sym c.is_expanded.ensures ∙ c.if-is_expanded.true,
-  subst (λ (bs : List ℕ). AllOnGoals c.args.board.now.rows (position_of c.args.board.now c.args.entry.now.player bs)) c.requires.boxes ((c.is_solved.ensures c.args.entry.now.player).0 c.if-is_solved.true),
+  subst (λ (bs : List ℕ). AllOnGoals c.args.board.now.rows (position_of c.args.board.now c.args.entry.now.player bs)) c.requires.boxes
+      ((c.is_solved.ensures c.args.entry.now.player).0 c.if-is_solved.true),
 )
 
 pub returns-then-is_expanded : goal.returns-then-is_expanded
 returns-then-is_expanded c =
     let b = c.args.board.now in
     let e = c.args.entry.now in
-    subst (λ p. MatchBool p (AllOnGoals b.rows (place_of b e) → ⊥) (Bars b e.boxes e.reason (rest_of c.args.claim e.depth))) (sym (sym c.is_expanded.ensures ∙ c.if-is_expanded.true))
-    (λ solved. true≢false (sym ((c.is_solved.ensures e.player).1 (subst (λ (bs : List ℕ). AllOnGoals b.rows (position_of b e.player bs)) (sym c.requires.boxes) solved)) ∙ c.if-is_solved.false))
+    subst (λ p. MatchBool p (AllOnGoals b.rows (entry_position b e) → ⊥) (IsBarredBy b c.args.claim e))
+    (sym (sym c.is_expanded.ensures ∙ c.if-is_expanded.true))
+    (λ solved. true≢false (sym ((c.is_solved.ensures e.player).1
+    (subst (λ (bs : List ℕ). AllOnGoals b.rows (position_of b e.player bs)) (sym c.requires.boxes) solved)) ∙ c.if-is_solved.false))

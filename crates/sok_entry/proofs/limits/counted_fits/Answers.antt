@@ -8,4 +8,5 @@ pub returns-then-is_short : goal.returns-then-is_short
 returns-then-is_short c =
     let numbers = c.args.numbers.now in
     let short : IsSmall (length numbers) = c.is_short.ensures.0 c.if-is_short.true in
-    second_decides c.are_small.result c.are_small.ensures (λ h. All-cons IsSmall (length numbers) numbers short h) (λ h. All-tail IsSmall (length numbers) numbers h)
+    second_decides c.are_small.result c.are_small.ensures (λ h. All-cons IsSmall (length numbers) numbers short h)
+    (λ h. All-tail IsSmall (length numbers) numbers h)

@@ -11,4 +11,5 @@ returns-then-position_fits c =
     second_decides c.reason_fits.result tells (λ h. FitsEntry-from_parts e position h) (λ h. (FitsEntry-parts e h).1)
 
 pub returns-else-position_fits : goal.returns-else-position_fits
-returns-else-position_fits c = first_decides c.position_fits.result c.if-position_fits.false c.position_fits.ensures (λ h. (FitsEntry-parts c.args.entry.now h).0)
+returns-else-position_fits c = first_decides c.position_fits.result c.if-position_fits.false c.position_fits.ensures
+    (λ h. (FitsEntry-parts c.args.entry.now h).0)

@@ -16,4 +16,5 @@ returns-then-are_small c =
 pub returns-else-are_small : goal.returns-else-are_small
 returns-else-are_small c =
     let e = c.args.entry.now in
-    first_decides c.are_small.result c.if-are_small.false c.are_small.ensures (λ h. (All-parts IsSmall (e.depth ∷ e.player ∷ []) (length e.boxes ∷ e.boxes) h).0)
+    first_decides c.are_small.result c.if-are_small.false c.are_small.ensures
+    (λ h. (All-parts IsSmall (e.depth ∷ e.player ∷ []) (length e.boxes ∷ e.boxes) h).0)

@@ -15,7 +15,14 @@ pub returns-then-number-gt-LIMIT : goal.returns-then-number-gt-LIMIT
 returns-then-number-gt-LIMIT c =
     let word = c.args.word.now in
     let i = c.loop-byte.byte-index in
-    λ x h. omega (arith, h.0, h.2, digits_value_more 10 word i (omega arith), digit_value_digit (get_or word i 0) c.if-not-is_ascii_digit.ensures.cases, digits_value-take-le 10 word (i + 1) (omega arith))
+    λ x h. omega (
+      arith,
+      h.0,
+      h.2,
+      digits_value_more 10 word i (omega arith),
+      digit_value_digit (get_or word i 0) c.if-not-is_ascii_digit.ensures.cases,
+      digits_value-take-le 10 word (i + 1) (omega arith),
+    )
 
 pub loop-byte-preserved : goal.loop-byte-preserved
 loop-byte-preserved c =

@@ -5,7 +5,8 @@ use Rattle.sok_entry.proofs.Claims.{IsClaimLine-unsolvable, no_claim}
 use Rattle.sok_entry.proofs.reading.claim_of_line.Goals as goal
 
 pub returns-then-eq : goal.returns-then-eq
-returns-then-eq c = IsClaimLine-unsolvable c.args.line.now ((slice_eq-Decides Decides-eqb c.args.line.now (codes "unsolvable") c.eq.result c.eq.ensures).0 c.if-eq.true)
+returns-then-eq c = IsClaimLine-unsolvable c.args.line.now
+    ((slice_eq-Decides Decides-eqb c.args.line.now (codes "unsolvable") c.eq.result c.eq.ensures).0 c.if-eq.true)
 
 pub returns-in-None : goal.returns-in-None
 returns-in-None c =

@@ -25,7 +25,8 @@ loop-rest-preserved c =
     let rest = c.loop-rest.rest.now in
     let some = not_empty rest (sym c.is_empty.ensures ∙ c.loop-rest-test.true) in
     let is = rw (c.in-Some.is, c.cut_line.ensures.line) at c.in_ok-entry.ensures in
-    rw (c.in_ok-push.ensures.items, c.cut_line.ensures.rest) (Reached-more c.args.text.now c.loop-rest.entries.items rest c.in-Some.entry c.loop-rest.invariant some is)
+    rw (c.in_ok-push.ensures.items, c.cut_line.ensures.rest)
+    (Reached-more c.args.text.now c.loop-rest.entries.items rest c.in-Some.entry c.loop-rest.invariant some is)
 
 pub returns-then-is_empty : goal.returns-then-is_empty
 unfolding last_line
@@ -33,8 +34,12 @@ returns-then-is_empty c =
     let rest = c.loop-rest.rest.now in
     let some = not_empty rest (sym c.is_empty.ensures ∙ c.loop-rest-test.true) in
     let last = (slice_eq-Decides Decides-eqb c.cut_line.result.0.now (codes "end") c.eq.result c.eq.ensures).0 c.if-eq.true in
-    let none : length (after_line rest) == 0 ≡ true = ap (λ after. length after == 0) (sym c.cut_line.ensures.rest) ∙ sym c.is_empty-then-eq.ensures ∙ c.if-is_empty.true in
-    (c.loop-rest.invariant.fit, lines-Reached c.args.text.now c.loop-rest.entries.items rest c.loop-rest.invariant some (sym c.cut_line.ensures.line ∙ last) none)
+    let none : length (after_line rest) == 0 ≡ true = ap (λ after. length after ==
+    0) (sym c.cut_line.ensures.rest) ∙ sym c.is_empty-then-eq.ensures ∙ c.if-is_empty.true in (
+      c.loop-rest.invariant.fit,
+      lines-Reached c.args.text.now c.loop-rest.entries.items rest c.loop-rest.invariant some (sym c.cut_line.ensures.line ∙ last)
+          none,
+    )
 
 pub returns-then-eq : goal.returns-then-eq
 unfolding last_line
@@ -47,7 +52,8 @@ returns-then-eq c =
     let filled = not_empty c.cut_line.result.1.now (sym c.is_empty-then-eq.ensures ∙ c.if-is_empty.false) in
     let more : 0 < length (after_line rest) = omega (arith, ap length c.cut_line.ensures.rest) in
     let count : length entries ≡ c.len.result = search rules in
-    inr (subst (λ n. StopsAt (ended_lines text) (lines text) (Line (4 + n))) count (StopsAt-behind text entries rest c.loop-rest.invariant some (sym c.cut_line.ensures.line ∙ last) more))
+    inr (subst (λ n. StopsAt (ended_lines text) (lines text) (Line (4 + n))) count
+    (StopsAt-behind text entries rest c.loop-rest.invariant some (sym c.cut_line.ensures.line ∙ last) more))
 
 pub returns-then-not-has_end : goal.returns-then-not-has_end
 unfolding last_line

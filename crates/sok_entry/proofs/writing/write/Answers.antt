@@ -21,7 +21,8 @@ written c =
     let front = ended header ++ ended (claim_line claim) in
     let whole : length entries ≤ c.loop-entry.entry-index = omega arith in
     ap (λ bytes. bytes.items) c.into_bytes.ensures.value ∙ c.in_ok-push_str.ensures.bytes
-    ∙ ap (λ text. text ++ ended last_line) (c.loop-entry.invariant ∙ ap (λ es. front ++ flat_map ended (map entry_line es)) (take_all c.loop-entry.entry-index entries whole))
+    ∙ ap (λ text. text ++ ended last_line) (c.loop-entry.invariant ∙ ap (λ es. front ++ flat_map ended (map entry_line es))
+    (take_all c.loop-entry.entry-index entries whole))
     ∙ sym (text_of-parts claim entries)
 
 pub returns-clause-exact : goal.returns-clause-exact

@@ -4,4 +4,5 @@ use Rattle.sok_entry.specs.Text.{header, claim_line, entry_line, ended}
 use Rattle.sok_entry.proofs.writing.write.Given as goal
 
 abbrev pub invariant-loop-entry : goal.invariant-loop-entry
-invariant-loop-entry l = string_bytes l.text ≡ (ended header ++ ended (claim_line l.claim)) ++ flat_map ended (map entry_line (take l.entry-index l.cert.entries.items))
+invariant-loop-entry l = string_bytes l.text ≡ (ended header ++ ended (claim_line l.claim)) ++ flat_map ended
+    (map entry_line (take l.entry-index l.cert.entries.items))

@@ -8,14 +8,16 @@ loop-square-init c = (c.requires.searching, λ g rooted. rooted, refl)
 
 pub reach_around-requires-clause-exists : goal.reach_around-requires-clause-exists
 reach_around-requires-clause-exists c =
-    last-within c.args.board.now c.args.pushes c.pop.new.self.items c.in-Some.square (found_of c.loop-square.search) c.loop-square.invariant.0 c.in-Some.ensures.items
+    last-within c.args.board.now c.args.pushes c.pop.new.self.items c.in-Some.square
+    (found_of c.loop-square.search) c.loop-square.invariant.0 c.in-Some.ensures.items
 
 pub reach_around-requires-clause-whole : goal.reach_around-requires-clause-whole
 reach_around-requires-clause-whole c = c.loop-square.invariant.0.whole
 
 pub loop-square-smaller : goal.loop-square-smaller
 loop-square-smaller c =
-    let less = less-more c.args.board.now (c.args.pushes + 1) c.pop.new.self.items c.in-Some.square (found_of c.loop-square.search) (found_of c.in_ok-search.search) c.in-Some.ensures.items c.in_ok-search.ensures in
+    let less = less-more c.args.board.now (c.args.pushes + 1) c.pop.new.self.items c.in-Some.square (found_of c.loop-square.search)
+    (found_of c.in_ok-search.search) c.in-Some.ensures.items c.in_ok-search.ensures in
     omega (arith, less)
 
 pub loop-square-preserved : goal.loop-square-preserved
@@ -41,12 +43,14 @@ loop-square-preserved c =
 pub returns-clause-searching : goal.returns-clause-searching
 returns-clause-searching c =
     let (none, empty) = c.in_default.ensures.cases in
-    subst (IsSearching c.args.board.now c.args.pushes) (none_pending (found_of c.loop-square.search) c.pop.new.self.items (omega (arith, none)) (omega (arith, empty))) c.loop-square.invariant.0
+    subst (IsSearching c.args.board.now c.args.pushes) (none_pending (found_of c.loop-square.search) c.pop.new.self.items (omega (arith, none))
+    (omega (arith, empty))) c.loop-square.invariant.0
 
 pub returns-clause-rooted : goal.returns-clause-rooted
 returns-clause-rooted c = λ g start.
     let (none, empty) = c.in_default.ensures.cases in
-    subst (IsRooted c.args.board.now g) (none_pending (found_of c.loop-square.search) c.pop.new.self.items (omega (arith, none)) (omega (arith, empty))) (c.loop-square.invariant.1 g start)
+    subst (IsRooted c.args.board.now g) (none_pending (found_of c.loop-square.search) c.pop.new.self.items (omega (arith, none)) (omega (arith, empty)))
+    (c.loop-square.invariant.1 g start)
 
 pub returns-clause-left : goal.returns-clause-left
 returns-clause-left c =

@@ -1,8 +1,9 @@
 use Rattle.std.proofs.Common.{◌≡◌, ◌<◌, ◌∙◌, sym, subst, ap, arith, length, ◌+◌}
 use Rattle.std.proofs.lemmas.Bool.Decides.{nat_tests}
 use Rattle.std.proofs.lemmas.List.{nil_from_length}
-use Rattle.sok_push.specs.Searches.{Found, found_of, distance_in, left_of, IsSearching, IsRooted, IsBegun}
-use Rattle.sok_push.proofs.Searches.{advanced, IsSearching-begun, IsRooted-begun, IsSearching-advanced, IsRooted-advanced, left_of-advanced, TellsDistance-found, pending-left, IfSome-bounded}
+use Rattle.sok_push.specs.Searches.{Found, found_of, distance_in, left_of, IsSearching, IsRooted, HasFoundAlone}
+use Rattle.sok_push.proofs.Searches.{advanced, IsSearching-begun, IsRooted-begun, IsSearching-advanced, IsRooted-advanced, left_of-advanced}
+use Rattle.sok_push.proofs.Searches.{TellsDistance-found, pending-left, IfSome-bounded}
 use Rattle.sok_push.proofs.search.search_from.Goals as goal
 
 pub loop-search-init : goal.loop-search-init
@@ -10,9 +11,15 @@ loop-search-init c =
     let b = c.args.board.now in
     let g = c.args.goal in
     let f = found_of c.in_ok-search.search in
-    let begins = subst (λ n. IsBegun g n f) c.requires.whole c.in_ok-search.ensures in
-    let few = begins.left in
-    (IsSearching-begun b g f begins, IsRooted-begun b g f begins, begins.beyond, omega (arith, few), λ x m e. let none = (begins.only x m e).1 in omega (arith, none))
+    let begins = subst (λ n. HasFoundAlone g n f) c.requires.whole c.in_ok-search.ensures in
+    let few = begins.left in (
+      IsSearching-begun b g f begins,
+      IsRooted-begun b g f begins,
+      begins.beyond,
+      omega (arith, few),
+      λ x m e. let none = (begins.only x m e).1 in
+          omega (arith, none),
+    )
 
 pub look_around-requires-clause-few : goal.look_around-requires-clause-few
 look_around-requires-clause-few c =
@@ -28,7 +35,7 @@ loop-search-smaller c =
     let some = c.loop-search-test.ensures in
     let waiting : 0 < length c.loop-search.search.pending.items = grind (arith, nat_tests, some) in
     let less = c.in_ok-look_around.ensures.left in
-    let same = ap left_of c.advanced-search.ensures ∙ left_of-advanced (found_of c.in_ok-look_around.field-0) in
+    let same = ap left_of c.advance-search.ensures ∙ left_of-advanced (found_of c.in_ok-look_around.field-0) in
     omega (arith, waiting, less, same)
 
 pub loop-search-preserved : goal.loop-search-preserved
@@ -39,11 +46,11 @@ loop-search-preserved c =
     let (searching, rooted, empty, few, near) = c.loop-search.invariant in
     let done = c.in_ok-look_around.ensures in
     let f = found_of c.in_ok-look_around.field-0 in
-    let is : advanced f ≡ found_of c.advanced-search.result = sym c.advanced-search.ensures in
+    let is : advanced f ≡ found_of c.advance-search.result = sym c.advance-search.ensures in
     let some = c.loop-search-test.ensures in
     let waiting : 0 < length c.loop-search.search.pending.items = grind (arith, nat_tests, some) in
     let less = done.left in
-    let same = ap left_of c.advanced-search.ensures ∙ left_of-advanced f in (
+    let same = ap left_of c.advance-search.ensures ∙ left_of-advanced f in (
       subst (IsSearching b (n + 1)) is (IsSearching-advanced b n f done.searching done.pending),
       subst (IsRooted b g) is (IsRooted-advanced b g f (done.rooted g rooted)),
       ap (λ (f : Found). f.beyond) (sym is) ∙ done.pending,
@@ -56,7 +63,8 @@ returns-clause-exact c =
     let (searching, rooted, empty, few, near) = c.loop-search.invariant in
     let done = c.loop-search-test.ensures in
     let none : length c.loop-search.search.pending.items ≡ 0 = grind (arith, nat_tests, done) in
-    TellsDistance-found c.args.board.now c.loop-search.pushes c.args.goal (found_of c.loop-search.search) searching rooted (nil_from_length c.loop-search.search.pending.items none) empty
+    TellsDistance-found c.args.board.now c.loop-search.pushes c.args.goal (found_of c.loop-search.search) searching rooted
+    (nil_from_length c.loop-search.search.pending.items none) empty
 
 pub returns-clause-bounded : goal.returns-clause-bounded
 returns-clause-bounded c =

@@ -20,5 +20,6 @@ loop-goal-preserved c =
 pub returns : goal.returns
 returns c =
     let all : c.loop-goal.goal-index ≡ length (goals_of c.args.board.now) =
-    let past = c.loop-goal-test.false in let end = c.loop-goal.auto.goal-index-end in let long = ap length c.goals-goal-items.ensures.goals in omega (arith, past, end, long) in
+    let past = c.loop-goal-test.false in let end = c.loop-goal.auto.goal-index-end in let long = ap length c.goals-goal-items.ensures.goals in
+    omega (arith, past, end, long) in
     subst (λ n. IsFilled n (with_entries c.args.board.now c.loop-goal.entries.items)) all c.loop-goal.invariant.0

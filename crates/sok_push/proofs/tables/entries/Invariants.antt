@@ -5,4 +5,5 @@ use Rattle.sok_push.proofs.tables.entries.Given as goal
 
 abbrev pub invariant-loop-goal : goal.invariant-loop-goal
 invariant-loop-goal l =
-    IsFilled l.goal-index (with_entries l.board l.entries.items) × (length l.search.distances.items ≡ length l.board.area) × (l.search.pending.items ≡ []) × (l.search.beyond.items ≡ [])
+    IsFilled l.goal-index (with_entries l.board l.entries.items) × (length l.search.distances.items ≡ length l.board.area) × (l.search.pending.items ≡ [])
+    × (l.search.beyond.items ≡ [])

@@ -7,7 +7,8 @@ use Rattle.sok_rules.proofs.play.replay.Goals as goal
 
 pub returns-in-None : goal.returns-in-None
 returns-in-None c =
-    IsBlockedAt-from_None c.args.level.now c.loop-at.scene c.args.dirs.now c.loop-at.at Left (omega arith) c.loop-at.invariant.ground c.loop-at.invariant.ran c.in-None.ensures.0
+    IsBlockedAt-from_None c.args.level.now c.loop-at.scene c.args.dirs.now c.loop-at.at Left
+    (omega arith) c.loop-at.invariant.ground c.loop-at.invariant.ran c.in-None.ensures.0
 
 pub loop-at-preserved : goal.loop-at-preserved
 loop-at-preserved c =

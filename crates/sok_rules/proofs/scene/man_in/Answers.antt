@@ -11,7 +11,8 @@ returns-in_err-row c = absurd (row_found is_man c.args.rows.now (omega (arith, c
 pub returns-in_err-col : goal.returns-in_err-col
 returns-in_err-col c =
     let found = position-Some (λ row. list_any is_man row.items) c.args.rows.now c.in_ok-row.row c.index-rows-row.result (sym c.in_ok-row.ensures) in
-    absurd (col_found is_man c.index-rows-row.result.items (ap (λ row. list_any is_man row.items) c.index-rows-row.is ∙ found.1) (ap (position is_man) (sym c.deref.ensures.value) ∙ sym c.in_err-col.ensures))
+    absurd (col_found is_man c.index-rows-row.result.items (ap (λ row. list_any is_man row.items) c.index-rows-row.is ∙ found.1)
+    (ap (position is_man) (sym c.deref.ensures.value) ∙ sym c.in_err-col.ensures))
 
 pub overflow_cast-result-2 : goal.overflow_cast-result-2
 overflow_cast-result-2 c =

@@ -1,22 +1,14 @@
-use Rattle.std.proofs.Common.{◌<◌, sym, subst, refl, arith, true≢false, length}
-use Rattle.sok_board.specs.Area.{goals_of}
+use Rattle.std.proofs.Common.{◌↔◌, IsTrue, ◌∙◌, false, sym, subst, arith}
+use Rattle.std.proofs.lemmas.List.{get_or_default}
 use Rattle.sok_push.specs.Distances.{IsKept}
-use Rattle.sok_push.proofs.Filled.{IsStuck-none, IsStuck-some}
+use Rattle.sok_push.specs.Pushing.{IsStuck}
 use Rattle.sok_push.proofs.tables.Tables.stuck.Goals as goal
-
-pub returns-then-is_some : goal.returns-then-is_some
-returns-then-is_some c =
-    let kept : IsKept c.self.inside.goals c.args.self.now = subst (IsKept c.self.inside.goals) c.self.view_is c.self.invariant in
-    let count = kept.count in
-    let below : c.loop-goal.goal < length (goals_of c.args.self.now.board) = let test = c.loop-goal-test.true in omega (arith, test, count) in (
-      λ e. absurd (true≢false (sym e)),
-      λ stuck. absurd (IsStuck-some c.args.self.now.board c.loop-goal.goal c.args.square c.dist.result below c.dist.ensures.exact (sym c.if-is_some.ensures) stuck),
-    )
 
 pub returns : goal.returns
 returns c =
-    let kept : IsKept c.self.inside.goals c.args.self.now = subst (IsKept c.self.inside.goals) c.self.view_is c.self.invariant in
-    let test = c.loop-goal-test.false in (
-      λ _. IsStuck-none c.args.self.now c.self.inside.goals c.args.square kept.count kept.filled c.requires (λ k below. c.loop-goal.invariant k (omega (arith, below, test))),
-      λ _. refl,
-    )
+    let t = c.args.self.now in
+    let kept : IsKept c.self.inside.goals c.self.inside.stuck.items t =
+    subst (IsKept c.self.inside.goals c.self.inside.stuck.items) c.self.view_is c.self.invariant in
+    let whole = kept.told.whole in
+    let read = c.index.ensures ∙ get_or_default c.self.inside.stuck.items c.args.square c.index.result.now false (omega (arith, whole, c.requires)) in
+    subst (λ told. IsTrue told ↔ IsStuck t.board c.args.square) (sym read) (kept.told.exact c.args.square c.requires)

@@ -13,6 +13,9 @@ returns-clause-moved c =
     subst (IsMoved c.args.self.now c.args.from c.args.to) (sym (c.in_ok-squares.ensures ∙ ap (put_in_order c.args.from c.args.to) c.list.ensures.list))
     (IsMoved-put c.args.from c.args.to c.args.self.now)
 
+pub returns-clause-rising : goal.returns-clause-rising
+returns-clause-rising c = (invariant_of-result c).rising
+
 pub returns-clause-as_many : goal.returns-clause-as_many
 returns-clause-as_many c =
     ap length (c.in_ok-squares.ensures ∙ ap (put_in_order c.args.from c.args.to) c.list.ensures.list)

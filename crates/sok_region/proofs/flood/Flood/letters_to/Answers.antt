@@ -4,7 +4,7 @@ use Rattle.std.proofs.lemmas.Option.{slice_get-get_or, slice_get_within, get_or_
 use Rattle.std.proofs.lemmas.List.Quantifiers.{position-Some}
 use Rattle.sok_rules.proofs.Proper.{position-none}
 use Rattle.sok_region.specs.declared.flood.Step.{Step}
-use Rattle.sok_region.specs.Floods.{AreReached}
+use Rattle.sok_region.specs.Floods.{AreStepsOf}
 use Rattle.sok_region.proofs.Tracing.{nowhere}
 use Rattle.sok_region.proofs.flood.Flood.letters_to.Goals as goal
 
@@ -17,7 +17,8 @@ returns-in_ok-letters-in-Some c =
     record {
       met = tt;
       lead = λ b lets start reached.
-          c.in_ok-letters-in-Some.ensures b lets start (subst (AreReached b lets start) (sym c.deref-in-Some.ensures.value) reached) (get_or steps c.in-Some.last nowhere)
+          c.in_ok-letters-in-Some.ensures b lets start (subst (AreStepsOf b lets start) (sym c.deref-in-Some.ensures.value) reached)
+          (get_or steps c.in-Some.last nowhere)
           (ap (λ steps. slice_get steps c.in-Some.last) c.deref-in-Some.ensures.value ∙ slice_get-get_or steps c.in-Some.last nowhere within)
           ∙ ap Some is;
     }
@@ -27,7 +28,8 @@ returns-in-None c = record {
   met = λ k step there same.
       let steps = c.args.self.now.steps.items in
       let other = position-none (λ (step : Step). step.square == c.args.square) steps
-      (ap (position (λ (step : Step). step.square == c.args.square)) (sym c.deref.ensures.value) ∙ sym c.in-None.ensures) k nowhere (slice_get_within steps k step there) in
+      (ap (position (λ (step : Step). step.square == c.args.square)) (sym c.deref.ensures.value) ∙ sym c.in-None.ensures) k nowhere
+      (slice_get_within steps k step there) in
       let here = ap (λ (step : Step). step.square) (get_or_from_slice_get steps k step nowhere there) in
       grind (arith, nat_tests, other, here, same);
   lead = λ b lets start reached. tt;

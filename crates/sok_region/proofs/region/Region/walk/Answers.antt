@@ -1,8 +1,8 @@
-use Rattle.std.proofs.Common.{◌∙◌, ap, sym, subst, IfSome, IsSome, Contains, ◌↔◌}
+use Rattle.std.proofs.Common.{refl, sym, subst, IfSome, IsSome, Contains, ◌↔◌}
 use Rattle.std.proofs.lemmas.Option.{IfSome_then}
 use Rattle.std.proofs.lemmas.Result.{IfOk-weaker}
-use Rattle.sok_region.specs.Trails.{marked, trail}
-use Rattle.sok_region.specs.Floods.{met_of, LeadsTo}
+use Rattle.sok_field.specs.Numbers.{has_number}
+use Rattle.sok_region.specs.Floods.{met_of, FindsWay}
 use Rattle.sok_region.specs.Regions.{IsRegion, IsWalkBetween, squares_of}
 use Rattle.sok_region.proofs.Regions.{IsWalkBetween-trail, walks-exactly}
 use Rattle.sok_region.proofs.region.Region.walk.Goals as goal
@@ -13,23 +13,27 @@ flood_from-requires c = record { start = ((c.requires.own.is.exact c.args.from).
 pub returns-clause-exact : goal.returns-clause-exact
 returns-clause-exact c =
     let b = c.args.board.now in
-    let marks = c.self.inside.marks.items in
+    let words = c.self.inside.words in
     let flooded = c.in_ok-flood.ensures in
-    let here : Contains (squares_of marks) c.args.from = subst (λ squares. Contains squares c.args.from) (sym c.self.view_is) (c.has.ensures.0 c.if-not-has.false) in
+    let here : Contains (squares_of words) c.args.from = subst (λ squares. Contains squares c.args.from) (sym c.self.view_is)
+    (c.has.ensures.0 c.if-not-has.false) in
     let region = subst (IsRegion b c.requires.own.boxes c.requires.own.player) (sym c.self.view_is) c.requires.own.is in
-    IfOk-weaker c.letters_to.result (LeadsTo c.in_ok-flood.flood.steps.items c.args.to) (λ walk. IsSome walk ↔ (Contains c.args.self.now c.args.from × Contains c.args.self.now c.args.to))
+    IfOk-weaker c.letters_to.result (FindsWay c.in_ok-flood.flood.steps.items c.args.to)
+    (λ walk. IsSome walk ↔ (Contains c.args.self.now c.args.from × Contains c.args.self.now c.args.to))
     (λ walk leads. subst (λ squares. IsSome walk ↔ (Contains squares c.args.from × Contains squares c.args.to)) c.self.view_is
-    (walks-exactly b c.requires.own.boxes c.requires.own.player marks flooded.proper flooded.accepted.numbered region (marked c.deref.result.now) (ap marked c.deref.ensures.value)
+    (walks-exactly b c.requires.own.boxes c.requires.own.player words flooded.accepted.proper flooded.accepted.numbered region (has_number words) refl
     c.args.from c.args.to here (met_of c.in_ok-flood.flood) flooded.flood flooded.exact walk leads))
     c.letters_to.ensures
 
 pub returns-clause-legal : goal.returns-clause-legal
 returns-clause-legal c = λ boxes player region.
     let b = c.args.board.now in
-    let marks = c.self.inside.marks.items in
+    let words = c.self.inside.words in
     let flooded = c.in_ok-flood.ensures in
-    IfOk-weaker c.letters_to.result (LeadsTo c.in_ok-flood.flood.steps.items c.args.to) (λ walk. IfSome walk (λ w. IsWalkBetween b boxes c.args.from c.args.to w.items))
-    (λ walk leads. IfSome_then walk (leads.lead b (marked c.deref.result.now) c.args.from flooded.flood.reached) (λ w is.
-    IsWalkBetween-trail b boxes player marks flooded.proper flooded.accepted.numbered (subst (IsRegion b boxes player) (sym c.self.view_is) region) w.items c.args.from c.args.to
-    (ap (λ lets. trail b lets c.args.from w.items) (ap marked (sym c.deref.ensures.value)) ∙ is)))
+    IfOk-weaker c.letters_to.result (FindsWay c.in_ok-flood.flood.steps.items c.args.to)
+    (λ walk. IfSome walk (λ w. IsWalkBetween b boxes c.args.from c.args.to w.items))
+    (λ walk leads. IfSome_then walk (leads.lead b (has_number words) c.args.from flooded.flood.reached) (λ w is.
+    IsWalkBetween-trail b boxes player words flooded.accepted.proper flooded.accepted.numbered
+    (subst (IsRegion b boxes player) (sym c.self.view_is) region) w.items c.args.from c.args.to
+    is))
     c.letters_to.ensures

@@ -1,22 +1,21 @@
 use Rattle.std.proofs.Common.{◌≡◌, ap, sym, ◌∙◌, subst, refl, map, Ok, Some, None, true≢false}
 use Rattle.std.proofs.lemmas.Option.{none-some}
-use Rattle.sok_rules.specs.Levels.{cells_of, trimmed, fault_of, IsProper}
+use Rattle.sok_rules.specs.Levels.{cells_of, trimmed, fault_of, IsLevel}
 use Rattle.sok_rules.proofs.Proper.{IsProper-from_none, none-from_IsProper, level_of-none, level_of-some}
-use Rattle.sok_rules.proofs.Rows.{fault_of-cells_of}
+use Rattle.sok_rules.proofs.Rows.{all_trimmed}
 use Rattle.sok_rules.proofs.level.Level.new.Goals as goal
 
 none : (c : goal.In-None) → fault_of (map trimmed (cells_of c.args.rows.items)) ≡ None
 none c =
-    ap fault_of (sym c.trim_all-rows.ensures) ∙ ap (λ rows. fault_of (cells_of rows)) (sym c.deref.ensures.value)
-    ∙ fault_of-cells_of c.deref.result.now ∙ sym c.in-None.ensures.fault
+    ap fault_of (sym c.trim_all-rows.ensures) ∙ ap (λ rows. fault_of (cells_of rows)) (sym c.deref.ensures.value) ∙ sym c.in-None.ensures
 
 some : (c : goal.After-drop-rows) → fault_of (map trimmed (cells_of c.args.rows.items)) ≡ Some c.in-Some.fault
 some c =
-    ap fault_of (sym c.trim_all-rows.ensures) ∙ ap (λ rows. fault_of (cells_of rows)) (sym c.deref.ensures.value)
-    ∙ fault_of-cells_of c.deref.result.now ∙ sym c.in-Some.ensures.fault
+    ap fault_of (sym c.trim_all-rows.ensures) ∙ ap (λ rows. fault_of (cells_of rows)) (sym c.deref.ensures.value) ∙ sym c.in-Some.ensures
 
 pub invariant_of-result : goal.invariant_of-result
-invariant_of-result c = subst IsProper (sym c.trim_all-rows.ensures) (IsProper-from_none _ (none c))
+invariant_of-result c =
+    subst IsLevel (sym c.trim_all-rows.ensures) (record { proper = IsProper-from_none _ (none c); trimmed = all_trimmed (cells_of c.args.rows.items) })
 
 pub returns-in-None-clause-made : goal.returns-in-None-clause-made
 returns-in-None-clause-made c = ap Ok c.trim_all-rows.ensures ∙ sym (level_of-none _ (none c))

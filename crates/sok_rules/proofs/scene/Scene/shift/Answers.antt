@@ -48,12 +48,14 @@ astray_after-self-inside-requires-clause-some c =
     let scene = subst (λ rows. IsScene rows man c.self.inside.astray) c.self.view_is c.self.invariant in
     let opened : SameGround now inside = subst (λ rows. SameGround rows inside) c.self.view_is (SameGround-refl inside) in
     let left = SameGround-after now inside _ man Nobody opened c.put.ensures.cells (man_open now man _ scene) in
-    some_astray now man c.args.from c.self.inside.astray scene c.requires.box_there c.put-left_goal.result (c.put-left_goal.ensures.goal ∙ left.goals c.args.from)
+    some_astray now man c.args.from c.self.inside.astray scene c.requires.box_there c.put-left_goal.result (c.put-left_goal.ensures.goal
+    ∙ left.goals c.args.from)
 
 pub astray_after-self-inside-requires-clause-few : goal.astray_after-self-inside-requires-clause-few
 astray_after-self-inside-requires-clause-few c = omega (arith, few_astray _ _ _ c.self.invariant)
 
-leads : (c : goal.After-self-1) → LeadsTo c.args.self.now (cells_of c.put-2.new.cells.items) c.args.man (moved (holds is_box c.args.self.now) c.args.from c.args.to) c.astray_after-self-inside.result
+leads : (c : goal.After-self-1) → LeadsTo c.args.self.now (cells_of c.put-2.new.cells.items) c.args.man
+    (moved (holds is_box c.args.self.now) c.args.from c.args.to) c.astray_after-self-inside.result
 leads c =
     let now = c.args.self.now in
     let inside = cells_of c.self.inside.cells.items in
@@ -65,14 +67,18 @@ leads c =
     let lifted = SameGround-after now (cells_of c.put.new.cells.items) _ c.args.from Nobody left c.put-left_goal.ensures.cells c.requires.from_open in
     let left_goal = c.put-left_goal.ensures.goal ∙ left.goals c.args.from in
     let meets_goal = c.put-meets_goal.ensures.goal ∙ lifted.goals c.args.to in
-    let balance : c.astray_after-self-inside.result + (if holds is_goal now c.args.from then 0 else 1) ≡ astray + (if holds is_goal now c.args.to then 0 else 1) =
-    ap (λ b. c.astray_after-self-inside.result + (if b then 0 else 1)) (sym left_goal) ∙ c.astray_after-self-inside.ensures ∙ ap (λ b. astray + (if b then 0 else 1)) meets_goal in
+    let balance : c.astray_after-self-inside.result + (if holds is_goal now c.args.from then 0 else 1)
+    ≡ astray + (if holds is_goal now c.args.to then 0 else 1) =
+    ap (λ b. c.astray_after-self-inside.result + (if b then 0 else 1)) (sym left_goal) ∙ c.astray_after-self-inside.ensures
+    ∙ ap (λ b. astray + (if b then 0 else 1)) meets_goal in
     subst (λ new. LeadsTo now new c.args.man (moved (holds is_box now) c.args.from c.args.to) c.astray_after-self-inside.result)
-    (ap (λ rows. with_occupant (with_occupant (with_occupant (with_occupant rows man Nobody) c.args.from Nobody) c.args.to Box) c.args.man Man) (sym c.self.view_is)
+    (ap (λ rows. with_occupant (with_occupant (with_occupant (with_occupant rows man Nobody) c.args.from Nobody) c.args.to Box) c.args.man Man)
+    (sym c.self.view_is)
     ∙ ap (λ rows. with_occupant (with_occupant (with_occupant rows c.args.from Nobody) c.args.to Box) c.args.man Man) (sym c.put.ensures.cells)
     ∙ ap (λ rows. with_occupant (with_occupant rows c.args.to Box) c.args.man Man) (sym c.put-left_goal.ensures.cells)
     ∙ ap (λ rows. with_occupant rows c.args.man Man) (sym c.put-meets_goal.ensures.cells) ∙ sym c.put-2.ensures.cells)
-    (shifts now man c.args.from c.args.to c.args.man astray c.astray_after-self-inside.result scene c.requires.from_open c.requires.box_there c.requires.to_open c.requires.to_free
+    (shifts now man c.args.from c.args.to c.args.man astray c.astray_after-self-inside.result scene c.requires.from_open c.requires.box_there
+    c.requires.to_open c.requires.to_free
     c.requires.man_open c.requires.man_free balance)
 
 pub invariant_of-self : goal.invariant_of-self
@@ -84,4 +90,5 @@ pub returns-clause-ground : goal.returns-clause-ground
 returns-clause-ground c = (leads c).ground
 
 pub returns-clause-position : goal.returns-clause-position
-returns-clause-position c = start-LeadsTo c.args.self.now _ c.args.man (moved (holds is_box c.args.self.now) c.args.from c.args.to) c.astray_after-self-inside.result (leads c)
+returns-clause-position c = start-LeadsTo c.args.self.now _ c.args.man
+    (moved (holds is_box c.args.self.now) c.args.from c.args.to) c.astray_after-self-inside.result (leads c)

@@ -23,7 +23,8 @@ leads c =
     subst (λ new. LeadsTo c.args.self.now new c.args.to (holds is_box c.args.self.now) c.self.inside.astray)
     (ap (λ rows. with_occupant (with_occupant rows c.self.inside.man Nobody) c.args.to Man) (sym c.self.view_is)
     ∙ ap (λ rows. with_occupant rows c.args.to Man) (sym c.put.ensures.cells) ∙ sym c.put-2.ensures.cells)
-    (walks c.args.self.now c.self.inside.man c.args.to c.self.inside.astray (subst (λ rows. IsScene rows c.self.inside.man c.self.inside.astray) c.self.view_is c.self.invariant)
+    (walks c.args.self.now c.self.inside.man c.args.to c.self.inside.astray
+    (subst (λ rows. IsScene rows c.self.inside.man c.self.inside.astray) c.self.view_is c.self.invariant)
     c.requires.opened c.requires.free)
 
 pub invariant_of-self : goal.invariant_of-self

@@ -10,7 +10,8 @@ pub unwrap-pushed-requires : goal.unwrap-pushed-requires
 unwrap-pushed-requires c =
     let s = c.self.inside in
     let d = c.index.result.now in
-    let legal = legal_redo s.level s.scene s.letters.items s.pushed.items s.played s.pushes d c.self.invariant (omega (arith, c.self.invariant.mark, c.len.ensures, s.letters.ok.0, c.if-self-len.false)) in
+    let legal = legal_redo s.level s.scene s.letters.items s.pushed.items s.played s.pushes d c.self.invariant
+    (omega (arith, c.self.invariant.mark, c.len.ensures, s.letters.ok.0, c.if-self-len.false)) in
     some_step _ _ c.step.result c.step.ensures (λ none. none-some legal.0 (sym none.0 ∙ ap (λ e. step s.scene e (start s.scene)) c.index.ensures ∙ legal.1))
 
 pub overflow_add-self-2 : goal.overflow_add-self-2
@@ -23,4 +24,5 @@ invariant_of-self c =
     let steps = MatchOption-at_some _ (λ pushed. Steps s.scene c.index.result.now pushed c.step.new.self) p c.unwrap-pushed.ensures c.step.ensures in
     IsSession-same s.level c.step.new.self _ _ _ _ (s.played + 1) (s.pushes + one_if p) (s.pushes + c.from.result) refl refl (omega (arith, c.from.ensures))
     (IsSession-redone s.level s.scene c.step.new.self s.letters.items s.pushed.items s.played s.pushes c.index.result.now p c.self.invariant
-    (omega (arith, c.self.invariant.mark, c.len.ensures, s.letters.ok.0, c.if-self-len.false)) (subst (λ d. Steps s.scene d p c.step.new.self) c.index.ensures steps))
+    (omega (arith, c.self.invariant.mark, c.len.ensures, s.letters.ok.0, c.if-self-len.false))
+    (subst (λ d. Steps s.scene d p c.step.new.self) c.index.ensures steps))

@@ -10,21 +10,25 @@ index-pushed-requires c = omega (arith, length-IsSession _ _ _ _ _ _ c.self.inva
 pub back-requires : goal.back-requires
 back-requires c =
     let s = c.self.inside in
-    let before = was_before s.level s.scene s.letters.items s.pushed.items s.played s.pushes c.index.result.now c.index-pushed.result.now c.self.invariant c.if-self-eq0.false c.index.ensures c.index-pushed.ensures in
+    let before = was_before s.level s.scene s.letters.items s.pushed.items s.played s.pushes c.index.result.now c.index-pushed.result.now c.self.invariant
+    c.if-self-eq0.false c.index.ensures c.index-pushed.ensures in
     (before.x, before.came)
 
 pub overflow_sub-self : goal.overflow_sub-self
 overflow_sub-self c =
     let s = c.self.inside in
-    let before = was_before s.level s.scene s.letters.items s.pushed.items s.played s.pushes c.index.result.now c.index-pushed.result.now c.self.invariant c.if-self-eq0.false c.index.ensures c.index-pushed.ensures in
+    let before = was_before s.level s.scene s.letters.items s.pushed.items s.played s.pushes c.index.result.now c.index-pushed.result.now c.self.invariant
+    c.if-self-eq0.false c.index.ensures c.index-pushed.ensures in
     omega (arith, before.counted, c.from.ensures, one_if-is c.index-pushed.result.now)
 
 pub invariant_of-self : goal.invariant_of-self
 invariant_of-self c =
     let s = c.self.inside in
     let p = c.index-pushed.result.now in
-    let before = was_before s.level s.scene s.letters.items s.pushed.items s.played s.pushes c.index.result.now p c.self.invariant c.if-self-eq0.false c.index.ensures c.index-pushed.ensures in
+    let before = was_before s.level s.scene s.letters.items s.pushed.items s.played s.pushes c.index.result.now p c.self.invariant c.if-self-eq0.false
+    c.index.ensures c.index-pushed.ensures in
     let one_more : s.played ≡ (s.played - 1) + 1 = omega (arith, c.if-self-eq0.false) in
     IsSession-undone s.level s.scene c.back.new.self s.letters.items s.pushed.items (s.played - 1) s.pushes (s.pushes - c.from.result) c.index.result.now p
-    (subst (λ n. IsSession s.level s.scene s.letters.items s.pushed.items n s.pushes) one_more c.self.invariant) before c.back.ensures.ground (c.back.ensures.position before.x before.came)
+    (subst (λ n. IsSession s.level s.scene s.letters.items s.pushed.items n s.pushes) one_more c.self.invariant) before c.back.ensures.ground
+    (c.back.ensures.position before.x before.came)
     (omega (arith, before.counted, c.from.ensures, one_if-is p))

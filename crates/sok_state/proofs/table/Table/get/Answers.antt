@@ -8,4 +8,5 @@ pub returns : goal.returns
 returns c =
     let key = c.args.key.now in
     let r = c.get_index_of.result in
-    subst (λ (entries : Entries). MatchOption r (Contains (keys_of entries) key → ⊥) (IsAt entries key)) c.self.view_is (found_key c.self.inside.depths.entries key r c.get_index_of.ensures.index)
+    subst (λ (entries : Entries). MatchOption r (Contains (keys_of entries) key → ⊥) (IsAt entries key)) c.self.view_is
+    (found_key c.self.inside.depths.entries key r c.get_index_of.ensures.index)

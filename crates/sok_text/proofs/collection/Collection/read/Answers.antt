@@ -10,18 +10,24 @@ use Rattle.sok_text.proofs.collection.Collection.read.Goals as goal
 
 pub loop-here-init : goal.loop-here-init
 loop-here-init c =
-    let passed : Passes false c.args.text.now c.pass-first.result.rest.now = subst (λ text. Passes false text c.pass-first.result.rest.now) c.place_at.ensures c.pass-first.ensures.passes in
+    let passed : Passes false c.args.text.now c.pass-first.result.rest.now =
+    subst (λ text. Passes false text c.pass-first.result.rest.now) c.place_at.ensures c.pass-first.ensures.passes in
     let notes = sym (take-Passes false c.args.text.now c.pass-first.result.rest.now passed) ∙ sym c.before-notes.ensures in
     record {
       starts = c.pass-first.ensures.ends;
       so_far = parts_of-start c.args.text.now c.pass-first.result.rest.now passed c.pass-first.ensures.ends
-          ∙ (λ i. record { notes = lines (notes i); boards = map (λ part. record { board = lines part.board.now; after = lines part.after.now }) (sym c.new-parts.ensures.items i) ++ (parts_of (lines c.pass-first.result.rest.now)).boards });
+          ∙ (λ i. record {
+            notes = lines (notes i);
+            boards = map (λ part. record { board = lines part.board.now; after = lines part.after.now }) (sym c.new-parts.ensures.items i) ++
+                (parts_of (lines c.pass-first.result.rest.now)).boards;
+          });
     }
 
 pub loop-here-smaller : goal.loop-here-smaller
 loop-here-smaller c =
     let some = not_empty c.loop-here.here.rest.now (sym c.is_empty.ensures ∙ c.loop-here-test.true) in
-    length-board_passed c.loop-here.here.rest.now c.pass-behind.result.rest.now c.pass-next.result.rest.now c.pass-behind.ensures.passes c.pass-next.ensures.passes
+    length-board_passed c.loop-here.here.rest.now c.pass-behind.result.rest.now c.pass-next.result.rest.now c.pass-behind.ensures.passes
+    c.pass-next.ensures.passes
     some c.loop-here.invariant.starts c.pass-behind.ensures.ends
 
 pub loop-here-preserved : goal.loop-here-preserved
@@ -31,11 +37,14 @@ loop-here-preserved c =
     let next = c.pass-next.result.rest.now in
     let some = not_empty here (sym c.is_empty.ensures ∙ c.loop-here-test.true) in
     let notes = lines c.before-notes.result.now in
-    let grown = sym (map_push (λ (part : Part). record { board = lines part.board.now; after = lines part.after.now }) c.loop-here.parts.items (record { board = c.before-board.result; after = c.before-after.result }))
+    let grown = sym (map_push (λ (part : Part). record { board = lines part.board.now; after = lines part.after.now }) c.loop-here.parts.items
+    (record { board = c.before-board.result; after = c.before-after.result }))
     ∙ ap (map (λ (part : Part). record { board = lines part.board.now; after = lines part.after.now })) (sym c.in_ok-push.ensures.items) in
     record {
       starts = c.pass-next.ensures.ends;
-      so_far = parts_of-more (parts_of (lines c.args.text.now)) notes _ here behind next c.before-board.result.now c.before-after.result.now c.pass-behind.ensures.passes c.pass-next.ensures.passes
-          some c.loop-here.invariant.starts c.pass-behind.ensures.ends c.pass-next.ensures.ends c.before-board.ensures c.before-after.ensures c.loop-here.invariant.so_far
+      so_far = parts_of-more (parts_of (lines c.args.text.now)) notes _ here behind next c.before-board.result.now c.before-after.result.now
+          c.pass-behind.ensures.passes c.pass-next.ensures.passes
+          some c.loop-here.invariant.starts c.pass-behind.ensures.ends c.pass-next.ensures.ends c.before-board.ensures c.before-after.ensures
+          c.loop-here.invariant.so_far
           ∙ ap (λ done. record { notes = notes; boards = done ++ (parts_of (lines next)).boards }) grown;
     }

@@ -1,0 +1,4 @@
+pub mod Pages
+pub mod NoProofs
+pub mod Commands
+pub mod Laws

@@ -1,0 +1,100 @@
+-- What each command makes of a book, and what it answers.
+use Rattle.std.specs.Prelude.{ℕ, ◌≡◌, ◌<◌, ◌≤◌, ◌+◌, ◌-◌, List, [], ◌∷◌, ◌++◌, Option, Some, None, Bool, true, false, IsSomeAnd, if◌then◌else◌, nat_lt}
+use Rattle.std.specs.Prelude.{length, option_map, slice_set}
+use Rattle.sok_rules.specs.declared.cell.Dir.{Dir}
+use Rattle.sok_rules.specs.Squares.{Rows}
+use Rattle.sok_rules.specs.Play.{start, pushes, Solves}
+use Rattle.sok_board.specs.Area.{Numbered, IsAccepted}
+use Rattle.sok_board.specs.Refusals.{IsAcceptable}
+use Rattle.sok_cert.specs.Claim.{Claim}
+use Rattle.sok_cert.specs.Claim.TheVariants as claim
+use Rattle.sok_cert.specs.Verdicts.{IsShown}
+use Rattle.sok_book.specs.declared.record.Offer.{Offer}
+use Rattle.sok_book.specs.declared.record.Offer.TheVariants.{Stored, Kept}
+use Rattle.sok_book.specs.declared.record.Verdict.{Verdict}
+use Rattle.sok_book.specs.declared.record.Verdict.TheVariants as verdict
+use Rattle.sok_book.specs.Books.{Book, Page, Solution, page_at, solution_of}
+
+-- the most levels of a book
+abbrev pub level_limit : ℕ
+level_limit = 10000
+
+-- the most letters of a solution that is kept
+abbrev pub letter_limit : ℕ
+letter_limit = 1000000
+
+-- a level with no best solution yet, and no verdict
+abbrev pub new_page : Rows → Option (List ℕ) → Page
+new_page rows title = record { level = rows; title = title; best = None; verdict = verdict.Untested }
+
+-- the book with another page at an id
+abbrev pub with_page : Book → ℕ → Page → Book
+with_page book id page = slice_set book (id - 1) page
+
+-- the level stands in the book at an id
+abbrev pub StandsAt : Book → Rows → ℕ → Type 0
+StandsAt book rows id = IsSomeAnd (page_at book id) (λ page. page.level ≡ rows)
+
+abbrev pub IsUnknown : Book → Rows → Type 0
+IsUnknown book rows = (id : ℕ) → StandsAt book rows id → ⊥
+
+-- a level is added: one that stands there keeps its id and its title, and a new one goes last
+pub data Adds (book : Book) (rows : Rows) (title : Option (List ℕ)) (id : ℕ) (after : Book) : Type 0 where
+  is_known : StandsAt book rows id → after ≡ book → Adds book rows title id after
+  is_new : IsUnknown book rows → length book < level_limit → id ≡ length book + 1 → after ≡ book ++ new_page rows title ∷ [] → Adds book rows title id after
+
+-- the pushes of the best solution, if there is one
+abbrev pub best_pushes : Page → Option ℕ
+best_pushes page = option_map (λ best. best.pushes) page.best
+
+-- there is no best yet, or it has more pushes
+abbrev pub is_better : ℕ → Option ℕ → Bool
+is_better pushes None = true
+is_better pushes (Some best) = nat_lt pushes best
+
+abbrev pub offer_answer : Bool → Offer
+offer_answer true = Stored
+offer_answer false = Kept
+
+-- the page with a better best, and no verdict yet
+abbrev pub with_best : Page → Solution → Page
+with_best page best = if is_better best.pushes (best_pushes page) then record page { best = Some best; verdict = verdict.Untested } else page
+
+-- letters that solve a level are offered: they are its best where there is none, or where they push less
+pub record Offers (book : Book) (id : ℕ) (letters : List Dir) (answer : Offer) (after : Book) : Type 0 where
+  pub page : Page
+  pub there : page_at book id ≡ Some page
+  pub few : length letters ≤ letter_limit
+  pub solves : Solves page.level letters
+  pub answer_is : answer ≡ offer_answer (is_better (pushes page.level (start page.level) letters) (best_pushes page))
+  pub after_is : after ≡ with_page book id (with_best page (solution_of page.level letters))
+
+-- the bytes are a certificate that is closed on the level's board, and shows the claim
+pub record IsCertificate (rows : Rows) (bytes : List ℕ) (claim : Claim) : Type 0 where
+  pub board : Numbered
+  pub rows_are : board.rows ≡ rows
+  pub accepted : IsAccepted board
+  pub shown : IsShown board bytes claim
+
+-- a claim is about the best solution: it has as many pushes as are claimed, or there is none
+abbrev pub Meets : Claim → Option ℕ → Type 0
+Meets (claim.Pushes k) best = best ≡ Some k
+Meets claim.Unsolvable best = best ≡ None
+
+abbrev pub verdict_of : Claim → Verdict
+verdict_of (claim.Pushes k) = verdict.Optimal
+verdict_of claim.Unsolvable = verdict.Unsolvable
+
+-- a level's verdict is proved by a certificate whose claim is about the best solution
+pub record Proves (book : Book) (id : ℕ) (bytes : List ℕ) (shown : Claim) (after : Book) : Type 0 where
+  pub page : Page
+  pub there : page_at book id ≡ Some page
+  pub certificate : IsCertificate page.level bytes shown
+  pub meets : Meets shown (best_pushes page)
+  pub after_is : after ≡ with_page book id (record page { verdict = verdict_of shown })
+
+-- one command leads from a book to another
+pub data OneCommand (book after : Book) : Type 0 where
+  add : (rows : Rows) (title : Option (List ℕ)) (id : ℕ) → IsAcceptable rows → Adds book rows title id after → OneCommand book after
+  offer : (id : ℕ) (letters : List Dir) (answer : Offer) → Offers book id letters answer after → OneCommand book after
+  prove : (id : ℕ) (bytes : List ℕ) (shown : Claim) → Proves book id bytes shown after → OneCommand book after

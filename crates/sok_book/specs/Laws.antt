@@ -1,0 +1,40 @@
+-- What holds of every book that commands made.
+use Rattle.std.specs.Prelude.{ℕ, ◌≡◌, ◌≢◌, ◌<◌, ◌⊎◌, [], Option, Some, IsSomeAnd, IfSome}
+use Rattle.sok_rules.specs.Squares.{Rows}
+use Rattle.sok_book.specs.declared.record.Verdict.TheVariants.{Untested}
+use Rattle.sok_book.specs.Books.{Book, Page, Solution, IsSolution, IsTrueBook, page_at}
+use Rattle.sok_book.specs.Commands.{OneCommand}
+
+-- a book that commands have made, one after another, from the empty one on
+pub data IsMade : Book → Type 0 where
+  empty : IsMade []
+  more : (before after : Book) → IsMade before → OneCommand before after → IsMade after
+
+-- each is true: its bests solve with their stated pushes and moves, and its verdicts hold
+abbrev pub MadeBooksAreTrue : Type 0
+MadeBooksAreTrue = (book : Book) → IsMade book → IsTrueBook book
+
+-- a command keeps a true book true
+abbrev pub CommandsKeepTruth : Type 0
+CommandsKeepTruth = (book after : Book) → IsTrueBook book → OneCommand book after → IsTrueBook after
+
+-- the best stays, or another one solves with fewer pushes
+abbrev pub IsNoWorse : Rows → Solution → Option Solution → Type 0
+IsNoWorse rows best after = (after ≡ Some best) ⊎ IsSomeAnd after (λ other. IsSolution rows other × (other.pushes < best.pushes))
+
+-- a page stays that of its level, with its title, and its best is replaced only by one with fewer pushes
+pub record KeepsPage (page after : Page) : Type 0 where
+  pub level : after.level ≡ page.level
+  pub title : after.title ≡ page.title
+  pub best : IfSome page.best (λ best. IsNoWorse page.level best after.best)
+
+-- so it is of each page, whatever the command
+abbrev pub CommandsKeepPages : Type 0
+CommandsKeepPages =
+    (book after : Book) (id : ℕ) (page : Page) → OneCommand book after → page_at book id ≡ Some page → IsSomeAnd (page_at after id) (KeepsPage page)
+
+-- in a true book no verdict is taken back
+abbrev pub VerdictsStay : Type 0
+VerdictsStay =
+    (book after : Book) (id : ℕ) (page : Page) → IsTrueBook book → OneCommand book after → page_at book id ≡ Some page → page.verdict ≢ Untested
+    → IsSomeAnd (page_at after id) (λ next. next.verdict ≡ page.verdict)

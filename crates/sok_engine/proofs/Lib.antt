@@ -1,0 +1,4 @@
+pub mod Answering
+pub mod Certifying
+pub mod Unique
+pub mod Writes

@@ -1,0 +1,20 @@
+-- What is answered to an input that is too long, and to a level that is faulty, and to others by what is asked of them.
+use Rattle.std.specs.Prelude.{ℕ, ◌≡◌, List, Result, Ok, Err, Bool, true, false, length, nat_lt}
+use Rattle.sok_rules.specs.declared.fault.LevelFault.{LevelFault}
+use Rattle.sok_rules.specs.Squares.{Rows}
+use Rattle.sok_engine.specs.declared.fault.ToolFault.TheVariants as tool
+use Rattle.sok_engine.specs.Faults.{of_level}
+use Rattle.sok_engine.specs.Written.{Answers}
+
+-- TooMuch, or the answers to bytes that are not too many
+abbrev pub UnlessMuch : Bool → Answers → Answers
+UnlessMuch true P answer = answer ≡ Err tool.TooMuch
+UnlessMuch false P answer = P answer
+
+abbrev pub Within : ℕ → (List ℕ → Answers) → List ℕ → Answers
+Within limit P bytes = UnlessMuch (nat_lt limit (length bytes)) (P bytes)
+
+-- a level's fault, or the answers to its rows
+abbrev pub OnLevel : (Rows → Answers) → Result Rows LevelFault → Answers
+OnLevel P (Err fault) answer = answer ≡ Err (of_level fault)
+OnLevel P (Ok rows) answer = P rows answer

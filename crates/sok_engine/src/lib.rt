@@ -1,0 +1,17 @@
+//! What all engines share: how an input is read, how an answer is written, and which faults keep an
+//! engine from answering. An engine reads all of its input, makes an answer, and writes it.
+//!
+//! | Module | What it holds |
+//! |---|---|
+//! | `answer` | what is answered, and writing it |
+//! | `certified` | an answer with a certificate, and writing them to two writers |
+//! | `fault` | why there is no answer |
+//! | `input` | how long inputs may be, and reading all of one |
+//! | `output` | writing all of a text |
+#![tactic(auto)]
+
+pub mod answer;
+pub mod certified;
+pub mod fault;
+pub mod input;
+pub mod output;

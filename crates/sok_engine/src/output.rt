@@ -1,0 +1,31 @@
+//! Writing all of a text.
+
+ghost use Rattle.std.specs.Prelude.{◌≡◌, OnErr, OnOk};
+ghost use Rattle.std.specs.Io.KnownBytes.{Appends};
+ghost use Rattle.sok_engine.specs.Written.{AppendsFront};
+
+use std::io::Write;
+
+/// A write failed, for any cause, or took no byte.
+#[derive(Clone, Copy, Debug, PartialEq, Eq)]
+pub struct WriteFailed;
+
+/// Writes all of the bytes. Where a write fails, a front of them is written.
+pub fn write_whole<W: Write>(writer: &mut W, bytes: &[u8]) -> Result<(), WriteFailed>
+    ensures ok { OnOk result (Appends (W.contents writer.old) (W.contents writer.new) bytes.now) }
+    ensures err { OnErr result
+        (AppendsFront (W.contents writer.old) (W.contents writer.new) bytes.now) }
+{
+    let mut rest = bytes;
+    'rest: while !rest.is_empty() {
+        let count = match writer.write(rest) {
+            Ok(count) => count,
+            Err(_) => return Err(WriteFailed),
+        };
+        if count == 0 {
+            return Err(WriteFailed);
+        }
+        rest = &rest[count..];
+    }
+    Ok(())
+}

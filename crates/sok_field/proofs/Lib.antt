@@ -1,0 +1,12 @@
+pub mod Flooding
+pub mod Lanes
+pub mod ByNumber
+pub mod Drawings
+pub mod OneSquare
+pub mod Rounds
+pub mod Spreading
+pub mod Stepping
+pub mod Totals
+pub mod Trails
+pub mod Ways
+pub mod Words

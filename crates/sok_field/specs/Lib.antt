@@ -1,0 +1,9 @@
+-- Words of public contracts
+pub mod Fields
+pub mod Numbers
+pub mod Rounds
+pub mod Trails
+pub mod Ways
+-- Words of the proofs alone
+pub mod Floods
+pub mod Sweeps

@@ -1,0 +1,17 @@
+-- Sweeps: a flood that goes on row by row.
+use Rattle.std.specs.Prelude.{ℕ, ◌≡◌, ◌<◌, ◌≤◌, List, Bool, true, length, slice_index, slice_set}
+use Rattle.std.specs.List.{sum}
+use Rattle.sok_rules.specs.declared.cell.Spot.{Spot}
+use Rattle.sok_field.specs.Floods.{IsSpreading}
+
+-- a word that a row of any flood over these free squares may have in place of some seeds
+pub record IsStepped (free seeds word : ℕ) : Type 0 where
+  pub rises : seeds ≤ word
+  pub follows : (frees seen : List ℕ) (from : Spot) (r : ℕ) → r < length seen → slice_index frees r ≡ free → IsSpreading frees from (slice_set seen r seeds)
+      → IsSpreading frees from (slice_set seen r word)
+
+-- a flood that has gone on, and has more where a test says so
+pub record GoesOn (free : List ℕ) (from : Spot) (old new : List ℕ) (grew : Bool) : Type 0 where
+  pub flooding : IsSpreading free from new
+  pub rises : sum old ≤ sum new
+  pub more : grew ≡ true → sum old < sum new

@@ -1,0 +1,64 @@
+//! One square of bit rows.
+
+ghost use Rattle.std.specs.Prelude.{◌≡◌, ◌<◌, ◌↔◌, ◌≤◌, ◌⊎◌, MatchOption, true, false, length};
+ghost use Rattle.sok_rules.specs.declared.cell.Spot.{Spot};
+ghost use Rattle.sok_field.specs.Fields.{has, IsFirstSquare};
+
+use sok_rules::cell::Spot;
+
+/// Whether a square is of a set. It is none past the rows or the 64 columns.
+pub(crate) fn has(rows: &[u64], spot: Spot) -> bool
+    requires { spot.col < 64 }
+    ensures { result ≡ has rows.now spot }
+{
+    match rows.get(spot.row as usize) {
+        Some(row) => (*row >> spot.col) & 1 == 1,
+        None => false,
+    }
+}
+
+/// Puts a square into a set.
+pub(crate) fn put(rows: &mut [u64], spot: Spot)
+    requires row { spot.row < length rows.old }
+    requires col { spot.col < 64 }
+    ensures { (s : Spot) → (has rows.new s ≡ true) ↔ ((s ≡ spot) ⊎ (has rows.old s ≡ true)) }
+{
+    let row = spot.row as usize;
+    let word = rows[row];
+    rows[row] = word | (1 << spot.col);
+}
+
+/// Takes a square out of a set.
+pub(crate) fn take(rows: &mut [u64], spot: Spot)
+    requires row { spot.row < length rows.old }
+    requires col { spot.col < 64 }
+    ensures { (s : Spot) → (has rows.new s ≡ true) ↔ ((s ≡ spot → ⊥) × (has rows.old s ≡ true)) }
+{
+    let row = spot.row as usize;
+    let word = rows[row];
+    rows[row] = word & !(1 << spot.col);
+}
+
+/// The first square of a set, row by row and from left to right.
+pub(crate) fn first(rows: &[u64]) -> Option<Spot>
+    requires { length rows.now ≤ 64 }
+    ensures { MatchOption result
+        ((s : Spot) → has rows.now s ≡ false) (IsFirstSquare (has rows.now)) }
+{
+    for (r, row) in rows.iter().enumerate() {
+        if *row != 0 {
+            return Some(Spot {
+                row: r as u32,
+                col: row.trailing_zeros(),
+            });
+        }
+    }
+    None
+}
+
+/// Takes all squares out of a set.
+pub(crate) fn clear(rows: &mut [u64])
+    ensures { (s : Spot) → has rows.new s ≡ false }
+{
+    rows.fill(0);
+}

@@ -1,0 +1,57 @@
+//! Squares of a board in bit rows.
+
+ghost use Rattle.std.specs.Prelude.{ℕ, ◌≡◌, ◌<◌, IsTrue, Bool, true, All, Contains, length};
+ghost use Rattle.sok_board.specs.Area.{IsAccepted, spot_of};
+ghost use Rattle.sok_field.specs.Fields.{has};
+ghost use Rattle.sok_field.specs.Numbers.{Draws};
+ghost use Rattle.sok_field.specs.Trails.{Leads};
+
+use crate::field::Field;
+use sok_board::area::Sq;
+use sok_board::board::Board;
+
+/// The squares of the area.
+pub fn area(board: &Board) -> Field
+    ensures drawn { Draws board.now (λ n. n < length board.now.area) result }
+    ensures accepted { IsAccepted board.now }
+{
+    let mut field = Field::new();
+    for square in 0..board.squares() {
+        field.put(board.spot(square as Sq));
+    }
+    field
+}
+
+/// Leaves of the area the squares without a box.
+pub fn take_boxes(field: &mut Field, board: &Board, boxes: &[Sq])
+    requires accepted { IsAccepted board.now }
+    requires exist { All (λ n. n < length board.now.area) boxes.now }
+    requires drawn { Draws board.now (λ n. n < length board.now.area) field.old }
+    ensures { Draws board.now (λ n. Contains boxes.now n → ⊥) field.new }
+{
+    for square in boxes {
+        field.take(board.spot(*square));
+    }
+}
+
+/// The squares of the area without a box.
+pub fn free_squares(board: &Board, boxes: &[Sq]) -> Field
+    requires { All (λ n. n < length board.now.area) boxes.now }
+    ensures drawn { Draws board.now (λ n. Contains boxes.now n → ⊥) result }
+    ensures accepted { IsAccepted board.now }
+{
+    let mut free = area(board);
+    take_boxes(&mut free, board, boxes);
+    free
+}
+
+/// Makes a set the squares to which letters lead from one over free squares.
+pub fn flood_from(seen: &mut Field, free: &Field, board: &Board, start: Sq)
+    requires accepted { IsAccepted board.now }
+    requires exists { start < length board.now.area }
+    requires start { IsTrue (has free.now (spot_of board.now start)) }
+    ensures { (lets : ℕ → Bool) → Draws board.now (λ n. lets n ≡ true) free.now
+        → Draws board.now (Leads board.now lets start) seen.new }
+{
+    seen.flood(free, board.spot(start));
+}

@@ -1,0 +1,78 @@
+//! Sets of squares as bits by number: a square's bit is that of its number, in words of 64.
+
+ghost use Rattle.std.specs.Prelude.{ℕ, ◌≡◌, ◌<◌, ◌≤◌, ◌*◌, ◌↔◌, ◌⊎◌, IsTrue, MatchOption, false};
+ghost use Rattle.std.specs.Prelude.{length};
+ghost use Rattle.sok_board.specs.Area.{spot_of};
+ghost use Rattle.sok_field.specs.Fields.{has};
+ghost use Rattle.sok_field.specs.Numbers.{bit_of_number, has_number, IsLeast};
+
+use crate::bits;
+use crate::field::Field;
+use sok_board::area::Sq;
+use sok_board::board::Board;
+use sok_rules::cell::Spot;
+
+/// How many words have a bit for each square of an area.
+pub const WORDS: usize = 16;
+
+/// Where the bit of a number stands: a word, and a bit of it.
+fn bit_of(square: Sq) -> Spot
+    ensures { result ≡ bit_of_number square }
+{
+    Spot {
+        row: (square / 64) as u32,
+        col: (square % 64) as u32,
+    }
+}
+
+/// Whether a square is of a set. It is none past the words.
+pub fn has(words: &[u64], square: Sq) -> bool
+    ensures { result ≡ has_number words.now square }
+{
+    bits::has(words, bit_of(square))
+}
+
+/// Puts a square into a set.
+pub fn put(words: &mut [u64], square: Sq)
+    requires { square < 64 * length words.old }
+    ensures { (n : ℕ) → IsTrue (has_number words.new n)
+        ↔ ((n ≡ square) ⊎ IsTrue (has_number words.old n)) }
+{
+    bits::put(words, bit_of(square));
+}
+
+/// Takes a square out of a set.
+pub fn take(words: &mut [u64], square: Sq)
+    requires { square < 64 * length words.old }
+    ensures { (n : ℕ) → IsTrue (has_number words.new n)
+        ↔ ((n ≡ square → ⊥) × IsTrue (has_number words.old n)) }
+{
+    bits::take(words, bit_of(square));
+}
+
+/// The square with the least number.
+pub fn first(words: &[u64]) -> Option<Sq>
+    requires { length words.now ≤ WORDS }
+    ensures { MatchOption result
+        ((n : ℕ) → has_number words.now n ≡ false) (IsLeast (has_number words.now)) }
+{
+    match bits::first(words) {
+        Some(bit) => Some((bit.row * 64 + bit.col) as Sq),
+        None => None,
+    }
+}
+
+/// Makes words the squares of a set that have numbers.
+pub fn write(words: &mut [u64], set: &Field, board: &Board)
+    requires { length board.now.area ≤ 64 * length words.old }
+    ensures { (n : ℕ) → IsTrue (has_number words.new n)
+        ↔ ((n < length board.now.area) × IsTrue (has set.now (spot_of board.now n))) }
+{
+    bits::clear(words);
+    for square in 0..board.squares() {
+        let square = square as Sq;
+        if set.has(board.spot(square)) {
+            put(words, square);
+        }
+    }
+}

@@ -1,0 +1,113 @@
+-- A certificate for a level of a collection is judged on its board, if it has one.
+use Rattle.std.proofs.Common.{ℕ, ◌≡◌, ◌≢◌, ◌≤◌, ◌⊎◌, ◌∙◌, inl, inr, List, Option, Some, None, Result, Ok, Err, IfSome, Bool, true, false, true≢false, is_ok}
+use Rattle.std.proofs.Common.{ap, length, refl, subst, sym}
+use Rattle.std.proofs.KnownBytes.{Keeps-refl}
+use Rattle.sok_text.specs.Collections.{blocks_of, level_at}
+use Rattle.sok_rules.specs.declared.fault.LevelFault.{LevelFault}
+use Rattle.sok_rules.specs.Squares.{Rows}
+use Rattle.sok_rules.specs.declared.fault.LevelFault.TheVariants as level
+use Rattle.sok_board.specs.Area.{Numbered}
+use Rattle.sok_board.specs.Refusals.{IsRefused}
+use Rattle.sok_board.specs.declared.fault.BoardFault.{BoardFault}
+use Rattle.sok_board.specs.declared.fault.BoardFault.TheVariants as board
+use Rattle.sok_cert.specs.Claim.{Claim}
+use Rattle.sok_cert.specs.CertFault.{CertFault}
+use Rattle.sok_cert.specs.CertFault.TheVariants as cert
+use Rattle.sok_cert.specs.Reading.{GoesWrong}
+use Rattle.sok_engine.specs.declared.fault.ToolFault.{ToolFault}
+use Rattle.sok_engine.specs.Faults.{of_board, of_level}
+use Rattle.sok_engine.specs.Inputs.{Within, OnLevel}
+use Rattle.sok_engine.specs.Written.{Answer, Answers, IsFaultOf, Writes}
+use Rattle.sok_engine.proofs.Answering.{EndsBy-fault, IsFaultOf-weaker, Within-few, Writes-weaker}
+use Rattle.sok_judge.specs.Boards.{OnBoard, IsBoardOf, LacksBoard, accepted, faulty, memory, refused, unaccepted}
+use Rattle.sok_judge.specs.Checks.{IsCheck, TellsVerdictWithin}
+use Rattle.sok_cert.specs.Verdicts.{IsVerdict}
+
+-- why a text is no certificate, unless memory was refused
+abbrev is_memory : CertFault → Bool
+is_memory cert.Memory = true
+is_memory fault = false
+
+ample_cert : (fault : CertFault) → is_memory fault ≡ false → fault ≢ cert.Memory
+ample_cert fault other same = true≢false (ap is_memory (sym same) ∙ other)
+
+pub unread : (b : Numbered) (text : List ℕ) (fault : CertFault) (result : Result Claim CertFault) → result ≡ Err fault
+    → (fault ≡ cert.Memory) ⊎ GoesWrong text fault
+    → (result ≡ Err cert.Memory) ⊎ IsVerdict b text result
+unread b text cert.Memory result is _ = inl is
+unread b text fault result is (inl same) = inl (is ∙ ap Err same)
+unread b text fault result is (inr wrong) = inr (subst (IsVerdict b text) (sym is) (ample_cert fault refl, inl wrong))
+
+-- a level that is not made has no board
+pub no_level : (found : Result Rows LevelFault) (fault : LevelFault) (made : Result Rows LevelFault) → made ≡ Err fault
+    → (made ≡ Err level.Memory) ⊎ (made ≡ found) → LacksBoard found (of_level fault)
+no_level found fault made is (inl same) = let none : fault ≡ level.Memory = cc in memory (ap of_level none)
+no_level found fault made is (inr same) = faulty fault (sym same ∙ is) refl
+
+-- nor has one that is made and not accepted
+pub no_board : (rows : Rows) (found : Result Rows LevelFault) → (Ok rows ≡ Err level.Memory) ⊎ (Ok rows ≡ found) → (fault : BoardFault)
+    → IsRefused rows fault → LacksBoard found (of_board fault)
+no_board rows found (inl other) fault is = absurd (true≢false (ap is_ok other))
+no_board rows found (inr same) fault is = unaccepted rows fault (sym same) is refl
+
+-- such a fault is one of the answers, memory aside
+level_answers : (P : Rows → Answers) (fault : LevelFault) → IsFaultOf (OnLevel P (Err fault)) (of_level fault)
+level_answers P level.TooWide = refl
+level_answers P level.TooTall = refl
+level_answers P level.NoPlayer = refl
+level_answers P level.ManyPlayers = refl
+level_answers P level.NoBox = refl
+level_answers P level.NoSuchLevel = refl
+level_answers P (level.NoWall row) = refl
+level_answers P level.Memory = tt
+
+-- no board is made, unless memory was refused
+abbrev wants_memory : BoardFault → Bool
+wants_memory board.Memory = true
+wants_memory fault = false
+
+ample : (fault : BoardFault) → wants_memory fault ≡ false → fault ≢ board.Memory
+ample fault other same = true≢false (ap wants_memory (sym same) ∙ other)
+
+board_answers : (P : Numbered → Answers) (rows : Rows) (fault : BoardFault) → IsRefused rows fault → IsFaultOf (OnBoard P rows) (of_board fault)
+board_answers P rows (board.NotEnclosed spot) is = refused (board.NotEnclosed spot) (ample _ refl) is refl
+board_answers P rows (board.BoxOutside spot) is = refused (board.BoxOutside spot) (ample _ refl) is refl
+board_answers P rows board.TooFewGoals is = refused board.TooFewGoals (ample _ refl) is refl
+board_answers P rows board.TooLarge is = refused board.TooLarge (ample _ refl) is refl
+board_answers P rows board.TooManyBoxes is = refused board.TooManyBoxes (ample _ refl) is refl
+board_answers P rows board.Memory is = tt
+
+LacksBoard-answers : (P : Numbered → Answers) (found : Result Rows LevelFault) (fault : ToolFault) → LacksBoard found fault
+    → IsFaultOf (OnLevel (OnBoard P) found) fault
+LacksBoard-answers P found fault (faulty f is same) =
+    subst (λ l. IsFaultOf (OnLevel (OnBoard P) l) fault) (sym is) (subst (IsFaultOf (OnLevel (OnBoard P) (Err f))) (sym same) (level_answers (OnBoard P) f))
+LacksBoard-answers P found fault (unaccepted rows f is cause same) =
+    subst (λ l. IsFaultOf (OnLevel (OnBoard P) l) fault) (sym is) (subst (IsFaultOf (OnBoard P rows)) (sym same) (board_answers P rows f cause))
+LacksBoard-answers P found fault (memory same) = subst (IsFaultOf (OnLevel (OnBoard P) found)) (sym same) tt
+
+-- a level without a board
+pub Writes-no_board : (limit most n : ℕ) (input cert held : Option (List ℕ)) (read : List ℕ) (fault : ToolFault)
+    → IfSome input (λ bytes. read ≡ bytes) → length read ≤ limit → LacksBoard (level_at (blocks_of read) n) fault
+    → IfSome input (λ bytes. IfSome cert (λ text. Writes (Within limit (IsCheck most n text) bytes) held held (Err fault)))
+Writes-no_board limit most n None cert held read fault all few none = tt
+Writes-no_board limit most n (Some bytes) None held read fault all few none = tt
+Writes-no_board limit most n (Some bytes) (Some text) held read fault all few none =
+    let answers = LacksBoard-answers (TellsVerdictWithin most text) (level_at (blocks_of read) n) fault none in
+    let whole = IsFaultOf-weaker (IsCheck most n text read) (Within limit (IsCheck most n text) read)
+    (λ f is. Within-few limit (IsCheck most n text) read (Err f) few is) fault answers in
+    subst (λ known. Writes (Within limit (IsCheck most n text) known) held held (Err fault)) all
+    (EndsBy-fault (Within limit (IsCheck most n text) read) held held fault whole (Keeps-refl held))
+
+-- a level with a board, on which the certificate was judged
+pub Writes-judged : (limit most n : ℕ) (input cert old new : Option (List ℕ)) (read : List ℕ) (b : Numbered) (result : Result ℕ ToolFault)
+    → IfSome input (λ bytes. read ≡ bytes) → length read ≤ limit → IsBoardOf (level_at (blocks_of read) n) b
+    → IfSome cert (λ text. Writes (TellsVerdictWithin most text b) old new result)
+    → IfSome input (λ bytes. IfSome cert (λ text. Writes (Within limit (IsCheck most n text) bytes) old new result))
+Writes-judged limit most n None cert old new read b result all few board judged = tt
+Writes-judged limit most n (Some bytes) None old new read b result all few board judged = tt
+Writes-judged limit most n (Some bytes) (Some text) old new read b result all few board judged =
+    let on_board : (answer : Result Answer ToolFault) → TellsVerdictWithin most text b answer → Within limit (IsCheck most n text) read answer =
+    λ answer said. Within-few limit (IsCheck most n text) read answer few
+    (subst (λ l. OnLevel (OnBoard (TellsVerdictWithin most text)) l answer) (sym board.rows) (accepted b refl board.accepted said)) in
+    subst (λ known. Writes (Within limit (IsCheck most n text) known) old new result) all
+    (Writes-weaker (TellsVerdictWithin most text b) (Within limit (IsCheck most n text) read) on_board old new result judged)

@@ -1,0 +1,3 @@
+pub mod Checking
+pub mod OneBoard
+pub mod OneCheck

@@ -1,0 +1,108 @@
+//! The judgement of a certificate for a level of a collection.
+
+ghost use Rattle.std.specs.Prelude.{◌≡◌, ◌⊎◌, ℕ, List, IfSome, MatchResult, Ok, Err};
+ghost use Rattle.sok_text.specs.Collections.{blocks_of, level_at};
+ghost use Rattle.sok_board.specs.Area.{Numbered};
+ghost use Rattle.sok_cert.specs.CertFault.TheVariants as cert;
+ghost use Rattle.sok_engine.specs.Inputs.{Within};
+ghost use Rattle.sok_engine.specs.Limits.{cert_limit, input_limit};
+ghost use Rattle.sok_engine.specs.Written.{HasOne, Writes};
+ghost use Rattle.sok_engine.specs.declared.fault.ToolFault.TheVariants as tool;
+ghost use Rattle.sok_judge.specs.Boards.{IsBoardOf, LacksBoard};
+ghost use Rattle.sok_judge.specs.Checks.{IsCheck, TellsVerdict, TellsVerdictWithin};
+ghost use Rattle.sok_cert.specs.Verdicts.{IsVerdict};
+
+use crate::verdict::{accepted_answer, refused_answer};
+use sok_board::board::Board;
+use sok_cert::check::check;
+use sok_cert::claim::Claim;
+use sok_cert::fault::CertFault;
+use sok_cert::reading::read;
+use sok_engine::answer::Answer;
+use sok_engine::fault::ToolFault;
+use sok_engine::input::{read_certificate, read_input};
+use sok_text::collection::Collection;
+use std::alloc::Global;
+use std::io::{Read, Write};
+
+/// Judges a certificate for the n-th level of a collection, counted from 1. Written is `accepted at
+/// least K pushes` or `accepted unsolvable` with LF, at status 0: then the level cannot be solved
+/// with fewer pushes, or not at all. Else it is `refused`, with the number, the name and the
+/// arguments of the first fault of the certificate's text or of the certificate, at status 1.
+///
+/// Where there is no such answer nothing is written, and the fault is the first of these:
+/// `ReadFailed` or `TooMuch` of the collection; a fault of the level; one of its board;
+/// `ReadFailed` or `TooMuch` of the certificate. A write that fails is `WriteFailed` at once, after
+/// a front of the line. Of readers that do not tell which bytes they hold nothing is promised.
+pub fn check_bytes<R: Read, C: Read, W: Write>(
+    alloc: Global,
+    input: &mut R,
+    n: usize,
+    cert_input: &mut C,
+    out: &mut W,
+) -> Result<u8, ToolFault>
+    ensures writes { IfSome (R.remaining input.old) (λ bytes.
+        IfSome (C.remaining cert_input.old) (λ text.
+        Writes (Within input_limit (IsCheck cert_limit n text) bytes)
+        (W.contents out.old) (W.contents out.new) result)) }
+
+    // The certificate is left alone, unless the level has a board.
+    ensures in_turn { IfSome (R.remaining input.old) (λ bytes. (cert_input.new ≡ cert_input.old)
+        ⊎ ((b : Numbered) × IsBoardOf (level_at (blocks_of bytes) n) b)) }
+{
+    let bytes = read_input(alloc, input)?;
+    let board = board_of(alloc, bytes.as_slice(), n)?;
+    judge_input(alloc, &board, cert_input, out)
+}
+
+/// The board of the n-th level of a collection.
+fn board_of(alloc: Global, collection: &[u8], n: usize) -> Result<Board, ToolFault>
+    ensures { MatchResult result (IsBoardOf (level_at (blocks_of collection.now) n))
+        (LacksBoard (level_at (blocks_of collection.now) n)) }
+{
+    let level = Collection::read(alloc, collection)?.level(alloc, n)?;
+    Ok(Board::new(alloc, &level)?)
+}
+
+/// Judges a certificate for a board.
+fn judge_input<C: Read, W: Write>(
+    alloc: Global,
+    board: &Board,
+    input: &mut C,
+    out: &mut W,
+) -> Result<u8, ToolFault>
+    ensures { IfSome (C.remaining input.old) (λ text.
+        Writes (TellsVerdictWithin cert_limit text board.now)
+        (W.contents out.old) (W.contents out.new) result) }
+{
+    let text = read_certificate(alloc, input)?;
+    let answer = judged(alloc, board, text.as_slice())?;
+    answer.write(out)
+}
+
+/// The answer to the text of a certificate.
+fn judged(alloc: Global, board: &Board, text: &[u8]) -> Result<Answer, ToolFault>
+    ensures { MatchResult result
+        (λ answer. TellsVerdict board.now text.now (Ok answer))
+        (λ fault. fault ≡ tool.Memory) }
+{
+    match verdict(alloc, board, text) {
+        Ok(claim) => Ok(accepted_answer(alloc, claim)?),
+        Err(CertFault::Memory) => Err(ToolFault::Memory),
+        Err(fault) => Ok(refused_answer(alloc, fault)?),
+    }
+}
+
+/// The claim that the text of a certificate shows, or the first fault.
+fn verdict(alloc: Global, board: &Board, text: &[u8]) -> Result<Claim, CertFault>
+    ensures { (result ≡ Err cert.Memory) ⊎ IsVerdict board.now text.now result }
+{
+    let (claim, certificate) = read(alloc, text)?;
+    Ok(check(alloc, board, &claim, &certificate)?.claim())
+}
+
+/// A collection and a certificate have one answer at most.
+pub fn certificates_have_one_answer()
+    ensures { (limit most n : ℕ) (bytes text : List ℕ)
+        → HasOne (Within limit (IsCheck most n text) bytes) }
+{}

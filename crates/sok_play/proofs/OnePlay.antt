@@ -1,0 +1,108 @@
+-- A text that is played on a level has one answer at most.
+use Rattle.std.proofs.Common.{ℕ, ◌≡◌, ◌<◌, ◌≤◌, ◌+◌, inl, inr, List, [], ◌∷◌, Some, None, Ok, Err, Bool, true, false, IsTrue, IsSome, IsNone, zero, suc}
+use Rattle.std.proofs.Common.{nat_lt, length, take, true≢false, sym, ap, ◌∙◌, refl, subst, arith}
+use Rattle.std.proofs.lemmas.Bool.{cases_Bool}
+use Rattle.std.proofs.lemmas.Bool.Decides.{nat_tests}
+use Rattle.std.proofs.lemmas.List.{take_all}
+use Rattle.std.specs.Option.{option_and_then}
+use Rattle.sok_rules.specs.declared.cell.Dir.{Dir}
+use Rattle.sok_rules.specs.declared.play.Tally.{Tally}
+use Rattle.sok_rules.specs.Squares.{Rows}
+use Rattle.sok_rules.specs.Play.{After, Position, run, start, step}
+use Rattle.sok_rules.specs.Replay.{IsTally, IsBlockedAt}
+use Rattle.sok_text.specs.declared.lurd.LurdFault.{LurdFault}
+use Rattle.sok_text.specs.declared.lurd.LurdFault.TheVariants as lurd
+use Rattle.sok_text.specs.Collections.{blocks_of, level_at}
+use Rattle.sok_text.specs.Lurd.{Spells, GoesWrong}
+use Rattle.sok_text.proofs.Letters.{Spells-one, GoesWrong-one, Spells-GoesWrong}
+use Rattle.sok_engine.specs.declared.fault.ToolFault.{ToolFault}
+use Rattle.sok_engine.specs.declared.fault.ToolFault.TheVariants as tool
+use Rattle.sok_engine.specs.Faults.{of_lurd}
+use Rattle.sok_play.specs.Plays.{IsReplay, IsPlayedAnswer, IsPlayFault, tally_answer}
+use Rattle.sok_engine.specs.Written.{HasOne}
+use Rattle.sok_engine.proofs.Unique.{OnLevel-one}
+
+-- a list with an illegal letter stays illegal, however it goes on
+none_longer : (rows : Rows) (w : List Dir) (x : Position) (n m : ℕ) → n ≤ m → IsNone (run rows x (take n w)) → IsNone (run rows x (take m w))
+none_longer rows w x zero m shorter none = absurd (true≢false none)
+none_longer rows [] x (suc n) m shorter none = absurd (true≢false none)
+none_longer rows (d ∷ w) x (suc n) zero shorter none = absurd (omega arith)
+none_longer rows (d ∷ w) x (suc n) (suc m) shorter none =
+    elim (step rows d x) as (λ o. IsNone (option_and_then (λ (after : After). run rows after.position (take n w)) o)
+    → IsNone (option_and_then (λ (after : After). run rows after.position (take m w)) o)) [
+      | None ↦ λ still. still
+      | Some a ↦ none_longer rows w a.position n m (omega arith)
+    ] none
+
+-- the place of the first illegal letter is no later than any other such place
+blocked_order : (rows : Rows) (w : List Dir) (i j : ℕ) → IsBlockedAt rows w i → IsBlockedAt rows w j → i < j → ⊥
+blocked_order rows w i j a b less =
+    true≢false (sym b.legal ∙ none_longer rows w (start rows) (i + 1) j (omega arith) a.blocked)
+
+blocked_one : (rows : Rows) (w : List Dir) (i j : ℕ) → IsBlockedAt rows w i → IsBlockedAt rows w j → i ≡ j
+blocked_one rows w i j a b = elim (cases_Bool (nat_lt i j)) [
+  | inl less ↦ absurd (blocked_order rows w i j a b (grind (arith, nat_tests)))
+  | inr more ↦ elim (cases_Bool (nat_lt j i)) [
+    | inl less ↦ absurd (blocked_order rows w j i b a (grind (arith, nat_tests)))
+    | inr same ↦ grind (arith, nat_tests)
+  ]
+]
+
+blocked_not_legal : (rows : Rows) (w : List Dir) (i : ℕ) → IsBlockedAt rows w i → IsSome (run rows (start rows) w) → ⊥
+blocked_not_legal rows w i blocked legal =
+    let within : i < length w = blocked.within in
+    let none = none_longer rows w (start rows) (i + 1) (length w) (omega arith) blocked.blocked in
+    true≢false (sym legal ∙ subst (λ v. IsNone (run rows (start rows) v)) (take_all (length w) w (omega arith)) none)
+
+same_bool : (a b : Bool) → (IsTrue a → IsTrue b) → (IsTrue b → IsTrue a) → a ≡ b
+same_bool true true there back = refl
+same_bool true false there back = absurd (true≢false (sym (there refl)))
+same_bool false true there back = absurd (true≢false (sym (back refl)))
+same_bool false false there back = refl
+
+tally_one : (rows : Rows) (w : List Dir) (a b : Tally) → IsTally rows w a → IsTally rows w b → a ≡ b
+tally_one rows w a b is_a is_b =
+    let solved = same_bool a.solved b.solved (λ yes. is_b.solved.1 (is_a.solved.0 yes)) (λ yes. is_a.solved.1 (is_b.solved.0 yes)) in
+    let pushes = is_a.pushes ∙ sym is_b.pushes in
+    let moves = is_a.moves ∙ sym is_b.moves in
+    λ i. record { solved = solved i; pushes = pushes i; moves = moves i }
+
+-- why a text is not played: it goes wrong, or one of its letters is not legal
+data Fails (rows : Rows) (text : List ℕ) (fault : ToolFault) : Type 0 where
+  wrong : (f : LurdFault) → GoesWrong text f → fault ≡ of_lurd f → Fails rows text fault
+  blocked : (w : List Dir) (at : ℕ) → Spells text w → IsBlockedAt rows w at → fault ≡ tool.Blocked at → Fails rows text fault
+
+fails : (rows : Rows) (text : List ℕ) (fault : ToolFault) → IsPlayFault rows text fault → Fails rows text fault
+fails rows text (tool.BadLetter at) h = wrong (lurd.BadLetter at) h refl
+fails rows text tool.TooLong h = wrong lurd.TooLong h refl
+fails rows text (tool.Blocked at) h = blocked h.0 at h.1 h.2 refl
+fails rows text _ h = absurd h
+
+fails_one : (rows : Rows) (text : List ℕ) (f g : ToolFault) → Fails rows text f → Fails rows text g → f ≡ g
+fails_one rows text f g (wrong a goes_a is_f) (wrong b goes_b is_g) = is_f ∙ ap of_lurd (GoesWrong-one text a b goes_a goes_b) ∙ sym is_g
+fails_one rows text f g (wrong a goes_a is_f) (blocked w j spells block is_g) = absurd (Spells-GoesWrong text w a spells goes_a)
+fails_one rows text f g (blocked v i spells block is_f) (wrong b goes_b is_g) = absurd (Spells-GoesWrong text v b spells goes_b)
+fails_one rows text f g (blocked v i spells_v block_v is_f) (blocked w j spells_w block_w is_g) =
+    let same = Spells-one text v w spells_v spells_w in
+    is_f ∙ ap tool.Blocked (blocked_one rows w i j (subst (λ u. IsBlockedAt rows u i) same block_v) block_w) ∙ sym is_g
+
+-- a text that is played does not fail
+played_or_fails : (rows : Rows) (text : List ℕ) (v : List Dir) (tally : Tally) (g : ToolFault) → Spells text v → IsTally rows v tally → Fails rows text g → ⊥
+played_or_fails rows text v tally g spells is (wrong b goes is_g) = Spells-GoesWrong text v b spells goes
+played_or_fails rows text v tally g spells is (blocked w j spells_w block is_g) =
+    blocked_not_legal rows w j block (subst (λ u. IsSome (run rows (start rows) u)) (Spells-one text v w spells spells_w) is.legal)
+
+IsPlayedAnswer-one : (text : List ℕ) (rows : Rows) → HasOne (IsPlayedAnswer text rows)
+IsPlayedAnswer-one text rows (Ok a) (Ok b) is_a is_b =
+    let (s, (v, spells_v, tally_v), a_is) = is_a in
+    let (t, (w, spells_w, tally_w), b_is) = is_b in
+    let same = Spells-one text v w spells_v spells_w in
+    ap Ok (a_is ∙ ap tally_answer (tally_one rows w s t (subst (λ u. IsTally rows u s) same tally_v) tally_w) ∙ sym b_is)
+IsPlayedAnswer-one text rows (Ok a) (Err g) is_a is_b =
+    let (s, (v, spells, tally), a_is) = is_a in absurd (played_or_fails rows text v s g spells tally (fails rows text g is_b))
+IsPlayedAnswer-one text rows (Err f) (Ok b) is_a is_b =
+    let (t, (w, spells, tally), b_is) = is_b in absurd (played_or_fails rows text w t f spells tally (fails rows text f is_a))
+IsPlayedAnswer-one text rows (Err f) (Err g) is_a is_b = ap Err (fails_one rows text f g (fails rows text f is_a) (fails rows text g is_b))
+
+pub IsReplay-one : (n : ℕ) (text bytes : List ℕ) → HasOne (IsReplay n text bytes)
+IsReplay-one n text bytes = OnLevel-one _ (IsPlayedAnswer-one text) (level_at (blocks_of bytes) n)

@@ -1,0 +1,12 @@
+use Rattle.std.proofs.Common.{◌≤◌, subst, Contains, arith, rules, length, below_more}
+use Rattle.std.proofs.lemmas.List.{get_or_default}
+use Rattle.sok_price.proofs.settle.missing.Goals as goal
+
+pub loop-square-preserved : goal.loop-square-preserved
+loop-square-preserved c = below_more _ _ c.loop-square.invariant (c.if-not-has_row.ensures.0 (search rules))
+
+pub returns : goal.returns
+returns c = λ k d within.
+    let boxes = c.args.boxes.now in
+    let all : length boxes ≤ c.loop-square.square-index = let past = c.loop-square-test.false in omega arith in
+    subst (Contains c.args.rows.now) (get_or_default boxes k 0 d within) (c.loop-square.invariant k (omega (arith, within, all)))

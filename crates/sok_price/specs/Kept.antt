@@ -1,0 +1,89 @@
+-- A matching with a row for each goal of a board: rows of boxes, and spare rows that cost nothing.
+use Rattle.std.specs.Prelude.{ℕ, ◌≡◌, ◌≢◌, ◌≤◌, ◌<◌, ◌+◌, ◌*◌, List, Option, Some, None, All, Contains, length, slice_index, sum}
+use Rattle.sok_board.specs.Area.{Numbered, goals_of}
+use Rattle.sok_price.specs.declared.costs.Costs.{Costs}
+use Rattle.sok_price.specs.declared.search.Search.{Search}
+use Rattle.sok_price.specs.Costs.{cost_in, TellsCost}
+use Rattle.sok_price.specs.Exchanges.{IsWhole}
+use Rattle.sok_price.specs.Searches.{growth_of, HasRoom, IsRoomy}
+use Rattle.sok_region.specs.BoxSets.{IsMoved}
+use Rattle.sok_price.specs.Prices.{Priced, IsAssignment, IsCrowd}
+
+-- entries for each square of a board, and a last row that costs nothing
+pub record AreTabled (b : Numbered) (goals : ℕ) (entries : List (Option ℕ)) : Type 0 where
+  pub goals_are : goals ≡ length (goals_of b)
+  pub whole : length entries ≡ (length b.area + 1) * goals
+  pub told : (square goal : ℕ) → square < length b.area → goal < goals → TellsCost b goal square (cost_in goals entries square goal)
+  pub spare : (goal : ℕ) → goal < goals → cost_in goals entries (length b.area) goal ≡ Some 0
+
+-- rows of boxes on squares before an end, no two of them on one, and spare rows
+pub record AreRows (end : ℕ) (rows : List ℕ) : Type 0 where
+  pub within : (k : ℕ) → k < length rows → slice_index rows k ≤ end
+  pub apart : (i j : ℕ) → i < j → j < length rows → slice_index rows i < end → slice_index rows i ≢ slice_index rows j
+
+-- each row that is not spare is that of a box of a list
+abbrev pub AreOf : ℕ → List ℕ → List ℕ → Type 0
+AreOf end rows boxes = (k : ℕ) → k < length rows → slice_index rows k < end → Contains boxes (slice_index rows k)
+
+-- the rows are those of the boxes of a list, all of them, and spare rows
+pub record AreExactly (end : ℕ) (rows boxes : List ℕ) : Type 0 where
+  pub of : AreOf end rows boxes
+  pub each : All (Contains rows) boxes
+
+-- rows of all boxes of a list in order, and then spare rows
+pub record AreListed (end members : ℕ) (boxes rows : List ℕ) : Type 0 where
+  pub whole : length rows ≡ members
+  pub front : (k : ℕ) → k < length boxes → slice_index rows k ≡ slice_index boxes k
+  pub back : (k : ℕ) → length boxes ≤ k → k < members → slice_index rows k ≡ end
+
+-- a row is to be exchanged for another that is not there
+pub record IsChange (end : ℕ) (rows : List ℕ) (row entry : ℕ) : Type 0 where
+  pub within : row < length rows
+  pub below : entry ≤ end
+  pub fresh : entry < end → (k : ℕ) → k < length rows → slice_index rows k ≢ entry
+
+-- costs with a row for each goal of a board
+pub record AreKept (b : Numbered) (costs : Costs) : Type 0 where
+  pub tabled : AreTabled b costs.goals costs.entries.items
+  pub square : costs.members ≡ costs.goals
+  pub rows : AreRows (length b.area) costs.rows.items
+
+-- lists of prices and scratch lists with an entry for each row or goal, and room for a tree and the rows' goals
+pub record IsShaped (members goals : ℕ) (search : Search) : Type 0 where
+  pub a_price_a_box : length search.u.items ≡ members
+  pub a_price_a_goal : length search.v.items ≡ goals
+  pub roomy : IsRoomy members goals (growth_of search)
+  pub room : HasRoom members search
+
+-- a matching of the boxes of a list, whose prices are low enough for one more exchange
+pub record IsSettled (end : ℕ) (boxes : List ℕ) (costs : Costs) (search : Search) : Type 0 where
+  pub whole : IsWhole costs search
+  pub low : search.floor ≤ 268435456
+  pub exactly : AreExactly end costs.rows.items boxes
+
+-- some prices prove a number of all boxes whose list has those of the rows
+abbrev pub IsProved : Numbered → List ℕ → ℕ → Type 0
+IsProved b rows n = (boxes : List ℕ) → All (λ square. square < length b.area) boxes → AreOf (length b.area) rows boxes → (u v : List ℕ) × Priced b boxes u v n
+
+-- all boxes whose list has those of the rows have a crowd
+abbrev pub IsCrowded : Numbered → List ℕ → Type 0
+IsCrowded b rows = (boxes : List ℕ) → All (λ square. square < length b.area) boxes → AreOf (length b.area) rows boxes
+    → (members : List ℕ) × IsCrowd b boxes members
+
+-- what is told of boxes: a number that some prices prove, and None where there is a crowd
+abbrev pub IsBounded : Numbered → List ℕ → Option ℕ → Type 0
+IsBounded b boxes None = (members : List ℕ) × IsCrowd b boxes members
+IsBounded b boxes (Some n) = (u v : List ℕ) × Priced b boxes u v n
+
+-- an assignment of the boxes costs a number
+abbrev pub IsCost : Numbered → List ℕ → ℕ → Type 0
+IsCost b boxes n = (goal_of distances : List ℕ) × IsAssignment b boxes goal_of distances × (sum distances ≡ n)
+
+-- a box of a list that has the rows' boxes is moved, by its row, to a square where no box is
+pub record IsMovedTo (b : Numbered) (rows : List ℕ) (row to : ℕ) (boxes after : List ℕ) : Type 0 where
+  pub of : AreOf (length b.area) rows boxes
+  pub from : slice_index rows row < length b.area
+  pub within : to < length b.area
+  pub free : (k : ℕ) → k < length rows → slice_index rows k ≢ to
+  pub moved : IsMoved boxes (slice_index rows row) to after
+  pub exist : All (λ square. square < length b.area) after

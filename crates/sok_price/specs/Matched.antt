@@ -1,0 +1,65 @@
+-- A matching that is kept, as it is seen from outside.
+use Rattle.std.specs.Prelude.{ℕ, ◌≡◌, ◌≤◌, ◌<◌, ◌+◌, ◌*◌, List, Option, Some, None, Bool, true, Contains, length, sum, ◌^◌}
+use Rattle.sok_board.specs.Area.{Numbered}
+use Rattle.sok_price.specs.declared.costs.Costs.{Costs}
+use Rattle.sok_price.specs.declared.search.Search.{Search}
+use Rattle.sok_price.specs.Costs.{AreCosts}
+use Rattle.sok_price.specs.Exchanges.{IsWhole}
+use Rattle.sok_price.specs.Kept.{AreExactly, AreKept, IsBounded, IsCost, IsShaped}
+use Rattle.sok_price.specs.Searches.{KeepsRoom, growth_of}
+
+-- what is seen of a matching: its costs, its prices and goals, and whether they are those of boxes
+pub record Kept : Type 0 where
+  pub squares : ℕ
+  pub costs : Costs
+  pub search : Search
+  pub matched : Bool
+
+-- what always holds of a matching: where all rows have goals, no price is near its limit
+pub record IsSound (squares : ℕ) (costs : Costs) (search : Search) (matched : Bool) (trial : Search) (rows : List ℕ) : Type 0 where
+  pub shaped : AreCosts costs
+  pub square : costs.members ≡ costs.goals
+  pub small : squares ≤ 1024
+  pub entries : (squares + 1) * costs.goals ≤ length costs.entries.items
+  pub search_shaped : IsShaped costs.members costs.goals search
+  pub trial_shaped : IsShaped costs.members costs.goals trial
+  pub as_many : length rows ≡ costs.members
+  pub whole : matched ≡ true → IsWhole costs search
+  pub low : matched ≡ true → search.floor ≤ 268435456
+
+-- a matching is for the boxes of a board
+pub record Serves (b : Numbered) (kept : Kept) : Type 0 where
+  pub squares : kept.squares ≡ length b.area
+  pub costs : AreKept b kept.costs
+
+-- a matching of some boxes of a board
+pub record Holds (b : Numbered) (boxes : List ℕ) (kept : Kept) : Type 0 where
+  pub serves : Serves b kept
+  pub matched : kept.matched ≡ true
+  pub exactly : AreExactly (length b.area) kept.costs.rows.items boxes
+
+-- what is told of boxes: the least total, that prices prove and an assignment costs, and None where there is a crowd
+abbrev pub TellsLeast : Numbered → List ℕ → Option ℕ → Type 0
+TellsLeast b boxes None = IsBounded b boxes None
+TellsLeast b boxes (Some total) = IsBounded b boxes (Some total) × IsCost b boxes total
+
+-- a box of a matching may be moved to a square where no box is
+pub record CanMove (kept : Kept) (from to : ℕ) : Type 0 where
+  pub b : Numbered
+  pub boxes : List ℕ
+  pub holds : Holds b boxes kept
+  pub there : Contains boxes from
+  pub exists : from < length b.area
+  pub free : Contains boxes to → ⊥
+  pub within : to < length b.area
+
+-- prices and goals of one search in another, which keeps its scratch lists
+pub record IsCopied (from before after : Search) : Type 0 where
+  pub same : growth_of after ≡ record (growth_of before) { u = from.u.items; v = from.v.items; goal_of = from.goal_of.items; floor = from.floor }
+  pub room : KeepsRoom before after
+
+-- prices whose sums fit, the rows' no less than the goals' and not far above
+pub record HasWorth (search : Search) : Type 0 where
+  pub fits : sum search.u.items < 2 ^ 64
+  pub covered : sum search.v.items ≤ sum search.u.items
+  pub small : sum search.u.items < sum search.v.items + 2 ^ 32

@@ -1,0 +1,110 @@
+//! A row of a matching that is exchanged for another.
+
+ghost use Rattle.std.specs.Prelude.{
+  vec_capacity,
+  ℕ,
+  ◌≡◌,
+  ◌≢◌,
+  ◌<◌,
+  ◌≤◌,
+  ◌+◌,
+  ◌*◌,
+  All,
+  AllPairs,
+  length,
+  slice_index,
+};
+ghost use Rattle.sok_price.specs.Costs.{cost_of, AreCosts};
+ghost use Rattle.sok_price.specs.Exchanges.{moved_from, AreMoved, AreExchanged, IsWhole, Tells};
+ghost use Rattle.sok_price.specs.Searches.{growth_of, HasRoom, IsReady, KeepsRoom};
+
+use crate::costs::Costs;
+use crate::search::{Search, match_all};
+
+/// Exchanges a row: the last one takes its place, and a new one is the last.
+fn put_row(row: usize, entry: usize, rows: &mut Vec<usize>)
+    requires { row < length rows.old.items }
+    ensures { AreMoved row entry rows.old.items rows.new.items }
+{
+    let last = rows.len() - 1;
+    rows.swap(row, last);
+    rows[last] = entry;
+}
+
+/// Exchanges a price: the last one takes its place, and 0 is the last.
+fn put_price(row: usize, prices: &mut Vec<u32>)
+    requires { row < length prices.old.items }
+    ensures { AreMoved row 0 prices.old.items prices.new.items }
+{
+    let last = prices.len() - 1;
+    prices.swap(row, last);
+    prices[last] = 0;
+}
+
+/// Takes a goal away: the last one takes its place.
+fn free_goal(row: usize, goal_of: &mut Vec<usize>)
+    requires { row < length goal_of.old.items }
+    ensures fewer { length goal_of.new.items + 1 ≡ length goal_of.old.items }
+    ensures room { vec_capacity goal_of.old ≤ vec_capacity goal_of.new }
+    ensures moved { (k : ℕ) → k < length goal_of.new.items
+        → slice_index goal_of.new.items k ≡ slice_index goal_of.old.items
+        (moved_from row (length goal_of.new.items) k) }
+    ensures apart { AllPairs ◌≢◌ goal_of.old.items → AllPairs ◌≢◌ goal_of.new.items }
+{
+    let last = goal_of.len() - 1;
+    goal_of.swap(row, last);
+    goal_of.truncate(last);
+}
+
+/// The highest of a floor and some prices.
+fn highest(floor: u32, prices: &[u32]) -> u32
+    ensures risen { floor ≤ result }
+    ensures top { All (λ price. price ≤ result) prices.now }
+    ensures least { (limit : ℕ) → floor ≤ limit → All (λ price. price ≤ limit) prices.now
+        → result ≤ limit }
+{
+    let mut high = floor;
+    for price in prices {
+        if high < *price {
+            high = *price;
+        }
+    }
+    high
+}
+
+/// Exchanges a row of a matching, which has no goal yet. The floor rises to the highest price of a
+/// goal, since the goal that the old row had keeps its price.
+fn open_row(row: usize, entry: usize, costs: &mut Costs, search: &mut Search)
+    requires whole { IsWhole costs.old search.old }
+    requires row { row < costs.old.members }
+    requires entry { (entry + 1) * costs.old.goals ≤ length costs.old.entries.items }
+    requires low { search.old.floor ≤ 268435456 }
+    ensures costs { AreCosts costs.new }
+    ensures exchanged { AreExchanged row entry costs.old costs.new }
+    ensures ready { IsReady (cost_of costs.new) costs.new.members costs.new.goals
+        (growth_of search.new) }
+    ensures fewer { length search.new.goal_of.items + 1 ≡ costs.new.members }
+    ensures room { KeepsRoom search.old search.new }
+{
+    put_row(row, entry, &mut costs.rows);
+    put_price(row, &mut search.u);
+    free_goal(row, &mut search.goal_of);
+    search.floor = highest(search.floor, &search.v);
+}
+
+/// Exchanges a row of a matching, and matches it anew by one augmenting path. False where there is
+/// none.
+pub(crate) fn exchange(row: usize, entry: usize, costs: &mut Costs, search: &mut Search) -> bool
+    requires whole { IsWhole costs.old search.old }
+    requires room { HasRoom costs.old.members search.old }
+    requires row { row < costs.old.members }
+    requires entry { (entry + 1) * costs.old.goals ≤ length costs.old.entries.items }
+    requires low { search.old.floor ≤ 268435456 }
+    ensures costs { AreCosts costs.new }
+    ensures exchanged { AreExchanged row entry costs.old costs.new }
+    ensures tells { Tells costs.new search.new result }
+    ensures room { HasRoom costs.old.members search.new }
+{
+    open_row(row, entry, costs, search);
+    match_all(costs, search)
+}

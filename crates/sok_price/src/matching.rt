@@ -1,0 +1,218 @@
+//! A matching that is kept from one set of boxes to the next.
+
+ghost use Rattle.std.specs.Prelude.{
+  ℕ,
+  List,
+  ◌≡◌,
+  ◌<◌,
+  ◌≤◌,
+  ◌+◌,
+  ◌^◌,
+  vec_capacity,
+  All,
+  Contains,
+  IfOk,
+  IfSome,
+  length,
+  slice_index,
+  sum,
+};
+ghost use Rattle.std.specs.List.Sorted.{IsStrictlyIncreasing};
+ghost use Rattle.sok_board.specs.Area.{Numbered};
+ghost use Rattle.sok_region.specs.BoxSets.{IsMoved};
+ghost use Rattle.sok_price.specs.Searches.{growth_of};
+ghost use Rattle.sok_price.specs.Matches.{IsMatch};
+ghost use Rattle.sok_price.specs.Matched.{CanMove, HasWorth, Holds, IsCopied, Serves, TellsLeast};
+
+use crate::assign::{Match, assign_rows};
+use crate::costs::Costs;
+use crate::exchange::exchange;
+use crate::search::Search;
+use crate::settle::match_boxes;
+use sok_board::area::Sq;
+use sok_board::board::Board;
+use sok_push::tables::Tables;
+use sok_region::box_set::BoxSet;
+use sok_rules::fault::Memory;
+use std::alloc::Global;
+use std::marker::Model;
+use std::mem;
+
+/// Boxes matched to goals at the least total distance, with prices that prove it, kept from one set
+/// of boxes to the next: there is a row for each goal of the board, and the rows to which no box is
+/// matched cost nothing. `set` and `bound_after` ask for no memory.
+#[derive(Drop)]
+pub struct Matching {
+    squares: usize,
+    costs: Costs,
+    search: Search,
+    matched: bool,
+    trial: Search,
+    trial_rows: Vec<usize>,
+}
+
+impl Model for Matching {
+    ghost use Rattle.sok_price.specs.Matched.{Kept, IsSound};
+
+    ghost Value = { Kept };
+
+    ghost view = { λ m. record {
+      squares = m.squares;
+      costs = m.costs;
+      search = m.search;
+      matched = m.matched;
+    } };
+
+    ghost invariant = { λ m. IsSound m.squares m.costs m.search m.matched m.trial
+        m.trial_rows.items };
+}
+
+impl Matching {
+    /// A matching for a board of which some tables were made, with no boxes matched yet. It refuses
+    /// only for want of memory.
+    pub fn new(alloc: Global, board: &Board, tables: &Tables) -> Result<Matching, Memory>
+        requires tables { tables.now.board ≡ board.now }
+        ensures serves { IfOk result (Serves board.now) }
+    {
+        let goals = tables.goals();
+        let squares = board.squares();
+        Ok(Matching {
+            squares,
+            costs: Costs::tabled(alloc, tables, goals, squares)?,
+            search: Search::new(alloc, goals, goals)?,
+            matched: false,
+            trial: Search::new(alloc, goals, goals)?,
+            trial_rows: vec![in alloc; squares; goals]?,
+        })
+    }
+
+    /// Matches some boxes and tells the least total of their distances to goals of their own. None
+    /// where they have a crowd. A box that was matched before keeps its goal, and one augmenting
+    /// path is looked for for each of the others.
+    pub fn set(&mut self, boxes: &BoxSet) -> Option<u32>
+        requires exist { All (λ square. square < self.old.squares) boxes.now }
+        ensures serves { (b : Numbered) → Serves b self.old → Serves b self.new }
+        ensures least { (b : Numbered) → Serves b self.old → TellsLeast b boxes.now result }
+        ensures holds { (b : Numbered) → Serves b self.old
+            → IfSome result (λ _. Holds b boxes.now self.new) }
+    {
+        let boxes = boxes.list();
+        if boxes.len() > self.costs.members {
+            return None;
+        }
+        self.matched = match_boxes(
+            self.squares,
+            boxes,
+            self.matched,
+            &mut self.costs,
+            &mut self.search,
+        );
+        if !self.matched {
+            return None;
+        }
+        Some(worth(&self.search))
+    }
+
+    /// The least total of the boxes with one of them moved to a square where no box is, by one
+    /// augmenting path. None where they have a crowd. Matching and prices stay as they are.
+    pub fn bound_after(&mut self, from: Sq, to: Sq) -> Option<u32>
+        requires moves { CanMove self.old from to }
+        ensures same { self.new ≡ self.old }
+        ensures least { (b : Numbered) (boxes after : List ℕ) → Holds b boxes self.old
+            → IsMoved boxes from to after → All (λ square. square < length b.area) after
+            → IsStrictlyIncreasing after → TellsLeast b after result }
+    {
+        let row = row_of(&self.costs.rows, from as usize);
+        self.trial_rows.copy_from_slice(&self.costs.rows);
+        copy_matching(&self.search, &mut self.trial);
+        mem::swap(&mut self.costs.rows, &mut self.trial_rows);
+        let matched = exchange(row, to as usize, &mut self.costs, &mut self.trial);
+        mem::swap(&mut self.costs.rows, &mut self.trial_rows);
+        if !matched {
+            return None;
+        }
+        Some(worth(&self.trial))
+    }
+
+    /// The least assignment of goals to some boxes with prices that prove it, or a crowd of them,
+    /// as `assign` gives it. The matching stays as it was. It refuses only for want of memory.
+    pub fn assign(&mut self, alloc: Global, boxes: &BoxSet) -> Result<Match, Memory>
+        requires exist { All (λ square. square < self.old.squares) boxes.now }
+        ensures same { self.new ≡ self.old }
+        ensures least { (b : Numbered) → Serves b self.old → IfOk result (IsMatch b boxes.now) }
+    {
+        let boxes = boxes.list();
+        let mut rows = rows_of(alloc, boxes)?;
+        let members = self.costs.members;
+        mem::swap(&mut self.costs.rows, &mut rows);
+        self.costs.members = boxes.len();
+        let found = assign_rows(alloc, &self.costs);
+        self.costs.members = members;
+        mem::swap(&mut self.costs.rows, &mut rows);
+        found
+    }
+}
+
+/// The squares of some boxes, as rows.
+fn rows_of(alloc: Global, boxes: &[Sq]) -> Result<Vec<usize>, Memory>
+    ensures whole { IfOk result (λ rows. length rows.items ≡ length boxes.now) }
+    ensures each { IfOk result (λ rows. (k : ℕ) → k < length boxes.now
+        → slice_index rows.items k ≡ slice_index boxes.now k) }
+{
+    let mut rows = Vec::with_capacity(alloc, boxes.len())?;
+    for square in boxes {
+        rows.push(*square as usize)?;
+    }
+    Ok(rows)
+}
+
+/// The row of a box.
+fn row_of(rows: &[usize], square: usize) -> usize
+    requires { Contains rows.now square }
+    ensures within { result < length rows.now }
+    ensures row { slice_index rows.now result ≡ square }
+{
+    for (k, row) in rows.iter().enumerate() {
+        if *row == square {
+            return k;
+        }
+    }
+    unreachable!()
+}
+
+/// Copies goals and prices to another search.
+fn copy_matching(from: &Search, to: &mut Search)
+    requires boxes { length to.old.u.items ≡ length from.now.u.items }
+    requires goals { length to.old.v.items ≡ length from.now.v.items }
+    requires room { length from.now.goal_of.items ≤ vec_capacity to.old.goal_of }
+    ensures copied { IsCopied from.now to.old to.new }
+{
+    to.u.copy_from_slice(&from.u);
+    to.v.copy_from_slice(&from.v);
+    to.goal_of.clear();
+    match to.goal_of.extend_from_slice(&from.goal_of) {
+        Ok(()) => {}
+        Err(_) => unreachable!(),
+    }
+    to.floor = from.floor;
+}
+
+/// The sum of some prices.
+fn sum_of(prices: &[u32]) -> u64
+    requires { sum prices.now < 2 ^ 64 }
+    ensures { result ≡ sum prices.now }
+{
+    let mut all: u64 = 0;
+    for price in prices {
+        all += u64::from(*price);
+    }
+    all
+}
+
+/// What the rows cost less what the goals cost.
+fn worth(search: &Search) -> u32
+    requires { HasWorth search.now }
+    ensures { result + sum search.now.v.items ≡ sum search.now.u.items }
+{
+    (sum_of(&search.u) - sum_of(&search.v)) as u32
+}

@@ -1,0 +1,163 @@
+//! Which levels a text holds, their titles and their texts.
+
+use sok_rules::cell::Cell;
+use sok_rules::fault::LevelFault;
+use sok_rules::level::Level;
+use sok_sketch::sketch;
+use sok_text::collection::Collection;
+use sok_text::print::print_level;
+use std::alloc::{AllocError, Global};
+use std::test::Fail;
+
+/// The text of a level's rows.
+fn drawn(alloc: Global, level: &Level) -> Result<String, AllocError> {
+    let mut text = String::new(alloc);
+    for row in level.rows() {
+        for cell in row {
+            text.push_str(match cell {
+                Cell::Wall => "#",
+                Cell::Floor => " ",
+                Cell::Goal => ".",
+                Cell::BoxOff => "$",
+                Cell::BoxOn => "*",
+                Cell::ManOff => "@",
+                Cell::ManOn => "+",
+            })?;
+        }
+        text.push_str("\n")?;
+    }
+    Ok(text)
+}
+
+/// Levels of a text by their numbers, or why there are none.
+#[test]
+fn levels_by_their_numbers(rt: HostRuntime) -> Result<(), Fail> {
+    let notes: &[u8] =
+        b"; First\n#####\n#@$.#\n#####\n\n######\n#@$@.#\n######\n\n#####\n#@$.#\n#####\nTitle: Third";
+    let returns: &[u8] = b"-#####\r\n-#@$.#\r\n-#####\r\n";
+    for (text, n, told) in [
+        (notes, 0, Err(LevelFault::NoSuchLevel)),
+        (notes, 1, Ok(sketch::ONE_PUSH)),
+        (notes, 2, Err(LevelFault::ManyPlayers)),
+        (notes, 3, Ok(sketch::ONE_PUSH)),
+        (notes, 4, Err(LevelFault::NoSuchLevel)),
+        (returns, 1, Ok(" #####\n #@$.#\n #####\n")),
+        (returns, 2, Err(LevelFault::NoSuchLevel)),
+        (sketch::NO_PLAYER.as_bytes(), 1, Err(LevelFault::NoPlayer)),
+        (
+            sketch::TWO_PLAYERS_ONE_ON_A_GOAL.as_bytes(),
+            1,
+            Err(LevelFault::ManyPlayers),
+        ),
+        (sketch::NO_BOX.as_bytes(), 1, Err(LevelFault::NoBox)),
+        // the first in the order of refusal
+        (
+            sketch::NEITHER_PLAYER_NOR_BOX.as_bytes(),
+            1,
+            Err(LevelFault::NoPlayer),
+        ),
+    ] {
+        match Collection::read(rt.alloc(), text)?.level(rt.alloc(), n) {
+            Ok(level) => {
+                let rows = drawn(rt.alloc(), &level)?;
+                assert!(rt; told == Ok(rows.as_str()), "level {n}");
+            }
+            Err(fault) => assert!(rt; told == Err(fault), "level {n}"),
+        }
+    }
+    Ok(())
+}
+
+/// A title stands behind `Title:` after a board, or else in the last note before it.
+#[test]
+fn titles_by_their_numbers(rt: HostRuntime) -> Result<(), Fail> {
+    let text: &[u8] =
+        b"; First\n#####\n#@$.#\n#####\n\n######\n#@$@.#\n######\n\n#####\n#@$.#\n#####\nTitle: Third";
+    let collection = Collection::read(rt.alloc(), text)?;
+    for (n, title) in [
+        (0, None),
+        (1, Some(b"First".as_slice())),
+        (2, None),
+        (3, Some(b"Third".as_slice())),
+        (4, None),
+    ] {
+        assert!(rt; collection.title(n) == title, "level {n}");
+    }
+    Ok(())
+}
+
+/// Each row is printed with LF behind it, and without the floor at its end.
+#[test]
+fn level_is_printed(rt: HostRuntime) -> Result<(), Fail> {
+    let level = sketch::level(rt.alloc(), "####\n#@$.#  \n#####\n")?;
+    let text = print_level(rt.alloc(), &level)?;
+    assert_eq!(rt; text.as_slice(), b"####\n#@$.#\n#####\n".as_slice());
+    Ok(())
+}
+
+/// Of all texts of one byte a wall alone is a board, and it has no player.
+#[test]
+fn single_bytes(rt: HostRuntime) -> Result<(), Fail> {
+    for byte in 0..=u8::MAX {
+        let text = [byte];
+        let collection = Collection::read(rt.alloc(), &text)?;
+        let fault = collection.level(rt.alloc(), 1).err();
+        let (levels, told) = if byte == b'#' {
+            (1, LevelFault::NoPlayer)
+        } else {
+            (0, LevelFault::NoSuchLevel)
+        };
+        assert_eq!(rt; collection.len(), levels, "byte {byte}");
+        assert_eq!(rt; fault, Some(told), "byte {byte}");
+    }
+    Ok(())
+}
+
+/// How many levels a text has, and how many rows the first one.
+#[test]
+fn board_lines_and_notes(rt: HostRuntime) -> Result<(), Fail> {
+    for (text, levels, rows) in [
+        (b"".as_slice(), 0, None),
+        (b"#####\n#@$.#\n#####", 1, Some(3)),
+        (b"#####\n#@$.#\n#####\r", 1, Some(2)),
+        (b"#####\n#@$.#\n#####\r\r\n", 1, Some(2)),
+        (
+            b"; one\r\n#####\r\n#@$.#\r\n\r\n#@$.#\r\nTitle: two\r\n",
+            2,
+            Some(2),
+        ),
+        (b"#####\n#@$.#\n\n#####\n", 2, Some(2)),
+        (b"#####\n#@$.#\n \t\n#####\n", 2, Some(2)),
+        (b"#####\n#@$.#\n;####\n#####\n", 2, Some(2)),
+        (b"#####\n#@$.#\n@ $ .\n#####\n", 2, Some(2)),
+        (b"#####\n#@$.#\n#p$.#\n#####\n", 2, Some(2)),
+        (b"#####\n#@$.#\n#\t$.#\n#####\n", 2, Some(2)),
+        (b"#@$.#\n\xef\xbb\xbf#####\n", 1, Some(1)),
+        (b"\xef\xbb\xbf#####\n#@$.#\n", 1, Some(1)),
+        (b"\xff\x00\n#_@-$ *  .#\n", 1, Some(1)),
+        (b"#@$.#\r#####\n", 0, None),
+    ] {
+        let collection = Collection::read(rt.alloc(), text)?;
+        assert_eq!(rt; collection.len(), levels, "in {text:?}");
+        match collection.level(rt.alloc(), 1) {
+            Ok(level) => assert!(rt; rows == Some(level.rows().len()), "in {text:?}"),
+            Err(_) => assert!(rt; rows.is_none(), "in {text:?}"),
+        }
+    }
+    Ok(())
+}
+
+/// Some 100,000 small levels in 16 MiB.
+#[test]
+fn sixteen_mebibytes_of_small_levels(rt: HostRuntime) -> Result<(), Fail> {
+    let small =
+        b"; A level of the microscopic kind, number one\n####\n# .#\n#  ###\n#*@  #\n#  $ #\n#  ###\n####\nAuthor: nobody in particular, and nothing else is known of it, nor of it\n\n";
+    let times = 16 * 1024 * 1024 / small.len();
+    let text = small.repeat(rt.alloc(), times)?;
+    let collection = Collection::read(rt.alloc(), &text)?;
+    assert_eq!(rt; collection.len(), times);
+    assert_eq!(rt; collection.level(rt.alloc(), times)?.rows().len(), 7);
+    let fault = collection.level(rt.alloc(), times + 1).err();
+    assert_eq!(rt; fault, Some(LevelFault::NoSuchLevel));
+    Ok(())
+}

@@ -1,0 +1,177 @@
+//! What replaying a text tells, and play letter by letter with undo and redo.
+
+use sok_rules::cell::{Dir, Spot};
+use sok_rules::fault::PlayFault;
+use sok_rules::play::{Tally, replay};
+use sok_rules::session::Session;
+use sok_sketch::sketch;
+use sok_text::lurd::read_lurd;
+use sok_text::xsb::cell_of;
+use std::alloc::Global;
+use std::test::Fail;
+
+/// What a session tells after letters one by one, which at last are undone and played again.
+fn played(alloc: Global, board: &str, letters: &[Dir]) -> Result<Result<Tally, PlayFault>, Fail> {
+    let level = sketch::level(alloc, board)?;
+    let mut session = Session::new(alloc, &level)?;
+    for dir in letters {
+        if let Err(fault) = session.step(*dir) {
+            return Ok(Err(fault));
+        }
+    }
+    for _ in letters {
+        let _undone = session.undo();
+    }
+    for _ in letters {
+        let _redone = session.redo();
+    }
+    Ok(Ok(Tally {
+        solved: session.solved(),
+        pushes: session.pushes(),
+        moves: session.moves(),
+    }))
+}
+
+/// The solved, the pushes and the moves of a text on a board, or its first letter that is not legal.
+#[test]
+fn texts_on_boards(rt: HostRuntime) -> Result<(), Fail> {
+    for (board, text, told) in [
+        (sketch::ROOM_OF_TWO_ROWS, "ulldRR", Ok((true, 2, 6))),
+        (sketch::ROOM_OF_TWO_ROWS, "ulldR", Ok((false, 1, 5))),
+        (sketch::ROOM_OF_TWO_ROWS, "", Ok((false, 0, 0))),
+        // letters may stand on several lines
+        (sketch::ROOM_OF_TWO_ROWS, " U\nl", Ok((false, 0, 2))),
+        (
+            sketch::ROOM_OF_TWO_ROWS,
+            "ududududud ududududud ulldRR",
+            Ok((true, 2, 26)),
+        ),
+        (
+            sketch::CORRIDOR_OF_SIX_PUSHES,
+            "RRurrdLLLL",
+            Ok((true, 6, 10)),
+        ),
+        (
+            sketch::CORRIDOR_OF_SIX_PUSHES,
+            "RRdrruLLLL",
+            Ok((true, 6, 10)),
+        ),
+        (
+            sketch::TWO_BOXES_AND_THREE_GOALS,
+            "rrrdRullldR",
+            Ok((true, 2, 11)),
+        ),
+        // open at the side, which play takes for a wall
+        (sketch::OPEN_AT_THE_SIDE, "R", Ok((true, 1, 1))),
+        (sketch::SOLVED, "", Ok((true, 0, 0))),
+        // solved on the way, and not at the end
+        (sketch::ROOM_BEYOND_THE_GOAL, "RR", Ok((false, 2, 2))),
+        (sketch::ROOM_OF_TWO_ROWS, "uu", Err(1)),
+        (sketch::ROOM_OF_TWO_ROWS, "rr", Err(1)),
+        // a second box behind the first
+        (sketch::TWO_IN_A_ROW, "R", Err(0)),
+        (sketch::BOX_AT_A_WALL, "R", Err(0)),
+        // the goal at the open side is entered, and nothing beyond it
+        (sketch::OPEN_AT_THE_SIDE, "RR", Err(1)),
+        (sketch::NO_ROW_ABOVE, "u", Err(0)),
+    ] {
+        let told = match told {
+            Ok((solved, pushes, moves)) => Ok(Tally {
+                solved,
+                pushes,
+                moves,
+            }),
+            Err(at) => Err(PlayFault::Blocked(at)),
+        };
+        let level = sketch::level(rt.alloc(), board)?;
+        let letters = read_lurd(rt.alloc(), text.as_bytes())?;
+        assert_eq!(rt;
+            replay(rt.alloc(), &level, &letters),
+            told,
+            "{text} on {board}"
+        );
+        assert_eq!(rt;
+            played(rt.alloc(), board, &letters)?,
+            told,
+            "{text} on {board}"
+        );
+    }
+    Ok(())
+}
+
+/// What is done in a session.
+#[derive(Clone, Copy)]
+enum Act {
+    Play(Dir),
+    Undo,
+    Redo,
+    Reset,
+}
+
+/// What a session answers: whether a letter pushes, and whether one was undone or played again.
+fn answer(session: &mut Session, act: Act) -> Result<bool, PlayFault> {
+    match act {
+        Act::Play(dir) => session.step(dir),
+        Act::Undo => Ok(session.undo()),
+        Act::Redo => Ok(session.redo()),
+        Act::Reset => {
+            session.reset();
+            Ok(true)
+        }
+    }
+}
+
+/// What is done in a session, one after another, the answer, and then the pushes, the moves and what
+/// shows of the middle row.
+#[test]
+fn letters_are_taken_back_and_played_again(rt: HostRuntime) -> Result<(), Fail> {
+    let level = sketch::level(rt.alloc(), sketch::ROOM_BEYOND_THE_GOAL)?;
+    let mut session = Session::new(rt.alloc(), &level)?;
+    for (act, told, pushes, moves, row) in [
+        (Act::Play(Dir::Right), Ok(true), 1, 1, "# @* #"),
+        (Act::Undo, Ok(true), 0, 0, "#@$. #"),
+        (Act::Redo, Ok(true), 1, 1, "# @* #"),
+        (Act::Undo, Ok(true), 0, 0, "#@$. #"),
+        (Act::Undo, Ok(false), 0, 0, "#@$. #"),
+        // a refused letter keeps those undone
+        (
+            Act::Play(Dir::Up),
+            Err(PlayFault::Blocked(0)),
+            0,
+            0,
+            "#@$. #",
+        ),
+        (Act::Redo, Ok(true), 1, 1, "# @* #"),
+        (Act::Redo, Ok(false), 1, 1, "# @* #"),
+        (Act::Play(Dir::Left), Ok(false), 1, 2, "#@ * #"),
+        (Act::Undo, Ok(true), 1, 1, "# @* #"),
+        // a letter that is played drops those undone
+        (Act::Play(Dir::Right), Ok(true), 2, 2, "#  +$#"),
+        (Act::Redo, Ok(false), 2, 2, "#  +$#"),
+        (Act::Reset, Ok(true), 0, 0, "#@$. #"),
+        (Act::Undo, Ok(false), 0, 0, "#@$. #"),
+        (Act::Redo, Ok(false), 0, 0, "#@$. #"),
+    ] {
+        assert_eq!(rt; answer(&mut session, act), told, "before {row}");
+        assert_eq!(rt; session.pushes(), pushes, "at {row}");
+        assert_eq!(rt; session.moves(), moves, "at {row}");
+        assert_eq!(rt; session.dirs().len() as u64, moves, "at {row}");
+        assert_eq!(rt;
+            session.solved(),
+            !row.as_bytes().contains(&b'$'),
+            "at {row}"
+        );
+        let mut col = 0;
+        for symbol in row.bytes() {
+            assert_eq!(rt;
+                session.cell(Spot { row: 1, col }),
+                cell_of(symbol),
+                "at {row}"
+            );
+            assert!(rt; col < 64);
+            col += 1;
+        }
+        assert_eq!(rt; session.cell(Spot { row: 1, col }), None, "at {row}");
+    }
+    Ok(())
+}

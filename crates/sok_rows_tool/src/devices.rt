@@ -1,0 +1,87 @@
+//! Readers and writers that fail, or that give and take little.
+
+use std::alloc::Global;
+use std::io;
+use std::io::{Read, Write};
+
+/// Gives the same bytes at each read, counts the reads, and fails at the read of one number,
+/// counted from 1. With 0 it never fails.
+#[derive(Drop)]
+pub struct Source {
+    pub bytes: &'static [u8],
+    pub reads: u32,
+    pub fails_at: u32,
+}
+
+impl Source {
+    pub fn new(bytes: &'static [u8], fails_at: u32) -> Source {
+        Source {
+            bytes,
+            reads: 0,
+            fails_at,
+        }
+    }
+}
+
+impl Read for Source {
+    fn read(&mut self, buf: &mut [u8]) -> io::Result<usize> {
+        self.reads = self.reads.saturating_add(1);
+        if self.fails_at == self.reads {
+            return Err(io::Error::from(io::ErrorKind::Interrupted));
+        }
+        let count = buf.len().min(self.bytes.len());
+        buf[..count].copy_from_slice(&self.bytes[..count]);
+        Ok(count)
+    }
+}
+
+/// How a write goes wrong.
+#[derive(Clone, Copy)]
+pub enum Failure {
+    /// It fails.
+    Error,
+    /// It takes no byte.
+    Nothing,
+}
+
+/// Takes one byte at each write, and counts the writes. The write of one number, counted from 1,
+/// goes wrong, and those after it go well again.
+#[derive(Drop)]
+pub struct Sink {
+    pub taken: Vec<u8>,
+    pub writes: usize,
+    pub fails_at: usize,
+    pub failure: Failure,
+}
+
+impl Sink {
+    pub fn new(alloc: Global, fails_at: usize, failure: Failure) -> Sink {
+        Sink {
+            taken: Vec::new(alloc),
+            writes: 0,
+            fails_at,
+            failure,
+        }
+    }
+}
+
+impl Write for Sink {
+    fn write(&mut self, buf: &[u8]) -> io::Result<usize> {
+        self.writes = self.writes.saturating_add(1);
+        if self.fails_at == self.writes {
+            return match self.failure {
+                Failure::Error => Err(io::Error::from(io::ErrorKind::Interrupted)),
+                Failure::Nothing => Ok(0),
+            };
+        }
+        let Some(byte) = buf.first() else {
+            return Ok(0);
+        };
+        self.taken.push(*byte)?;
+        Ok(1)
+    }
+
+    fn flush(&mut self) -> io::Result<()> {
+        Ok(())
+    }
+}

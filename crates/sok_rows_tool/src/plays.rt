@@ -1,0 +1,200 @@
+//! The replay of a text, its words and its streams.
+
+use crate::devices::{Failure, Sink, Source};
+use sok_sketch::sketch;
+use sok_tool::program::run;
+use std::alloc::{AllocError, Global};
+use std::io::{Read, Write};
+use std::test::Fail;
+
+/// What the program leaves behind.
+#[derive(Drop)]
+struct Ended {
+    status: u8,
+    out: Vec<u8>,
+    err: Vec<u8>,
+}
+
+/// Runs the program without words.
+fn played<R: Read>(rt: &HostRuntime, input: &mut R) -> Result<Ended, AllocError> {
+    let mut out = Vec::new(rt.alloc());
+    let mut err = Vec::new(rt.alloc());
+    let mut words = Vec::new(rt.alloc());
+    words.push(String::from_str(rt.alloc(), "sok")?)?;
+    let status = run(rt, words.as_slice(), input, &mut out, &mut err);
+    Ok(Ended { status, out, err })
+}
+
+/// Two texts, one behind the other.
+fn joined(alloc: Global, front: &str, behind: &str) -> Result<String, AllocError> {
+    let mut text = String::from_str(alloc, front)?;
+    text.push_str(behind)?;
+    Ok(text)
+}
+
+const WITH_RETURNS: &str = "-#####\r\n-#@$.#\r\n-#####\r\n";
+
+const TWO_LEVELS: &str = "First\n\n#####\n#@$.#\n#####\n\n####\n#@$#\n####";
+
+const TOO_WIDE: &str = "#@$.#\n#################################################################\n";
+
+/// A text with the end of its line, a collection, and the line that is written with the status: on
+/// the output, or where the status is 3 on the error stream.
+const PLAYS: [(&str, &str, &str, u8); 21] = [
+    ("ulldRR\n", sketch::ROOM_OF_TWO_ROWS, "solved 2 6\n", 0),
+    (" U\t l \n", sketch::ROOM_OF_TWO_ROWS, "open 0 2\n", 1),
+    ("\n", sketch::ROOM_OF_TWO_ROWS, "open 0 0\n", 1),
+    // pushed over the goal and back
+    (
+        "ulldRRurrdL\n",
+        sketch::WIDE_ROOM_OF_TWO_ROWS,
+        "open 3 11\n",
+        1,
+    ),
+    (
+        "RRurrdLLLL\n",
+        sketch::CORRIDOR_OF_SIX_PUSHES,
+        "solved 6 10\n",
+        0,
+    ),
+    (
+        "RRdrruLLLL\n",
+        sketch::CORRIDOR_OF_SIX_PUSHES,
+        "solved 6 10\n",
+        0,
+    ),
+    (
+        "rrrdRullldR\n",
+        sketch::TWO_BOXES_AND_THREE_GOALS,
+        "solved 2 11\n",
+        0,
+    ),
+    ("R\n", sketch::OPEN_AT_THE_SIDE, "solved 1 1\n", 0),
+    ("r\r\n", WITH_RETURNS, "solved 1 1\n", 0),
+    ("r\n", TWO_LEVELS, "solved 1 1\n", 0),
+    ("", "", "fault 15 NoSuchLevel\n", 3),
+    ("ulldRR", "", "fault 15 NoSuchLevel\n", 3),
+    ("ulx\n", "No level\n", "fault 15 NoSuchLevel\n", 3),
+    // the level is at fault, and so is the text
+    ("x\n", sketch::TWO_PLAYERS, "fault 4 ManyPlayers\n", 3),
+    ("r\n", sketch::NO_PLAYER, "fault 3 NoPlayer\n", 3),
+    ("r\n", sketch::NO_BOX, "fault 5 NoBox\n", 3),
+    ("r\n", TOO_WIDE, "fault 1 TooWide\n", 3),
+    (
+        "ulxR\n",
+        sketch::ROOM_OF_TWO_ROWS,
+        "fault 11 BadLetter 2\n",
+        3,
+    ),
+    // a letter that is not legal, before a byte that is no letter
+    (
+        "uux\n",
+        sketch::ROOM_OF_TWO_ROWS,
+        "fault 11 BadLetter 2\n",
+        3,
+    ),
+    ("uu\n", sketch::ROOM_OF_TWO_ROWS, "fault 12 Blocked 1\n", 3),
+    ("u u\n", sketch::ROOM_OF_TWO_ROWS, "fault 12 Blocked 1\n", 3),
+];
+
+#[test]
+fn texts_on_levels(rt: HostRuntime) -> Result<(), Fail> {
+    for (text, boards, line, status) in PLAYS {
+        let input = joined(rt.alloc(), text, boards)?;
+        let ended = played(&rt, &mut input.as_bytes())?;
+        let (told, silent) = if status == 3 {
+            (ended.err, ended.out)
+        } else {
+            (ended.out, ended.err)
+        };
+        assert_eq!(rt; told.as_slice(), line.as_bytes(), "{input}");
+        assert_eq!(rt; silent.len(), 0, "{input}");
+        assert_eq!(rt; ended.status, status, "{input}");
+    }
+    Ok(())
+}
+
+#[test]
+fn a_million_letters_and_no_more(rt: HostRuntime) -> Result<(), Fail> {
+    let million = "ud".repeat(rt.alloc(), 500_000)?;
+    for (more, out, err, status) in [
+        ("\n", "open 0 1000000\n", "", 1),
+        ("u\n", "", "fault 14 TooLong\n", 3),
+    ] {
+        let text = joined(rt.alloc(), million.as_str(), more)?;
+        let input = joined(rt.alloc(), text.as_str(), sketch::ROOM_OF_TWO_ROWS)?;
+        let ended = played(&rt, &mut input.as_bytes())?;
+        assert_eq!(rt; ended.out.as_slice(), out.as_bytes());
+        assert_eq!(rt; ended.err.as_slice(), err.as_bytes());
+        assert_eq!(rt; ended.status, status);
+    }
+    Ok(())
+}
+
+/// The input is read up to the read that fails, or to one past the limit of 16 MiB, and no further.
+#[test]
+fn reads_that_fail_and_inputs_without_end(rt: HostRuntime) -> Result<(), Fail> {
+    for (fails_at, reads, line, status) in [
+        (1, 1, "fault 50 ReadFailed\n", 5),
+        (2, 2, "fault 50 ReadFailed\n", 5),
+        (0, 1_048_577, "fault 52 TooMuch\n", 3),
+    ] {
+        let mut input = Source::new(b"################", fails_at);
+        let ended = played(&rt, &mut input)?;
+        assert_eq!(rt; ended.err.as_slice(), line.as_bytes());
+        assert_eq!(rt; ended.status, status);
+        assert_eq!(rt; ended.out.len(), 0);
+        assert_eq!(rt; input.reads, reads);
+    }
+    Ok(())
+}
+
+/// After a write that goes wrong there is no further one, though it would go well.
+#[test]
+fn writes_that_fail_once(rt: HostRuntime) -> Result<(), Fail> {
+    let line = b"solved 2 6\n".as_slice();
+    let input = joined(rt.alloc(), "ulldRR\n", sketch::ROOM_OF_TWO_ROWS)?;
+    for failure in [Failure::Error, Failure::Nothing] {
+        for taken in 0..line.len() {
+            let mut out = Sink::new(rt.alloc(), taken + 1, failure);
+            let mut err = Vec::new(rt.alloc());
+            let status = run(&rt, &[], &mut input.as_bytes(), &mut out, &mut err);
+            assert_eq!(rt; err.as_slice(), b"fault 51 WriteFailed\n".as_slice());
+            assert_eq!(rt; status, 5);
+            assert_eq!(rt; out.taken.as_slice(), &line[..taken]);
+            assert_eq!(rt; out.writes, taken + 1);
+        }
+    }
+    Ok(())
+}
+
+#[test]
+fn no_fault_can_be_printed(rt: HostRuntime) {
+    let mut out = Vec::new(rt.alloc());
+    let mut err = Sink::new(rt.alloc(), 1, Failure::Error);
+    let status = run(&rt, &[], &mut b"".as_slice(), &mut out, &mut err);
+    assert_eq!(rt; status, 3);
+    assert_eq!(rt; err.writes, 1);
+    assert_eq!(rt; err.taken.len(), 0);
+}
+
+#[test]
+fn unknown_words(rt: HostRuntime) -> Result<(), Fail> {
+    let input = joined(rt.alloc(), "ulldRR\n", sketch::ROOM_OF_TWO_ROWS)?;
+    let mut words = Vec::new(rt.alloc());
+    words.push(String::from_str(rt.alloc(), "sok")?)?;
+    words.push(String::from_str(rt.alloc(), "list")?)?;
+    let mut out = Vec::new(rt.alloc());
+    let mut err = Vec::new(rt.alloc());
+    let status = run(
+        &rt,
+        words.as_slice(),
+        &mut input.as_bytes(),
+        &mut out,
+        &mut err,
+    );
+    assert_eq!(rt; status, 2);
+    assert_eq!(rt; out.len(), 0);
+    assert_eq!(rt; err.len(), 0);
+    Ok(())
+}

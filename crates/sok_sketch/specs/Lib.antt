@@ -1,0 +1,2 @@
+-- words of public contracts
+pub mod Sketches

@@ -1,0 +1,124 @@
+//! Large rooms, of which one row repeats.
+
+ghost use Rattle.std.specs.Prelude.{◌≡◌, ◌++◌, IfOk, string_bytes};
+ghost use Rattle.std.specs.List.{repeat};
+
+use std::alloc::{AllocError, Global};
+
+/// Rows, of which one repeats.
+#[derive(Clone, Copy)]
+pub struct Room {
+    pub top: &'static str,
+    /// The row that repeats, and how often.
+    pub row: &'static str,
+    pub times: usize,
+    pub bottom: &'static str,
+}
+
+impl Room {
+    /// The text of the board.
+    pub fn text(&self, alloc: Global) -> Result<String, AllocError>
+        ensures { IfOk result (λ text. string_bytes text
+            ≡ self.now.top.now ++ (repeat self.now.times self.now.row.now ++ self.now.bottom.now)) }
+    {
+        let rows = self.row.repeat(alloc, self.times)?;
+        let mut text = String::from_str(alloc, self.top)?;
+        text.push_str(rows.as_str())?;
+        text.push_str(self.bottom)?;
+        Ok(text)
+    }
+}
+
+/// 25 rows of 41 squares: one square more than a board may have.
+pub const ROOM_OF_1025: Room = Room {
+    top: "\
+###########################################
+#@$.                                      #
+",
+    row: "#                                         #\n",
+    times: 24,
+    bottom: "###########################################\n",
+};
+
+/// 32 rows of 32 squares.
+pub const ROOM_OF_1024: Room = Room {
+    top: "\
+##################################
+#@$.                             #
+",
+    row: "#                                #\n",
+    times: 31,
+    bottom: "##################################\n",
+};
+
+/// One box and 128 more: one box more than a board may have.
+pub const ROOM_OF_129_BOXES: Room = Room {
+    top: "\
+##################################
+#@$.                             #
+",
+    row: "#$$$$$$$$$$$$$$$$$$$$$$$$$$$$$$$$#\n",
+    times: 4,
+    bottom: "##################################\n",
+};
+
+/// 32 rows of 32 squares, of which the rows 1 to 4, counted from 0, are goals: 32 to 159.
+pub const ROOM_OF_128_GOALS: Room = Room {
+    top: "\
+##################################
+#@$                              #
+#................................#
+#................................#
+#................................#
+#................................#
+",
+    row: "#                                #\n",
+    times: 27,
+    bottom: "##################################\n",
+};
+
+/// 128 boxes on the squares 32 to 159, and as many goals below them.
+pub const ROOM_OF_128_BOXES: Room = Room {
+    top: "\
+##################################
+#@                               #
+#$$$$$$$$$$$$$$$$$$$$$$$$$$$$$$$$#
+#$$$$$$$$$$$$$$$$$$$$$$$$$$$$$$$$#
+#$$$$$$$$$$$$$$$$$$$$$$$$$$$$$$$$#
+#$$$$$$$$$$$$$$$$$$$$$$$$$$$$$$$$#
+",
+    row: "#................................#\n",
+    times: 4,
+    bottom: "##################################\n",
+};
+
+/// 17 boxes on the squares 32 to 48, and goals in the row below them.
+pub const ROOM_OF_17_BOXES: Room = Room {
+    top: "\
+##################################
+#@                               #
+#$$$$$$$$$$$$$$$$$               #
+",
+    row: "#................................#\n",
+    times: 1,
+    bottom: "##################################\n",
+};
+
+/// Four rows of goals above four rows of boxes.
+pub const ROOM_OF_128_BOXES_BELOW_GOALS: Room = Room {
+    top: "\
+##################################
+#@                               #
+#................................#
+#................................#
+#................................#
+#................................#
+#$$$$$$$$$$$$$$$$$$$$$$$$$$$$$$$$#
+#$$$$$$$$$$$$$$$$$$$$$$$$$$$$$$$$#
+#$$$$$$$$$$$$$$$$$$$$$$$$$$$$$$$$#
+#$$$$$$$$$$$$$$$$$$$$$$$$$$$$$$$$#
+",
+    row: "#                                #\n",
+    times: 23,
+    bottom: "##################################\n",
+};

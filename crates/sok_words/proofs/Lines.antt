@@ -1,0 +1,122 @@
+-- What the command makes of the words of each form.
+use Rattle.std.proofs.Common.{◌≡◌, ◌∙◌, ◌&&◌, ◌==◌, Bool, true, false, refl, sym, ap, ap₂, List, [], ◌∷◌, ◌++◌, Some, arith, pos, negsuc, codes}
+use Rattle.std.specs.List.{fold, find, list_all}
+use Rattle.std.specs.Prelude.{unwrap_or, is_some}
+use Rattle.std.specs.Str.{bytes_eq}
+use Rattle.std.proofs.lemmas.Bool.{ne_eqb}
+use Rattle.std.proofs.lemmas.Int.{ints}
+use Rattle.std.proofs.lemmas.Str.Parse.{digit_from_value}
+use Rattle.clap.specs.Lexer.{without_minus}
+use Rattle.clap.specs.Values.{IsSignedIn}
+use Rattle.clap.specs.Walk.{after_step, subcommand_met, subcommand_or_other, Held, Names, Row, Text, Walk, answers_to, finished, nothing_held}
+use Rattle.clap.specs.Walk.{rows_after, walk, walk_from, walked, idle}
+use Rattle.clap.specs.Simple.{App, Shape, built, entered, is_simple, label_of, names_of, new_shape, subcommand_of}
+use Rattle.clap.specs.Takes.{other_passes, default_passes, entered_passes, is_valid, level_passes, settle_passes, step_passes, takes, value_passes, walk_passes}
+use Rattle.clap.specs.declared.builder.value_parser.ValueParser.TheVariants as vp
+use Rattle.clap.proofs.ValueTestLemmas.{Accepts-accepts}
+use Rattle.clap.proofs.WalkLemmas.{walk_stopped}
+use Rattle.sok_words.specs.Forms.{IsId, IsNumber}
+use Rattle.sok_words.specs.Shapes.{id_rule, number_rule, sok_app}
+use Rattle.sok_words.proofs.WordSteps.{Leads, no_minus, no_plus}
+
+-- ---- the first word
+
+abbrev pub made : App
+made = built sok_app
+
+-- the subcommand as built
+abbrev pub sub_shape : Text → Shape
+sub_shape name = unwrap_or (find (λ s. answers_to name (label_of s)) made.subs) (new_shape name)
+
+stopped_passes : (s : Shape) (names : Names) (w : Walk) (p : Text × List Text) (words : List Text)
+    → walk_passes s names (record w { stopped = Some p }) words ≡ true
+unfolding walk_passes walked
+stopped_passes s names w p [] = refl
+stopped_passes s names w p (x ∷ xs) = stopped_passes s names w (p.0, p.1 ++ x ∷ []) xs
+
+-- what is asked of the command itself, where its walk ends so
+abbrev ends_well : Walk → Bool → Bool
+ends_well w passes = entered_passes made w.stopped
+    && (passes && (settle_passes made.top.rules made.top.args_override_self w.held
+    && (list_all default_passes made.top.rules
+    && is_valid made.top (finished made.top.rules w.held) (is_some (entered made w.stopped)))))
+
+abbrev stopped_at : Text → List Text → Walk
+stopped_at name words = record (walk_from nothing_held) { stopped = Some (name, words) }
+
+pub simple : is_simple sok_app ≡ true
+simple = refl
+
+-- a word that names a subcommand ends the walk there
+met : (name : Text) (words : List Text) → subcommand_met (names_of made) idle name ≡ Some name
+    → walk made.top.rules (names_of made) nothing_held (name ∷ words) ≡ stopped_at name words
+unfolding walked
+met name words named =
+    ap (λ o. let m = subcommand_or_other made.top.rules o idle 1 name nothing_held in
+    fold (walked made.top.rules (names_of made)) (after_step made.top.rules name (walk_from nothing_held) m.0 m.1) words) named
+    ∙ sym (walk_stopped made.top.rules (names_of made) (walk_from nothing_held) name [] words)
+
+-- and passes, where it is not the word for help
+passes : (name : Text) (words : List Text) → subcommand_met (names_of made) idle name ≡ Some name → bytes_eq name (codes "help") ≡ false
+    → walk_passes made.top (names_of made) (walk_from nothing_held) (name ∷ words) ≡ true
+unfolding walk_passes walked
+passes name words named own =
+    ap (λ o. let m = subcommand_or_other made.top.rules o idle 1 name nothing_held in
+    (other_passes made.top o name nothing_held && step_passes made.top 1 m.0 m.1)
+    && walk_passes made.top (names_of made) (after_step made.top.rules name (walk_from nothing_held) m.0 m.1) words) named
+    ∙ (rw own (stopped_passes made.top (names_of made) (walk_from nothing_held) (name, []) words))
+
+pub taken : (program name : Text) (words : List Text) → subcommand_met (names_of made) idle name ≡ Some name → bytes_eq name (codes "help") ≡ false
+    → ends_well (stopped_at name words) true ≡ true → takes sok_app (program ∷ name ∷ words) ≡ true
+taken program name words named own below = ap₂ (λ w p. ends_well w p) (met name words named) (passes name words named own) ∙ below
+
+pub entered_at : (program name : Text) (words : List Text) → subcommand_met (names_of made) idle name ≡ Some name
+    → subcommand_of sok_app (program ∷ name ∷ words) ≡ entered made (Some (name, words))
+entered_at program name words named = ap (λ w. entered made w.stopped) (met name words named)
+
+pub solve_taken : (program : Text) (words : List Text) → level_passes (sub_shape (codes "solve")) [] nothing_held words false ≡ true
+    → takes sok_app (program ∷ codes "solve" ∷ words) ≡ true
+solve_taken program words below = taken program (codes "solve") words refl refl (ap (λ b. b && true) below)
+
+pub solve_entered : (program : Text) (words : List Text)
+    → subcommand_of sok_app (program ∷ codes "solve" ∷ words) ≡ Some (codes "solve", rows_after (sub_shape (codes "solve")).rules [] words)
+solve_entered program words = entered_at program (codes "solve") words refl
+
+-- ---- a subcommand's own words
+
+-- what is asked of a subcommand where its walk ends so
+abbrev leaf_ends_well : Shape → Held → Bool
+leaf_ends_well s h = settle_passes s.rules s.args_override_self h && (list_all default_passes s.rules && is_valid s (finished s.rules h) false)
+
+-- the subcommand takes the words, and these are its matches
+pub record Runs (s : Shape) (words : List Text) (rows : List Row) : Type 0 where
+  pub passes : level_passes s [] nothing_held words false ≡ true
+  pub found : rows_after s.rules [] words ≡ rows
+
+pub runs : (s : Shape) (words : List Text) (to : Walk) → Leads s (walk_from nothing_held) words to → leaf_ends_well s to.held ≡ true
+    → Runs s words (finished s.rules to.held)
+runs s words to leads well = record {
+  passes = ap₂ ◌&&◌ leads.passes (ap (λ (w : Walk). leaf_ends_well s w.held) leads.ends ∙ well);
+  found = ap (λ (w : Walk). finished s.rules w.held) leads.ends;
+}
+
+-- ---- numbers
+
+pub number_passes : (id text : Text) → IsNumber text → value_passes (number_rule id) text ≡ true
+number_passes id text n = Accepts-accepts false (vp.Signed (pos 0) (pos 4294967295)) text
+    (number_accepted text n)
+  where
+    number_accepted : (t : Text) → IsNumber t → IsSignedIn (pos 0) (pos 4294967295) t
+    number_accepted t n = rw (no_minus t n.0, no_plus t n.0) (n.0, omega (arith, ints), omega (arith, ints), omega (arith, ints))
+
+pub id_passes : (id text : Text) → IsId text → value_passes (id_rule id) text ≡ true
+id_passes id text n = Accepts-accepts false (vp.Signed (negsuc 9223372036854775807) (pos 9223372036854775807)) text (id_accepted text n)
+  where
+    id_accepted : (t : Text) → IsId t → IsSignedIn (negsuc 9223372036854775807) (pos 9223372036854775807) t
+    id_accepted t n = rw (no_minus t n.0, no_plus t n.0) (n.0, omega (arith, ints), omega (arith, ints), omega (arith, ints))
+
+pub minus_free : (text : Text) → IsNumber text → without_minus text ≡ text
+minus_free [] n = refl
+minus_free (d ∷ ds) n =
+    let e : (d == 45) ≡ false = ne_eqb _ _ (λ e. omega (arith, digit_from_value d n.0.1.0)) in
+    rw e refl

@@ -1,0 +1,85 @@
+-- The command lines of which `job` knows the answer, and what it answers.
+use Rattle.std.specs.Prelude.{◌≡◌, ◌≢◌, ◌<◌, ◌^◌, ℕ, List, [], ◌∷◌, ◌++◌, Option, Some, None, IfSome, Result, Ok, Err, codes, pos, option_map, string_bytes}
+use Rattle.std.specs.Str.Parse.{IsNumeral, digits_value}
+use Rattle.sok_words.specs.declared.job.Job.{Job}
+use Rattle.sok_words.specs.declared.job.Job.TheVariants as job
+use Rattle.sok_words.specs.declared.job.JobRefused.{JobRefused}
+
+-- not empty, and not beginning with a hyphen
+abbrev pub IsValue : List ℕ → Type 0
+IsValue [] = ⊥
+IsValue (b ∷ bs) = b ∷ [] ≢ codes "-"
+
+-- digits alone, of a number that 32 bits hold
+abbrev pub IsNumber : List ℕ → Type 0
+IsNumber text = IsNumeral 10 text × (digits_value 10 text < 2 ^ 32)
+
+-- digits alone, of a number that 63 bits hold
+abbrev pub IsId : List ℕ → Type 0
+IsId text = IsNumeral 10 text × (digits_value 10 text < 2 ^ 63)
+
+-- what stands in each place of a command line
+pub data Form : Type 0 where
+  list : List ℕ → Form
+  replay : List ℕ → List ℕ → List ℕ → Form
+  solve : List ℕ → List ℕ → Option (List ℕ) → Option (List ℕ) → Form
+  check : List ℕ → List ℕ → List ℕ → Form
+  add : List ℕ → List ℕ → Form
+  offer : List ℕ → List ℕ → List ℕ → Form
+  prove : List ℕ → List ℕ → List ℕ → Form
+  show : List ℕ → List ℕ → Form
+  export : List ℕ → Form
+
+abbrev pub IsPlain : Form → Type 0
+IsPlain (list file) = IsValue file
+IsPlain (replay file number text) = IsValue file × IsNumber number × IsValue text
+IsPlain (solve file number limit cert) =
+    IsValue file × IsNumber number × IfSome limit IsNumber × IfSome cert IsValue
+IsPlain (check file number cert) = IsValue file × IsNumber number × IsValue cert
+IsPlain (add db file) = IsValue db × IsValue file
+IsPlain (offer db id text) = IsValue db × IsId id × IsValue text
+IsPlain (prove db id cert) = IsValue db × IsId id × IsValue cert
+IsPlain (show db id) = IsValue db × IsId id
+IsPlain (export db) = IsValue db
+
+-- an option and its value, where it is given
+abbrev pub option_words : List ℕ → Option (List ℕ) → List (List ℕ)
+option_words name None = []
+option_words name (Some value) = name ∷ value ∷ []
+
+-- the words after the program's name
+abbrev pub words_of : Form → List (List ℕ)
+words_of (list file) = codes "list" ∷ file ∷ []
+words_of (replay file number text) = codes "replay" ∷ file ∷ number ∷ text ∷ []
+words_of (solve file number limit cert) = codes "solve" ∷ file ∷ number
+    ∷ (option_words (codes "--limit") limit ++ option_words (codes "--cert") cert)
+words_of (check file number cert) = codes "check" ∷ file ∷ number ∷ cert ∷ []
+words_of (add db file) = codes "add" ∷ db ∷ file ∷ []
+words_of (offer db id text) = codes "offer" ∷ db ∷ id ∷ text ∷ []
+words_of (prove db id cert) = codes "prove" ∷ db ∷ id ∷ cert ∷ []
+words_of (show db id) = codes "show" ∷ db ∷ id ∷ []
+words_of (export db) = codes "export" ∷ db ∷ []
+
+abbrev pub limit_of : Option (List ℕ) → ℕ
+limit_of None = 100000
+limit_of (Some text) = digits_value 10 text
+
+-- the job has the values of the form
+abbrev pub Means : Form → Job → Type 0
+Means (list file) (job.List a) = (string_bytes a ≡ file)
+Means (replay file number text) (job.Replay a b c) = (string_bytes a ≡ file) × (b ≡ digits_value 10 number) × (string_bytes c ≡ text)
+Means (solve file number limit cert) (job.Solve a n most path) =
+    (string_bytes a ≡ file) × (n ≡ digits_value 10 number) × (most ≡ limit_of limit)
+    × (option_map (λ s. string_bytes s) path ≡ cert)
+Means (check file number cert) (job.Check a b c) = (string_bytes a ≡ file) × (b ≡ digits_value 10 number) × (string_bytes c ≡ cert)
+Means (add db file) (job.Add a b) = (string_bytes a ≡ db) × (string_bytes b ≡ file)
+Means (offer db id text) (job.Offer a b c) = (string_bytes a ≡ db) × (b ≡ pos (digits_value 10 id)) × (string_bytes c ≡ text)
+Means (prove db id cert) (job.Prove a b c) = (string_bytes a ≡ db) × (b ≡ pos (digits_value 10 id)) × (string_bytes c ≡ cert)
+Means (show db id) (job.Show a b) = (string_bytes a ≡ db) × (b ≡ pos (digits_value 10 id))
+Means (export db) (job.Export a) = (string_bytes a ≡ db)
+Means _ _ = ⊥
+
+-- the answer to a form: its job, or memory ran out
+abbrev pub Answers : Form → Result Job JobRefused → Type 0
+Answers form (Ok made) = Means form made
+Answers form (Err refused) = refused.status ≡ 6

@@ -1,0 +1,34 @@
+//! What a command line asks for.
+
+/// What a command line asks for, with the values in the order of the subcommand's places.
+#[derive(Debug, Drop)]
+pub enum Job {
+    /// The path of a collection.
+    List(String),
+    /// The path of a collection, the number of a level, from 1, and a text of letters.
+    Replay(String, u32, String),
+    /// The path of a collection, the number of a level, from 1, the most states to keep, and the
+    /// path for the certificate.
+    Solve(String, u32, u32, Option<String>),
+    /// The path of a collection, the number of a level, from 1, and the path of a certificate.
+    Check(String, u32, String),
+    /// The path of a book, and that of a collection.
+    Add(String, String),
+    /// The path of a book, the id of a level, and a text of letters.
+    Offer(String, i64, String),
+    /// The path of a book, the id of a level, and the path of a certificate.
+    Prove(String, i64, String),
+    /// The path of a book, and the id of a level.
+    Show(String, i64),
+    /// The path of a book.
+    Export(String),
+}
+
+/// A command line that asks for nothing: the text to print, and the status to end with. That is 0
+/// for a request for help, whose text belongs on the output, 2 for words that are refused, and 6,
+/// without a text, where memory was refused.
+#[derive(Debug, Drop)]
+pub struct JobRefused {
+    pub text: String,
+    pub status: u8,
+}

@@ -1,0 +1,80 @@
+//! Words, and the texts that are printed for some of them.
+
+use crate::job::{Job, JobRefused};
+use crate::words::job;
+use std::test::Fail;
+
+/// What is asked for by the words of a line, which blanks separate.
+fn read(rt: &HostRuntime, line: &str) -> Result<Result<Job, JobRefused>, Fail> {
+    let mut words = Vec::new(rt.alloc());
+    for word in line.split(' ') {
+        words.push(String::from_str(rt.alloc(), word)?)?;
+    }
+    Ok(job(rt.alloc(), &words))
+}
+
+/// Each form, and what it asks for.
+#[test]
+fn reads_each_form(rt: HostRuntime) -> Result<(), Fail> {
+    for (line, asked) in [
+        ("sok list F", "List(\"F\")"),
+        ("sok replay F 2 uR", "Replay(\"F\", 2, \"uR\")"),
+        ("sok solve F 1", "Solve(\"F\", 1, 100000, None)"),
+        (
+            "sok solve F 1 --limit 5 --cert P",
+            "Solve(\"F\", 1, 5, Some(\"P\"))",
+        ),
+        (
+            "sok check F 4294967295 C",
+            "Check(\"F\", 4294967295, \"C\")",
+        ),
+        ("sok add B F", "Add(\"B\", \"F\")"),
+        ("sok offer B 3 uR", "Offer(\"B\", 3, \"uR\")"),
+        ("sok prove B 3 C", "Prove(\"B\", 3, \"C\")"),
+        (
+            "sok show B 9223372036854775807",
+            "Show(\"B\", 9223372036854775807)",
+        ),
+        ("sok export B", "Export(\"B\")"),
+    ] {
+        match read(&rt, line)? {
+            Ok(job) => {
+                let shown = format!(in rt.alloc(); "{job:?}")?;
+                assert_eq!(rt; shown.as_str(), asked);
+            }
+            Err(refused) => assert_eq!(rt; refused.text.as_str(), "", "{line}"),
+        }
+    }
+    Ok(())
+}
+
+/// Lines that ask for nothing, with their status and a part of the text that is printed.
+#[test]
+fn refuses_what_it_does_not_know(rt: HostRuntime) -> Result<(), Fail> {
+    for (line, status, text) in [
+        ("sok --help", 0, "Exit status:"),
+        ("sok help", 0, "Exit status:"),
+        ("sok solve --help", 0, "--limit <S>"),
+        ("sok", 2, "Usage: sok <COMMAND>"),
+        ("sok sovle F 1", 2, "unrecognized subcommand 'sovle'"),
+        ("sok solve F", 2, "<N>"),
+        ("sok solve F one", 2, "invalid value 'one'"),
+        ("sok solve F 4294967296", 2, "4294967296"),
+        (
+            "sok solve F 1 --limit 1 --limit 2",
+            2,
+            "cannot be used multiple times",
+        ),
+        ("sok show F 9223372036854775808", 2, "9223372036854775808"),
+        ("sok list F G", 2, "unexpected argument 'G'"),
+    ] {
+        match read(&rt, line)? {
+            Ok(job) => assert!(rt; false, "{line} asks for {job:?}"),
+            Err(refused) => {
+                assert_eq!(rt; refused.status, status, "{line}");
+                assert!(rt; refused.text.as_str().contains(text), "{line}");
+            }
+        }
+    }
+    Ok(())
+}

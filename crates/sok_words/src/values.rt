@@ -1,0 +1,94 @@
+//! The values that were given.
+
+ghost use Rattle.std.specs.Prelude.{◌≡◌, ℕ, List, Option, Some, IsOkAnd, MatchResult, option_map};
+ghost use Rattle.std.specs.Prelude.{pos, string_bytes};
+ghost use Rattle.std.specs.Str.Parse.{digits_value};
+ghost use Rattle.clap.specs.Lexer.{without_minus};
+ghost use Rattle.clap.specs.Words.{first_of, found_of, one_of, rows_of};
+ghost use Rattle.sok_words.specs.Forms.{IsId, IsNumber};
+
+use crate::job::JobRefused;
+use clap::ArgMatches;
+use std::alloc::Global;
+
+/// Memory was wanting.
+pub(crate) fn out_of_memory(alloc: Global) -> JobRefused
+    ensures { result.status ≡ 6 }
+{
+    JobRefused {
+        text: String::new(alloc),
+        status: 6,
+    }
+}
+
+/// A value is missing. The parser refuses such words, so this is never answered.
+pub(crate) fn missing(alloc: Global) -> JobRefused {
+    JobRefused {
+        text: String::new(alloc),
+        status: 2,
+    }
+}
+
+/// The value under this name.
+pub(crate) fn text_of(
+    alloc: Global,
+    values: &ArgMatches<'_>,
+    name: &str,
+) -> Result<String, JobRefused>
+    ensures { (text : List ℕ) → first_of name.now (rows_of (found_of values.now)) ≡ Some text
+        → MatchResult result (λ s. string_bytes s ≡ text) (λ e. e.status ≡ 6) }
+{
+    let Some(text) = values.get_str(name) else {
+        return Err(missing(alloc));
+    };
+    match String::from_str(alloc, text) {
+        Ok(text) => Ok(text),
+        Err(_) => Err(out_of_memory(alloc)),
+    }
+}
+
+/// The value of an option, where it is given.
+pub(crate) fn option_of(
+    alloc: Global,
+    values: &ArgMatches<'_>,
+    name: &str,
+) -> Result<Option<String>, JobRefused>
+    ensures { (found : Option (List ℕ)) → first_of name.now (rows_of (found_of values.now)) ≡ found
+        → MatchResult result (λ s. option_map (λ t. string_bytes t) s ≡ found) (λ e. e.status ≡ 6) }
+{
+    let Some(text) = values.get_str(name) else {
+        return Ok(None);
+    };
+    match String::from_str(alloc, text) {
+        Ok(text) => Ok(Some(text)),
+        Err(_) => Err(out_of_memory(alloc)),
+    }
+}
+
+/// The number under this name.
+pub(crate) fn number_of(
+    alloc: Global,
+    values: &ArgMatches<'_>,
+    name: &str,
+) -> Result<u32, JobRefused>
+    ensures { (text : List ℕ) → IsNumber text
+        → one_of name.now (rows_of (found_of values.now)) ≡ Some (without_minus text)
+        → IsOkAnd result (λ n. n ≡ digits_value 10 text) }
+{
+    match values.get_one::<u32>(name) {
+        Some(number) => Ok(number),
+        None => Err(missing(alloc)),
+    }
+}
+
+/// The id under this name.
+pub(crate) fn id_of(alloc: Global, values: &ArgMatches<'_>, name: &str) -> Result<i64, JobRefused>
+    ensures { (text : List ℕ) → IsId text
+        → one_of name.now (rows_of (found_of values.now)) ≡ Some text
+        → IsOkAnd result (λ n. n ≡ pos (digits_value 10 text)) }
+{
+    match values.get_one::<i64>(name) {
+        Some(number) => Ok(number),
+        None => Err(missing(alloc)),
+    }
+}

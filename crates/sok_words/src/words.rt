@@ -1,0 +1,53 @@
+//! Reading the words of a command line.
+
+ghost use Rattle.std.specs.Prelude.{◌≡◌, ◌∷◌, ℕ, List, map, string_bytes};
+ghost use Rattle.clap.specs.Words.{kind_of};
+ghost use Rattle.sok_words.specs.Forms.{Answers, Form, IsPlain, words_of};
+
+use crate::command::sok_command;
+use crate::job::{Job, JobRefused};
+use crate::reading::job_in;
+use crate::values::out_of_memory;
+use clap::Error;
+use clap::error::ErrorKind;
+use std::alloc::Global;
+
+/// Reads the words of a command line, of which the first is the program's name. The others are a
+/// subcommand, its places and its options:
+///
+/// ```text
+/// list FILE · replay FILE N TEXT · solve FILE N [--limit S] [--cert PATH] · check FILE N CERT
+/// add DB FILE · offer DB ID TEXT · prove DB ID CERT · show DB ID · export DB
+/// ```
+///
+/// Places and PATH that are not empty and do not begin with a hyphen, N and S below 2 ^ 32 and ID
+/// below 2 ^ 63 in digits alone, are read as they stand, and S is 100,000 where it is left out.
+/// Other words are read or refused as `clap` does it.
+pub fn job(alloc: Global, words: &[String]) -> Result<Job, JobRefused>
+    ensures { (program : List ℕ) (form : Form) → IsPlain form
+        → map (λ word. string_bytes word) words.now ≡ program ∷ words_of form
+        → Answers form result }
+{
+    let command = match sok_command(alloc) {
+        Ok(command) => command,
+        Err(_) => return Err(out_of_memory(alloc)),
+    };
+    match command.try_get_matches_from(words) {
+        Ok(matches) => job_in(alloc, &matches),
+        Err(error) => Err(refused(alloc, &error)),
+    }
+}
+
+/// The text of an error, or of the help that was asked for.
+fn refused(alloc: Global, error: &Error) -> JobRefused
+    ensures { kind_of error.now ≡ ErrorKind.OutOfMemory → result.status ≡ 6 }
+{
+    if error.kind() == ErrorKind::OutOfMemory {
+        return out_of_memory(alloc);
+    }
+    let status = if error.use_stderr() { 2 } else { 0 };
+    match error.to_string(alloc) {
+        Ok(text) => JobRefused { text, status },
+        Err(_) => out_of_memory(alloc),
+    }
+}
