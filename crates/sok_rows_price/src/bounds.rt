@@ -1,0 +1,71 @@
+//! Prices as a reason, and pushes that are spent.
+
+use crate::setting::{IN_THE_ROOM, ON_THE_GOAL, Position, TO_THE_GOAL, TWO_AND_THREE_GOALS, holds};
+use sok_bar::bound::Bound;
+use sok_bar::rest::Rest;
+use sok_bar::spent::Spent;
+use sok_sketch::sketch;
+use std::test::Fail;
+
+#[test]
+fn spent_pushes(rt: HostRuntime) -> Result<(), Fail> {
+    for (position, rest, answer) in [
+        (ON_THE_GOAL, Rest::AtLeast(0), true),
+        (ON_THE_GOAL, Rest::AtLeast(1), false),
+        (TO_THE_GOAL, Rest::Never, false),
+    ] {
+        let found = holds(&rt, rt.alloc(), &Spent, position, rest)?;
+        assert_eq!(rt; found, answer, "{rest:?}");
+    }
+    Ok(())
+}
+
+#[test]
+fn no_prices_show_that_there_is_no_solution(rt: HostRuntime) -> Result<(), Fail> {
+    let bound = Bound { u: &[1], v: &[0] };
+    assert!(rt; !holds(&rt, rt.alloc(), &bound, TO_THE_GOAL, Rest::Never)?);
+    Ok(())
+}
+
+const AFTER_A_PUSH: Position<'_> = (sketch::CORRIDOR_OF_SIX_PUSHES, &[7], 6);
+
+/// A position, how many pushes are to be shown, prices of boxes and of goals, and whether they
+/// show it.
+type Case<'a> = (Position<'a>, u32, &'a [u32], &'a [u32], bool);
+
+#[test]
+fn prices_that_bound(rt: HostRuntime) -> Result<(), Fail> {
+    let most = u32::MAX;
+    let cases: [Case<'_>; 14] = [
+        (TO_THE_GOAL, 1, &[1], &[0], true),
+        (TO_THE_GOAL, 2, &[1], &[0], false),
+        // a price of the distance, and one above it
+        (IN_THE_ROOM, 2, &[2], &[0], true),
+        (AFTER_A_PUSH, 4, &[4], &[0], true),
+        (AFTER_A_PUSH, 4, &[5], &[0], false),
+        (TWO_AND_THREE_GOALS, 2, &[1, 1], &[0, 0, 0], true),
+        // the price of a goal that no box needs is subtracted
+        (TWO_AND_THREE_GOALS, 2, &[1, 1], &[1, 0, 0], false),
+        (TWO_AND_THREE_GOALS, 2, &[2, 2], &[0, 1, 1], true),
+        (TWO_AND_THREE_GOALS, 3, &[2, 2], &[0, 1, 1], false),
+        // lists of other lengths
+        (TWO_AND_THREE_GOALS, 0, &[1], &[0, 0, 0], false),
+        (TWO_AND_THREE_GOALS, 0, &[1, 1], &[0, 0], false),
+        (TWO_AND_THREE_GOALS, 0, &[1, 1], &[0, 0, 0, 0], false),
+        (TWO_AND_THREE_GOALS, 0, &[], &[], false),
+        // prices whose sums do not fit a price
+        (
+            TWO_AND_THREE_GOALS,
+            0,
+            &[most, most],
+            &[most, most, most],
+            false,
+        ),
+    ];
+    for (position, pushes, u, v, answer) in cases {
+        let bound = Bound { u, v };
+        let found = holds(&rt, rt.alloc(), &bound, position, Rest::AtLeast(pushes))?;
+        assert_eq!(rt; found, answer, "{pushes} by {bound:?}");
+    }
+    Ok(())
+}

@@ -1,0 +1,92 @@
+//! Which goal each box could go to at the least cost, and crowds.
+
+use sok_board::board::Board;
+use sok_price::assign::{Match, assign};
+use sok_push::tables::Tables;
+use sok_region::box_set::BoxSet;
+use sok_sketch::{rooms, sketch};
+use std::alloc::Global;
+use std::test::Fail;
+
+/// What is found of the boxes of a level where they start.
+fn assigned(alloc: Global, text: &str) -> Result<Match, Fail> {
+    let board = Board::new(alloc, &sketch::level(alloc, text)?)?;
+    let tables = Tables::new(alloc, &board)?;
+    let (_, boxes) = board.start();
+    let boxes = BoxSet::of(alloc, boxes)?;
+    Ok(assign(alloc, &tables, &boxes)?)
+}
+
+/// A level, the least total, the goals of the boxes, and the count of all goals.
+type Priced<'a> = (&'a str, u32, &'a [usize], usize);
+
+#[test]
+fn least_assignments(rt: HostRuntime) -> Result<(), Fail> {
+    let cases: [Priced<'_>; 4] = [
+        (sketch::ONE_PUSH, 1, &[0], 1),
+        // six pushes, of which two are seen without the player
+        (sketch::CORRIDOR_OF_SIX_PUSHES, 2, &[0], 1),
+        // the boxes are 2, 1, 3 and 4, 1, 1 pushes from the goals
+        (sketch::TWO_BOXES_AND_THREE_GOALS, 2, &[1, 2], 3),
+        // the first box is one push from the second goal; then the other box would need 6
+        (sketch::NEAREST_GOAL_NEEDED_BY_ANOTHER, 5, &[0, 1], 2),
+    ];
+    for (text, least, goals, all) in cases {
+        let found = assigned(rt.alloc(), text)?;
+        match &found {
+            Match::Prices {
+                u,
+                v,
+                total,
+                goal_of,
+            } => {
+                assert_eq!(rt; *total, least, "{text}");
+                assert_eq!(rt; goal_of.as_slice(), goals, "{text}");
+                assert_eq!(rt; (u.len(), v.len()), (goals.len(), all), "{text}");
+            }
+            Match::Crowd { members } => assert!(rt; false, "crowd {members:?} in {text}"),
+        }
+    }
+    Ok(())
+}
+
+#[test]
+fn crowds(rt: HostRuntime) -> Result<(), Fail> {
+    let cases: [(&str, &[u32]); 2] = [
+        (sketch::BOX_BEYOND_THE_GOAL, &[0]),
+        (sketch::TWO_BOXES_FOR_ONE_GOAL, &[0, 1]),
+    ];
+    for (text, crowd) in cases {
+        match assigned(rt.alloc(), text)? {
+            Match::Crowd { members } => assert_eq!(rt; members.as_slice(), crowd, "{text}"),
+            Match::Prices {
+                u: _,
+                v: _,
+                total: _,
+                goal_of: _,
+            } => assert!(rt; false, "no crowd in {text}"),
+        }
+    }
+    Ok(())
+}
+
+/// In each of the 32 columns the boxes go up by 16 squares in all, and no push is worth more than
+/// one row.
+#[test]
+fn room_of_128_boxes_and_128_goals(rt: HostRuntime) -> Result<(), Fail> {
+    let text = rooms::ROOM_OF_128_BOXES_BELOW_GOALS.text(rt.alloc())?;
+    let found = assigned(rt.alloc(), text.as_str())?;
+    match &found {
+        Match::Prices {
+            u,
+            v,
+            total,
+            goal_of,
+        } => {
+            assert_eq!(rt; *total, 512);
+            assert_eq!(rt; (u.len(), v.len(), goal_of.len()), (128, 128, 128));
+        }
+        Match::Crowd { members } => assert!(rt; false, "crowd {members:?}"),
+    }
+    Ok(())
+}

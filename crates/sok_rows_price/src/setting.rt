@@ -1,0 +1,65 @@
+//! The positions, and whether a reason holds of one.
+
+ghost use Rattle.std.specs.Prelude.{◌≡◌, IfOk};
+
+use sok_bar::bar::Bar;
+use sok_bar::rest::Rest;
+use sok_board::area::Sq;
+use sok_board::board::Board;
+use sok_push::tables::Tables;
+use sok_region::box_set::BoxSet;
+use sok_sketch::sketch;
+use std::alloc::Global;
+use std::process::Abort;
+use std::test::Fail;
+
+/// A level, with the squares of boxes and of the player on it.
+pub(crate) type Position<'a> = (&'a str, &'a [Sq], Sq);
+
+pub(crate) const TO_THE_GOAL: Position<'_> = (sketch::ONE_PUSH, &[1], 0);
+
+pub(crate) const ON_THE_GOAL: Position<'_> = (sketch::SOLVED, &[2], 0);
+
+pub(crate) const BEYOND_THE_GOAL: Position<'_> = (sketch::BOX_BEYOND_THE_GOAL, &[2], 0);
+
+pub(crate) const TWO_IN_A_ROW: Position<'_> = (sketch::TWO_IN_A_ROW, &[1, 2], 0);
+
+pub(crate) const IN_THE_ROOM: Position<'_> = (sketch::ROOM_OF_TWO_ROWS, &[5], 6);
+
+pub(crate) const TWO_FOR_ONE_GOAL: Position<'_> = (sketch::TWO_BOXES_FOR_ONE_GOAL, &[1, 3], 12);
+
+pub(crate) const TWO_AND_THREE_GOALS: Position<'_> = (
+    sketch::TWO_BOXES_AND_THREE_GOALS,
+    &[8, 10],
+    0,
+);
+
+/// The set of some boxes, which rise.
+pub(crate) fn box_set(rt: &impl Abort, alloc: Global, squares: &[Sq]) -> Result<BoxSet, Fail>
+    ensures { IfOk result (λ set. set ≡ squares.now) }
+{
+    assert!(rt; squares.len() <= 128);
+    for i in 1..squares.len() {
+        assert!(rt; squares[i - 1] < squares[i]);
+    }
+    Ok(BoxSet::of(alloc, squares)?)
+}
+
+/// Whether a reason holds, through the trait alone.
+pub(crate) fn holds<B: Bar>(
+    rt: &impl Abort,
+    alloc: Global,
+    reason: &B,
+    position: Position<'_>,
+    rest: Rest,
+) -> Result<bool, Fail> {
+    let (level, boxes, player) = position;
+    let board = Board::new(alloc, &sketch::level(alloc, level)?)?;
+    let tables = Tables::new(alloc, &board)?;
+    let squares = board.squares();
+    assert!(rt; boxes.iter().all(|square| (*square as usize) < squares));
+    assert!(rt; (player as usize) < squares);
+    let boxes = box_set(rt, alloc, boxes)?;
+    assert!(rt; !boxes.has(player));
+    Ok(reason.holds(alloc, &board, &tables, &boxes, player, rest)?)
+}

@@ -1,0 +1,139 @@
+//! The fewest pushes of worked levels, or that none solve them; and what a limit means.
+
+use sok_board::board::Board;
+use sok_cert::check::check;
+use sok_cert::claim::Claim;
+use sok_cert::entry::Cert;
+use sok_cert::limits::fits;
+use sok_rules::cell::Spot;
+use sok_rules::level::Level;
+use sok_rules::play::replay;
+use sok_search::fault::SolveFault;
+use sok_search::outcome::Outcome;
+use sok_search::solve::solve;
+use sok_sketch::sketch::{self, level};
+use std::alloc::Global;
+use std::process::Abort;
+use std::test::Fail;
+
+/// Asserts that a certificate fits, has at most so many entries, and is accepted.
+fn assert_certified(
+    rt: &impl Abort,
+    alloc: Global,
+    level: &Level,
+    limit: u32,
+    claim: &Claim,
+    cert: &Cert,
+) -> Result<(), Fail> {
+    assert!(rt; fits(claim, cert));
+    assert!(rt; cert.entries.len() <= limit as usize);
+    let board = Board::new(alloc, level)?;
+    let _accepted = check(alloc, &board, claim, cert)?;
+    Ok(())
+}
+
+/// The pushes of a level's solution, and None where there is none. Asserts that the letters solve
+/// with as many pushes, and that the certificate is accepted.
+fn pushes_of(rt: &impl Abort, alloc: Global, board: &str, limit: u32) -> Result<Option<u32>, Fail> {
+    let level = level(alloc, board)?;
+    match solve(alloc, &level, limit)? {
+        Outcome::Solved { dirs, pushes, cert } => {
+            let tally = replay(alloc, &level, &dirs)?;
+            assert!(rt; tally.solved);
+            assert_eq!(rt; tally.pushes, u64::from(pushes));
+            assert_certified(rt, alloc, &level, limit, &Claim::Pushes(pushes), &cert)?;
+            Ok(Some(pushes))
+        }
+        Outcome::Unsolvable { cert } => {
+            assert_certified(rt, alloc, &level, limit, &Claim::Unsolvable, &cert)?;
+            Ok(None)
+        }
+        Outcome::Limit { states: _ } => {
+            assert!(rt; false);
+            Ok(None)
+        }
+    }
+}
+
+/// Whether a limit is met.
+fn meets(alloc: Global, board: &str, limit: u32) -> Result<bool, Fail> {
+    let level = level(alloc, board)?;
+    match solve(alloc, &level, limit)? {
+        Outcome::Limit { states } => Ok(states == limit),
+        _ => Ok(false),
+    }
+}
+
+/// "Zerkalo" by GRIGoRusha (public domain), of 20 pushes.
+const ZERKALO: &str = "\
+---#####
+####   #
+# $  #.##
+#   *   #
+##.#  $ #
+ # @ ####
+ #####
+";
+
+#[test]
+fn fewest_pushes(rt: HostRuntime) -> Result<(), Fail> {
+    for (board, limit, pushes) in [
+        (sketch::ONE_PUSH, 10, Some(1)),
+        (sketch::SOLVED, 10, Some(0)),
+        (sketch::BOX_BEYOND_THE_GOAL, 10, None),
+        (sketch::TWO_IN_A_ROW, 10, None),
+        (sketch::ROOM_OF_TWO_ROWS, 100, Some(2)),
+        (sketch::CORRIDOR_OF_SIX_PUSHES, 1_000_000, Some(6)),
+        (sketch::TWO_BOXES_FOR_ONE_GOAL, 1_000, None),
+        (sketch::DECORATED, 10, Some(1)),
+        (sketch::TWO_BOXES_AND_THREE_GOALS, 1_000, Some(2)),
+        (sketch::NO_BOX_INSIDE, 1, Some(0)),
+        (ZERKALO, 5_000, Some(20)),
+    ] {
+        assert_eq!(rt; pushes_of(&rt, rt.alloc(), board, limit)?, pushes);
+    }
+    Ok(())
+}
+
+/// Why no answer is sought.
+fn fault_of(alloc: Global, board: &str, limit: u32) -> Result<Option<SolveFault>, Fail> {
+    let level = level(alloc, board)?;
+    match solve(alloc, &level, limit) {
+        Ok(_) => Ok(None),
+        Err(fault) => Ok(Some(fault)),
+    }
+}
+
+#[test]
+fn refusals(rt: HostRuntime) -> Result<(), Fail> {
+    let beside = SolveFault::NotEnclosed(Spot { row: 1, col: 3 });
+    let stray = SolveFault::BoxOutside(Spot { row: 1, col: 5 });
+    for (board, limit, fault) in [
+        (sketch::OPEN_AT_THE_SIDE, 10, beside),
+        (sketch::STRAY_BOX, 10, stray),
+        (sketch::NO_GOAL, 10, SolveFault::TooFewGoals),
+        (sketch::ONE_PUSH, 0, SolveFault::BadLimit),
+        (sketch::ONE_PUSH, 1_000_001, SolveFault::BadLimit),
+        // the limit is refused first
+        (sketch::NO_GOAL, 0, SolveFault::BadLimit),
+    ] {
+        assert_eq!(rt; fault_of(rt.alloc(), board, limit)?, Some(fault));
+    }
+    Ok(())
+}
+
+/// A limit that is met stays met below, and the least one that is not is answered.
+#[test]
+fn limits(rt: HostRuntime) -> Result<(), Fail> {
+    assert!(rt; meets(rt.alloc(), sketch::CORRIDOR_OF_SIX_PUSHES, 2)?);
+    let mut least = 1;
+    for limit in 1..100 {
+        if meets(rt.alloc(), sketch::CORRIDOR_OF_SIX_PUSHES, limit)? {
+            assert_eq!(rt; least, limit);
+            least = limit + 1;
+        }
+    }
+    let pushes = pushes_of(&rt, rt.alloc(), sketch::CORRIDOR_OF_SIX_PUSHES, least)?;
+    assert_eq!(rt; pushes, Some(6));
+    Ok(())
+}

@@ -1,0 +1,111 @@
+-- Entries of the states of a finished search.
+use Rattle.std.proofs.Common.{ℕ, ◌≡◌, ◌<◌, ◌≤◌, ◌+◌, ◌∙◌, inl, inr, refl, sym, ap, subst, List, [], ◌∷◌, ◌++◌, Option, Some, None, All, Contains, arith}
+use Rattle.std.proofs.Common.{length, slice_get}
+use Rattle.std.proofs.lemmas.List.{length-append}
+use Rattle.std.proofs.lemmas.List.Elements.{All-append, All-cons, All-push, All-weaker}
+use Rattle.std.proofs.lemmas.Option.{same_Some, slice_get_within}
+use Rattle.sok_board.specs.Area.{Numbered, IsAccepted}
+use Rattle.sok_cert.specs.Claim.{Claim}
+use Rattle.sok_cert.specs.Entry.{Entry}
+use Rattle.sok_cert.specs.Text.{FitsEntry, FitsReason, IsSmall, numbers_of_position, numbers_of_reason}
+use Rattle.sok_state.specs.declared.key.Key.{Key}
+use Rattle.sok_search.specs.declared.note.Note.{Note}
+use Rattle.sok_search.specs.declared.note.Standing.{Standing}
+use Rattle.sok_search.specs.declared.note.Standing.TheVariants.{Open, Expanded, Dead}
+use Rattle.sok_search.specs.Finished.{AreFirstEntries, HasText, IsAtMost, IsDone, IsEntryAt, IsEntryOf, IsReasonOf, claim_of}
+use Rattle.sok_search.specs.Limits.{state_limit}
+use Rattle.sok_search.specs.Searches.{Progress, IsBeaten, IsSearch, IsState, Stands}
+use Rattle.sok_search.proofs.Knowing.{key-within, push_cases}
+
+none_waits : (queue : List ℕ) (i : ℕ) → queue ≡ [] → Contains queue i → ⊥
+none_waits queue i none (k, within, is) = let empty = ap length none in omega (arith, empty, within)
+
+beaten-at_most : (best : Option ℕ) (n : ℕ) → IsBeaten best n → IsAtMost (claim_of best) n
+beaten-at_most None n none = none
+beaten-at_most (Some k) n beaten = beaten
+
+-- where nothing waits, each state is done with
+stands-done : (b : Numbered) (p : Progress) (i : ℕ) (key : Key) (depth : ℕ) → p.queue ≡ [] → (s : Standing) → Stands b p i key depth s
+    → IsDone b (claim_of p.best) key.boxes depth s
+stands-done b p i key depth none (Open bound) (prices, inl waits) = absurd (none_waits p.queue i none waits)
+stands-done b p i key depth none (Open bound) (prices, inr beaten) = (bound, prices, beaten-at_most p.best (depth + bound) beaten)
+stands-done b p i key depth none (Expanded bound) stands = tt
+stands-done b p i key depth none Dead dead = dead
+
+pub is-done : (b : Numbered) (limit : ℕ) (p : Progress) (i : ℕ) (key : Key) (depth : ℕ) (note : Note) (claim : Claim) → IsSearch b limit p → p.queue ≡ []
+    → claim ≡ claim_of p.best → IsState p i key depth note
+    → IsDone b claim key.boxes depth note.standing
+is-done b limit p i key depth note claim search none is state =
+    subst (λ c. IsDone b c key.boxes depth note.standing) (sym is) (stands-done b p i key depth none note.standing (search.noted i key depth note state).stands)
+
+-- what stands at an index is one state alone
+entry-along : (b : Numbered) (claim : Claim) (p : Progress) (i : ℕ) (key other : Key) (depth deep : ℕ) (note noted : Note) (e : Entry)
+    → IsState p i key depth note → IsState p i other deep noted
+    → IsEntryOf b claim key depth note e → IsEntryOf b claim other deep noted e
+entry-along b claim p i key other depth deep note noted e state also entry =
+    let keys = same_Some key other (sym state.there ∙ also.there) in
+    let depths = same_Some depth deep (sym state.depth_is ∙ also.depth_is) in
+    let notes = same_Some note noted (sym state.note_is ∙ also.note_is) in
+    subst (λ k. IsEntryOf b claim k deep noted e) keys
+    (subst (λ d. IsEntryOf b claim key d noted e) depths (subst (λ n. IsEntryOf b claim key depth n e) notes entry))
+
+-- it has a text
+entry-fits : (b : Numbered) → IsAccepted b → (limit : ℕ) (p : Progress) (i : ℕ) (key : Key) (depth : ℕ) (note : Note) (e : Entry) → IsSearch b limit p
+    → limit ≤ state_limit → IsState p i key depth note → e.depth ≡ depth
+    → e.player ≡ key.least → e.boxes ≡ key.boxes → HasText key.boxes e.reason → FitsEntry e
+entry-fits b accepted limit p i key depth note e search small state depth_is player_is boxes_are text =
+    let noted = search.noted i key depth note state in
+    let shallow = noted.shallow in
+    let within = key-within p i key state.there in
+    let few = search.few in
+    let squares = accepted.few_squares in
+    let boxes = accepted.few_boxes in
+    let as_many = noted.as_many in
+    let player = noted.state.is.placed.player_exists in
+    let count = ap length boxes_are in
+    let all : All IsSmall e.boxes = subst (All IsSmall) (sym boxes_are)
+    (All-weaker (λ n. n < length b.area) IsSmall (λ n exists. omega (arith, exists, squares)) key.boxes noted.state.is.placed.boxes_exist) in
+    let position : All IsSmall (numbers_of_position e) = All-cons IsSmall e.depth (e.player ∷ length e.boxes ∷ e.boxes)
+    (omega (arith, depth_is, shallow, within, few, small))
+    (All-cons IsSmall e.player (length e.boxes ∷ e.boxes) (omega (arith, player_is, player, squares))
+    (All-cons IsSmall (length e.boxes) e.boxes (omega (arith, count, as_many, boxes)) all)) in
+    let reason = subst (FitsReason e.reason) (sym count) text in
+    record {
+      small = All-append IsSmall (numbers_of_position e) (numbers_of_reason e.reason) position reason.1;
+      priced = reason.0;
+    }
+
+pub entry-made : (b : Numbered) → IsAccepted b → (limit : ℕ) (claim : Claim) (p : Progress) (i : ℕ) (key : Key) (depth : ℕ) (note : Note) (e : Entry)
+    → IsSearch b limit p → limit ≤ state_limit → IsState p i key depth note
+    → e.depth ≡ depth → e.player ≡ key.least → e.boxes ≡ key.boxes → IsReasonOf b claim key.boxes depth note.standing e.reason → HasText key.boxes e.reason
+    → IsEntryAt b claim p i e
+entry-made b accepted limit claim p i key depth note e search small state depth_is player_is boxes_are reason_is text = record {
+  entry = λ other deep noted also. entry-along b claim p i key other depth deep note noted e state also
+      (record { depth_is = depth_is; player_is = player_is; boxes_are = boxes_are; reason_is = reason_is });
+  fits = entry-fits b accepted limit p i key depth note e search small state depth_is player_is boxes_are text;
+}
+
+-- no entries, and one more
+pub first-none : (b : Numbered) (claim : Claim) (p : Progress) (entries : List Entry) → entries ≡ [] → AreFirstEntries b claim p 0 entries
+first-none b claim p entries none = subst (AreFirstEntries b claim p 0) (sym none) (record {
+  as_many = refl;
+  each = λ i key depth note e state there. absurd (empty i e there);
+  fit = λ k d within. absurd (omega (arith, within));
+})
+  where
+    empty : (i : ℕ) (e : Entry) → slice_get [] i ≡ Some e → ⊥
+    empty i e there = let within = slice_get_within [] i e there in omega (arith, within)
+
+pub first-more : (b : Numbered) (claim : Claim) (p : Progress) (n : ℕ) (entries after : List Entry) (e : Entry) → AreFirstEntries b claim p n entries
+    → IsEntryAt b claim p n e → after ≡ entries ++ e ∷ []
+    → AreFirstEntries b claim p (n + 1) after
+first-more b claim p n entries after e are one more = subst (AreFirstEntries b claim p (n + 1)) (sym more) (record {
+  as_many = let longer = length-append entries (e ∷ []) in let long = are.as_many in omega (arith, longer, long);
+  each = λ i key depth note other state there. elim (push_cases entries e i other there) [
+    | inl before ↦ are.each i key depth note other state before
+    | inr (last, same) ↦
+        let at : n ≡ i = sym are.as_many ∙ sym last in
+        subst (IsEntryOf b claim key depth note) same (one.entry key depth note (subst (λ k. IsState p k key depth note) (sym at) state))
+  ];
+  fit = All-push FitsEntry entries e are.fit one.fits;
+})

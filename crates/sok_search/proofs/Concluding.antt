@@ -1,0 +1,89 @@
+-- What a finished search answers.
+use Rattle.std.proofs.Common.{ℕ, ◌<◌, ◌≤◌, sym, subst, List, arith, length}
+use Rattle.sok_rules.specs.declared.cell.Dir.{Dir}
+use Rattle.sok_rules.specs.Play.{AtLeast}
+use Rattle.sok_board.specs.Area.{Numbered, IsAccepted}
+use Rattle.sok_board.proofs.OneRefusal.{IsAccepted-one}
+use Rattle.sok_cert.specs.Claim.{Claim}
+use Rattle.sok_cert.specs.Claim.TheVariants as claim
+use Rattle.sok_cert.specs.Entry.{Entry}
+use Rattle.sok_cert.specs.Text.{FitsClaim}
+use Rattle.sok_state.specs.declared.push.Push.{Push}
+use Rattle.sok_cert.specs.Closed.{IsClosed}
+use Rattle.sok_cert.proofs.ClosedLaws.{ShowsClaims-accepted}
+use Rattle.sok_search.specs.Finished.{AreFirstEntries}
+use Rattle.sok_search.specs.Limits.{state_limit}
+use Rattle.sok_search.specs.Outcomes.{Certifies, IsShownSolved, IsShownUnsolvable}
+use Rattle.sok_search.specs.Searches.{Progress, IsSearch}
+use Rattle.sok_search.specs.Trails.{IsSolvedAt, IsSolvedWith, IsSolvedWithin, IsSolvingTrace, TracesBack}
+use Rattle.sok_search.proofs.Finishing.{entries-closed}
+use Rattle.sok_search.proofs.Knowing.{key-within, some-at}
+
+-- the index of a solved state is one of the notes
+pub solved-noted : (b : Numbered) (limit : ℕ) (p : Progress) (k index : ℕ) → IsSearch b limit p → IsSolvedAt b p k index → index < length p.notes
+solved-noted b limit p k index search solved =
+    let within = key-within p index solved.key solved.there in
+    let notes = search.a_note_each in
+    omega (arith, within, notes)
+
+pub solving-trace : (b : Numbered) (limit : ℕ) (p : Progress) (k index : ℕ) (trace : List Push) → IsSearch b limit p → IsSolvedAt b p k index
+    → TracesBack p index trace → IsSolvingTrace b trace
+solving-trace b limit p k index trace search solved traces =
+    let one = traces b limit solved.key solved.depth search solved.there solved.depth_is in
+    record { from = one.from; is = one.is; to = solved.key; lead = one.lead; solved = solved.solved }
+
+-- a state is less deep than there are states
+less-deep : (b : Numbered) (limit : ℕ) (p : Progress) (k index : ℕ) → IsSearch b limit p → (solved : IsSolvedAt b p k index) → solved.depth < length p.table
+less-deep b limit p k index search solved =
+    let within = key-within p index solved.key solved.there in
+    let notes = search.a_note_each in
+    let (note, note_is) = some-at p.notes index (omega (arith, within, notes)) in
+    let shallow = (search.noted index solved.key solved.depth note (record { there = solved.there; depth_is = solved.depth_is; note_is = note_is })).shallow in
+    omega (arith, shallow, within)
+
+pub solved-within : (b : Numbered) (limit : ℕ) (p : Progress) (k index : ℕ) (trace : List Push) (w : List Dir) → IsSearch b limit p → IsSolvedAt b p k index
+    → TracesBack p index trace → IsSolvedWith b (length trace) w
+    → IsSolvedWithin b (length p.table) k w
+solved-within b limit p k index trace w search solved traces with_pushes =
+    let few = (traces b limit solved.key solved.depth search solved.there solved.depth_is).few in
+    let shallow = solved.shallow in
+    let less = less-deep b limit p k index search solved in
+    record { n = length trace; solved = with_pushes; near = omega (arith, few, shallow); small = omega (arith, few, less) }
+
+module _ (b : Numbered) (accepted : IsAccepted b) (limit : ℕ) (p : Progress) (search : IsSearch b limit p) where
+  closed : (shown : Claim) (entries : List Entry) → AreFirstEntries b shown p (length p.table) entries → IsClosed b shown entries
+  closed shown entries are = entries-closed b accepted limit shown p entries search are
+
+  certifies : (shown : Claim) (entries : List Entry) → FitsClaim shown → AreFirstEntries b shown p (length p.table) entries
+      → Certifies b.rows limit shown entries
+  certifies shown entries fits are = record {
+    fits = record { claim_fits = fits; entries_fit = are.fit };
+    closed = λ c rows other. subst (λ board. IsClosed board shown entries) (IsAccepted-one b c (sym rows) accepted other) (closed shown entries are);
+    few = let few = search.few in let count = are.as_many in omega (arith, few, count);
+  }
+
+  pub shown-unsolvable : (entries : List Entry) → AreFirstEntries b claim.Unsolvable p (length p.table) entries → IsShownUnsolvable b.rows limit entries
+  shown-unsolvable entries are = record {
+    unsolvable = ShowsClaims-accepted b accepted claim.Unsolvable entries (closed claim.Unsolvable entries are);
+    certified = certifies claim.Unsolvable entries tt are;
+  }
+
+  -- the letters have no more pushes than the best, and the list says that none have fewer
+  pub shown-solved : length p.table ≤ state_limit → (k : ℕ) (w : List Dir) (entries : List Entry)
+      → AreFirstEntries b (claim.Pushes k) p (length p.table) entries → IsSolvedWithin b (length p.table) k w → IsShownSolved b.rows limit w k entries
+  shown-solved small k w entries are within =
+      let least : AtLeast b.rows k = ShowsClaims-accepted b accepted (claim.Pushes k) entries (closed (claim.Pushes k) entries are) in
+      let solves = within.solved.solves in
+      let above = least w solves in
+      let counted = within.solved.counted in
+      let near = within.near in
+      let below = within.small in
+      record {
+        solution = record {
+          solves = solves;
+          counted = omega (arith, above, counted, near);
+          fewest = record { least = least; reached = (w, solves, omega (arith, above, counted, near)) };
+          ends = within.solved.ends;
+        };
+        certified = certifies (claim.Pushes k) entries (omega (arith, above, counted, below, small)) are;
+      }

@@ -1,0 +1,172 @@
+-- A finished search gives a closed list.
+use Rattle.std.proofs.Common.{ℕ, ◌≡◌, ◌∙◌, inl, inr, refl, sym, ap, subst, List, true≢false, Some, Bool, true, All, Contains, MatchBool, IsTrue, arith}
+use Rattle.std.proofs.Common.{length, get_or, slice_get}
+use Rattle.std.proofs.lemmas.Bool.{cases_Bool}
+use Rattle.std.proofs.lemmas.Option.{slice_get_within, slice_get-get_or}
+use Rattle.sok_rules.specs.Play.{AllOnGoals}
+use Rattle.sok_rules.specs.States.{Same}
+use Rattle.sok_rules.proofs.Man.{IsStanding-start}
+use Rattle.sok_board.specs.Area.{Numbered, IsAccepted, position_of}
+use Rattle.sok_board.proofs.Lists.{Contains-at}
+use Rattle.sok_region.specs.Regions.{IsPlaced}
+use Rattle.sok_cert.specs.Claim.{Claim}
+use Rattle.sok_cert.specs.Entry.{Entry}
+use Rattle.sok_cert.specs.Reason.{Reason}
+use Rattle.sok_cert.specs.Reason.TheVariants as reason
+use Rattle.sok_state.specs.declared.key.Key.{Key}
+use Rattle.sok_state.specs.Keys.{IsKeyOf}
+use Rattle.sok_state.specs.Tables.{HasDistinctKeys, IsAt}
+use Rattle.sok_state.proofs.States.{keys_equal, key_position}
+use Rattle.sok_cert.specs.Closed.{IsClosed, IsFollowed, IsPosition, IsReasoned, is_expanded, entry_position, rest_of}
+use Rattle.sok_cert.specs.Lookup.{IsEntered, IsFound, IsLooking}
+use Rattle.sok_cert.proofs.Followed.{IsFollowed-found}
+use Rattle.sok_cert.proofs.Looking.{entry-stands, same_index}
+use Rattle.sok_cert.proofs.Starting.{one-starts}
+use Rattle.sok_search.specs.declared.note.Note.{Note}
+use Rattle.sok_search.specs.declared.note.Standing.{Standing}
+use Rattle.sok_search.specs.declared.note.Standing.TheVariants as standing
+use Rattle.sok_search.specs.Searches.{Progress, IsState, IsSearch, IsNoted, Stands}
+use Rattle.sok_search.specs.Finished.{AreFirstEntries, IsEntryOf, IsReasonOf, ReasonBars}
+use Rattle.sok_search.proofs.Knowing.{known-at, key-of-itself}
+
+-- an entry and the state of which it is made
+record Made (b : Numbered) (claim : Claim) (p : Progress) (i : ℕ) (e : Entry) : Type 0 where
+  pub key : Key
+  pub depth : ℕ
+  pub note : Note
+  pub state : IsState p i key depth note
+  pub noted : IsNoted b p i key depth note
+  pub entry : IsEntryOf b claim key depth note e
+
+made-at : (b : Numbered) (limit : ℕ) (claim : Claim) (p : Progress) (entries : List Entry) → IsSearch b limit p
+    → AreFirstEntries b claim p (length p.table) entries → (i : ℕ) (e : Entry) → slice_get entries i ≡ Some e → Made b claim p i e
+made-at b limit claim p entries search are i e there =
+    let within = slice_get_within entries i e there in
+    let count = are.as_many in
+    let known = known-at b limit p search i (omega (arith, within, count)) in
+    record {
+      key = known.key;
+      depth = known.depth;
+      note = known.note;
+      state = known.state;
+      noted = search.noted i known.key known.depth known.note known.state;
+      entry = are.each i known.key known.depth known.note e known.state there;
+    }
+
+-- what is known of each entry's place
+all-at : {X : Type 0} (P : X → Type 0) (xs : List X) → ((i : ℕ) (x : X) → slice_get xs i ≡ Some x → P x) → All P xs
+all-at P xs each = λ k d within. each k (get_or xs k d) (slice_get-get_or xs k d within)
+
+position-made : (b : Numbered) (claim : Claim) (p : Progress) (i : ℕ) (e : Entry) → Made b claim p i e → IsPosition b e
+position-made b claim p i e made = record {
+  placed = subst (λ boxes. IsPlaced b boxes e.player) (sym made.entry.boxes_are)
+      (subst (IsPlaced b made.key.boxes) (sym made.entry.player_is) made.noted.state.is.placed);
+  as_many = ap length made.entry.boxes_are ∙ made.noted.as_many;
+}
+
+place-made : (b : Numbered) (claim : Claim) (p : Progress) (i : ℕ) (e : Entry) → (made : Made b claim p i e) → key_position b made.key ≡ entry_position b e
+place-made b claim p i e made = λ k. position_of b (sym made.entry.player_is k) (sym made.entry.boxes_are k)
+
+-- the key of the state is that of the entry
+key-made : (b : Numbered) → IsAccepted b → (claim : Claim) (p : Progress) (i : ℕ) (e : Entry) → (made : Made b claim p i e)
+    → IsKeyOf b (entry_position b e) made.key
+key-made b accepted claim p i e made = subst (λ x. IsKeyOf b x made.key) (place-made b claim p i e made)
+    (key-of-itself b accepted made.key made.noted.state)
+
+entered-made : (b : Numbered) → IsAccepted b → (claim : Claim) (p : Progress) (i : ℕ) (e : Entry) → Made b claim p i e
+    → IsEntered b p.table i e
+entered-made b accepted claim p i e made = record {
+  key = made.key;
+  there = made.state.there;
+  depth = made.state.depth_is ∙ ap Some (sym made.entry.depth_is);
+  is = key-made b accepted claim p i e made;
+}
+
+-- the states are a table of the entries
+pub looking-made : (b : Numbered) → IsAccepted b → (limit : ℕ) (claim : Claim) (p : Progress) (entries : List Entry)
+    → IsSearch b limit p → AreFirstEntries b claim p (length p.table) entries → IsLooking b entries p.table
+looking-made b accepted limit claim p entries search are = record {
+  accepted = accepted;
+  positions = all-at (IsPosition b) entries (λ i e there. position-made b claim p i e (made-at b limit claim p entries search are i e there));
+  entered = record {
+    count = sym are.as_many;
+    distinct = search.distinct;
+    entered = λ i e within there. entered-made b accepted claim p i e (made-at b limit claim p entries search are i e there);
+  };
+}
+
+-- what is expanded bars nothing
+barred : (b : Numbered) (boxes : List ℕ) (claim : Claim) (depth : ℕ) (why : Reason) → is_expanded why ≡ true → ReasonBars b boxes why (rest_of claim depth) → ⊥
+barred b boxes claim depth reason.Expanded is bars = bars
+barred b boxes claim depth reason.Spent is bars = true≢false (sym is)
+barred b boxes claim depth (reason.Bound u v) is bars = true≢false (sym is)
+barred b boxes claim depth (reason.Crowd members) is bars = true≢false (sym is)
+barred b boxes claim depth (reason.Frozen members) is bars = true≢false (sym is)
+
+abbrev reasoned_as : Numbered → Claim → Entry → Bool → Type 0
+reasoned_as b claim e t = MatchBool t (AllOnGoals b.rows (entry_position b e) → ⊥) (ReasonBars b e.boxes e.reason (rest_of claim e.depth))
+
+reasoned-bars : (b : Numbered) (claim : Claim) (e : Entry) → ReasonBars b e.boxes e.reason (rest_of claim e.depth) → IsReasoned b claim e
+reasoned-bars b claim e bars = elim (cases_Bool (is_expanded e.reason)) [
+  | inl expanded ↦ absurd (barred b e.boxes claim e.depth e.reason expanded bars)
+  | inr other ↦ subst (reasoned_as b claim e) (sym other) bars
+]
+
+-- the reason is of the entry's own boxes and depth
+bars-made : (b : Numbered) (claim : Claim) (p : Progress) (i : ℕ) (e : Entry) → (made : Made b claim p i e)
+    → ReasonBars b made.key.boxes e.reason (rest_of claim made.depth) → ReasonBars b e.boxes e.reason (rest_of claim e.depth)
+bars-made b claim p i e made bars =
+    subst (λ boxes. ReasonBars b boxes e.reason (rest_of claim e.depth)) (sym made.entry.boxes_are)
+    (subst (λ depth. ReasonBars b made.key.boxes e.reason (rest_of claim depth)) (sym made.entry.depth_is) bars)
+
+-- by the standing of the state
+reasoned-standing : (b : Numbered) (claim : Claim) (p : Progress) (i : ℕ) (e : Entry) (made : Made b claim p i e) (s : Standing)
+    → Stands b p i made.key made.depth s → IsReasonOf b claim made.key.boxes made.depth s e.reason → IsReasoned b claim e
+reasoned-standing b claim p i e made (standing.Expanded bound) (prices, unsolved, found) why =
+    let off : AllOnGoals b.rows (entry_position b e) → ⊥ = subst (λ x. AllOnGoals b.rows x → ⊥) (place-made b claim p i e made) unsolved in
+    subst (reasoned_as b claim e) (sym (ap is_expanded why)) off
+reasoned-standing b claim p i e made (standing.Open bound) stands why = reasoned-bars b claim e (bars-made b claim p i e made why)
+reasoned-standing b claim p i e made standing.Dead stands why = reasoned-bars b claim e (bars-made b claim p i e made why)
+
+followed-standing : (b : Numbered) → IsAccepted b → (claim : Claim) (p : Progress) (entries : List Entry)
+    → IsLooking b entries p.table → (i : ℕ) (e : Entry) → Contains entries e
+    → (made : Made b claim p i e) (s : Standing) → Stands b p i made.key made.depth s → IsReasonOf b claim made.key.boxes made.depth s e.reason
+    → IsTrue (is_expanded e.reason) → IsFollowed b entries e
+followed-standing b accepted claim p entries looking i e listed made (standing.Expanded bound) (prices, unsolved, found) why expanded =
+    IsFollowed-found b entries p.table looking e listed made.key (key-made b accepted claim p i e made)
+    (λ push legal. subst (λ depth. IsFound b p.table made.key depth push) (sym made.entry.depth_is) (found push legal))
+followed-standing b accepted claim p entries looking i e listed made (standing.Open bound) stands why expanded = absurd
+    (barred b e.boxes claim e.depth e.reason expanded (bars-made b claim p i e made why))
+followed-standing b accepted claim p entries looking i e listed made standing.Dead stands why expanded = absurd
+    (barred b e.boxes claim e.depth e.reason expanded (bars-made b claim p i e made why))
+
+-- no two entries are one state, since the keys are distinct
+apart-made : (b : Numbered) → IsAccepted b → (claim : Claim) (p : Progress) → HasDistinctKeys p.table → (i j : ℕ) (e f : Entry)
+    → Made b claim p i e → Made b claim p j f → Same b.rows (entry_position b e) (entry_position b f) → i ≡ j
+apart-made b accepted claim p distinct i j e f of_e of_f same =
+    let e_is = key-made b accepted claim p i e of_e in
+    let f_is = key-made b accepted claim p j f of_f in
+    let e_position = position-made b claim p i e of_e in
+    let standing = entry-stands b accepted e e_position in
+    let equal : of_e.key ≡ of_f.key = keys_equal b accepted.numbered (entry_position b e) (entry_position b f) of_e.key of_f.key standing e_is f_is same in
+    same_index p.table distinct of_f.key i j (subst (λ k. IsAt p.table k i) equal of_e.state.there) of_f.state.there
+
+-- the law
+pub entries-closed : (b : Numbered) → IsAccepted b → (limit : ℕ) (claim : Claim) (p : Progress) (entries : List Entry)
+    → IsSearch b limit p
+    → AreFirstEntries b claim p (length p.table) entries → IsClosed b claim entries
+entries-closed b accepted limit claim p entries search are =
+    let looking = looking-made b accepted limit claim p entries search are in
+    let begun = search.begun in
+    let made = made-at b limit claim p entries search are in
+    record {
+      positions = looking.positions;
+      apart = λ i j e f e_there f_there same. apart-made b accepted claim p search.distinct i j e f (made i e e_there) (made j f f_there) same;
+      reasoned = all-at (IsReasoned b claim) entries
+          (λ i e there. let one = made i e there in reasoned-standing b claim p i e one one.note.standing one.noted.stands one.entry.reason_is);
+      starter = one-starts b entries p.table looking (IsStanding-start b.rows accepted.proper) begun.key begun.is 0 0 begun.there begun.depth_is refl;
+      followed = all-at (λ e. IsTrue (is_expanded e.reason) → IsFollowed b entries e) entries (λ i e there.
+          let one = made i e there in
+          followed-standing b accepted claim p entries looking i e
+          (Contains-at entries e i there) one one.note.standing one.noted.stands one.entry.reason_is);
+    }

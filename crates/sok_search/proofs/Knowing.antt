@@ -1,0 +1,66 @@
+-- States of a search by their indices.
+use Rattle.std.proofs.Common.{ℕ, ◌≡◌, ◌<◌, ◌⊎◌, ◌∙◌, inl, inr, refl, sym, subst, List, [], ◌∷◌, ◌++◌, Some, zero, suc, arith, length, slice_get}
+use Rattle.std.specs.Map.{keys_of, values_of}
+use Rattle.std.proofs.lemmas.Option.{none-some, same_Some, slice_get_within}
+use Rattle.std.proofs.lemmas.List.{length-map}
+use Rattle.sok_board.specs.Area.{Numbered, IsAccepted, position_of}
+use Rattle.sok_state.specs.declared.key.Key.{Key}
+use Rattle.sok_state.specs.Keys.{IsKey, IsKeyOf}
+use Rattle.sok_state.specs.Tables.{IsAt}
+use Rattle.sok_state.proofs.Placed.{IsStanding-placed}
+use Rattle.sok_state.proofs.States.{IsKeyOf-Same, key_position}
+use Rattle.sok_search.specs.declared.note.Note.{Note}
+use Rattle.sok_search.specs.Searches.{Progress, IsState, IsSearch}
+
+pub some-at : {X : Type 0} (xs : List X) (i : ℕ) → i < length xs → (x : X) × (slice_get xs i ≡ Some x)
+some-at [] i within = absurd (omega (arith, within))
+some-at (x ∷ xs) zero within = (x, refl)
+some-at (x ∷ xs) (suc i) within = some-at xs i (omega (arith, within))
+
+-- a state at an index
+pub record Known (p : Progress) (i : ℕ) : Type 0 where
+  pub key : Key
+  pub depth : ℕ
+  pub note : Note
+  pub state : IsState p i key depth note
+
+pub known-at : (b : Numbered) (limit : ℕ) (p : Progress) → IsSearch b limit p → (i : ℕ) → i < length p.table → Known p i
+known-at b limit p search i within =
+    let keys = length-map p.table (λ (entry : Key × ℕ). entry.0) in
+    let depths = length-map p.table (λ (entry : Key × ℕ). entry.1) in
+    let notes = search.a_note_each in
+    let (key, there) = some-at (keys_of p.table) i (omega (arith, within, keys)) in
+    let (depth, depth_is) = some-at (values_of p.table) i (omega (arith, within, depths)) in
+    let (note, note_is) = some-at p.notes i (omega (arith, within, notes)) in
+    record { key = key; depth = depth; note = note; state = record { there = there; depth_is = depth_is; note_is = note_is } }
+
+-- an index at which a key stands
+pub key-within : (p : Progress) (i : ℕ) (key : Key) → IsAt p.table key i → i < length p.table
+key-within p i key there =
+    let keys = length-map p.table (λ (entry : Key × ℕ). entry.0) in
+    let within = slice_get_within (keys_of p.table) i key there in
+    omega (arith, within, keys)
+
+-- a key that some position has is that of the position that it stands for
+pub key-of-itself : (b : Numbered) → IsAccepted b → (key : Key) → IsKey b key → IsKeyOf b (key_position b key) key
+key-of-itself b accepted key state =
+    IsKeyOf-Same b (position_of b state.player state.boxes) (key_position b key) key
+    (IsStanding-placed b accepted.numbered accepted.proper state.player state.boxes state.placed) state.is.same state.is
+
+-- an element of a list with one more at the end
+pub push_cases : {X : Type 0} (xs : List X) (y : X) (i : ℕ) (x : X) → slice_get (xs ++ y ∷ []) i ≡ Some x
+    → (slice_get xs i ≡ Some x) ⊎ ((i ≡ length xs) × (y ≡ x))
+push_cases [] y zero x there = inr (refl, same_Some y x there)
+push_cases [] y (suc i) x there = absurd (none-some x there)
+push_cases (z ∷ zs) y zero x there = inl there
+push_cases (z ∷ zs) y (suc i) x there = elim (push_cases zs y i x there) [
+  | inl before ↦ inl before
+  | inr (last, is) ↦ inr (omega (arith, last), is)
+]
+
+-- a key that stands at an index is one of the board
+pub state-noted : (b : Numbered) (limit : ℕ) (p : Progress) → IsSearch b limit p → (i : ℕ) (key : Key) → IsAt p.table key i → IsKey b key
+state-noted b limit p search i key there =
+    let known = known-at b limit p search i (key-within p i key there) in
+    let noted = search.noted i known.key known.depth known.note known.state in
+    subst (IsKey b) (same_Some known.key key (sym known.state.there ∙ there)) noted.state

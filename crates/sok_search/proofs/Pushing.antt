@@ -1,0 +1,142 @@
+-- A push is followed: the state that it leads to is added, comes nearer, or stays.
+use Rattle.std.proofs.Common.{ℕ, ◌≡◌, ◌<◌, ◌≤◌, ◌+◌, ◌∙◌, sym, ap, subst, [], ◌∷◌, ◌++◌, Some, Contains, arith, length, slice_get}
+use Rattle.std.specs.Map.{keys_of, values_of}
+use Rattle.std.proofs.lemmas.Option.{same_Some, slice_get_within}
+use Rattle.sok_rules.specs.Play.{Position}
+use Rattle.sok_board.specs.Area.{Numbered, boxes_of}
+use Rattle.sok_board.proofs.Lists.{slice_get-push}
+use Rattle.sok_region.proofs.Floods.{slice_get-append}
+use Rattle.sok_state.specs.declared.key.Key.{Key}
+use Rattle.sok_state.specs.declared.push.Push.{Push}
+use Rattle.sok_state.specs.Keys.{IsKey, IsKeyOf}
+use Rattle.sok_state.specs.Pushes.{IsLegal, LeadsTo}
+use Rattle.sok_state.specs.Tables.{IsAt}
+use Rattle.sok_search.specs.declared.note.Note.{Note}
+use Rattle.sok_search.specs.declared.note.Standing.{Standing}
+use Rattle.sok_search.specs.declared.note.Standing.TheVariants.{Open, Expanded, Dead}
+use Rattle.sok_search.specs.Searches.{Progress, IsCome, IsFrom, IsNoted, IsSearch, IsState, Stands}
+use Rattle.sok_search.specs.Steps.{IsAdded, IsChanged, IsJudged, IsPushed, holding, reopened}
+use Rattle.sok_search.proofs.Doing.{added-holding, changed-holding, work-added, work-changed}
+use Rattle.sok_search.proofs.Changing.{added-grows, changed-grows, depth_count, keeps-added, keeps-changed, key_count, set_other, set_same}
+use Rattle.sok_search.proofs.Knowing.{key-within}
+
+-- what is open again is judged as before
+judged-reopened : (b : Numbered) (p : Progress) (i : ℕ) (key : Key) (depth : ℕ) (s : Standing) → Stands b p i key depth s → IsJudged b key.boxes (reopened s)
+judged-reopened b p i key depth (Open bound) (prices, waits) = prices
+judged-reopened b p i key depth (Expanded bound) (prices, unsolved, found) = prices
+judged-reopened b p i key depth Dead dead = dead
+
+module _ (b : Numbered) (limit index : ℕ) (p : Progress) (search : IsSearch b limit (holding index p)) (key : Key) (depth : ℕ)
+    (there : IsAt p.table key index)
+    (depth_is : slice_get (values_of p.table) index ≡ Some depth) (was : Note) (note_is : slice_get p.notes index ≡ Some was) (push : Push)
+    (legal : IsLegal b key push) (next : Key) (is : (after : Position) → LeadsTo b key push after → IsKeyOf b after next) (next_state : IsKey b next)
+    (kept : length next.boxes ≡ length key.boxes) where
+  noted : IsNoted b (holding index p) index key depth was
+  noted = search.noted index key depth was (record { there = there; depth_is = depth_is; note_is = note_is })
+
+  as_many : length next.boxes ≡ length (boxes_of b)
+  as_many = kept ∙ noted.as_many
+
+  from : IsFrom b (holding index p) next (depth + 1) (record { parent = index; push = push })
+  from = record {
+    parent = key;
+    there = there;
+    deep = depth;
+    depth_is = depth_is;
+    nearer = omega arith;
+    after = legal.after;
+    leads = legal.leads;
+    is = is legal.after legal.leads;
+  }
+
+  pub shallow-next : depth + 1 ≤ length p.table
+  shallow-next =
+      let within = key-within p index key there in
+      let shallow = noted.shallow in
+      omega (arith, within, shallow)
+
+  -- it is new
+  module _ (absent : Contains (keys_of p.table) next → ⊥) (room : length p.table < limit) (note : Note)
+      (origin : note.origin ≡ Some (record { parent = index; push = push })) (judged : IsJudged b next.boxes note.standing) (q : Progress)
+      (added : IsAdded p next (depth + 1) note q) where
+    held : IsAdded (holding index p) next (depth + 1) note (holding index q)
+    held = added-holding index p next (depth + 1) note q added
+
+    pub pushed-added : IsPushed b limit (holding index p) key depth push (holding index q)
+    pushed-added =
+        let more = held in
+        let grows = added-grows b limit (holding index p) (holding index q) next (depth + 1) note search more in
+        let keys = key_count p.table in
+        let depths = depth_count p.table in
+        record {
+          search = keeps-added b limit (holding index p) (holding index q) next (depth + 1) note search more absent room (record {
+            state = next_state;
+            as_many = as_many;
+            shallow = shallow-next;
+            come = subst (IsCome b (holding index p) next (depth + 1)) (sym origin) from;
+            judged = judged;
+          });
+          grows = grows;
+          stay = λ i other deep n near state. record {
+            there = grows.keys other i state.there;
+            depth_is = subst (λ xs. slice_get xs i ≡ Some deep) (sym added.depths)
+                (slice_get-append (values_of p.table) ((depth + 1) ∷ []) i deep state.depth_is);
+            note_is = subst (λ xs. slice_get xs i ≡ Some n) (sym added.notes) (slice_get-append p.notes (note ∷ []) i n state.note_is);
+          };
+          found = record {
+            next = next;
+            is = is;
+            index = length p.table;
+            there = subst (λ xs. slice_get xs (length p.table) ≡ Some next) (sym added.keys)
+                (subst (λ n. slice_get (keys_of p.table ++ next ∷ []) n ≡ Some next) keys (slice_get-push (keys_of p.table) next));
+            deep = depth + 1;
+            depth_is = subst (λ xs. slice_get xs (length p.table) ≡ Some (depth + 1)) (sym added.depths)
+                (subst (λ n. slice_get (values_of p.table ++ (depth + 1) ∷ []) n ≡ Some (depth + 1)) depths (slice_get-push (values_of p.table) (depth + 1)));
+            near = omega arith;
+          };
+          no_more = work-added limit (holding index p) next (depth + 1) note (holding index q) more shallow-next room;
+        }
+
+  -- it is known already, at an index and a depth
+  module _ (at old : ℕ) (other : Note) (state : IsState p at next old other) where
+    -- it comes nearer
+    module _ (lower : depth + 1 < old) (note : Note) (origin : note.origin ≡ Some (record { parent = index; push = push }))
+        (standing : note.standing ≡ reopened other.standing) (q : Progress) (changed : IsChanged p at (depth + 1) note q) where
+      pub pushed-changed : IsPushed b limit (holding index p) key depth push (holding index q)
+      pushed-changed =
+          let more = changed-holding index p at (depth + 1) note q changed in
+          let at_state : IsState (holding index p) at next old other = record { there = state.there; depth_is = state.depth_is; note_is = state.note_is } in
+          let was_noted = search.noted at next old other at_state in
+          let near : depth + 1 ≤ old = omega (arith, lower) in
+          let grows = changed-grows b limit (holding index p) (holding index q) at next old (depth + 1) other note search at_state near more in
+          let own = was_noted.shallow in
+          let apart : (i deep : ℕ) (k : Key) (n : Note) → deep ≤ depth → IsState (holding index p) i k deep n → i ≡ at → ⊥ = λ i deep k n shallow s same.
+          let equal : old ≡ deep = same_Some old deep (sym state.depth_is ∙ ap (slice_get (values_of p.table)) (sym same) ∙ s.depth_is) in
+          omega (arith, equal, lower, shallow) in
+          record {
+            search = keeps-changed b limit (holding index p) (holding index q) at next old (depth + 1) other note search at_state near more (record {
+              state = next_state;
+              as_many = as_many;
+              shallow = omega (arith, own, near);
+              come = subst (IsCome b (holding index p) next (depth + 1)) (sym origin) from;
+              judged = subst (IsJudged b next.boxes) (sym standing) (judged-reopened b (holding index p) at next old other.standing was_noted.stands);
+            });
+            grows = grows;
+            stay = λ i k deep n shallow s. record {
+              there = grows.keys k i s.there;
+              depth_is = subst (λ xs. slice_get xs i ≡ Some deep) (sym changed.depths)
+                  (set_other (values_of p.table) at (depth + 1) i deep (apart i deep k n shallow s) s.depth_is);
+              note_is = subst (λ xs. slice_get xs i ≡ Some n) (sym changed.notes) (set_other p.notes at note i n (apart i deep k n shallow s) s.note_is);
+            };
+            found = record {
+              next = next;
+              is = is;
+              index = at;
+              there = grows.keys next at state.there;
+              deep = depth + 1;
+              depth_is = subst (λ xs. slice_get xs at ≡ Some (depth + 1)) (sym changed.depths)
+                  (set_same (values_of p.table) at (depth + 1) (slice_get_within (values_of p.table) at old state.depth_is));
+              near = omega arith;
+            };
+            no_more = work-changed limit (holding index p) at old (depth + 1) note (holding index q) more state.depth_is lower;
+          }

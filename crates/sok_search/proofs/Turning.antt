@@ -1,0 +1,121 @@
+-- A turn keeps all that is known, and less work remains.
+use Rattle.std.proofs.Common.{ℕ, ◌≡◌, ◌<◌, ◌≤◌, ◌+◌, ◌-◌, ◌*◌, ◌∙◌, inl, inr, refl, sym, ap, subst, List, ◌∷◌, Option, Some, None, Contains, arith}
+use Rattle.std.proofs.Common.{length, set, slice_get, sum_by}
+use Rattle.std.specs.Map.{values_of}
+use Rattle.std.proofs.lemmas.Bool.{cases_lt}
+use Rattle.std.proofs.lemmas.Option.{same_Some}
+use Rattle.sok_board.specs.Area.{Numbered}
+use Rattle.sok_board.proofs.Lists.{Contains-cons, Contains-cons_cases}
+use Rattle.sok_state.specs.declared.key.Key.{Key}
+use Rattle.sok_state.specs.Pushes.{IsLegal}
+use Rattle.sok_search.specs.declared.note.Note.{Note}
+use Rattle.sok_search.specs.declared.note.Standing.TheVariants.{Open, Expanded, Dead}
+use Rattle.sok_search.specs.Searches.{Progress, IsBeaten, IsSearch, IsSolved, IsState, Stands}
+use Rattle.sok_search.specs.Steps.{HasOneMore, done, holding, work}
+use Rattle.sok_search.specs.Views.{HasFollowed}
+use Rattle.sok_search.proofs.Doing.{keeps-dropped, keeps-expanded, keeps-solved}
+use Rattle.sok_search.proofs.Keeping.{keeps-queue}
+use Rattle.sok_search.proofs.Knowing.{known-at}
+
+-- an index that is held is one of the table
+pub held-within : (b : Numbered) (limit index : ℕ) (p : Progress) → IsSearch b limit (holding index p) → index < length p.table
+held-within b limit index p search = search.queued index (0, omega arith, refl)
+
+pub held-noted : (b : Numbered) (limit index : ℕ) (p : Progress) → IsSearch b limit (holding index p) → index < length p.notes
+held-noted b limit index p search =
+    let within = held-within b limit index p search in
+    let notes = search.a_note_each in
+    omega (arith, within, notes)
+
+one_less : (a s q more : ℕ) → more ≡ q + 1 → a + (2 * s + q) < a + (2 * s + more)
+one_less a s q more e = omega (arith, e)
+
+as_much : (a s q more : ℕ) → q ≡ more → a + (2 * s + q) ≡ a + (2 * s + more)
+as_much a s q more e = ap (λ n. a + (2 * s + n)) e
+
+-- an index that is held no more is less work
+pub work-held : (limit index : ℕ) (p : Progress) → work limit p < work limit (holding index p)
+work-held limit index p = one_less ((limit - length p.table) * (2 * limit + 2)) (sum_by (λ d. d) (values_of p.table)) (length p.queue)
+    (length (index ∷ p.queue)) (omega arith)
+
+-- an index that was taken out is held
+pub held-search : (b : Numbered) (limit index : ℕ) (p : Progress) (rest : List ℕ) → IsSearch b limit p → HasOneMore rest index p.queue
+    → IsSearch b limit (holding index (record p { queue = rest }))
+held-search b limit index p rest search taken =
+    let member : (i : ℕ) → Contains p.queue i → Contains (index ∷ rest) i = λ i waits. elim ((taken.exact i).0 waits) [
+      | inl same ↦ subst (Contains (index ∷ rest)) (sym same) (0, omega arith, refl)
+      | inr later ↦ Contains-cons index i rest later
+    ] in
+    keeps-queue b limit p (index ∷ rest) search (λ i waits. elim (Contains-cons_cases index i rest waits) [
+      | inl same ↦ search.queued i ((taken.exact i).1 (inl (sym same)))
+      | inr later ↦ search.queued i ((taken.exact i).1 (inr later))
+    ]) (λ i key depth note state. inl (member i))
+
+pub work-taken : (limit index : ℕ) (p : Progress) (rest : List ℕ) → HasOneMore rest index p.queue
+    → work limit (holding index (record p { queue = rest })) ≡ work limit p
+work-taken limit index p rest taken =
+    let longer = taken.longer in
+    as_much ((limit - length p.table) * (2 * limit + 2)) (sum_by (λ d. d) (values_of p.table)) (length (index ∷ rest)) (length p.queue) (omega (arith, longer))
+
+-- what is not open stands without waiting
+pub let-go : (b : Numbered) (limit index : ℕ) (p : Progress) (note : Note) → IsSearch b limit (holding index p) → slice_get p.notes index ≡ Some note
+    → ((key : Key) (depth : ℕ) → slice_get (values_of p.table) index ≡ Some depth → Stands b (holding index p) index key depth note.standing
+    → Stands b p index key depth note.standing) → IsSearch b limit p × (work limit p < work limit (holding index p))
+let-go b limit index p note search note_is stands =
+    let known = known-at b limit (holding index p) search index (held-within b limit index p search) in
+    let noted = search.noted index known.key known.depth note (record { there = known.state.there; depth_is = known.state.depth_is; note_is = note_is }) in
+    let state : IsState p index known.key known.depth note = record { there = known.state.there; depth_is = known.state.depth_is; note_is = note_is } in (
+      keeps-dropped b limit p index known.key known.depth note search state
+          (stands known.key known.depth known.state.depth_is noted.stands),
+      work-held limit index p,
+    )
+
+pub go-expanded : (b : Numbered) (limit index bound : ℕ) (p : Progress) (note : Note) → IsSearch b limit (holding index p)
+    → slice_get p.notes index ≡ Some note → note.standing ≡ Expanded bound → IsSearch b limit p × (work limit p < work limit (holding index p))
+go-expanded b limit index bound p note search note_is is =
+    let-go b limit index p note search note_is (λ key depth depth_is stood.
+    let was : Stands b (holding index p) index key depth (Expanded bound) = subst (Stands b (holding index p) index key depth) is stood in
+    subst (Stands b p index key depth) (sym is) was)
+
+pub go-dead : (b : Numbered) (limit index : ℕ) (p : Progress) (note : Note) → IsSearch b limit (holding index p) → slice_get p.notes index ≡ Some note
+    → note.standing ≡ Dead → IsSearch b limit p × (work limit p < work limit (holding index p))
+go-dead b limit index p note search note_is is =
+    let-go b limit index p note search note_is (λ key depth depth_is stood.
+    let was : Stands b (holding index p) index key depth Dead = subst (Stands b (holding index p) index key depth) is stood in
+    subst (Stands b p index key depth) (sym is) was)
+
+pub go-beaten : (b : Numbered) (limit index bound depth : ℕ) (p : Progress) (note : Note) → IsSearch b limit (holding index p)
+    → slice_get p.notes index ≡ Some note → note.standing ≡ Open bound → slice_get (values_of p.table) index ≡ Some depth → IsBeaten p.best (depth + bound)
+    → IsSearch b limit p × (work limit p < work limit (holding index p))
+go-beaten b limit index bound deep p note search note_is is deep_is beaten =
+    let-go b limit index p note search note_is (λ key depth depth_is stood.
+    let was : Stands b (holding index p) index key depth (Open bound) = subst (Stands b (holding index p) index key depth) is stood in
+    let same : deep ≡ depth = same_Some deep depth (sym deep_is ∙ depth_is) in
+    let now : Stands b p index key depth (Open bound) = (was.0, inr (subst (λ d. IsBeaten p.best (d + bound)) same beaten)) in
+    subst (Stands b p index key depth) (sym is) now)
+
+unbeaten : (best : Option ℕ) (depth bound : ℕ) → (IsBeaten best (depth + bound) → ⊥) → (n : ℕ) → IsBeaten best n → depth ≤ n
+unbeaten None depth bound far n beaten = absurd beaten
+unbeaten (Some k) depth bound far n beaten = elim (cases_lt (depth + bound) k) [ inl above ↦ omega (arith, above, beaten) | inr near ↦ absurd (far near) ]
+
+pub go-solved : (b : Numbered) (limit index bound depth : ℕ) (key : Key) (p : Progress) (note : Note) → IsSearch b limit (holding index p)
+    → IsState p index key depth note → note.standing ≡ Open bound → IsSolved b key → (IsBeaten p.best (depth + bound) → ⊥)
+    → IsSearch b limit (done p p.notes (Some depth)) × (work limit (done p p.notes (Some depth)) < work limit (holding index p))
+go-solved b limit index bound depth key p note search state is solved far =
+    (keeps-solved b limit p index key depth bound note search state is solved (unbeaten p.best depth bound far), work-held limit index p)
+
+pub go-on : (b : Numbered) (limit index bound depth : ℕ) (key : Key) (p q : Progress) (note : Note) → IsState p index key depth note
+    → note.standing ≡ Open bound → (IsSolved b key → ⊥) → HasFollowed b limit p index key depth (IsLegal b key) q → (r : Progress)
+    → r ≡ done q (set q.notes index (record { origin = note.origin; standing = Expanded bound })) q.best
+    → IsSearch b limit r × (work limit r < work limit (holding index p))
+go-on b limit index bound depth key p q note state is unsolved followed r same =
+    let stays = followed.stay index key depth note (omega arith) state in
+    let s = done q (set q.notes index (record { origin = note.origin; standing = Expanded bound })) q.best in
+    let kept : IsSearch b limit s = keeps-expanded b limit q index key depth bound note followed.search stays is unsolved followed.found in
+    let no_more = followed.no_more in
+    let less : work limit q < work limit (holding index q) = work-held limit index q in
+    let now : work limit s < work limit (holding index p) = below (work limit q) (work limit (holding index q)) (work limit (holding index p)) less no_more in
+    subst (λ x. IsSearch b limit x × (work limit x < work limit (holding index p))) (sym same) (kept, now)
+  where
+    below : (x y z : ℕ) → x < y → y ≤ z → x < z
+    below x y z f g = omega (arith, f, g)

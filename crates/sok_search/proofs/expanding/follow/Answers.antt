@@ -1,0 +1,48 @@
+use Rattle.std.proofs.Common.{ap, ◌∙◌, subst, Some, Contains, arith, get_or}
+use Rattle.std.proofs.lemmas.Option.{slice_get-get_or}
+use Rattle.sok_search.specs.Views.{TellsReached, progress_of}
+use Rattle.sok_search.specs.declared.reaching.Reached.TheVariants.{On}
+use Rattle.sok_cert.proofs.Looking.{no_push}
+use Rattle.sok_search.proofs.Trailing.{Before, followed-along, followed-more, followed-none, held-stays}
+use Rattle.sok_search.proofs.expanding.follow.Goals as goal
+
+pub loop-push-init : goal.loop-push-init
+loop-push-init c = followed-none c.args.board.now c.args.limit
+    (progress_of c.args.search) c.args.index c.args.key.now c.args.depth c.args.pushes.now c.requires.search
+
+pub reach-requires-clause-search : goal.reach-requires-clause-search
+reach-requires-clause-search c = c.loop-push.invariant.search
+
+pub reach-requires-clause-there : goal.reach-requires-clause-there
+reach-requires-clause-there c =
+    let (note, state) = held-stays c.args.board.now c.args.limit (progress_of c.args.search)
+    (progress_of c.loop-push.search) c.args.index c.args.key.now c.args.depth
+    (Before c.args.pushes.now c.loop-push.push-index) c.requires.search c.requires.there c.requires.depth c.loop-push.invariant in
+    state.there
+
+pub reach-requires-clause-depth : goal.reach-requires-clause-depth
+reach-requires-clause-depth c =
+    let (note, state) = held-stays c.args.board.now c.args.limit (progress_of c.args.search)
+    (progress_of c.loop-push.search) c.args.index c.args.key.now c.args.depth
+    (Before c.args.pushes.now c.loop-push.push-index) c.requires.search c.requires.there c.requires.depth c.loop-push.invariant in
+    state.depth_is
+
+pub loop-push-preserved : goal.loop-push-preserved
+loop-push-preserved c =
+    let b = c.args.board.now in
+    let n = c.loop-push.push-index in
+    let pushes = c.args.pushes.now in
+    let push = get_or pushes n no_push in
+    let told : TellsReached b c.args.limit (progress_of c.loop-push.search) c.args.index c.args.key.now c.args.depth push (On c.in-On.after) = subst
+    (TellsReached b c.args.limit (progress_of c.loop-push.search) c.args.index c.args.key.now c.args.depth push) c.in-On.is c.in_ok-after.ensures in
+    followed-more b c.args.limit (progress_of c.args.search) (progress_of c.loop-push.search)
+    (progress_of c.in-On.after) c.args.index c.args.key.now c.args.depth pushes n push
+    (slice_get-get_or pushes n no_push c.loop-push-test.true) c.loop-push.invariant told
+
+pub returns : goal.returns
+returns c =
+    let pushes = c.args.pushes.now in
+    let past = c.loop-push-test.false in
+    followed-along c.args.board.now c.args.limit (progress_of c.args.search) (progress_of c.loop-push.search) c.args.index c.args.key.now c.args.depth
+    (Before pushes c.loop-push.push-index) (Contains pushes)
+    (λ push (k, within, is). (k, omega (arith, within, past), slice_get-get_or pushes k push within ∙ ap Some is)) c.loop-push.invariant

@@ -1,0 +1,88 @@
+use Rattle.std.proofs.Common.{◌∙◌, sym, ap, refl, Some, arith, rules}
+use Rattle.std.specs.Map.{values_of}
+use Rattle.std.proofs.lemmas.Option.{get_or_from_slice_get, slice_get-get_or}
+use Rattle.sok_cert.proofs.Starting.{at-within}
+use Rattle.sok_search.specs.Searches.{IsState}
+use Rattle.sok_search.specs.Views.{progress_of}
+use Rattle.sok_search.proofs.Adding.{note-within, taken, taken-deep, taken-key}
+use Rattle.sok_search.proofs.Filling.{full-more}
+use Rattle.sok_search.proofs.Pushing.{pushed-added, pushed-changed}
+use Rattle.sok_search.proofs.reaching.reach.Goals as goal
+
+pub after-requires-clause-key : goal.after-requires-clause-key
+after-requires-clause-key c = taken-key c.args.board.now c.args.limit c.args.index
+    (progress_of c.args.search) c.args.key.now c.args.depth c.requires.search c.requires.there c.requires.depth
+
+pub overflow_add-depth : goal.overflow_add-depth
+overflow_add-depth c =
+    let deep = taken-deep c.args.board.now c.args.limit c.args.index
+    (progress_of c.args.search) c.args.key.now c.args.depth c.requires.search c.requires.there c.requires.depth in
+    omega (arith, deep, c.ranges.limit.fits)
+
+pub overflow_add-depth-in-None : goal.overflow_add-depth-in-None
+overflow_add-depth-in-None c =
+    let deep = taken-deep c.args.board.now c.args.limit c.args.index
+    (progress_of c.args.search) c.args.key.now c.args.depth c.requires.search c.requires.there c.requires.depth in
+    omega (arith, deep, c.ranges.limit.fits)
+
+pub depth-requires : goal.depth-requires
+depth-requires c = at-within c.args.search.table c.in_ok-next.next c.in-Some.at c.in-Some.ensures
+
+pub index-requires : goal.index-requires
+index-requires c = let h = note-within c.args.board.now c.args.limit c.args.index
+    (progress_of c.args.search) c.requires.search c.in-Some.at c.in_ok-next.next c.in-Some.ensures in search (rules, h)
+
+pub lower-requires-clause-exists : goal.lower-requires-clause-exists
+lower-requires-clause-exists c = at-within c.args.search.table c.in_ok-next.next c.in-Some.at c.in-Some.ensures
+
+pub lower-requires-clause-noted : goal.lower-requires-clause-noted
+lower-requires-clause-noted c = note-within c.args.board.now c.args.limit c.args.index
+    (progress_of c.args.search) c.requires.search c.in-Some.at c.in_ok-next.next c.in-Some.ensures
+
+pub lower-requires-clause-smaller : goal.lower-requires-clause-smaller
+lower-requires-clause-smaller c =
+    let is = get_or_from_slice_get (values_of c.args.search.table) c.in-Some.at c.depth.result 0 c.depth.ensures in
+    let far = c.if-depth.false in
+    omega (arith, is, far)
+
+pub returns-then-len-limit : goal.returns-then-len-limit
+returns-then-len-limit c =
+    let full = c.if-len-limit.true in
+    let count = c.len.ensures.count in
+    full-more c.args.board.now c.requires.accepted c.args.limit _ c.args.index c.args.key.now c.in_ok-next.next c.args.push
+    c.requires.legal.after c.requires.search (omega (arith, full, count))
+    c.requires.there c.requires.legal.leads (c.in_ok-next.ensures.exact c.requires.legal.after c.requires.legal.leads) c.in-None.ensures
+
+pub returns-in_ok-lower-in-Some : goal.returns-in_ok-lower-in-Some
+returns-in_ok-lower-in-Some c =
+    let b = c.args.board.now in
+    let p = progress_of c.args.search in
+    let q = progress_of c.in_ok-lower-in-Some.field-0 in
+    let next = c.in_ok-next.next in
+    let at = c.in-Some.at in
+    let other = c.index.result.now in
+    let one = taken b c.args.limit c.args.index p c.args.key.now c.args.depth c.requires.search c.requires.there c.requires.depth in
+    let within = note-within b c.args.limit c.args.index p c.requires.search at next c.in-Some.ensures in
+    let state : IsState p at next c.depth.result other = record {
+      there = c.in-Some.ensures;
+      depth_is = c.depth.ensures;
+      note_is = slice_get-get_or
+          c.args.search.notes.items at other within ∙ ap Some (sym c.index.ensures);
+    } in
+    pushed-changed b c.args.limit c.args.index p c.requires.search c.args.key.now c.args.depth
+    c.requires.there c.requires.depth one.note one.note_is
+    c.args.push c.requires.legal next c.in_ok-next.ensures.exact c.in_ok-next.ensures.of_board c.in_ok-next.ensures.as_many
+    at c.depth.result other state c.if-depth.false _ refl
+    c.reopened-standing.ensures q c.in_ok-lower-in-Some.ensures
+
+pub returns-in_ok-add-in-None : goal.returns-in_ok-add-in-None
+returns-in_ok-add-in-None c =
+    let p = progress_of c.args.search in
+    let q = progress_of c.in_ok-add-in-None.field-0 in
+    let one = taken c.args.board.now c.args.limit c.args.index p c.args.key.now c.args.depth c.requires.search c.requires.there c.requires.depth in
+    let room = c.if-len-limit.false in
+    let count = c.len.ensures.count in
+    pushed-added c.args.board.now c.args.limit c.args.index p c.requires.search c.args.key.now
+    c.args.depth c.requires.there c.requires.depth one.note one.note_is
+    c.args.push c.requires.legal c.in_ok-next.next c.in_ok-next.ensures.exact c.in_ok-next.ensures.of_board c.in_ok-next.ensures.as_many c.in-None.ensures
+    (omega (arith, room, count)) _ refl c.in_ok-standing-in-None.ensures q c.in_ok-add-in-None.ensures

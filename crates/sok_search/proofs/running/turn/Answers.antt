@@ -1,0 +1,26 @@
+use Rattle.std.proofs.Common.{◌∙◌, sym, ap, Some, rules}
+use Rattle.std.proofs.lemmas.Option.{slice_get-get_or}
+use Rattle.sok_search.specs.Views.{progress_of}
+use Rattle.sok_search.proofs.Turning.{go-dead, go-expanded, held-noted}
+use Rattle.sok_search.proofs.running.turn.Goals as goal
+
+pub index-note-requires : goal.index-note-requires
+index-note-requires c = let h = held-noted c.args.board.now c.args.limit c.args.index (progress_of c.args.search) c.requires.search in search (rules, h)
+
+pub visit-requires-clause-noted : goal.visit-requires-clause-noted
+visit-requires-clause-noted c =
+    let within = held-noted c.args.board.now c.args.limit c.args.index (progress_of c.args.search) c.requires.search in
+    slice_get-get_or c.args.search.notes.items c.args.index c.index-note.result.now within ∙ ap Some (sym c.index-note.ensures)
+
+pub returns-in-Expanded : goal.returns-in-Expanded
+returns-in-Expanded c =
+    let within = held-noted c.args.board.now c.args.limit c.args.index (progress_of c.args.search) c.requires.search in
+    let there = slice_get-get_or c.args.search.notes.items c.args.index c.index-note.result.now within ∙ ap Some (sym c.index-note.ensures) in
+    go-expanded c.args.board.now c.args.limit c.args.index c.in-Expanded.field-0
+    (progress_of c.args.search) c.index-note.result.now c.requires.search there c.in-Expanded.is
+
+pub returns-in-Dead : goal.returns-in-Dead
+returns-in-Dead c =
+    let within = held-noted c.args.board.now c.args.limit c.args.index (progress_of c.args.search) c.requires.search in
+    let there = slice_get-get_or c.args.search.notes.items c.args.index c.index-note.result.now within ∙ ap Some (sym c.index-note.ensures) in
+    go-dead c.args.board.now c.args.limit c.args.index (progress_of c.args.search) c.index-note.result.now c.requires.search there c.in-Dead.is

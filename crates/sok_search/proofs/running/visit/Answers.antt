@@ -1,0 +1,60 @@
+use Rattle.std.proofs.Common.{refl, sym, subst, true≢false}
+use Rattle.sok_search.specs.declared.reaching.Reached.TheVariants.{On}
+use Rattle.sok_search.specs.Searches.{IsState}
+use Rattle.sok_search.specs.Views.{TellsExpanded, progress_of}
+use Rattle.sok_search.proofs.Adding.{taken-key}
+use Rattle.sok_search.proofs.Turning.{go-beaten, go-on, go-solved, held-noted, held-within}
+use Rattle.sok_search.proofs.running.visit.Goals as goal
+
+pub depth-depth-requires : goal.depth-depth-requires
+depth-depth-requires c = held-within c.args.board.now c.args.limit c.args.index (progress_of c.args.search) c.requires.search
+
+pub key-requires : goal.key-requires
+key-requires c = held-within c.args.board.now c.args.limit c.args.index (progress_of c.args.search) c.requires.search
+
+pub returns-then-is_beaten : goal.returns-then-is_beaten
+returns-then-is_beaten c = go-beaten c.args.board.now c.args.limit c.args.index c.args.bound c.depth-depth.result
+    (progress_of c.args.search) c.args.note c.requires.search c.requires.noted c.requires.is_open c.depth-depth.ensures (c.if-is_beaten.ensures.0 refl)
+
+pub is_solved-requires : goal.is_solved-requires
+is_solved-requires c = record {
+  exist = (taken-key c.args.board.now c.args.limit c.args.index
+      (progress_of c.args.search) c.in_ok-key.key c.depth-depth.result c.requires.search c.in_ok-key.ensures c.depth-depth.ensures).is.placed.boxes_exist;
+}
+
+pub returns-then-is_solved : goal.returns-then-is_solved
+returns-then-is_solved c =
+    let p = progress_of c.args.search in
+    let key = c.in_ok-key.key in
+    let state : IsState p c.args.index key c.depth-depth.result c.args.note = record {
+      there = c.in_ok-key.ensures;
+      depth_is = c.depth-depth.ensures;
+      note_is
+          = c.requires.noted;
+    } in
+    go-solved c.args.board.now c.args.limit c.args.index c.args.bound c.depth-depth.result key p c.args.note c.requires.search state c.requires.is_open
+    ((c.if-is_solved.ensures key.least).0 refl)
+    (λ beaten. true≢false (sym (c.if-is_beaten.ensures.1 beaten)))
+
+pub mark-requires : goal.mark-requires
+mark-requires c =
+    let b = c.args.board.now in
+    let told : TellsExpanded b c.args.limit (progress_of c.args.search) c.args.index c.in_ok-key.key c.depth-depth.result (On c.in-On.after) = subst
+    (TellsExpanded b c.args.limit (progress_of c.args.search) c.args.index c.in_ok-key.key c.depth-depth.result) c.in-On.is c.in_ok-after.ensures in
+    held-noted b c.args.limit c.args.index (progress_of c.in-On.after) told.search
+
+pub returns-in-On : goal.returns-in-On
+returns-in-On c =
+    let b = c.args.board.now in
+    let p = progress_of c.args.search in
+    let key = c.in_ok-key.key in
+    let told : TellsExpanded b c.args.limit p c.args.index key c.depth-depth.result (On c.in-On.after) = subst
+    (TellsExpanded b c.args.limit p c.args.index key c.depth-depth.result) c.in-On.is c.in_ok-after.ensures in
+    let state : IsState p c.args.index key c.depth-depth.result c.args.note = record {
+      there = c.in_ok-key.ensures;
+      depth_is = c.depth-depth.ensures;
+      note_is
+          = c.requires.noted;
+    } in
+    go-on b c.args.limit c.args.index c.args.bound c.depth-depth.result key p (progress_of c.in-On.after) c.args.note state c.requires.is_open
+    (λ solved. true≢false (sym ((c.if-is_solved.ensures key.least).1 solved))) told (progress_of c.mark.result) c.mark.ensures

@@ -1,0 +1,29 @@
+use Rattle.std.proofs.Common.{arith, length}
+use Rattle.std.proofs.lemmas.List.{nil_from_length}
+use Rattle.sok_search.proofs.Trails.{under_way-all, under_way-legal, under_way-more, under_way-none}
+use Rattle.sok_search.proofs.trail.letters.Goals as goal
+
+pub loop-push-init : goal.loop-push-init
+loop-push-init c =
+    under_way-none c.args.board.now c.level-level.ensures.accepted c.in_ok-trail.trail c.args.trace.items c.requires
+    c.in_ok-trail.ensures
+
+pub follow-requires-clause-trail : goal.follow-requires-clause-trail
+follow-requires-clause-trail c = c.loop-push.invariant.is
+
+pub follow-requires-clause-legal : goal.follow-requires-clause-legal
+follow-requires-clause-legal c =
+    under_way-legal c.args.board.now
+    (length c.args.trace.items) c.loop-push.trail c.pop.new.self.items c.in-Some.push c.loop-push.rest.items c.in-Some.ensures.items c.loop-push.invariant
+
+pub loop-push-preserved : goal.loop-push-preserved
+loop-push-preserved c =
+    under_way-more c.args.board.now c.level-level.ensures.accepted
+    (length c.args.trace.items) c.loop-push.trail c.in_ok-trail-2.trail c.pop.new.self.items c.in-Some.push c.loop-push.rest.items
+    c.in-Some.ensures.items c.loop-push.invariant c.in_ok-trail-2.ensures
+
+pub returns : goal.returns
+returns c =
+    let empty = c.in_default.ensures.cases in
+    under_way-all c.args.board.now (length c.args.trace.items) c.loop-push.trail c.loop-push.rest.items
+    (nil_from_length c.loop-push.rest.items (omega (arith, empty))) c.loop-push.invariant

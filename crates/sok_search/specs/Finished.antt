@@ -1,0 +1,89 @@
+-- What a search shows that is finished: nothing waits.
+use Rattle.std.specs.Prelude.{ℕ, ◌≡◌, ◌≤◌, ◌+◌, List, Option, Some, None, IsSomeAnd, Vec, All, length, slice_get}
+use Rattle.std.specs.declared.alloc.Global.{Global}
+use Rattle.sok_board.specs.Area.{Numbered}
+use Rattle.sok_cert.specs.Claim.{Claim}
+use Rattle.sok_cert.specs.Claim.TheVariants.{Pushes, Unsolvable}
+use Rattle.sok_cert.specs.Entry.{Entry}
+use Rattle.sok_cert.specs.Reason.{Reason}
+use Rattle.sok_cert.specs.Reason.TheVariants as reason
+use Rattle.sok_cert.specs.Text.{FitsEntry, FitsReason}
+use Rattle.sok_price.specs.Matches.{ArePrices}
+use Rattle.sok_price.specs.Prices.{IsCrowd}
+use Rattle.sok_bar.specs.declared.rest.Rest.{Rest}
+use Rattle.sok_bar.specs.Bars.{Bars}
+use Rattle.sok_bar.specs.Jam.{IsJam}
+use Rattle.sok_state.specs.declared.key.Key.{Key}
+use Rattle.sok_cert.specs.Closed.{barring, rest_of}
+use Rattle.sok_search.specs.declared.note.Note.{Note}
+use Rattle.sok_search.specs.declared.note.Standing.{Standing}
+use Rattle.sok_search.specs.declared.note.Standing.TheVariants as standing
+use Rattle.sok_search.specs.Searches.{Progress, HasPrices, HasJam, IsDead, IsState}
+
+-- what is claimed in the end
+abbrev pub claim_of : Option ℕ → Claim
+claim_of None = Unsolvable
+claim_of (Some k) = Pushes k
+
+-- what a reason says of a position with these boxes; an expanded one gives none
+abbrev pub ReasonBars : Numbered → List ℕ → Reason → Rest → Type 0
+ReasonBars b boxes why rest = IsSomeAnd (barring why) (λ reason. Bars b boxes reason rest)
+
+-- an expanded state is expanded in the list, and each other one is barred
+abbrev pub IsReasonOf : Numbered → Claim → List ℕ → ℕ → Standing → Reason → Type 0
+IsReasonOf b claim boxes depth (standing.Expanded bound) why = why ≡ reason.Expanded
+IsReasonOf b claim boxes depth (standing.Open bound) why = ReasonBars b boxes why (rest_of claim depth)
+IsReasonOf b claim boxes depth standing.Dead why = ReasonBars b boxes why (rest_of claim depth)
+
+-- an entry made of a state
+pub record IsEntryOf (b : Numbered) (claim : Claim) (key : Key) (depth : ℕ) (note : Note) (e : Entry) : Type 0 where
+  pub depth_is : e.depth ≡ depth
+  pub player_is : e.player ≡ key.least
+  pub boxes_are : e.boxes ≡ key.boxes
+  pub reason_is : IsReasonOf b claim key.boxes depth note.standing e.reason
+
+-- entries of the first states, each of which has a text
+pub record AreFirstEntries (b : Numbered) (claim : Claim) (p : Progress) (n : ℕ) (entries : List Entry) : Type 0 where
+  pub as_many : length entries ≡ n
+  pub each : (i : ℕ) (key : Key) (depth : ℕ) (note : Note) (e : Entry) → IsState p i key depth note → slice_get entries i ≡ Some e
+      → IsEntryOf b claim key depth note e
+  pub fit : All FitsEntry entries
+
+-- an entry of the state at an index, which has a text
+pub record IsEntryAt (b : Numbered) (claim : Claim) (p : Progress) (index : ℕ) (e : Entry) : Type 0 where
+  pub entry : (key : Key) (depth : ℕ) (note : Note) → IsState p index key depth note → IsEntryOf b claim key depth note e
+  pub fits : FitsEntry e
+
+-- what is claimed is no more than this
+abbrev pub IsAtMost : Claim → ℕ → Type 0
+IsAtMost (Pushes k) n = k ≤ n
+IsAtMost Unsolvable n = ⊥
+
+-- prices show that there are as many pushes as claimed
+abbrev pub CostsEnough : Numbered → Claim → List ℕ → ℕ → Type 0
+CostsEnough b claim boxes depth = (bound : ℕ) × HasPrices b boxes bound × IsAtMost claim (depth + bound)
+
+-- a state that needs no more looking at: it bars what is claimed
+abbrev pub IsDone : Numbered → Claim → List ℕ → ℕ → Standing → Type 0
+IsDone b claim boxes depth (standing.Open bound) = CostsEnough b claim boxes depth
+IsDone b claim boxes depth (standing.Expanded bound) = Unit {0}
+IsDone b claim boxes depth standing.Dead = IsDead b boxes
+
+-- prices of a least assignment, or a crowd
+abbrev pub IsAssigned : Numbered → List ℕ → Reason → Type 0
+IsAssigned b boxes (reason.Bound u v) = (total : ℕ) × (goal_of : List ℕ) × ArePrices b boxes u v total goal_of
+IsAssigned b boxes (reason.Crowd members) = IsCrowd b boxes members
+IsAssigned b boxes _ = ⊥
+
+-- the reason has a text
+abbrev pub HasText : List ℕ → Reason → Type 0
+HasText boxes why = FitsReason why (length boxes)
+
+-- no members of the boxes are a jam
+abbrev pub HasNoJam : Numbered → List ℕ → Type 0
+HasNoJam b boxes = HasJam b boxes → ⊥
+
+-- what is found of jams: members that are one, and None exactly where there is none
+abbrev pub TellsJam : Numbered → List ℕ → Option (Vec ℕ Global) → Type 0
+TellsJam b boxes None = HasNoJam b boxes
+TellsJam b boxes (Some members) = IsJam b boxes members.items

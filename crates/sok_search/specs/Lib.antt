@@ -1,0 +1,9 @@
+pub mod Buckets
+pub mod Faults
+pub mod Finished
+pub mod Limits
+pub mod Outcomes
+pub mod Searches
+pub mod Steps
+pub mod Trails
+pub mod Views

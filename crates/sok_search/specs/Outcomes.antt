@@ -1,0 +1,59 @@
+-- What is answered of a level.
+use Rattle.std.specs.Prelude.{ℕ, ◌≡◌, ◌≤◌, ◌+◌, ◌⊎◌, ◌++◌, ◌∷◌, List, [], length}
+use Rattle.sok_rules.specs.declared.cell.Dir.{Dir}
+use Rattle.sok_rules.specs.Squares.{Rows}
+use Rattle.sok_rules.specs.Play.{start, pushes, Solves, IsFewest, IsUnsolvable}
+use Rattle.sok_rules.specs.States.{MoreStatesThan}
+use Rattle.sok_board.specs.Area.{Numbered, IsAccepted}
+use Rattle.sok_cert.specs.Claim.{Claim}
+use Rattle.sok_cert.specs.Claim.TheVariants as claim
+use Rattle.sok_cert.specs.Entry.{Entry}
+use Rattle.sok_cert.specs.Text.{Fits}
+use Rattle.sok_cert.specs.Closed.{IsClosed}
+use Rattle.sok_search.specs.declared.outcome.Outcome.{Outcome}
+use Rattle.sok_search.specs.declared.outcome.Outcome.TheVariants.{Solved, Unsolvable, Limit}
+
+-- the last letter of a list pushes
+pub record PushesLast (rows : Rows) (w : List Dir) : Type 0 where
+  pub front : List Dir
+  pub last : Dir
+  pub is : w ≡ front ++ last ∷ []
+  pub one_more : pushes rows (start rows) w ≡ pushes rows (start rows) front + 1
+
+-- a list is empty, or its last letter pushes
+abbrev pub EndsWithPush : Rows → List Dir → Type 0
+EndsWithPush rows w = (w ≡ []) ⊎ PushesLast rows w
+
+-- a list that solves, with so many pushes, and none solves with fewer
+pub record IsLeastSolution (rows : Rows) (w : List Dir) (n : ℕ) : Type 0 where
+  pub solves : Solves rows w
+  pub counted : pushes rows (start rows) w ≡ n
+  pub fewest : IsFewest rows n
+  pub ends : EndsWithPush rows w
+
+-- a certificate that has a text, is closed for a claim of a level, and has at most so many entries
+pub record Certifies (rows : Rows) (limit : ℕ) (shown : Claim) (entries : List Entry) : Type 0 where
+  pub fits : Fits shown entries
+  pub closed : (b : Numbered) → b.rows ≡ rows → IsAccepted b → IsClosed b shown entries
+  pub few : length entries ≤ limit
+
+-- no list solves, and a certificate shows it
+pub record IsShownUnsolvable (rows : Rows) (limit : ℕ) (entries : List Entry) : Type 0 where
+  pub unsolvable : IsUnsolvable rows
+  pub certified : Certifies rows limit claim.Unsolvable entries
+
+-- a list solves with the fewest pushes, and a certificate shows that it does
+pub record IsShownSolved (rows : Rows) (limit : ℕ) (w : List Dir) (n : ℕ) (entries : List Entry) : Type 0 where
+  pub solution : IsLeastSolution rows w n
+  pub certified : Certifies rows limit (claim.Pushes n) entries
+
+-- there are more states than a limit allows, and the limit is told
+pub record IsPastLimit (rows : Rows) (limit states : ℕ) : Type 0 where
+  pub more : MoreStatesThan rows limit
+  pub is : states ≡ limit
+
+-- what is answered of a level within a limit
+abbrev pub IsAnswer : Rows → ℕ → Outcome → Type 0
+IsAnswer rows limit (Solved dirs pushes cert) = IsShownSolved rows limit dirs.items pushes cert.entries.items
+IsAnswer rows limit (Unsolvable cert) = IsShownUnsolvable rows limit cert.entries.items
+IsAnswer rows limit (Limit states) = IsPastLimit rows limit states

@@ -1,0 +1,115 @@
+-- What a search knows all the time: which states are known, how each was come to, and why it may stand as it does.
+use Rattle.std.specs.Prelude.{ℕ, ◌≡◌, ◌<◌, ◌≤◌, ◌+◌, ◌⊎◌, List, Option, Some, None, IfSome, IsSomeAnd, Contains, length, slice_get}
+use Rattle.std.specs.Map.{values_of}
+use Rattle.sok_rules.specs.Play.{Position, AllOnGoals, start}
+use Rattle.sok_board.specs.Area.{Numbered, position_of, boxes_of}
+use Rattle.sok_price.specs.Prices.{Priced, IsCrowd}
+use Rattle.sok_bar.specs.Jam.{IsJam}
+use Rattle.sok_state.specs.declared.key.Key.{Key}
+use Rattle.sok_state.specs.declared.push.Push.{Push}
+use Rattle.sok_state.specs.Keys.{IsKey, IsKeyOf}
+use Rattle.sok_state.specs.Pushes.{IsLegal, LeadsTo}
+use Rattle.sok_state.specs.Tables.{Entries, HasDistinctKeys, IsAt}
+use Rattle.sok_cert.specs.Lookup.{IsFound}
+use Rattle.sok_search.specs.declared.note.Note.{Note}
+use Rattle.sok_search.specs.declared.note.Origin.{Origin}
+use Rattle.sok_search.specs.declared.note.Standing.{Standing}
+use Rattle.sok_search.specs.declared.note.Standing.TheVariants.{Open, Expanded, Dead}
+use Rattle.sok_search.specs.Limits.{state_limit}
+
+-- the known states with their depths, a note of each, the indices that wait, and the least depth at which a solved state was taken
+pub record Progress : Type 0 where
+  pub table : Entries
+  pub notes : List Note
+  pub queue : List ℕ
+  pub best : Option ℕ
+
+-- what stands at an index
+pub record IsState (p : Progress) (i : ℕ) (key : Key) (depth : ℕ) (note : Note) : Type 0 where
+  pub there : IsAt p.table key i
+  pub depth_is : slice_get (values_of p.table) i ≡ Some depth
+  pub note_is : slice_get p.notes i ≡ Some note
+
+-- a push leads to it from a state that is less deep
+pub record IsFrom (b : Numbered) (p : Progress) (key : Key) (depth : ℕ) (origin : Origin) : Type 0 where
+  pub parent : Key
+  pub there : IsAt p.table parent origin.parent
+  pub deep : ℕ
+  pub depth_is : slice_get (values_of p.table) origin.parent ≡ Some deep
+  pub nearer : deep < depth
+  pub after : Position
+  pub leads : LeadsTo b parent origin.push after
+  pub is : IsKeyOf b after key
+
+-- by its origin, or it is the start
+abbrev pub IsCome : Numbered → Progress → Key → ℕ → Option Origin → Type 0
+IsCome b p key depth None = IsKeyOf b (start b.rows) key
+IsCome b p key depth (Some origin) = IsFrom b p key depth origin
+
+abbrev pub IsSolved : Numbered → Key → Type 0
+IsSolved b key = AllOnGoals b.rows (position_of b key.least key.boxes)
+
+abbrev pub HasPrices : Numbered → List ℕ → ℕ → Type 0
+HasPrices b boxes n = (u : List ℕ) × (v : List ℕ) × Priced b boxes u v n
+
+abbrev pub HasCrowd : Numbered → List ℕ → Type 0
+HasCrowd b boxes = (members : List ℕ) × IsCrowd b boxes members
+
+abbrev pub HasJam : Numbered → List ℕ → Type 0
+HasJam b boxes = (members : List ℕ) × IsJam b boxes members
+
+abbrev pub IsDead : Numbered → List ℕ → Type 0
+IsDead b boxes = HasCrowd b boxes ⊎ HasJam b boxes
+
+-- a solution with no more pushes is known
+abbrev pub IsBeaten : Option ℕ → ℕ → Type 0
+IsBeaten best n = IsSomeAnd best (λ k. k ≤ n)
+
+-- why it may stand as it does
+abbrev pub Stands : Numbered → Progress → ℕ → Key → ℕ → Standing → Type 0
+Stands b p i key depth (Open bound) = HasPrices b key.boxes bound × (Contains p.queue i ⊎ IsBeaten p.best (depth + bound))
+Stands b p i key depth (Expanded bound) =
+    HasPrices b key.boxes bound × (IsSolved b key → ⊥) × ((push : Push) → IsLegal b key push → IsFound b p.table key depth push)
+Stands b p i key depth Dead = IsDead b key.boxes
+
+-- a state of the board, no deeper than its index, which was come to and may stand as it does
+pub record IsNoted (b : Numbered) (p : Progress) (i : ℕ) (key : Key) (depth : ℕ) (note : Note) : Type 0 where
+  pub state : IsKey b key
+  pub as_many : length key.boxes ≡ length (boxes_of b)
+  pub shallow : depth ≤ i
+  pub come : IsCome b p key depth note.origin
+  pub stands : Stands b p i key depth note.standing
+
+-- the start stands first, at depth 0
+pub record IsBegun (b : Numbered) (p : Progress) : Type 0 where
+  pub key : Key
+  pub there : IsAt p.table key 0
+  pub depth_is : slice_get (values_of p.table) 0 ≡ Some 0
+  pub is : IsKeyOf b (start b.rows) key
+
+-- a solved state at most so deep is known
+pub record IsSolvedIn (b : Numbered) (p : Progress) (k : ℕ) : Type 0 where
+  pub index : ℕ
+  pub key : Key
+  pub there : IsAt p.table key index
+  pub depth : ℕ
+  pub depth_is : slice_get (values_of p.table) index ≡ Some depth
+  pub shallow : depth ≤ k
+  pub solved : IsSolved b key
+
+-- all that is known
+pub record IsSearch (b : Numbered) (limit : ℕ) (p : Progress) : Type 0 where
+  pub distinct : HasDistinctKeys p.table
+  pub a_note_each : length p.notes ≡ length p.table
+  pub few : length p.table ≤ limit
+  pub queued : (i : ℕ) → Contains p.queue i → i < length p.table
+  pub begun : IsBegun b p
+  pub noted : (i : ℕ) (key : Key) (depth : ℕ) (note : Note) → IsState p i key depth note → IsNoted b p i key depth note
+  pub best : IfSome p.best (IsSolvedIn b p)
+
+-- within some limit, and within one that a certificate allows
+abbrev pub IsSearching : Numbered → Progress → Type 0
+IsSearching b p = (limit : ℕ) × IsSearch b limit p
+
+abbrev pub IsSmallSearch : Numbered → Progress → Type 0
+IsSmallSearch b p = (limit : ℕ) × IsSearch b limit p × (limit ≤ state_limit)

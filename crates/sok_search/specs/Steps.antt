@@ -1,0 +1,76 @@
+-- What a search does: a state is added, or comes nearer, or is expanded.
+use Rattle.std.specs.Prelude.{ℕ, ◌≡◌, ◌≤◌, ◌+◌, ◌-◌, ◌*◌, ◌⊎◌, ◌↔◌, List, [], ◌∷◌, ◌++◌, Option, Some, Contains, length, slice_get, slice_set, sum_by}
+use Rattle.std.specs.Map.{keys_of, values_of}
+use Rattle.sok_board.specs.Area.{Numbered}
+use Rattle.sok_state.specs.declared.key.Key.{Key}
+use Rattle.sok_state.specs.declared.push.Push.{Push}
+use Rattle.sok_state.specs.Tables.{Entries, IsAt}
+use Rattle.sok_cert.specs.Lookup.{IsFound}
+use Rattle.sok_search.specs.declared.note.Note.{Note}
+use Rattle.sok_search.specs.declared.note.Standing.{Standing}
+use Rattle.sok_search.specs.declared.note.Standing.TheVariants.{Open, Expanded, Dead}
+use Rattle.sok_search.specs.Searches.{Progress, HasPrices, IsDead, IsSearch, IsState}
+
+-- each state stays where it is, and no deeper
+pub record Grows (old new : Entries) : Type 0 where
+  pub keys : (key : Key) (i : ℕ) → IsAt old key i → IsAt new key i
+  pub depths : (i depth : ℕ) → slice_get (values_of old) i ≡ Some depth → (deep : ℕ) × (slice_get (values_of new) i ≡ Some deep) × (deep ≤ depth)
+
+-- the same indices and one more, in whatever order
+pub record HasOneMore (fewer : List ℕ) (index : ℕ) (more : List ℕ) : Type 0 where
+  pub longer : length more ≡ length fewer + 1
+  pub exact : (i : ℕ) → Contains more i ↔ ((i ≡ index) ⊎ Contains fewer i)
+
+-- an open state waits
+abbrev pub Queues : Standing → ℕ → List ℕ → List ℕ → Type 0
+Queues (Open bound) index old new = HasOneMore old index new
+Queues (Expanded bound) index old new = new ≡ old
+Queues Dead index old new = new ≡ old
+
+-- a state is added
+pub record IsAdded (p : Progress) (key : Key) (depth : ℕ) (note : Note) (q : Progress) : Type 0 where
+  pub keys : keys_of q.table ≡ keys_of p.table ++ key ∷ []
+  pub depths : values_of q.table ≡ values_of p.table ++ depth ∷ []
+  pub notes : q.notes ≡ p.notes ++ note ∷ []
+  pub queue : Queues note.standing (length p.table) p.queue q.queue
+  pub best : q.best ≡ p.best
+
+-- a state has another depth and note
+pub record IsChanged (p : Progress) (index depth : ℕ) (note : Note) (q : Progress) : Type 0 where
+  pub keys : keys_of q.table ≡ keys_of p.table
+  pub depths : values_of q.table ≡ slice_set (values_of p.table) index depth
+  pub notes : q.notes ≡ slice_set p.notes index note
+  pub queue : Queues note.standing index p.queue q.queue
+  pub best : q.best ≡ p.best
+
+-- open again where it was expanded
+abbrev pub reopened : Standing → Standing
+reopened (Open bound) = Open bound
+reopened (Expanded bound) = Open bound
+reopened Dead = Dead
+
+-- with an index that was taken out of the queue, and is not done with
+abbrev pub holding : ℕ → Progress → Progress
+holding index p = record p { queue = index ∷ p.queue }
+
+-- done with it: its note may be another, and the best may be better
+abbrev pub done : Progress → List Note → Option ℕ → Progress
+done p notes best = record { table = p.table; notes = notes; queue = p.queue; best = best }
+
+-- what is found of a new state
+abbrev pub IsJudged : Numbered → List ℕ → Standing → Type 0
+IsJudged b boxes (Open bound) = HasPrices b boxes bound
+IsJudged b boxes (Expanded bound) = ⊥
+IsJudged b boxes Dead = IsDead b boxes
+
+-- the work that remains: room in the table, depths to be lowered, indices that wait
+abbrev pub work : ℕ → Progress → ℕ
+work limit p = (limit - length p.table) * (2 * limit + 2) + (2 * sum_by (λ depth. depth) (values_of p.table) + length p.queue)
+
+-- what a push that was followed leaves: all that is known holds, states that are no deeper stay, the next state is found, and no work was added
+pub record IsPushed (b : Numbered) (limit : ℕ) (p : Progress) (key : Key) (depth : ℕ) (push : Push) (q : Progress) : Type 0 where
+  pub search : IsSearch b limit q
+  pub grows : Grows p.table q.table
+  pub stay : (i : ℕ) (other : Key) (deep : ℕ) (note : Note) → deep ≤ depth → IsState p i other deep note → IsState q i other deep note
+  pub found : IsFound b q.table key depth push
+  pub no_more : work limit q ≤ work limit p

@@ -1,0 +1,142 @@
+//! The reasons of a certificate, found again from the boxes of a state.
+
+ghost use Rattle.std.specs.Prelude.{◌≡◌, ◌<◌, ◌↔◌, IfOk, IsTrue, All, length};
+ghost use Rattle.sok_bar.specs.declared.rest.Rest.{Rest};
+ghost use Rattle.sok_cert.specs.Closed.{rest_of};
+ghost use Rattle.sok_search.specs.Searches.{IsDead};
+ghost use Rattle.sok_search.specs.Finished.{CostsEnough, HasText, IsAssigned, IsAtMost, IsDone};
+ghost use Rattle.sok_search.specs.Finished.{IsReasonOf, ReasonBars, TellsJam};
+
+use crate::note::Standing;
+use sok_bar::frozen::find_frozen;
+use sok_board::board::Board;
+use sok_cert::claim::Claim;
+use sok_cert::entry::{Numbers, Reason};
+use sok_price::assign::{Match, assign};
+use sok_push::tables::Tables;
+use sok_region::box_set::BoxSet;
+use sok_rules::fault::Memory;
+use std::alloc::Global;
+
+/// Boxes that are a jam, and None where there are none.
+pub(crate) fn find_jam(
+    alloc: Global,
+    board: &Board,
+    tables: &Tables,
+    boxes: &BoxSet,
+) -> Result<Option<Vec<u32>>, Memory>
+    requires tables { tables.now.board ≡ board.now }
+    requires exist { All (λ square. square < length board.now.area) boxes.now }
+    ensures { IfOk result (TellsJam board.now boxes.now) }
+{
+    for square in boxes.list() {
+        if let Some(members) = find_frozen(alloc, board, tables, boxes, *square)? {
+            return Ok(Some(members));
+        }
+    }
+    Ok(None)
+}
+
+/// The reason why a state of a finished search may stand in a certificate.
+pub(crate) fn reason_of(
+    alloc: Global,
+    board: &Board,
+    tables: &Tables,
+    claim: Claim,
+    boxes: &BoxSet,
+    depth: u32,
+    standing: Standing,
+) -> Result<Reason, Memory>
+    requires tables { tables.now.board ≡ board.now }
+    requires exist { All (λ square. square < length board.now.area) boxes.now }
+    requires finished { IsDone board.now claim boxes.now depth standing }
+    ensures reason { IfOk result (IsReasonOf board.now claim boxes.now depth standing) }
+    ensures fits { IfOk result (HasText boxes.now) }
+{
+    match standing {
+        Standing::Open(_) => open_reason(alloc, tables, claim, boxes, depth),
+        Standing::Expanded(_) => Ok(Reason::Expanded),
+        Standing::Dead => dead_reason(alloc, board, tables, boxes),
+    }
+}
+
+/// The reason why an open state needs no more pushes: there were as many as claimed, or prices show
+/// that there will be.
+fn open_reason(
+    alloc: Global,
+    tables: &Tables,
+    claim: Claim,
+    boxes: &BoxSet,
+    depth: u32,
+) -> Result<Reason, Memory>
+    requires exist { All (λ square. square < length tables.now.board.area) boxes.now }
+    requires finished { CostsEnough tables.now.board claim boxes.now depth }
+    ensures bars { IfOk result
+        (λ why. ReasonBars tables.now.board boxes.now why (rest_of claim depth)) }
+    ensures fits { IfOk result (HasText boxes.now) }
+{
+    if is_spent(claim, depth) {
+        return Ok(Reason::Spent);
+    }
+    assigned_reason(alloc, tables, boxes)
+}
+
+/// Whether as many pushes as claimed were made.
+fn is_spent(claim: Claim, depth: u32) -> bool
+    ensures { IsTrue result ↔ IsAtMost claim depth }
+{
+    match claim {
+        Claim::Pushes(pushes) => pushes <= depth,
+        Claim::Unsolvable => false,
+    }
+}
+
+/// The reason why nothing solves from a dead state: a jam, or else a crowd.
+fn dead_reason(
+    alloc: Global,
+    board: &Board,
+    tables: &Tables,
+    boxes: &BoxSet,
+) -> Result<Reason, Memory>
+    requires tables { tables.now.board ≡ board.now }
+    requires exist { All (λ square. square < length board.now.area) boxes.now }
+    requires dead { IsDead board.now boxes.now }
+    ensures bars { IfOk result (λ why. (rest : Rest) → ReasonBars board.now boxes.now why rest) }
+    ensures fits { IfOk result (HasText boxes.now) }
+{
+    // There are few boxes, so their indices have a text.
+    let _list = boxes.list();
+    match find_jam(alloc, board, tables, boxes)? {
+        Some(members) => {
+            let members = Numbers::from(members);
+            Ok(Reason::Frozen { members })
+        }
+        None => assigned_reason(alloc, tables, boxes),
+    }
+}
+
+/// The prices of a least assignment of goals to boxes, or a crowd.
+fn assigned_reason(alloc: Global, tables: &Tables, boxes: &BoxSet) -> Result<Reason, Memory>
+    requires { All (λ square. square < length tables.now.board.area) boxes.now }
+    ensures assigned { IfOk result (IsAssigned tables.now.board boxes.now) }
+    ensures fits { IfOk result (HasText boxes.now) }
+{
+    // There are few boxes, so their indices have a text.
+    let _list = boxes.list();
+    match assign(alloc, tables, boxes)? {
+        Match::Prices {
+            u,
+            v,
+            total: _,
+            goal_of: _,
+        } => {
+            let u = Numbers::from(u);
+            let v = Numbers::from(v);
+            Ok(Reason::Bound { u, v })
+        }
+        Match::Crowd { members } => {
+            let members = Numbers::from(members);
+            Ok(Reason::Crowd { members })
+        }
+    }
+}

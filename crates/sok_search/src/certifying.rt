@@ -1,0 +1,90 @@
+//! The certificate of a finished search.
+
+ghost use Rattle.std.specs.Prelude.{◌≡◌, ◌<◌, [], IfOk, length};
+ghost use Rattle.sok_board.specs.Area.{IsAccepted};
+ghost use Rattle.sok_search.specs.Finished.{claim_of, AreFirstEntries, IsEntryAt};
+ghost use Rattle.sok_search.specs.Searches.{IsSmallSearch};
+ghost use Rattle.sok_search.specs.Views.{progress_of};
+
+use crate::barring::reason_of;
+use crate::search::Search;
+use sok_board::area::Sq;
+use sok_board::board::Board;
+use sok_cert::claim::Claim;
+use sok_cert::entry::{Cert, Entry, Numbers};
+use sok_push::tables::Tables;
+use sok_rules::fault::Memory;
+use std::alloc::Global;
+
+/// The certificate: an entry of each state, in order.
+pub(crate) fn certificate(
+    alloc: Global,
+    board: &Board,
+    tables: &Tables,
+    claim: Claim,
+    search: &Search,
+) -> Result<Cert, Memory>
+    requires accepted { IsAccepted board.now }
+    requires tables { tables.now.board ≡ board.now }
+    requires search { IsSmallSearch board.now (progress_of search.now) }
+    requires finished { search.now.queue ≡ [] }
+    requires claim { claim ≡ claim_of search.now.best }
+    ensures { IfOk result (λ cert.
+        AreFirstEntries board.now claim (progress_of search.now) (length search.now.table)
+        cert.entries.items) }
+{
+    let mut entries = Vec::new(alloc);
+    for index in 0..search.table.len() {
+        entries.push(entry_at(alloc, board, tables, claim, search, index)?)?;
+    }
+    Ok(Cert { entries })
+}
+
+/// The entry of the state at an index.
+fn entry_at(
+    alloc: Global,
+    board: &Board,
+    tables: &Tables,
+    claim: Claim,
+    search: &Search,
+    index: usize,
+) -> Result<Entry, Memory>
+    requires accepted { IsAccepted board.now }
+    requires tables { tables.now.board ≡ board.now }
+    requires search { IsSmallSearch board.now (progress_of search.now) }
+    requires finished { search.now.queue ≡ [] }
+    requires claim { claim ≡ claim_of search.now.best }
+    requires within { index < length search.now.table }
+    ensures { IfOk result (IsEntryAt board.now claim (progress_of search.now) index) }
+{
+    let key = search.table.key(alloc, index)?;
+    let depth = search.table.depth(index);
+    let note = search.notes[index];
+    let reason = reason_of(
+        alloc,
+        board,
+        tables,
+        claim,
+        &key.boxes,
+        depth,
+        note.standing,
+    )?;
+    let boxes = numbers_of(alloc, key.boxes.list())?;
+    Ok(Entry {
+        depth,
+        player: u32::from(key.least),
+        boxes,
+        reason,
+    })
+}
+
+/// Squares, as numbers of a certificate.
+fn numbers_of(alloc: Global, squares: &[Sq]) -> Result<Numbers, Memory>
+    ensures { IfOk result (λ numbers. numbers ≡ squares.now) }
+{
+    let mut numbers = Vec::new(alloc);
+    for square in squares {
+        numbers.push(u32::from(*square))?;
+    }
+    Ok(Numbers::from(numbers))
+}

@@ -1,0 +1,62 @@
+//! How a new state stands, and whether a state is solved.
+
+ghost use Rattle.std.specs.Prelude.{ℕ, ◌≡◌, ◌<◌, ◌↔◌, IfOk, IsTrue, All, length};
+ghost use Rattle.sok_rules.specs.Play.{AllOnGoals};
+ghost use Rattle.sok_board.specs.Area.{position_of};
+ghost use Rattle.sok_cert.specs.Judging.{AreGoals};
+ghost use Rattle.sok_search.specs.Steps.{IsJudged};
+
+use crate::barring::find_jam;
+use crate::note::Standing;
+use sok_board::area::Sq;
+use sok_board::board::Board;
+use sok_price::assign::{Match, assign};
+use sok_push::tables::Tables;
+use sok_region::box_set::BoxSet;
+use sok_rules::fault::Memory;
+use std::alloc::Global;
+
+/// How a new state with these boxes stands: dead, by a jam or a crowd, or open, with prices of a
+/// total.
+pub(crate) fn judge(
+    alloc: Global,
+    board: &Board,
+    tables: &Tables,
+    boxes: &BoxSet,
+) -> Result<Standing, Memory>
+    requires tables { tables.now.board ≡ board.now }
+    requires exist { All (λ square. square < length board.now.area) boxes.now }
+    ensures { IfOk result (IsJudged board.now boxes.now) }
+{
+    if let Some(_jam) = find_jam(alloc, board, tables, boxes)? {
+        return Ok(Standing::Dead);
+    }
+    match assign(alloc, tables, boxes)? {
+        Match::Prices { total, .. } => Ok(Standing::Open(total)),
+        Match::Crowd { .. } => Ok(Standing::Dead),
+    }
+}
+
+/// Whether all boxes of a position stand on goals, wherever the player stands.
+pub(crate) fn is_solved(board: &Board, boxes: &BoxSet) -> bool
+    requires exist { All (λ square. square < length board.now.area) boxes.now }
+    ensures { (player : ℕ)
+        → IsTrue result ↔ AllOnGoals board.now.rows (position_of board.now player boxes.now) }
+{
+    // The level is accepted, so each box outside the area stands on a goal.
+    let _level = board.level();
+    are_goals(board, boxes.list())
+}
+
+/// Whether squares of the area are goals.
+fn are_goals(board: &Board, squares: &[Sq]) -> bool
+    requires { All (λ square. square < length board.now.area) squares.now }
+    ensures { IsTrue result ↔ AreGoals board.now squares.now }
+{
+    for square in squares {
+        if !board.is_goal(*square) {
+            return false;
+        }
+    }
+    true
+}

@@ -1,0 +1,37 @@
+//! The solver: the fewest pushes that solve a level, with a certificate that none do with fewer, or
+//! that none solve it.
+//!
+//! | Module | What it holds |
+//! |---|---|
+//! | `fault` | why a level is not solved |
+//! | `outcome` | what is answered of a level |
+//! | `solve` | the solver |
+//! | `barring` | the reasons of a certificate, found again (private) |
+//! | `beginning` | a search that knows the start alone (private) |
+//! | `buckets` | states that wait, by the pushes that they need at least (private) |
+//! | `certifying` | the certificate of a finished search (private) |
+//! | `expanding` | a state is expanded (private) |
+//! | `judging` | how a new state stands, and whether a state is solved (private) |
+//! | `note` | what a search notes of a state (private) |
+//! | `reaching` | a push is followed (private) |
+//! | `running` | one state is taken after another (private) |
+//! | `search` | what a search knows (private) |
+//! | `tracing` | the pushes that lead to a solved state (private) |
+//! | `trail` | the letters that make pushes one after another (private) |
+#![tactic(auto)]
+
+mod barring;
+mod beginning;
+mod buckets;
+mod certifying;
+mod expanding;
+pub mod fault;
+mod judging;
+mod note;
+pub mod outcome;
+mod reaching;
+mod running;
+mod search;
+pub mod solve;
+mod tracing;
+mod trail;

@@ -1,0 +1,120 @@
+//! The search.
+
+ghost use Rattle.std.specs.Prelude.{◌≡◌, ◌<◌, ◌+◌, ◌↔◌, IfOk, IsTrue, Some};
+ghost use Rattle.std.specs.Prelude.{length, slice_get, slice_set};
+ghost use Rattle.sok_board.specs.Area.{IsAccepted};
+ghost use Rattle.sok_search.specs.Searches.{IsBeaten, IsSearch};
+ghost use Rattle.sok_search.specs.Steps.{done, holding};
+ghost use Rattle.sok_search.specs.Views.{progress_of, TellsTurned, TellsFinished};
+ghost use Rattle.sok_search.specs.declared.note.Standing.TheVariants.{Open};
+
+use crate::expanding::expand;
+use crate::judging::is_solved;
+use crate::note::{Note, Standing};
+use crate::reaching::Reached;
+use crate::search::Search;
+use sok_board::board::Board;
+use sok_push::tables::Tables;
+use sok_rules::fault::Memory;
+use std::alloc::Global;
+
+/// Whether a solution with no more pushes is known.
+fn is_beaten(best: Option<u32>, depth: u32, bound: u32) -> bool
+    ensures { IsTrue result ↔ IsBeaten best (depth + bound) }
+{
+    match best {
+        Some(pushes) => u64::from(pushes) <= u64::from(depth) + u64::from(bound),
+        None => false,
+    }
+}
+
+/// Gives a state another note.
+fn mark(mut search: Search, index: usize, note: Note) -> Search
+    requires { index < length search.notes.items }
+    ensures { progress_of result
+        ≡ done (progress_of search) (slice_set search.notes.items index note) search.best }
+{
+    search.notes[index] = note;
+    search
+}
+
+/// Visits an open state that was taken: it is let go, is solved, or is expanded.
+fn visit(
+    alloc: Global,
+    board: &Board,
+    tables: &Tables,
+    limit: u32,
+    mut search: Search,
+    index: usize,
+    note: Note,
+    bound: u32,
+) -> Result<Reached, Memory>
+    requires accepted { IsAccepted board.now }
+    requires tables { tables.now.board ≡ board.now }
+    requires search { IsSearch board.now limit (holding index (progress_of search)) }
+    requires noted { slice_get search.notes.items index ≡ Some note }
+    requires is_open { note.standing ≡ Open bound }
+    ensures { IfOk result (TellsTurned board.now limit (holding index (progress_of search))) }
+{
+    let depth = search.table.depth(index);
+    if is_beaten(search.best, depth, bound) {
+        return Ok(Reached::On(search));
+    }
+    let key = search.table.key(alloc, index)?;
+    if is_solved(board, &key.boxes) {
+        search.best = Some(depth);
+        return Ok(Reached::On(search));
+    }
+    match expand(alloc, board, tables, limit, search, index, &key, depth)? {
+        Reached::On(after) => {
+            let standing = Standing::Expanded(bound);
+            let origin = note.origin;
+            Ok(Reached::On(mark(after, index, Note { origin, standing })))
+        }
+        Reached::Full => Ok(Reached::Full),
+    }
+}
+
+/// One turn: a state that was taken is let go unless it is open.
+fn turn(
+    alloc: Global,
+    board: &Board,
+    tables: &Tables,
+    limit: u32,
+    search: Search,
+    index: usize,
+) -> Result<Reached, Memory>
+    requires accepted { IsAccepted board.now }
+    requires tables { tables.now.board ≡ board.now }
+    requires search { IsSearch board.now limit (holding index (progress_of search)) }
+    ensures { IfOk result (TellsTurned board.now limit (holding index (progress_of search))) }
+{
+    let note = search.notes[index];
+    match note.standing {
+        Standing::Open(bound) => visit(alloc, board, tables, limit, search, index, note, bound),
+        Standing::Expanded(_) => Ok(Reached::On(search)),
+        Standing::Dead => Ok(Reached::On(search)),
+    }
+}
+
+/// Takes one index after another, until none waits or the table is full.
+pub(crate) fn run(
+    alloc: Global,
+    board: &Board,
+    tables: &Tables,
+    limit: u32,
+    mut search: Search,
+) -> Result<Reached, Memory>
+    requires accepted { IsAccepted board.now }
+    requires tables { tables.now.board ≡ board.now }
+    requires search { IsSearch board.now limit (progress_of search) }
+    ensures { IfOk result (TellsFinished board.now limit) }
+{
+    while let Some(index) = search.queue.pop() {
+        match turn(alloc, board, tables, limit, search, index)? {
+            Reached::On(after) => search = after,
+            Reached::Full => return Ok(Reached::Full),
+        }
+    }
+    Ok(Reached::On(search))
+}

@@ -1,0 +1,116 @@
+//! The solver.
+
+ghost use Rattle.std.specs.Prelude.{ℕ, ◌≡◌, ◌<◌, ◌≤◌, ◌↔◌, [], Err, IfOk, IfErr, IsOk};
+ghost use Rattle.std.specs.Prelude.{IsTrue, length};
+ghost use Rattle.sok_board.specs.Area.{IsAccepted};
+ghost use Rattle.sok_board.specs.Refusals.{IsAcceptable};
+ghost use Rattle.sok_search.specs.Faults.{IsBadLimit, IsRefusal};
+ghost use Rattle.sok_search.specs.Limits.{state_limit};
+ghost use Rattle.sok_search.specs.Outcomes.{IsAnswer};
+ghost use Rattle.sok_search.specs.Searches.{IsSearch, IsSearching, IsSmallSearch};
+ghost use Rattle.sok_search.specs.Trails.{IsSolvedWithin};
+ghost use Rattle.sok_search.specs.Views.{progress_of};
+ghost use Rattle.sok_search.specs.declared.fault.SolveFault.TheVariants as fault;
+
+use crate::beginning::begin;
+use crate::certifying::certificate;
+use crate::fault::SolveFault;
+use crate::outcome::Outcome;
+use crate::reaching::Reached;
+use crate::running::run;
+use crate::search::Search;
+use crate::tracing::{find_solved, trace};
+use crate::trail::letters;
+use sok_board::board::Board;
+use sok_cert::claim::Claim;
+use sok_push::tables::Tables;
+use sok_rules::cell::Dir;
+use sok_rules::fault::Memory;
+use sok_rules::level::Level;
+use std::alloc::Global;
+
+/// The greatest limit.
+pub const LIMIT: u32 = 1_000_000;
+
+/// The fewest pushes that solve a level, or that none solve it, with a certificate. Or that more
+/// states can be reached than a limit, where the answer was not found among as many. It is a best
+/// first search over states by the pushes made and the cost of a least assignment of goals to boxes
+/// (A*). Refused are, in this order, a limit of 0 or above 1,000,000, and what a board refuses.
+pub fn solve(alloc: Global, level: &Level, limit: u32) -> Result<Outcome, SolveFault>
+    ensures answer { IfOk result (IsAnswer level.now limit) }
+    ensures bad_limit { (result ≡ Err fault.BadLimit) ↔ IsBadLimit limit }
+    ensures refused { IfErr result (IsRefusal level.now limit) }
+    ensures exact { (result ≡ Err fault.Memory → ⊥) → (result ≡ Err fault.BadLimit → ⊥)
+        → (IsOk result ↔ IsAcceptable level.now) }
+{
+    if is_bad(limit) {
+        return Err(SolveFault::BadLimit);
+    }
+    let board = Board::new(alloc, level)?;
+    let outcome = answer(alloc, &board, limit)?;
+    Ok(outcome)
+}
+
+/// Whether a limit is refused.
+fn is_bad(limit: u32) -> bool
+    ensures { IsTrue result ↔ IsBadLimit limit }
+{
+    limit == 0 || limit > LIMIT
+}
+
+/// The answer of a board within a limit.
+fn answer(alloc: Global, board: &Board, limit: u32) -> Result<Outcome, Memory>
+    requires positive { 0 < limit }
+    requires small { limit ≤ state_limit }
+    ensures { IfOk result (IsAnswer board.now.rows limit) }
+{
+    // Its clauses tell that the level is accepted.
+    let _level = board.level();
+    let tables = Tables::new(alloc, board)?;
+    let search = begin(alloc, board, &tables)?;
+    match run(alloc, board, &tables, limit, search)? {
+        Reached::On(after) => conclude(alloc, board, &tables, &after),
+        Reached::Full => Ok(Outcome::Limit { states: limit }),
+    }
+}
+
+/// The answer of a finished search.
+fn conclude(
+    alloc: Global,
+    board: &Board,
+    tables: &Tables,
+    search: &Search,
+) -> Result<Outcome, Memory>
+    requires accepted { IsAccepted board.now }
+    requires tables { tables.now.board ≡ board.now }
+    requires search { IsSmallSearch board.now (progress_of search.now) }
+    requires finished { search.now.queue ≡ [] }
+    ensures { (limit : ℕ) → IsSearch board.now limit (progress_of search.now)
+        → IfOk result (IsAnswer board.now.rows limit) }
+{
+    match search.best {
+        Some(pushes) => {
+            let claim = Claim::Pushes(pushes);
+            let cert = certificate(alloc, board, tables, claim, search)?;
+            let dirs = solution(alloc, board, search, pushes)?;
+            Ok(Outcome::Solved { dirs, pushes, cert })
+        }
+        None => {
+            let claim = Claim::Unsolvable;
+            let cert = certificate(alloc, board, tables, claim, search)?;
+            Ok(Outcome::Unsolvable { cert })
+        }
+    }
+}
+
+/// Letters that solve with no more than so many pushes.
+fn solution(alloc: Global, board: &Board, search: &Search, pushes: u32) -> Result<Vec<Dir>, Memory>
+    requires search { IsSearching board.now (progress_of search.now) }
+    requires best { search.now.best ≡ Some pushes }
+    ensures { IfOk result (λ dirs.
+        IsSolvedWithin board.now (length search.now.table) pushes dirs.items) }
+{
+    let index = find_solved(alloc, board, search, pushes)?;
+    let trace = trace(alloc, search, index)?;
+    letters(alloc, board, trace)
+}

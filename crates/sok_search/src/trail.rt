@@ -1,0 +1,107 @@
+//! The letters that make pushes one after another.
+
+ghost use Rattle.std.specs.Prelude.{◌<◌, IfOk, length};
+ghost use Rattle.sok_board.specs.Area.{position_of};
+ghost use Rattle.sok_rules.specs.States.{Same};
+ghost use Rattle.sok_state.specs.Keys.{IsKey};
+ghost use Rattle.sok_state.specs.Pushes.{IsLegal};
+ghost use Rattle.sok_search.specs.Trails.{GoesOn, IsBegun, IsFollowed, IsTrail};
+ghost use Rattle.sok_search.specs.Trails.{IsSolvedWith, IsSolvingTrace};
+
+use crate::beginning::start_key;
+use sok_board::area::Sq;
+use sok_board::board::Board;
+use sok_region::region::Region;
+use sok_rules::cell::Dir;
+use sok_rules::fault::Memory;
+use sok_state::key::Key;
+use sok_state::legal::after;
+use sok_state::push::Push;
+use std::alloc::Global;
+
+/// Letters from the start, the state to which they lead, and the square on which the player stands
+/// then.
+#[derive(Drop)]
+pub(crate) struct Trail {
+    pub(crate) key: Key,
+    pub(crate) player: Sq,
+    pub(crate) letters: Vec<Dir>,
+}
+
+/// The letters that make the pushes of a trace, which has the last one first.
+pub(crate) fn letters(alloc: Global, board: &Board, trace: Vec<Push>) -> Result<Vec<Dir>, Memory>
+    requires { IsSolvingTrace board.now trace.items }
+    ensures { IfOk result (λ letters. IsSolvedWith board.now (length trace.items) letters.items) }
+{
+    // Its clauses tell that the level is accepted.
+    let _level = board.level();
+    let mut trail = begin(alloc, board)?;
+    let mut rest = trace;
+    while let Some(push) = rest.pop() {
+        trail = follow(alloc, board, trail, push)?;
+    }
+    let Trail {
+        key: _,
+        player: _,
+        letters,
+    } = trail;
+    Ok(letters)
+}
+
+/// No letters, at the start.
+fn begin(alloc: Global, board: &Board) -> Result<Trail, Memory>
+    ensures { IfOk result (IsBegun board.now) }
+{
+    let key = start_key(alloc, board)?;
+    let (player, _boxes) = board.start();
+    Ok(Trail {
+        key,
+        player,
+        letters: Vec::new(alloc),
+    })
+}
+
+/// A walk to behind a box and a push of it.
+fn follow(alloc: Global, board: &Board, trail: Trail, push: Push) -> Result<Trail, Memory>
+    requires trail { IsTrail board.now trail }
+    requires legal { IsLegal board.now trail.key push }
+    ensures { IfOk result (IsFollowed board.now trail push) }
+{
+    let Trail {
+        key,
+        player,
+        letters,
+    } = trail;
+    let letters = go(alloc, board, &key, player, push, letters)?;
+    let key = after(alloc, board, &key, push)?;
+    Ok(Trail {
+        key,
+        player: push.from,
+        letters,
+    })
+}
+
+/// Letters with a walk to behind a box and a push of it.
+fn go(
+    alloc: Global,
+    board: &Board,
+    key: &Key,
+    player: Sq,
+    push: Push,
+    mut letters: Vec<Dir>,
+) -> Result<Vec<Dir>, Memory>
+    requires key { IsKey board.now key.now }
+    requires exists { player < length board.now.area }
+    requires same { Same board.now.rows (position_of board.now key.now.least key.now.boxes)
+        (position_of board.now player key.now.boxes) }
+    requires legal { IsLegal board.now key.now push }
+    ensures { IfOk result (λ after.
+        GoesOn board.now key.now player push letters.items after.items) }
+{
+    let region = Region::of(alloc, board, &key.boxes, key.least)?;
+    let behind = board.neighbour(push.from, push.dir.opposite()).unwrap();
+    let walk = region.walk(alloc, board, player, behind)?.unwrap();
+    letters.extend_from_slice(&walk)?;
+    letters.push(push.dir)?;
+    Ok(letters)
+}
