@@ -1,0 +1,198 @@
+//! Which texts are certificates, and writing them again.
+
+use sok_cert::claim::Claim;
+use sok_cert::entry::{Entry, Reason};
+use sok_cert::fault::CertFault;
+use sok_cert::limits::fits;
+use sok_cert::reading::read;
+use sok_cert::writing::write;
+use std::alloc::Global;
+use std::process::Abort;
+use std::test::Fail;
+
+/// Entries of each form, of positions with up to three boxes.
+const ALL_FORMS: &str = "\
+sokoban-certificate 1
+unsolvable
+x 0 12 2 1 3
+s 7 0 0
+b 0 0 2 8 10 1 1 0 0 0
+b 3 1 1 2 4
+c 0 12 2 1 3 2 0 1
+f 1000000 0 3 0 4 1000000 0
+end
+";
+
+/// The letter of a reason, and its prices of boxes and of goals, or its members.
+fn parts(reason: &Reason) -> (char, &[u32], &[u32]) {
+    match reason {
+        Reason::Expanded => ('x', &[], &[]),
+        Reason::Spent => ('s', &[], &[]),
+        Reason::Bound { u, v } => ('b', u.as_slice(), v.as_slice()),
+        Reason::Crowd { members } => ('c', members.as_slice(), &[]),
+        Reason::Frozen { members } => ('f', members.as_slice(), &[]),
+    }
+}
+
+/// An entry's depth, player, boxes and reason.
+type Told<'a> = (u32, u32, &'a [u32], (char, &'a [u32], &'a [u32]));
+
+#[test]
+fn each_form_of_entry(rt: HostRuntime) -> Result<(), Fail> {
+    let (claim, cert) = read(rt.alloc(), ALL_FORMS.as_bytes())?;
+    assert_eq!(rt; claim, Claim::Unsolvable);
+    let entries: [Told<'_>; 6] = [
+        (0, 12, &[1, 3], ('x', &[], &[])),
+        (7, 0, &[], ('s', &[], &[])),
+        (0, 0, &[8, 10], ('b', &[1, 1], &[0, 0, 0])),
+        (3, 1, &[2], ('b', &[4], &[])),
+        (0, 12, &[1, 3], ('c', &[0, 1], &[])),
+        (1_000_000, 0, &[0, 4, 1_000_000], ('f', &[], &[])),
+    ];
+    assert_eq!(rt; cert.entries.len(), entries.len());
+    for (entry, told) in cert.entries.iter().zip(&entries) {
+        let Entry {
+            depth,
+            player,
+            boxes,
+            reason,
+        } = entry;
+        let found = (*depth, *player, boxes.as_slice(), parts(reason));
+        assert!(rt; found == *told, "{entry:?}");
+    }
+    Ok(())
+}
+
+/// The bytes that are written of a certificate that is read.
+fn written(rt: &impl Abort, alloc: Global, text: &[u8]) -> Result<Vec<u8>, Fail> {
+    let (claim, cert) = read(alloc, text)?;
+    assert!(rt; fits(&claim, &cert));
+    Ok(write(alloc, &claim, &cert)?)
+}
+
+/// What is read is written with LF alone, and else with the same bytes.
+#[test]
+fn texts_are_written_again(rt: HostRuntime) -> Result<(), Fail> {
+    let six_pushes = "sokoban-certificate 1\npushes 6\nx 0 4 1 5\nx 1 5 1 6\nb 2 6 1 7 4 0\nend\n";
+    let spent = "sokoban-certificate 1\npushes 0\ns 0 1 1 2\nend\n";
+    for (text, again) in [
+        (six_pushes, six_pushes),
+        (ALL_FORMS, ALL_FORMS),
+        (
+            "sokoban-certificate 1\r\npushes 0\r\ns 0 1 1 2\r\nend\r\n",
+            spent,
+        ),
+        ("sokoban-certificate 1\r\npushes 0\ns 0 1 1 2\r\nend", spent),
+    ] {
+        let bytes = written(&rt, rt.alloc(), text.as_bytes())?;
+        assert_eq!(rt; bytes.as_slice(), again.as_bytes(), "{text}");
+    }
+    Ok(())
+}
+
+/// Texts whose first two lines are not those of a certificate.
+const NO_HEADERS: [&str; 19] = [
+    "",
+    "\n",
+    "sokoban-certificate 1",
+    "sokoban-certificate 1\n",
+    "sokoban-certificate 1 \npushes 1\nend\n",
+    "sokoban-certificate 2\npushes 1\nend\n",
+    " sokoban-certificate 1\npushes 1\nend\n",
+    "pushes 1\nsokoban-certificate 1\nend\n",
+    "sokoban-certificate 1\n\npushes 1\nend\n",
+    "sokoban-certificate 1\npushes\nend\n",
+    "sokoban-certificate 1\npushes \nend\n",
+    "sokoban-certificate 1\npushes 01\nend\n",
+    "sokoban-certificate 1\npushes +1\nend\n",
+    "sokoban-certificate 1\npushes -1\nend\n",
+    "sokoban-certificate 1\npushes 1000001\nend\n",
+    "sokoban-certificate 1\npushes 1 \nend\n",
+    "sokoban-certificate 1\nunsolvable \nend\n",
+    "sokoban-certificate 1\nUnsolvable\nend\n",
+    "sokoban-certificate 1\nend\n",
+];
+
+/// Third lines that are neither an entry nor the end.
+const NO_ENTRIES: [&str; 30] = [
+    "\n",
+    "x\n",
+    "x \n",
+    "x 0 4 1\n",
+    "x 0 4 1 5 6\n",
+    "x 0 4 1 5 \n",
+    "x 0 4  1 5\n",
+    " x 0 4 1 5\n",
+    "x\t0 4 1 5\n",
+    "x 0 4 1 05\n",
+    "x 0 4 1 00\n",
+    "x 00 4 1 5\n",
+    "x 0 4 1 1000001\n",
+    "x 0 4 1 4294967296\n",
+    "x 0 4 1000001\n",
+    "x 0 4 1 -5\n",
+    "x 0 4 1 5\r\r\n",
+    "X 0 4 1 5\n",
+    "y 0 4 1 5\n",
+    "xs 0 4 1 5\n",
+    "s 0 4 1 5 0\n",
+    "b 2 6 1 7\n",
+    "b 2 6 2 7 8 4\n",
+    "b 0 00 1 1 1 0\nend\n",
+    "c 0 0 1 2\n",
+    "c 0 0 1 2 1\n",
+    "c 0 0 1 2 1 0 0\n",
+    "f 0 0 1 2 2 0\n",
+    "end \n",
+    "End\n",
+];
+
+/// Lines that lack the end.
+const NO_END: [&str; 7] = [
+    "",
+    "end\r",
+    "b 0 0 1 1 1 0\n",
+    "b 0 0 1 1 1 0",
+    "b 0 00 1 1 1 0",
+    "b 0 0 1 1 1 0\nen",
+    "b 0 0 1 1 1 0\nend ",
+];
+
+#[test]
+fn first_fault_of_a_text(rt: HostRuntime) -> Result<(), Fail> {
+    let front = "sokoban-certificate 1\npushes 1\n";
+    let ends_twice: &[&str] = &["end\nend\n", "b 0 0 1 1 1 0\nen\nend"];
+    let more: &[&str] = &[
+        "b 0 0 1 1 1 0\nend\n\n",
+        "b 0 0 1 1 1 0\nend\r\n\r\n",
+        "b 0 0 1 1 1 0\nend\n ",
+    ];
+    let cases: [(&str, &[&str], CertFault); 5] = [
+        ("", &NO_HEADERS, CertFault::Header),
+        (front, &NO_ENTRIES, CertFault::Line(3)),
+        (front, &NO_END, CertFault::Truncated),
+        (front, ends_twice, CertFault::Line(4)),
+        (front, more, CertFault::Line(5)),
+    ];
+    for (front, texts, fault) in cases {
+        for behind in texts {
+            let mut text = String::from_str(rt.alloc(), front)?;
+            text.push_str(behind)?;
+            let found = read(rt.alloc(), text.as_bytes()).err();
+            assert_eq!(rt; found, Some(fault), "in {text:?}");
+        }
+    }
+    Ok(())
+}
+
+/// 65,536 entries in a mebibyte.
+#[test]
+fn a_mebibyte_of_entries(rt: HostRuntime) -> Result<(), Fail> {
+    let line = "x 12 345 2 6 78\n";
+    let mut text = String::from_str(rt.alloc(), "sokoban-certificate 1\nunsolvable\n")?;
+    text.push_str(line.repeat(rt.alloc(), 65_536)?.as_str())?;
+    text.push_str("end\n")?;
+    let bytes = written(&rt, rt.alloc(), text.as_bytes())?;
+    assert_eq!(rt; bytes.as_slice(), text.as_bytes());
+    Ok(())
+}
