@@ -1,12 +1,14 @@
+-- Words of public contracts
+pub mod Laws
+pub mod Matched
+pub mod Matches
+pub mod Prices
+-- Words of the proofs alone
 pub mod Costs
 pub mod Exchanges
 pub mod Kept
-pub mod Laws
 pub mod Marked
-pub mod Matched
-pub mod Matches
 pub mod Matchings
-pub mod Prices
 pub mod Searches
 pub mod Slacks
 pub mod Trees

@@ -1,5 +1,5 @@
-//! Tests of boards and of what is found on them: worked levels, with answers that were worked out by
-//! hand.
+//! Tests of boards and of what is found on them: worked levels, with answers that were worked out
+//! by hand.
 //!
 //! | Module | What it tests |
 //! |---|---|

@@ -37,7 +37,8 @@ fn key(rt: &impl Abort, alloc: Global, board: &Board, boxes: &[Sq], player: Sq) 
 fn keys_of_positions(rt: HostRuntime) -> Result<(), Fail> {
     let board = board(rt.alloc(), sketch::CORRIDOR_OF_SIX_PUSHES)?;
     let left = key(&rt, rt.alloc(), &board, &[6], 5)?;
-    // the box, the player, the least square of the player's region, and whether it is the same state
+    // the box, the player, the least square of the player's region, and whether it is the same
+    // state
     for (square, player, least, same) in [
         (5, 4, 3, false),
         (6, 3, 3, true),

@@ -32,7 +32,8 @@ fn played(alloc: Global, board: &str, letters: &[Dir]) -> Result<Result<Tally, P
     }))
 }
 
-/// The solved, the pushes and the moves of a text on a board, or its first letter that is not legal.
+/// The solved, the pushes and the moves of a text on a board, or its first letter that is not
+/// legal.
 #[test]
 fn texts_on_boards(rt: HostRuntime) -> Result<(), Fail> {
     for (board, text, told) in [
@@ -121,8 +122,8 @@ fn answer(session: &mut Session, act: Act) -> Result<bool, PlayFault> {
     }
 }
 
-/// What is done in a session, one after another, the answer, and then the pushes, the moves and what
-/// shows of the middle row.
+/// What is done in a session, one after another, the answer, and then the pushes, the moves and
+/// what shows of the middle row.
 #[test]
 fn letters_are_taken_back_and_played_again(rt: HostRuntime) -> Result<(), Fail> {
     let level = sketch::level(rt.alloc(), sketch::ROOM_BEYOND_THE_GOAL)?;

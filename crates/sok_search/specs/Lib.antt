@@ -1,8 +1,10 @@
-pub mod Buckets
+-- Words of public contracts
 pub mod Faults
-pub mod Finished
 pub mod Limits
 pub mod Outcomes
+-- Words of the proofs alone
+pub mod Buckets
+pub mod Finished
 pub mod Searches
 pub mod Steps
 pub mod Trails
