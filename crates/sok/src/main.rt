@@ -1,8 +1,9 @@
 //! The Sokoban workbench, over the words and streams of its process.
 #![tactic(auto)]
 
+use sok_tool::ending::ended;
 use sok_tool::fault::ToolFault;
-use sok_tool::program::{ended, run};
+use sok_tool::program::run;
 use std::io::ErrorKind;
 use std::process::ExitCode;
 use std::{env, io};

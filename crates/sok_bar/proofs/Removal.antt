@@ -29,7 +29,7 @@ Held-more b P Q more s d (Held.box_ahead h) = Held.box_ahead (one_of_more (besid
 Held-more b P Q more s d (Held.box_behind h) = Held.box_behind (one_of_more (beside b s (opposite d)) P Q more h)
 Held-more b P Q more s d (Held.between_stuck h k) = Held.between_stuck h k
 
-IsHeld-more : (b : Numbered) (P Q : ℕ → Type 0) → ((s : ℕ) → P s → Q s) → (s : ℕ) → IsHeld b P s → IsHeld b Q s
+pub IsHeld-more : (b : Numbered) (P Q : ℕ → Type 0) → ((s : ℕ) → P s → Q s) → (s : ℕ) → IsHeld b P s → IsHeld b Q s
 IsHeld-more b P Q more s held = record { across = Held-more b P Q more s Left held.across; along = Held-more b P Q more s Up held.along }
 
 -- an element other than the one at a place is there after the removal of that place

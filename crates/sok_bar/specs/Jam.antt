@@ -51,3 +51,7 @@ pub record IsJam (b : Numbered) (boxes members : List ℕ) : Type 0 where
   pub listed : AreMembers boxes members
   pub held : AreHeld b boxes members
   pub off_goal : HasOneOffGoal b boxes members
+
+-- there is a jam with the box on a square
+abbrev pub HasJamWith : Numbered → List ℕ → ℕ → Type 0
+HasJamWith b boxes s = (members : List ℕ) × IsJam b boxes members × IsMember boxes members s

@@ -4,5 +4,6 @@ pub mod Jam
 pub mod Rests
 -- words of the crate's own contracts
 pub mod Fair
+pub mod Narrowed
 pub mod Reached
 pub mod Settings

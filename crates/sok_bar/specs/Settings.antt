@@ -1,12 +1,13 @@
 -- What a test of boxes is given: a board with its tables, and boxes on squares of it.
-use Rattle.std.specs.Prelude.{ℕ, ◌≡◌, ◌<◌, ◌≤◌, List, All, Contains, length}
+use Rattle.std.specs.Prelude.{ℕ, ◌≡◌, ◌<◌, ◌≤◌, List, IsTrue, All, Contains, length}
 use Rattle.std.specs.List.Sorted.{IsStrictlyIncreasing}
-use Rattle.sok_board.specs.Area.{Numbered}
+use Rattle.sok_board.specs.Area.{Numbered, spot_of}
 use Rattle.sok_board.specs.Limits.{box_limit}
+use Rattle.sok_field.specs.Fields.{has}
 use Rattle.sok_push.specs.Distances.{Distances}
 use Rattle.sok_price.specs.Prices.{AreMembers, IsMember}
 use Rattle.sok_bar.specs.declared.held.Holders.{Holders}
-use Rattle.sok_bar.specs.declared.held.Holders.TheVariants.{Every, Members}
+use Rattle.sok_bar.specs.declared.held.Holders.TheVariants.{Every, Members, Drawn}
 use Rattle.sok_bar.specs.Jam.{IsJam}
 
 pub record IsSetting (b : Numbered) (t : Distances) (boxes : List ℕ) : Type 0 where
@@ -15,14 +16,20 @@ pub record IsSetting (b : Numbered) (t : Distances) (boxes : List ℕ) : Type 0 
   pub rising : IsStrictlyIncreasing boxes
   pub few : length boxes ≤ box_limit
 
+-- a square of the area that bit rows have
+abbrev pub IsDrawn : Numbered → List ℕ → ℕ → Type 0
+IsDrawn b rows s = (s < length b.area) × IsTrue (has rows (spot_of b s))
+
 -- a square of a box that may hold others
-abbrev pub IsHolder : List ℕ → Holders → ℕ → Type 0
-IsHolder boxes Every = Contains boxes
-IsHolder boxes (Members members) = IsMember boxes members.now
+abbrev pub IsHolder : Numbered → List ℕ → Holders → ℕ → Type 0
+IsHolder b boxes Every = Contains boxes
+IsHolder b boxes (Members members) = IsMember boxes members.now
+IsHolder b boxes (Drawn squares) = IsDrawn b squares.now
 
 abbrev pub AreHolders : List ℕ → Holders → Type 0
 AreHolders boxes Every = Unit {0}
 AreHolders boxes (Members members) = AreMembers boxes members.now
+AreHolders boxes (Drawn squares) = Unit {0}
 
 -- the indices of all boxes
 pub record AreAllMembers (boxes members : List ℕ) : Type 0 where

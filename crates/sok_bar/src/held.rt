@@ -2,23 +2,26 @@
 
 ghost use Rattle.std.specs.List.Sorted.{IsStrictlyIncreasing};
 ghost use Rattle.std.specs.Prelude.{◌≡◌, ◌<◌, ◌≤◌, ◌↔◌, Contains, IsTrue, length};
+ghost use Rattle.sok_board.specs.Area.{IsAccepted};
 ghost use Rattle.sok_board.specs.Limits.{box_limit};
 ghost use Rattle.sok_push.specs.Pushing.{IsStuck};
 ghost use Rattle.sok_price.specs.Prices.{AreMembers};
 ghost use Rattle.sok_bar.specs.Jam.{AreHeld, Held, IsBetween, IsHeld};
-ghost use Rattle.sok_bar.specs.Settings.{AreHolders, IsHolder, IsSetting};
+ghost use Rattle.sok_bar.specs.Settings.{AreHolders, IsDrawn, IsHolder, IsSetting};
 
 use crate::members::is_member;
 use sok_board::area::Sq;
 use sok_board::board::Board;
+use sok_field::field::Field;
 use sok_push::tables::Tables;
 use sok_rules::cell::Dir;
 
-/// Which of some boxes may hold another: all of them, or members of their list.
+/// Which boxes may hold another: all of some, members of their list, or those in bit rows.
 #[derive(Clone, Copy, Debug)]
 pub(crate) enum Holders<'a> {
     Every,
     Members(&'a [u32]),
+    Drawn(&'a Field),
 }
 
 /// Whether each member is held by walls, by members or between stuck squares.
@@ -47,7 +50,7 @@ pub(crate) fn is_held(
     requires setting { IsSetting board.now tables.now boxes.now }
     requires listed { AreHolders boxes.now holders }
     requires exists { square < length board.now.area }
-    ensures { IsTrue result ↔ IsHeld board.now (IsHolder boxes.now holders.entry) square }
+    ensures { IsTrue result ↔ IsHeld board.now (IsHolder board.now boxes.now holders.entry) square }
 {
     is_held_along(board, tables, boxes, holders, square, Dir::Left)
         && is_held_along(board, tables, boxes, holders, square, Dir::Up)
@@ -65,7 +68,8 @@ fn is_held_along(
     requires setting { IsSetting board.now tables.now boxes.now }
     requires listed { AreHolders boxes.now holders }
     requires exists { square < length board.now.area }
-    ensures { IsTrue result ↔ Held board.now (IsHolder boxes.now holders.entry) square dir }
+    ensures { IsTrue result
+        ↔ Held board.now (IsHolder board.now boxes.now holders.entry) square dir }
 {
     match board.neighbour(square, dir) {
         Some(ahead) => match board.neighbour(square, dir.opposite()) {
@@ -86,28 +90,42 @@ fn is_between(
     ahead: Sq,
     behind: Sq,
 ) -> bool
+    requires accepted { IsAccepted board.now }
     requires setting { IsSetting board.now tables.now boxes.now }
     requires listed { AreHolders boxes.now holders }
     requires ahead { ahead < length board.now.area }
     requires behind { behind < length board.now.area }
-    ensures { IsTrue result ↔ IsBetween board.now (IsHolder boxes.now holders.entry) ahead behind }
+    ensures { IsTrue result
+        ↔ IsBetween board.now (IsHolder board.now boxes.now holders.entry) ahead behind }
 {
-    is_holder(boxes, holders, ahead)
-        || is_holder(boxes, holders, behind)
+    is_holder(board, boxes, holders, ahead)
+        || is_holder(board, boxes, holders, behind)
         || are_stuck(board, tables, ahead, behind)
 }
 
 /// Whether a holder stands on a square.
-fn is_holder(boxes: &[Sq], holders: Holders<'_>, square: Sq) -> bool
+fn is_holder(board: &Board, boxes: &[Sq], holders: Holders<'_>, square: Sq) -> bool
+    requires accepted { IsAccepted board.now }
+    requires exists { square < length board.now.area }
     requires rising { IsStrictlyIncreasing boxes.now }
     requires few { length boxes.now ≤ box_limit }
     requires listed { AreHolders boxes.now holders }
-    ensures { IsTrue result ↔ IsHolder boxes.now holders.entry square }
+    ensures { IsTrue result ↔ IsHolder board.now boxes.now holders.entry square }
 {
     match holders {
         Holders::Every => boxes.contains(&square),
         Holders::Members(members) => is_member(boxes, members, square),
+        Holders::Drawn(squares) => is_drawn(board, squares, square),
     }
+}
+
+/// Whether a square of the area is one of some.
+pub(crate) fn is_drawn(board: &Board, squares: &Field, square: Sq) -> bool
+    requires accepted { IsAccepted board.now }
+    requires exists { square < length board.now.area }
+    ensures { IsTrue result ↔ IsDrawn board.now squares.now square }
+{
+    squares.has(board.spot(square))
 }
 
 /// Whether two squares are both stuck.

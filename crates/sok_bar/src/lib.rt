@@ -7,6 +7,7 @@
 //! | `crowd` | boxes that share too few goals |
 //! | `frozen` | boxes that hold each other for ever |
 //! | `held` | which boxes are held along both axes |
+//! | `layout_jam` | whether the boxes of a layout have a jam |
 //! | `law` | what a reason says of a position bars it |
 //! | `members` | lists of members of a box list; whether numbers rise |
 //! | `rest` | what is still to be shown of a position |
@@ -19,6 +20,7 @@ pub mod crowd;
 pub mod frozen;
 mod held;
 pub mod law;
+pub mod layout_jam;
 pub mod members;
 pub mod rest;
 pub mod spent;

@@ -3,6 +3,7 @@ pub mod AreaLaws
 pub mod Around
 pub mod Beside
 pub mod Confined
+pub mod Covering
 pub mod Floods
 pub mod Inside
 pub mod Lists

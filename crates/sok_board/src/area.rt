@@ -1,13 +1,13 @@
 //! The squares of a level's area, their numbers, and which of them have goals and boxes.
 
-ghost use Rattle.std.specs.Prelude.{◌≡◌, ◌≤◌, IfOk, All, AllPairs, Bool};
+ghost use Rattle.std.specs.Prelude.{◌≡◌, ◌<◌, ◌≤◌, ◌↔◌, IfOk, IsTrue, All, AllPairs, Bool};
 ghost use Rattle.std.specs.Prelude.{None, false, length, filter, position};
 ghost use Rattle.sok_rules.specs.Squares.{places, same_spot};
 ghost use Rattle.sok_rules.specs.Levels.{IsProper};
 ghost use Rattle.sok_rules.specs.declared.cell.Cell.{Cell};
 ghost use Rattle.sok_rules.specs.declared.cell.Cell.TheVariants.{Wall};
 ghost use Rattle.sok_rules.specs.declared.cell.Spot.{Spot};
-ghost use Rattle.sok_board.specs.Area.{IsArea, Before, numbers_where};
+ghost use Rattle.sok_board.specs.Area.{IsArea, Before, AreGoals, numbers_where};
 ghost use Rattle.sok_board.specs.Limits.{square_limit};
 ghost use Rattle.sok_board.specs.Tables.{HasPlace, entry};
 
@@ -88,4 +88,18 @@ pub(crate) fn numbers_where<F: Fn(Cell) -> bool>(
         }
     }
     Ok(numbers)
+}
+
+/// Whether all of some squares of the area are goals.
+pub(crate) fn all_goals(level: &Level, area: &[Spot], squares: &[Sq]) -> bool
+    requires { All (λ square. square < length area.now) squares.now }
+    ensures { IsTrue result
+        ↔ AreGoals (record { rows = level.now; area = area.now }) squares.now }
+{
+    for square in squares {
+        if !cell_or_wall(level, area[*square as usize]).is_goal() {
+            return false;
+        }
+    }
+    true
 }

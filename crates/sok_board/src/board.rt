@@ -8,14 +8,16 @@ ghost use Rattle.sok_rules.specs.Levels.{trimmed};
 ghost use Rattle.sok_rules.specs.Play.{start};
 ghost use Rattle.sok_rules.specs.Squares.{holds, is_goal, is_wall, next};
 ghost use Rattle.sok_board.specs.Area.{IsAccepted, number_of, spot_of, beside};
-ghost use Rattle.sok_board.specs.Area.{goals_of, boxes_of, position_of};
+ghost use Rattle.sok_board.specs.Area.{goals_of, boxes_of, position_of, AreGoals};
 ghost use Rattle.sok_board.specs.Limits.{box_limit};
 ghost use Rattle.sok_board.specs.Refusals.{IsRefused};
+ghost use Rattle.sok_board.specs.Runs.{Covers};
 
 use crate::area::{self, Sq};
 use crate::cells::cell_or_wall;
 use crate::fault::BoardFault;
 use crate::places::places;
+use crate::runs::Run;
 use crate::survey::{self, Numbering};
 use crate::table;
 use sok_rules::cell::{Dir, Spot};
@@ -75,6 +77,14 @@ impl Board {
         self.squares.len()
     }
 
+    /// The squares of the area, row by row, as runs of squares that lie side by side.
+    pub fn runs(&self) -> &[Run]
+        ensures runs { Covers self.now 0 result.now (length self.now.area) }
+        ensures accepted { IsAccepted self.now }
+    {
+        &self.numbering.runs
+    }
+
     /// The squares of the area that are goals, rising.
     pub fn goals(&self) -> &[Sq]
         ensures goals { result.now ≡ goals_of self.now }
@@ -124,9 +134,19 @@ impl Board {
     /// Whether a square of the area is a goal.
     pub fn is_goal(&self, square: Sq) -> bool
         requires { square < length self.now.area }
-        ensures { result ≡ holds is_goal self.now.rows (spot_of self.now square) }
+        ensures goal { result ≡ holds is_goal self.now.rows (spot_of self.now square) }
+        ensures accepted { IsAccepted self.now }
     {
         cell_or_wall(&self.level, self.spot(square)).is_goal()
+    }
+
+    /// Whether all of some squares of the area are goals.
+    pub fn are_goals(&self, squares: &[Sq]) -> bool
+        requires { All (λ square. square < length self.now.area) squares.now }
+        ensures goals { IsTrue result ↔ AreGoals self.now squares.now }
+        ensures accepted { IsAccepted self.now }
+    {
+        area::all_goals(&self.level, &self.squares, squares)
     }
 
     /// Where a square of the area lies.
@@ -134,6 +154,7 @@ impl Board {
         requires { square < length self.now.area }
         ensures spot { result ≡ spot_of self.now square }
         ensures inverse { number_of self.now result ≡ Some square }
+        ensures accepted { IsAccepted self.now }
     {
         self.squares[square as usize]
     }

@@ -11,6 +11,7 @@
 //! | `neighbours` | the numbers of the squares beside each square |
 //! | `places` | the squares of a level's text in reading order |
 //! | `refusal` | the squares for which a level is not accepted |
+//! | `runs` | the area as runs of squares that lie side by side |
 //! | `survey` | the tests by which a level is accepted, in the order of refusal |
 //! | `table` | tables with an entry for each square |
 #![tactic(auto)]
@@ -24,5 +25,6 @@ pub mod law;
 mod neighbours;
 mod places;
 mod refusal;
+pub mod runs;
 mod survey;
 mod table;

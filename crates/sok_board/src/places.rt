@@ -3,6 +3,7 @@
 ghost use Rattle.std.specs.Prelude.{◌≡◌, ◌≤◌, ◌++◌, IfOk, length, find};
 ghost use Rattle.sok_rules.specs.Squares.{places, places_in_row, holds, is_man};
 ghost use Rattle.sok_rules.specs.Levels.{IsProper, cells_of};
+ghost use Rattle.sok_rules.specs.Limits.{size_limit};
 ghost use Rattle.sok_rules.specs.Play.{start};
 
 use crate::cells::cell_or_wall;
@@ -25,7 +26,7 @@ pub(crate) fn places(alloc: Global, rows: &[Vec<Cell>]) -> Result<Vec<Spot>, Mem
 
 /// Squares, and after them those of one row more.
 fn with_row(mut spots: Vec<Spot>, row: u32, cells: &[Cell]) -> Result<Vec<Spot>, Memory>
-    requires { length cells.now ≤ 64 }
+    requires { length cells.now ≤ size_limit }
     ensures { IfOk result (λ after. after.items ≡ spots.items ++ places_in_row row 0 cells.now) }
 {
     for col in 0..cells.len() {

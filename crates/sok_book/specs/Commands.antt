@@ -2,6 +2,7 @@
 use Rattle.std.specs.Prelude.{ℕ, ◌≡◌, ◌<◌, ◌≤◌, ◌+◌, ◌-◌, List, [], ◌∷◌, ◌++◌, Option, Some, None, Bool, true, false, IsSomeAnd, if◌then◌else◌, nat_lt}
 use Rattle.std.specs.Prelude.{length, option_map, slice_set}
 use Rattle.sok_rules.specs.declared.cell.Dir.{Dir}
+use Rattle.sok_rules.specs.Limits.{letter_limit}
 use Rattle.sok_rules.specs.Squares.{Rows}
 use Rattle.sok_rules.specs.Play.{start, pushes, Solves}
 use Rattle.sok_board.specs.Area.{Numbered, IsAccepted}
@@ -18,10 +19,6 @@ use Rattle.sok_book.specs.Books.{Book, Page, Solution, page_at, solution_of}
 -- the most levels of a book
 abbrev pub level_limit : ℕ
 level_limit = 10000
-
--- the most letters of a solution that is kept
-abbrev pub letter_limit : ℕ
-letter_limit = 1000000
 
 -- a level with no best solution yet, and no verdict
 abbrev pub new_page : Rows → Option (List ℕ) → Page

@@ -3,4 +3,5 @@ pub mod Books
 pub mod Commands
 pub mod Faults
 pub mod Laws
+pub mod Outcomes
 pub mod Refusals

@@ -1,6 +1,7 @@
 -- Why a command is refused: the first cause in the order of refusal. A refused command changes nothing.
 use Rattle.std.specs.Prelude.{ℕ, ◌≡◌, ◌≢◌, ◌<◌, ◌≤◌, ◌⊎◌, List, Option, None, IsNone, IsSome, IsSomeAnd, length}
 use Rattle.sok_rules.specs.declared.cell.Dir.{Dir}
+use Rattle.sok_rules.specs.Limits.{letter_limit}
 use Rattle.sok_rules.specs.Squares.{Rows}
 use Rattle.sok_rules.specs.Play.{start, run, Solves}
 use Rattle.sok_rules.specs.Replay.{IsBlockedAt}
@@ -18,7 +19,7 @@ use Rattle.sok_cert.specs.Refusals as list
 use Rattle.sok_book.specs.declared.fault.BookFault.{BookFault}
 use Rattle.sok_book.specs.declared.fault.BookFault.TheVariants.{Level, Blocked, NotSolved, TooLong, Certificate, NoLevel, NoBest, ClaimDiffers, BookFull}
 use Rattle.sok_book.specs.Books.{Book, Page, page_at}
-use Rattle.sok_book.specs.Commands.{IsUnknown, Meets, best_pushes, letter_limit, level_limit}
+use Rattle.sok_book.specs.Commands.{IsUnknown, Meets, best_pushes, level_limit}
 
 -- a level is not added: no board can be made of it; or it is new, and the book is full
 abbrev pub IsNotAdded : Book → Rows → BookFault → Type 0

@@ -6,6 +6,7 @@ ghost use Rattle.sok_book.specs.declared.fault.BookFault.TheVariants as book;
 
 use sok_board::fault::BoardFault;
 use sok_cert::fault::CertFault;
+use sok_rules::fault::Memory;
 use std::alloc::{AllocError, AllocFailed};
 
 /// Why a command is refused, or a book is not opened.
@@ -71,6 +72,14 @@ impl<T: Drop> From<AllocFailed<T>> for BookFault {
     ghost from_gives = { λ _ fault. fault ≡ book.Memory };
 
     fn from(_error: AllocFailed<T>) -> BookFault {
+        BookFault::Memory
+    }
+}
+
+impl From<Memory> for BookFault {
+    ghost from_gives = { λ _ fault. fault ≡ book.Memory };
+
+    fn from(_error: Memory) -> BookFault {
         BookFault::Memory
     }
 }

@@ -7,7 +7,7 @@
 //! | `law` | what holds of every book that commands made |
 //! | `offering` | whether letters are a solution that a book may keep |
 //! | `proving` | whether bytes prove something of a level's best solution |
-//! | `record` | a level with its title, its best solution and its verdict |
+//! | `record` | verdicts on levels, and what becomes of an offer |
 #![tactic(auto)]
 
 pub mod fault;

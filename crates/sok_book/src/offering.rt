@@ -1,8 +1,9 @@
 //! Whether letters are a solution that a book may keep.
 
 ghost use Rattle.std.specs.Prelude.{◌≡◌, ◌⊎◌, ◌≤◌, IfOk, IfErr, length};
+ghost use Rattle.sok_rules.specs.Limits.{letter_limit};
 ghost use Rattle.sok_rules.specs.Play.{start, pushes, Solves};
-ghost use Rattle.sok_book.specs.Commands.{is_better, letter_limit};
+ghost use Rattle.sok_book.specs.Commands.{is_better};
 ghost use Rattle.sok_book.specs.Refusals.{IsNoSolution};
 ghost use Rattle.sok_book.specs.declared.fault.BookFault.TheVariants as book;
 

@@ -74,6 +74,7 @@ fn judge_list(
     ensures refused { IfErr result
         (λ fault. (fault ≡ book.Memory) ⊎ IsNoProof board.now best bytes.now fault) }
 {
+    // A board tells with its level that the level is accepted.
     let _level = board.level();
     Ok(check(alloc, board, &claim, cert)?.claim())
 }

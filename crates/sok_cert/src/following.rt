@@ -1,26 +1,27 @@
 //! Whether each push from an expanded entry leads to another entry.
 
-ghost use Rattle.std.specs.Prelude.{ℕ, ◌≡◌, ◌<◌, IfOk, IfErr, All, length, slice_get};
+ghost use Rattle.std.specs.Prelude.{IfOk, IfErr, All};
 ghost use Rattle.sok_board.specs.Area.{IsAccepted};
 ghost use Rattle.sok_state.specs.Keys.{IsKey};
 ghost use Rattle.sok_state.specs.Pushes.{IsLegal};
 ghost use Rattle.sok_state.specs.Tables.{HasDistinctKeys};
-ghost use Rattle.sok_cert.specs.Closed.{IsPosition};
-ghost use Rattle.sok_cert.specs.Lookup.{IsTableOf, TellsFound, TellsFirst, TellsOpen, IsClosedAt};
-ghost use Rattle.sok_cert.specs.Lookup.{IsOpenFault};
+ghost use Rattle.sok_cert.specs.Lookup.{IsClosedAt, IsLooking, IsOpenFault};
+ghost use Rattle.sok_cert.specs.Lookup.{TellsFound, TellsFirst, TellsOpen};
 
 use crate::reason::is_expanded;
 use sok_board::board::Board;
 use sok_entry::entry::Entry;
 use sok_entry::fault::CertFault;
+use sok_region::region::Region;
 use sok_rules::fault::Memory;
 use sok_state::key::Key;
-use sok_state::legal::{after, pushes};
+use sok_state::legal::{follow, list_pushes};
 use sok_state::push::Push;
 use sok_state::table::Table;
 use std::alloc::Global;
 
-/// Whether the state that a push leads to is in a table, at most one deeper.
+/// Whether the state that a push leads to is in a table, at most one deeper. The region is a place
+/// for that of the state.
 fn is_found(
     alloc: Global,
     board: &Board,
@@ -28,6 +29,7 @@ fn is_found(
     key: &Key,
     depth: u32,
     push: Push,
+    region: &mut Region,
 ) -> Result<bool, Memory>
     requires accepted { IsAccepted board.now }
     requires key { IsKey board.now key.now }
@@ -35,7 +37,7 @@ fn is_found(
     requires distinct { HasDistinctKeys table.now }
     ensures { IfOk result (TellsFound board.now table.now key.now depth push) }
 {
-    let next = after(alloc, board, key, push)?;
+    let next = follow(alloc, board, key, push, region)?;
     match table.get(&next) {
         Some(index) => Ok(u64::from(table.depth(index)) <= u64::from(depth) + 1),
         None => Ok(false),
@@ -50,6 +52,7 @@ fn first_missing(
     key: &Key,
     depth: u32,
     pushes: &[Push],
+    region: &mut Region,
 ) -> Result<Option<usize>, Memory>
     requires accepted { IsAccepted board.now }
     requires key { IsKey board.now key.now }
@@ -58,28 +61,31 @@ fn first_missing(
     ensures { IfOk result (TellsFirst board.now table.now key.now depth pushes.now) }
 {
     for (place, push) in pushes.iter().enumerate() {
-        if !is_found(alloc, board, table, key, depth, *push)? {
+        if !is_found(alloc, board, table, key, depth, *push, region)? {
             return Ok(Some(place));
         }
     }
     Ok(None)
 }
 
-/// The first legal push of a state that leads to no state of a table at most one deeper.
+/// The first legal push of a state that leads to no state of a table at most one deeper. The list
+/// is a place for the pushes.
 fn open_push(
     alloc: Global,
     board: &Board,
     table: &Table,
     key: &Key,
     depth: u32,
+    pushes: &mut Vec<Push>,
 ) -> Result<Option<Push>, Memory>
     requires accepted { IsAccepted board.now }
     requires key { IsKey board.now key.now }
     requires distinct { HasDistinctKeys table.now }
     ensures { IfOk result (TellsOpen board.now table.now key.now depth) }
 {
-    let pushes = pushes(alloc, board, key)?;
-    match first_missing(alloc, board, table, key, depth, &pushes)? {
+    let mut region = Region::of(alloc, board, &key.boxes, key.least)?;
+    list_pushes(board, key, &region, pushes)?;
+    match first_missing(alloc, board, table, key, depth, pushes, &mut region)? {
         Some(place) => Ok(Some(pushes[place])),
         None => Ok(None),
     }
@@ -93,18 +99,17 @@ pub(crate) fn check_pushes(
     table: &Table,
     entries: &[Entry],
 ) -> Result<(), CertFault>
-    requires accepted { IsAccepted board.now }
-    requires table { IsTableOf board.now entries.now (length entries.now) table.now }
-    requires positions { All (IsPosition board.now) entries.now }
+    requires { IsLooking board.now entries.now table.now }
     ensures followed { IfOk result (λ _. All (IsClosedAt board.now entries.now) entries.now) }
     ensures refused { IfErr result (IsOpenFault board.now entries.now) }
 {
+    let mut pushes = Vec::new(alloc);
     for (index, entry) in entries.iter().enumerate() {
         if !is_expanded(&entry.reason) {
             continue;
         }
         let key = table.key(alloc, index)?;
-        if let Some(push) = open_push(alloc, board, table, &key, entry.depth)? {
+        if let Some(push) = open_push(alloc, board, table, &key, entry.depth, &mut pushes)? {
             return Err(CertFault::OpenPush(index, push.from, push.dir));
         }
     }

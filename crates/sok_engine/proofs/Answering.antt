@@ -6,16 +6,16 @@ use Rattle.std.specs.Io.KnownBytes.{Keeps}
 use Rattle.sok_engine.specs.declared.fault.ToolFault.{ToolFault}
 use Rattle.sok_engine.specs.declared.fault.ToolFault.TheVariants as tool
 use Rattle.sok_engine.specs.Inputs.{UnlessMuch, Within}
-use Rattle.sok_engine.specs.Written.{Answer, Answers, EndsBy, IsFaultOf, Writes, WritesOne}
+use Rattle.sok_engine.specs.Written.{Answer, Answers, AnswersOf, EndsBy, IsFaultOf, Writes, WritesOne}
 
 -- bytes that are not too many are answered
-pub Within-few : (limit : ℕ) (P : List ℕ → Answers) (bytes : List ℕ) (answer : Result Answer ToolFault) → length bytes ≤ limit → P bytes answer
+pub Within-few : {A : Type 0} (limit : ℕ) (P : List ℕ → AnswersOf A) (bytes : List ℕ) (answer : Result A ToolFault) → length bytes ≤ limit → P bytes answer
     → Within limit P bytes answer
 Within-few limit P bytes answer few answered =
     let within : nat_lt limit (length bytes) ≡ false = grind (arith, nat_tests) in
     subst (λ much. UnlessMuch much (P bytes) answer) (sym within) answered
 
-pub Within-much : (limit : ℕ) (P : List ℕ → Answers) (bytes : List ℕ) → limit < length bytes → Within limit P bytes (Err tool.TooMuch)
+pub Within-much : {A : Type 0} (limit : ℕ) (P : List ℕ → AnswersOf A) (bytes : List ℕ) → limit < length bytes → Within limit P bytes (Err tool.TooMuch)
 Within-much limit P bytes many =
     let past : nat_lt limit (length bytes) ≡ true = grind (arith, nat_tests) in
     subst (λ much. UnlessMuch much (P bytes) (Err tool.TooMuch)) (sym past) refl
@@ -28,7 +28,8 @@ EndsBy-fault P old new tool.WriteFailed is kept = absurd is
 EndsBy-fault P old new tool.TooMuch is kept = absurd is
 EndsBy-fault P old new _ is kept = (is, kept)
 
-pub IsFaultOf-weaker : (P Q : Answers) → ((fault : ToolFault) → P (Err fault) → Q (Err fault)) → (fault : ToolFault) → IsFaultOf P fault → IsFaultOf Q fault
+pub IsFaultOf-weaker : {A : Type 0} (P Q : AnswersOf A) → ((fault : ToolFault) → P (Err fault) → Q (Err fault))
+    → (fault : ToolFault) → IsFaultOf P fault → IsFaultOf Q fault
 IsFaultOf-weaker P Q weaker tool.Memory is = tt
 IsFaultOf-weaker P Q weaker tool.ReadFailed is = absurd is
 IsFaultOf-weaker P Q weaker tool.WriteFailed is = absurd is

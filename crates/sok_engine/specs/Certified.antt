@@ -3,7 +3,7 @@ use Rattle.std.specs.Prelude.{ℕ, ◌≡◌, ◌⊎◌, List, Option, Result, O
 use Rattle.std.specs.Io.KnownBytes.{Appends, Keeps}
 use Rattle.sok_engine.specs.declared.fault.ToolFault.{ToolFault}
 use Rattle.sok_engine.specs.declared.fault.ToolFault.TheVariants as tool
-use Rattle.sok_engine.specs.Written.{Answer, AppendsFront}
+use Rattle.sok_engine.specs.Written.{Answer, AnswersOf, AppendsFront}
 
 -- the text of a certificate, empty where there is none, and the answer
 pub record Certified : Type 0 where
@@ -12,7 +12,7 @@ pub record Certified : Type 0 where
 
 -- what may be answered to something, or why it has no answer
 abbrev pub CertifiedAnswers : Type 1
-CertifiedAnswers = Result Certified ToolFault → Type 0
+CertifiedAnswers = AnswersOf Certified
 
 -- what a writer held, and what it holds
 pub record Bytes : Type 0 where

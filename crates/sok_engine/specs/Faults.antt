@@ -27,15 +27,23 @@ tool_fault_number tool.TooLarge = 9
 tool_fault_number tool.TooManyBoxes = 10
 tool_fault_number (tool.BadLetter at) = 11
 tool_fault_number (tool.Blocked at) = 12
+tool_fault_number tool.NotSolved = 13
 tool_fault_number tool.TooLong = 14
 tool_fault_number tool.NoSuchLevel = 15
+tool_fault_number tool.BadLimit = 16
 tool_fault_number (tool.NoWall row) = 17
+tool_fault_number tool.NoLevel = 30
+tool_fault_number tool.NoBest = 31
+tool_fault_number tool.Database = 32
+tool_fault_number tool.ClaimDiffers = 33
+tool_fault_number (tool.BadBook id) = 34
+tool_fault_number tool.BookFull = 35
 tool_fault_number tool.Memory = 40
 tool_fault_number tool.ReadFailed = 50
 tool_fault_number tool.WriteFailed = 51
 tool_fault_number tool.TooMuch = 52
 
--- 3 where the input is at fault, 5 where a device is, and 6 for memory
+-- 1 where the letters do not solve, 3 where the input is at fault, 5 where a device or the database is, and 6 for memory
 abbrev pub tool_fault_status : ToolFault → ℕ
 tool_fault_status tool.TooWide = 3
 tool_fault_status tool.TooTall = 3
@@ -49,9 +57,17 @@ tool_fault_status tool.TooLarge = 3
 tool_fault_status tool.TooManyBoxes = 3
 tool_fault_status (tool.BadLetter at) = 3
 tool_fault_status (tool.Blocked at) = 3
+tool_fault_status tool.NotSolved = 1
 tool_fault_status tool.TooLong = 3
 tool_fault_status tool.NoSuchLevel = 3
+tool_fault_status tool.BadLimit = 3
 tool_fault_status (tool.NoWall row) = 3
+tool_fault_status tool.NoLevel = 3
+tool_fault_status tool.NoBest = 3
+tool_fault_status tool.Database = 5
+tool_fault_status tool.ClaimDiffers = 3
+tool_fault_status (tool.BadBook id) = 5
+tool_fault_status tool.BookFull = 3
 tool_fault_status tool.Memory = 6
 tool_fault_status tool.ReadFailed = 5
 tool_fault_status tool.WriteFailed = 5

@@ -4,17 +4,17 @@ use Rattle.sok_rules.specs.declared.fault.LevelFault.{LevelFault}
 use Rattle.sok_rules.specs.Squares.{Rows}
 use Rattle.sok_engine.specs.declared.fault.ToolFault.TheVariants as tool
 use Rattle.sok_engine.specs.Faults.{of_level}
-use Rattle.sok_engine.specs.Written.{Answers}
+use Rattle.sok_engine.specs.Written.{AnswersOf}
 
 -- TooMuch, or the answers to bytes that are not too many
-abbrev pub UnlessMuch : Bool → Answers → Answers
+abbrev pub UnlessMuch : {A : Type 0} → Bool → AnswersOf A → AnswersOf A
 UnlessMuch true P answer = answer ≡ Err tool.TooMuch
 UnlessMuch false P answer = P answer
 
-abbrev pub Within : ℕ → (List ℕ → Answers) → List ℕ → Answers
+abbrev pub Within : {A : Type 0} → ℕ → (List ℕ → AnswersOf A) → List ℕ → AnswersOf A
 Within limit P bytes = UnlessMuch (nat_lt limit (length bytes)) (P bytes)
 
 -- a level's fault, or the answers to its rows
-abbrev pub OnLevel : (Rows → Answers) → Result Rows LevelFault → Answers
+abbrev pub OnLevel : {A : Type 0} → (Rows → AnswersOf A) → Result Rows LevelFault → AnswersOf A
 OnLevel P (Err fault) answer = answer ≡ Err (of_level fault)
 OnLevel P (Ok rows) answer = P rows answer

@@ -9,9 +9,13 @@ pub record Answer : Type 0 where
   pub text : List ℕ
   pub status : ℕ
 
--- the answers to something, or why it has none
+-- the answers of one kind to something, or why it has none
+abbrev pub AnswersOf : Type 0 → Type 1
+AnswersOf A = Result A ToolFault → Type 0
+
+-- a text to write is answered
 abbrev pub Answers : Type 1
-Answers = Result Answer ToolFault → Type 0
+Answers = AnswersOf Answer
 
 -- there is one at most
 abbrev pub HasOne : Answers → Type 0
@@ -22,7 +26,7 @@ abbrev pub AppendsFront : Option (List ℕ) → Option (List ℕ) → List ℕ �
 AppendsFront old new text = (n : ℕ) × (n < length text) × Appends old new (take n text)
 
 -- why no answer is made: for want of memory, or because one of the answers is this fault. No device is at work there.
-abbrev pub IsFaultOf : Answers → ToolFault → Type 0
+abbrev pub IsFaultOf : {A : Type 0} → AnswersOf A → ToolFault → Type 0
 IsFaultOf P tool.Memory = ⊤
 IsFaultOf P tool.ReadFailed = ⊥
 IsFaultOf P tool.WriteFailed = ⊥
@@ -30,7 +34,7 @@ IsFaultOf P tool.TooMuch = ⊥
 IsFaultOf P fault = P (Err fault)
 
 -- what is made is one of the answers, memory aside
-abbrev pub Gives : Answers → Result Answer ToolFault → Type 0
+abbrev pub Gives : {A : Type 0} → AnswersOf A → Result A ToolFault → Type 0
 Gives P (Ok answer) = P (Ok answer)
 Gives P (Err fault) = IsFaultOf P fault
 

@@ -41,12 +41,28 @@ pub enum ToolFault {
     BadLetter(usize),
     /// The place, in letters from 0, of the first letter that is not legal.
     Blocked(usize),
+    /// The letters are legal, and not all boxes stand on goals at their end.
+    NotSolved,
     /// The text has more than 1,000,000 letters.
     TooLong,
     /// The collection has no level of this number.
     NoSuchLevel,
+    /// The limit of states is 0, or above 1,000,000.
+    BadLimit,
     /// The first row without a wall, counted from 0. No level of a collection has such a row.
     NoWall(u32),
+    /// The book has no level with this id.
+    NoLevel,
+    /// Pushes are claimed of a level that has no solution yet.
+    NoBest,
+    /// The database refused, for another cause than memory.
+    Database,
+    /// The claim is not about the best solution: another number of pushes, or that there is none.
+    ClaimDiffers,
+    /// The id of the first row that breaks a rule of books, or its place where that is no number.
+    BadBook(i64),
+    /// The level is new, and the book has 10,000.
+    BookFull,
     /// Memory was refused.
     Memory,
     /// A read failed, for any cause.
@@ -75,9 +91,17 @@ impl ToolFault {
             ToolFault::TooManyBoxes => 10,
             ToolFault::BadLetter(_) => 11,
             ToolFault::Blocked(_) => 12,
+            ToolFault::NotSolved => 13,
             ToolFault::TooLong => 14,
             ToolFault::NoSuchLevel => 15,
+            ToolFault::BadLimit => 16,
             ToolFault::NoWall(_) => 17,
+            ToolFault::NoLevel => 30,
+            ToolFault::NoBest => 31,
+            ToolFault::Database => 32,
+            ToolFault::ClaimDiffers => 33,
+            ToolFault::BadBook(_) => 34,
+            ToolFault::BookFull => 35,
             ToolFault::Memory => 40,
             ToolFault::ReadFailed => 50,
             ToolFault::WriteFailed => 51,
@@ -85,11 +109,13 @@ impl ToolFault {
         }
     }
 
-    /// The exit status: 3 where the input is at fault, 5 where a device is, and 6 for memory.
+    /// The exit status: 1 where the letters do not solve, 3 where the input is at fault, 5 where a
+    /// device or the database is, and 6 for memory.
     pub fn status(&self) -> u8
         ensures { result ≡ tool_fault_status self.now }
     {
         match self {
+            ToolFault::NotSolved => 1,
             ToolFault::TooWide
             | ToolFault::TooTall
             | ToolFault::NoPlayer
@@ -104,9 +130,17 @@ impl ToolFault {
             | ToolFault::Blocked(_)
             | ToolFault::TooLong
             | ToolFault::NoSuchLevel
+            | ToolFault::BadLimit
             | ToolFault::NoWall(_)
+            | ToolFault::NoLevel
+            | ToolFault::NoBest
+            | ToolFault::ClaimDiffers
+            | ToolFault::BookFull
             | ToolFault::TooMuch => 3,
-            ToolFault::ReadFailed | ToolFault::WriteFailed => 5,
+            ToolFault::Database
+            | ToolFault::BadBook(_)
+            | ToolFault::ReadFailed
+            | ToolFault::WriteFailed => 5,
             ToolFault::Memory => 6,
         }
     }
@@ -129,9 +163,17 @@ impl fmt::Display for ToolFault {
             ToolFault::TooManyBoxes => write!(f, "fault 10 TooManyBoxes"),
             ToolFault::BadLetter(at) => write!(f, "fault 11 BadLetter {at}"),
             ToolFault::Blocked(at) => write!(f, "fault 12 Blocked {at}"),
+            ToolFault::NotSolved => write!(f, "fault 13 NotSolved"),
             ToolFault::TooLong => write!(f, "fault 14 TooLong"),
             ToolFault::NoSuchLevel => write!(f, "fault 15 NoSuchLevel"),
+            ToolFault::BadLimit => write!(f, "fault 16 BadLimit"),
             ToolFault::NoWall(row) => write!(f, "fault 17 NoWall {row}"),
+            ToolFault::NoLevel => write!(f, "fault 30 NoLevel"),
+            ToolFault::NoBest => write!(f, "fault 31 NoBest"),
+            ToolFault::Database => write!(f, "fault 32 Database"),
+            ToolFault::ClaimDiffers => write!(f, "fault 33 ClaimDiffers"),
+            ToolFault::BadBook(id) => write!(f, "fault 34 BadBook {id}"),
+            ToolFault::BookFull => write!(f, "fault 35 BookFull"),
             ToolFault::Memory => write!(f, "fault 40 Memory"),
             ToolFault::ReadFailed => write!(f, "fault 50 ReadFailed"),
             ToolFault::WriteFailed => write!(f, "fault 51 WriteFailed"),

@@ -1,8 +1,8 @@
 -- The two lines in front of the entries.
-use Rattle.std.proofs.Common.{ℕ, ◌≡◌, ◌≢◌, ◌<◌, ◌-◌, List, [], ◌∷◌, ◌++◌, All, length, map, sym, ap, ◌∙◌, subst, arith}
+use Rattle.std.proofs.Common.{ℕ, ◌≡◌, ◌≢◌, ◌<◌, ◌-◌, List, [], ◌∷◌, ◌++◌, All, length, map, ap, ◌∙◌, subst, arith}
 use Rattle.std.specs.Str.Lines.{lines}
 use Rattle.sok_text.specs.Lines.{first_line, after_line}
-use Rattle.sok_text.proofs.Lines.{lines-first}
+use Rattle.sok_text.proofs.Lines.{lines-cons, lines-first}
 use Rattle.sok_entry.specs.declared.claim.Claim.{Claim}
 use Rattle.sok_entry.specs.declared.claim.Claim.TheVariants.{Pushes, Unsolvable}
 use Rattle.sok_entry.specs.declared.entry.Entry.{Entry}
@@ -11,15 +11,7 @@ use Rattle.sok_entry.specs.Text.{header, claim_line, entry_line, last_line, Fits
 use Rattle.sok_entry.specs.Reading.{IsClaimLine, LacksHeader, StopsAt, GoesWrong, behind_header, ended_lines}
 use Rattle.sok_entry.proofs.LineEnds.{ended_lines-after_line}
 
--- the first of the lines, and those behind it
-pub lines-cons : (text line : List ℕ) (ls : List (List ℕ)) → lines text ≡ line ∷ ls → (first_line text ≡ line) × (lines (after_line text) ≡ ls)
-lines-cons [] line ls same = absurd (omega (arith, ap length same))
-lines-cons (byte ∷ text) line ls same =
-    let cons : first_line (byte ∷ text) ∷ lines (after_line (byte ∷ text)) ≡ line ∷ ls = sym (lines-first (byte ∷ text) (omega arith)) ∙ same in
-    let first : first_line (byte ∷ text) ≡ line = cc in
-    let rest : lines (after_line (byte ∷ text)) ≡ ls = cc in
-    (first, rest)
-
+-- a text with another first line, or another second, has no header
 pub LacksHeader-first : (text : List ℕ) → first_line text ≢ header → LacksHeader text
 LacksHeader-first text other claim ls fits same = other (lines-cons text header (claim_line claim ∷ ls) same).0
 

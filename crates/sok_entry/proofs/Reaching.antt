@@ -10,7 +10,8 @@ use Rattle.sok_entry.specs.declared.fault.CertFault.TheVariants.{Truncated, Line
 use Rattle.sok_entry.specs.Text.{entry_line, last_line, FitsEntry}
 use Rattle.sok_entry.specs.Reading.{IsEntryLine, missing, cut, other, behind, StopsAt, ended_lines}
 use Rattle.sok_entry.proofs.EntryNumbers.{no_elements}
-use Rattle.sok_entry.proofs.LineEnds.{first_ended, first_unended, ended_lines-after_line, after_line-unended}
+use Rattle.sok_entry.proofs.LineEnds.{first_ended, first_unended, ended_lines-after_line}
+use Rattle.sok_text.proofs.Lines.{after_line-unended}
 
 -- a text begins with entries, and this rest of it stands behind them
 pub record Reached (text : List ℕ) (entries : List Entry) (rest : List ℕ) : Type 0 where

@@ -1,8 +1,11 @@
 pub mod Flooding
 pub mod Lanes
 pub mod ByNumber
+pub mod ByRuns
 pub mod Drawings
+pub mod Heights
 pub mod OneSquare
+pub mod Parts
 pub mod Rounds
 pub mod Spreading
 pub mod Stepping

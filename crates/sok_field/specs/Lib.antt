@@ -6,4 +6,5 @@ pub mod Trails
 pub mod Ways
 -- Words of the proofs alone
 pub mod Floods
+pub mod Runs
 pub mod Sweeps

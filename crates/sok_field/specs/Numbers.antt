@@ -28,9 +28,13 @@ FirstIsLeast b =
     (test : ℕ → Bool) (rows : List ℕ) (s : Spot) → Draws b (λ n. test n ≡ true) rows → IsFirstSquare (has rows) s
     → (n : ℕ) × (number_of b s ≡ Some n) × (test n ≡ true) × ((k : ℕ) → k < length b.area → test k ≡ true → n ≤ k)
 
--- the bit of a number, in words of 64
+-- how many bits a word has
+abbrev pub word_bits : ℕ
+word_bits = 64
+
+-- the bit of a number
 abbrev pub bit_of_number : ℕ → Spot
-bit_of_number n = record { row = n / 64; col = n % 64 }
+bit_of_number n = record { row = n / word_bits; col = n % word_bits }
 
 -- a set of squares as bits by number
 abbrev pub has_number : List ℕ → ℕ → Bool

@@ -16,8 +16,9 @@ pub fn area(board: &Board) -> Field
     ensures accepted { IsAccepted board.now }
 {
     let mut field = Field::new();
-    for square in 0..board.squares() {
-        field.put(board.spot(square as Sq));
+    let runs = board.runs();
+    for run in runs {
+        field.put_run(*run);
     }
     field
 }

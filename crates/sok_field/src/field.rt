@@ -1,12 +1,16 @@
 //! Sets of squares of a level in bit rows.
 
-ghost use Rattle.std.specs.Prelude.{◌≡◌, ◌<◌, ◌↔◌, ◌⊎◌, MatchOption, IsTrue, false};
+ghost use Rattle.std.specs.Prelude.{ℕ, ◌≡◌, ◌<◌, ◌≤◌, ◌+◌, ◌↔◌, ◌⊎◌, MatchOption, IsTrue, false};
+ghost use Rattle.std.specs.Int.{bit_at};
 ghost use Rattle.sok_rules.specs.declared.cell.Spot.{Spot};
+ghost use Rattle.sok_board.specs.Runs.{right_of};
 ghost use Rattle.sok_field.specs.Fields.{has, IsFirstSquare};
+ghost use Rattle.sok_field.specs.Runs.{LiesOn};
 ghost use Rattle.sok_field.specs.Ways.{Joined};
 
-use crate::bits;
 use crate::flood::flood;
+use crate::{bits, runs};
+use sok_board::runs::Run;
 use sok_rules::cell::Spot;
 use std::marker::Model;
 
@@ -21,14 +25,19 @@ pub const COLUMNS: u32 = 64;
 #[derive(Debug, Drop)]
 pub struct Field {
     rows: [u64; ROWS],
+    /// No square lies in a row from here on, so that a flood goes over the rows before alone.
+    height: usize,
 }
 
 impl Model for Field {
     ghost use Rattle.std.specs.Prelude.{ℕ, List};
+    ghost use Rattle.sok_field.specs.Fields.{IsHigh};
 
     ghost Value = { List ℕ };
 
     ghost view = { λ field. field.rows };
+
+    ghost invariant = { λ field. IsHigh field.rows field.height };
 }
 
 impl Field {
@@ -36,7 +45,10 @@ impl Field {
     pub fn new() -> Field
         ensures { (s : Spot) → has result s ≡ false }
     {
-        Field { rows: [0; ROWS] }
+        Field {
+            rows: [0; ROWS],
+            height: 0,
+        }
     }
 
     /// Whether a square is of the set.
@@ -54,6 +66,29 @@ impl Field {
         ensures { (s : Spot) → IsTrue (has self.new s) ↔ ((s ≡ spot) ⊎ IsTrue (has self.old s)) }
     {
         bits::put(&mut self.rows, spot);
+        self.height = self.height.max(spot.row as usize + 1);
+    }
+
+    /// Puts the squares of a run into the set.
+    pub(crate) fn put_run(&mut self, run: Run)
+        requires some { 0 < run.length }
+        requires row { run.first.row < ROWS }
+        requires columns { run.first.col + run.length ≤ COLUMNS }
+        ensures { (s : Spot) → IsTrue (has self.new s) ↔ (IsTrue (has self.old s) ⊎ LiesOn run s) }
+    {
+        runs::put_run(&mut self.rows, run);
+        self.height = self.height.max(run.first.row as usize + 1);
+    }
+
+    /// The squares of a run that are of the set, the leftmost one as the lowest bit.
+    pub(crate) fn cut(&self, run: Run) -> u64
+        requires some { 0 < run.length }
+        requires row { run.first.row < ROWS }
+        requires columns { run.first.col + run.length ≤ COLUMNS }
+        ensures { (k : ℕ) → (bit_at result k ≡ 1)
+            ↔ ((k < run.length) × IsTrue (has self.now (right_of run.first k))) }
+    {
+        runs::cut(&self.rows, run)
     }
 
     /// Takes a square out of the set.
@@ -71,6 +106,7 @@ impl Field {
         ensures { self.new ≡ other.now }
     {
         self.rows.copy_from_slice(&other.rows);
+        self.height = other.height;
     }
 
     /// The first square, row by row and from left to right.
@@ -86,7 +122,15 @@ impl Field {
         requires { IsTrue (has free.now from) }
         ensures { (s : Spot) → IsTrue (has self.new s) ↔ Joined (has free.now) from s }
     {
+        let height = free.height;
         let mut next = [0; ROWS];
-        flood(&free.rows, &mut self.rows, &mut next, from);
+        bits::clear(&mut self.rows);
+        flood(
+            &free.rows[..height],
+            &mut self.rows[..height],
+            &mut next[..height],
+            from,
+        );
+        self.height = height;
     }
 }

@@ -4,11 +4,11 @@ use Rattle.std.proofs.Common.{append-nil}
 use Rattle.std.proofs.lemmas.List.{drop_all}
 use Rattle.sok_text.specs.Collections.{Block, level_at}
 use Rattle.sok_engine.specs.Written.{HasOne}
-use Rattle.sok_play.specs.Listing.{IsListing, level_line, lines_from}
+use Rattle.sok_play.specs.Listing.{IsListing, level_line, lines_from, title_at}
 
 -- the line of a level, and then the lines of those after it
 pub lines_from-drop : (n : ℕ) (blocks : List Block) (i : ℕ) → i < length blocks
-    → lines_from n (drop i blocks) ≡ level_line n (level_at blocks (suc i)) ++ lines_from (n + 1) (drop (suc i) blocks)
+    → lines_from n (drop i blocks) ≡ level_line n (level_at blocks (suc i)) (title_at blocks (suc i)) ++ lines_from (n + 1) (drop (suc i) blocks)
 unfolding lines_from level_at
 lines_from-drop n [] i within = absurd (omega arith)
 lines_from-drop n (block ∷ blocks) zero within = refl
@@ -19,16 +19,17 @@ abbrev pub IsPartOf : List Block → ℕ → List ℕ → Type 0
 IsPartOf blocks i text = text ++ lines_from (i + 1) (drop i blocks) ≡ lines_from 1 blocks
 
 next_line : (blocks : List Block) (i : ℕ) → i < length blocks
-    → lines_from (i + 1) (drop i blocks) ≡ level_line (i + 1) (level_at blocks (i + 1)) ++ lines_from (i + 1 + 1) (drop (i + 1) blocks)
+    → lines_from (i + 1) (drop i blocks) ≡ level_line (i + 1) (level_at blocks (i + 1)) (title_at blocks (i + 1))
+    ++ lines_from (i + 1 + 1) (drop (i + 1) blocks)
 next_line blocks i within =
     let step = lines_from-drop (i + 1) blocks i within in
     let same : suc i ≡ i + 1 = omega arith in
-    step ∙ ap (λ k. level_line (i + 1) (level_at blocks k) ++ lines_from (i + 1 + 1) (drop k blocks)) same
+    step ∙ ap (λ k. level_line (i + 1) (level_at blocks k) (title_at blocks k) ++ lines_from (i + 1 + 1) (drop k blocks)) same
 
 pub IsPartOf-more : (blocks : List Block) (i : ℕ) (text more : List ℕ) → i < length blocks → IsPartOf blocks i text
-    → more ≡ text ++ level_line (i + 1) (level_at blocks (i + 1)) → IsPartOf blocks (i + 1) more
+    → more ≡ text ++ level_line (i + 1) (level_at blocks (i + 1)) (title_at blocks (i + 1)) → IsPartOf blocks (i + 1) more
 IsPartOf-more blocks i text more within part grown =
-    let line = level_line (i + 1) (level_at blocks (i + 1)) in
+    let line = level_line (i + 1) (level_at blocks (i + 1)) (title_at blocks (i + 1)) in
     let left = lines_from (i + 1 + 1) (drop (i + 1) blocks) in
     ap (λ t. t ++ left) grown ∙ append_assoc text line left ∙ ap (λ t. text ++ t) (sym (next_line blocks i within)) ∙ part
 

@@ -1,14 +1,16 @@
 //! The list of a collection's levels.
 
-ghost use Rattle.std.specs.Prelude.{◌≡◌, ◌++◌, ℕ, List, Ok, Err, IfOk, IfSome, MatchResult, OnOk};
-ghost use Rattle.std.specs.Prelude.{string_bytes};
+ghost use Rattle.std.specs.Prelude.{◌≡◌, ◌≢◌, ◌++◌, ℕ, List, Option, Ok, Err, IfOk, IfSome};
+ghost use Rattle.std.specs.Prelude.{MatchResult, OnOk, codes, option_map, string_bytes};
+ghost use Rattle.std.specs.Fmt.{decimal};
 ghost use Rattle.sok_rules.specs.declared.fault.LevelFault.TheVariants as level;
 ghost use Rattle.sok_text.specs.Collections.{level_at};
 ghost use Rattle.sok_engine.specs.Inputs.{Within};
 ghost use Rattle.sok_engine.specs.Limits.{input_limit};
 ghost use Rattle.sok_engine.specs.Written.{HasOne, Writes};
 ghost use Rattle.sok_engine.specs.declared.fault.ToolFault.TheVariants as tool;
-ghost use Rattle.sok_play.specs.Listing.{IsListing, level_line, lines_from};
+ghost use Rattle.sok_play.specs.Listing.{IsListing, level_line, level_numbers, lines_from};
+ghost use Rattle.sok_play.specs.Listing.{title_at, title_words};
 
 use crate::measure::{boxes, goals, height, width};
 use sok_engine::answer::Answer;
@@ -21,8 +23,9 @@ use std::alloc::{AllocError, Global};
 use std::io::{Read, Write};
 
 /// Tells of each level of a collection, in order, one line with LF: its number, from 1, then how
-/// many rows, columns, boxes and goals it has; or its number and its fault. Columns are those of
-/// the longest row, without floor at its end, and boxes and goals are counted outside the area too.
+/// many rows, columns, boxes and goals it has, and its title where it has one; or its number and
+/// its fault. Columns are those of the longest row, without floor at its end, boxes and goals are
+/// counted outside the area too, and a title is written as its bytes.
 ///
 /// The status is 0, also where levels are faulty. Where there is no answer nothing is written, and
 /// the fault is `ReadFailed` or `TooMuch`. A write that fails is `WriteFailed` at once, after a
@@ -57,44 +60,90 @@ fn lines(alloc: Global, collection: &Collection<'_>) -> Result<Vec<u8>, Memory>
 {
     let mut text = Vec::new(alloc);
     for index in 0..collection.len() {
-        push_level(alloc, &mut text, collection, index + 1)?;
+        push_line(alloc, &mut text, collection, index + 1)?;
     }
     Ok(text)
 }
 
 /// Adds the line of a level to a text.
-fn push_level(
+fn push_line(
     alloc: Global,
     text: &mut Vec<u8>,
     collection: &Collection<'_>,
     n: usize,
 ) -> Result<(), Memory>
-    ensures { OnOk result
-        (text.new.items ≡ text.old.items ++ level_line n (level_at collection.now n)) }
+    ensures { OnOk result (text.new.items ≡ text.old.items
+        ++ level_line n (level_at collection.now n) (title_at collection.now n)) }
 {
-    let line = match collection.level(alloc, n) {
-        Ok(level) => level_line(alloc, n, &level)?,
-        Err(LevelFault::Memory) => return Err(Memory),
-        Err(fault) => fault_line(alloc, n, fault)?,
-    };
-    text.extend_from_slice(line.as_bytes())?;
+    let title = collection.title(n);
+    match collection.level(alloc, n) {
+        Ok(level) => push_level(alloc, text, n, &level, title),
+        Err(fault) => push_fault(alloc, text, n, fault),
+    }
+}
+
+/// Adds the line of a level that has no fault.
+fn push_level(
+    alloc: Global,
+    text: &mut Vec<u8>,
+    n: usize,
+    level: &Level,
+    title: Option<&[u8]>,
+) -> Result<(), Memory>
+    ensures { OnOk result (text.new.items ≡ text.old.items
+        ++ level_line n (Ok level.now) (option_map (λ t. t.now) title.entry)) }
+{
+    let numbers = numbers(alloc, n, level)?;
+    text.extend_from_slice(numbers.as_bytes())?;
+    push_title(text, title)?;
+    text.push(b'\n')?;
     Ok(())
 }
 
-/// The line of a level.
-fn level_line(alloc: Global, n: usize, level: &Level) -> Result<String, AllocError>
-    ensures { IfOk result (λ line. string_bytes line ≡ level_line n (Ok level.now)) }
+/// The number of a level, and its size, boxes and goals.
+fn numbers(alloc: Global, n: usize, level: &Level) -> Result<String, AllocError>
+    ensures { IfOk result (λ numbers. string_bytes numbers
+        ≡ decimal n ++ codes " " ++ level_numbers level.now) }
 {
     let rows = height(level);
     let columns = width(level);
     let boxes = boxes(level);
     let goals = goals(level);
-    format!(in alloc; "{n} {rows} {columns} {boxes} {goals}\n")
+    format!(in alloc; "{n} {rows} {columns} {boxes} {goals}")
+}
+
+/// Adds a title behind a space, if there is one.
+fn push_title(text: &mut Vec<u8>, title: Option<&[u8]>) -> Result<(), Memory>
+    ensures { OnOk result (text.new.items ≡ text.old.items
+        ++ title_words (option_map (λ t. t.now) title.entry)) }
+{
+    let Some(title) = title else {
+        return Ok(());
+    };
+    text.push(b' ')?;
+    text.extend_from_slice(title)?;
+    Ok(())
+}
+
+/// Adds the line of a faulty level, unless memory was refused.
+fn push_fault(alloc: Global, text: &mut Vec<u8>, n: usize, fault: LevelFault) -> Result<(), Memory>
+    ensures { OnOk result ((fault ≢ level.Memory) × ((title : Option (List ℕ))
+        → text.new.items ≡ text.old.items ++ level_line n (Err fault) title)) }
+{
+    match fault {
+        LevelFault::Memory => Err(Memory),
+        _ => {
+            let line = fault_line(alloc, n, fault)?;
+            text.extend_from_slice(line.as_bytes())?;
+            Ok(())
+        }
+    }
 }
 
 /// The line of a faulty level.
 fn fault_line(alloc: Global, n: usize, fault: LevelFault) -> Result<String, AllocError>
-    ensures { IfOk result (λ line. string_bytes line ≡ level_line n (Err fault)) }
+    ensures { IfOk result (λ line. (title : Option (List ℕ))
+        → string_bytes line ≡ level_line n (Err fault) title) }
 {
     let told = ToolFault::from(fault);
     format!(in alloc; "{n} {told}\n")

@@ -8,22 +8,42 @@ use std::test::Fail;
 const COLLECTION: &[u8] = b"; First\n#####\n#@$.#\n#####\n\n#####\n#$ .#\n#####\n\
     ; Third\n####        \n#.@#\n#$*#\n# .#\n######\n";
 
-#[test]
-fn lists_levels_and_faults(rt: HostRuntime) -> Result<(), Fail> {
-    let mut out = Vec::new(rt.alloc());
-    let result = list_bytes(rt.alloc(), &mut &COLLECTION[..], &mut out);
-    let lines = b"1 3 5 1 1\n2 fault 3 NoPlayer\n3 5 6 2 3\n".as_slice();
-    assert_eq!(rt; out.as_slice(), lines);
-    assert_eq!(rt; result, Ok(0));
-    Ok(())
-}
+/// A faulty level between others, and the same board with a title behind it.
+const WITH_A_FAULT: &[u8] = b"; First\n#####\n#@$.#\n#####\n\n######\n#@$@.#\n######\n\n\
+    #####\n#@$.#\n#####\nTitle: Third";
 
 #[test]
-fn lists_nothing_of_no_levels(rt: HostRuntime) -> Result<(), Fail> {
-    let mut out = Vec::new(rt.alloc());
-    let result = list_bytes(rt.alloc(), &mut b"".as_slice(), &mut out);
-    assert_eq!(rt; out.len(), 0);
-    assert_eq!(rt; result, Ok(0));
+fn lists_levels_and_faults(rt: HostRuntime) -> Result<(), Fail> {
+    for (collection, lines) in [
+        (b"".as_slice(), b"".as_slice()),
+        (
+            COLLECTION,
+            b"1 3 5 1 1 First\n2 fault 3 NoPlayer\n3 5 6 2 3 Third\n",
+        ),
+        (
+            WITH_A_FAULT,
+            b"1 3 5 1 1 First\n2 fault 4 ManyPlayers\n3 3 5 1 1 Third\n",
+        ),
+        // a box on a goal outside the area
+        (b"#######\n#@$.#*#\n#######\n", b"1 3 7 2 2\n"),
+        // a title behind the board comes first
+        (b"; A\n\n#####\n#@$.#\n#####\nTitle: B\n", b"1 3 5 1 1 B\n"),
+        // the last note that is not blank has no semicolon
+        (b"; A\nx\n#####\n#@$.#\n#####\n", b"1 3 5 1 1\n"),
+        (b";\n#####\n#@$.#\n#####\n", b"1 3 5 1 1\n"),
+        (b"#####\n#@$.#\n#####\nTitle:\nTitle: C\n", b"1 3 5 1 1 C\n"),
+        (b";  A b\t\n#####\n#@$.#\n#####\n", b"1 3 5 1 1 A b\n"),
+        // bytes that are no text
+        (
+            b"; \xff\x00\xe9\n#####\n#@$.#\n#####\n",
+            b"1 3 5 1 1 \xff\x00\xe9\n",
+        ),
+    ] {
+        let mut out = Vec::new(rt.alloc());
+        let result = list_bytes(rt.alloc(), &mut &collection[..], &mut out);
+        assert_eq!(rt; out.as_slice(), lines, "of {collection:?}");
+        assert_eq!(rt; result, Ok(0));
+    }
     Ok(())
 }
 

@@ -34,7 +34,7 @@ use Rattle.std.proofs.Common.{
   suc,
 }
 use Rattle.std.proofs.lemmas.Bool.{cases_Bool, cases_eq}
-use Rattle.std.proofs.lemmas.Option.{none-some, slice_get_within, get_or_from_slice_get}
+use Rattle.std.proofs.lemmas.Option.{slice_get_within, get_or_from_slice_get}
 use Rattle.std.proofs.lemmas.List.{get_or_default, get_or_append_left, get_or_push, length_push, take_all}
 use Rattle.std.proofs.lemmas.List.Elements.{All-contains, All-weaker}
 use Rattle.std.proofs.lemmas.List.Sums.{sum_by-cons, sum_by-le}
@@ -50,9 +50,11 @@ use Rattle.sok_price.specs.declared.search.Search.{Search}
 use Rattle.sok_price.specs.Matches.{ArePrices, HasPrices, IsMatch}
 use Rattle.sok_price.specs.Matchings.{Costing, low}
 use Rattle.sok_price.specs.Prices.{IsAssignment, IsCrowd, Priced}
-use Rattle.sok_price.specs.Searches.{Growth, IsClosed, IsGrowing, IsReady}
+use Rattle.sok_price.specs.Searches.{Growth, IsReady, IsSeen, ReachesNoOther}
 use Rattle.sok_price.specs.Trees.{count_of, is_marked}
+use Rattle.sok_price.proofs.CostRows.{short-some}
 use Rattle.sok_price.proofs.CrowdLaws.{Excludes-IsCrowd}
+use Rattle.sok_price.proofs.Marks.{count_of-le, price-at}
 use Rattle.sok_price.proofs.Sums.{prices_of-all, sum-along}
 
 -- a number for each place, listed
@@ -200,21 +202,30 @@ pub chain-some : (b : Numbered) (goal square d : ℕ) (cost : Option ℕ) → Te
 chain-some b goal square d None tells chain = absurd (tells d chain)
 chain-some b goal square d (Some pushes) tells chain = (pushes, refl)
 
--- a goal that a box of a tree reaches is of the tree, where no goal outside it has a slack
-pub taken-closed : (cost : Costing) (members goals : ℕ) (g : Growth) → IsGrowing cost members goals members g → IsClosed g → (member goal pushes : ℕ)
-    → is_marked g.met member ≡ true → member < members → goal < goals → cost member goal ≡ Some pushes → is_marked g.taken goal ≡ true
-taken-closed cost members goals g growing closed member goal pushes met member_within goal_within way = elim (cases_Bool (is_marked g.taken goal)) [
+-- a goal that a box of a tree reaches is of the tree, where no other goal is reached
+pub taken-closed : (cost : Costing) (members goals : ℕ) (g : Growth) → IsSeen cost members goals g → ReachesNoOther g → (member goal pushes : ℕ)
+    → is_marked g.met member ≡ true → goal < goals → cost member goal ≡ Some pushes → pushes ≤ 1024 → is_marked g.taken goal ≡ true
+taken-closed cost members goals g growing closed member goal pushes met inside way short = elim (cases_Bool (is_marked g.taken goal)) [
   | inl taken ↦ taken
   | inr free ↦
-      let bounds = growing.bounds member goal pushes (λ same. omega (arith, same, member_within)) met goal_within free way in
+      let (at, within, is) = growing.met.of member met in
+      let bound = growing.bounds at goal within within inside free pushes (ap (λ k. cost k goal) is ∙ way) in
       let v_long = growing.matched.a_price_a_goal in
-      absurd (none-some bounds.slack (sym (closed goal (omega (arith, goal_within, v_long)) free) ∙ bounds.there))
+      let far = closed goal (omega (arith, inside, v_long)) free in
+      let above = growing.rises.above at within in
+      let price = price-at (low members g.floor) g.v goal growing.low.goals in
+      let counted = growing.counted in
+      let count = count_of-le g.met in
+      let met_long = growing.roomy.met in
+      let few = growing.few in
+      let bounded = growing.bounded in
+      absurd (omega (arith, bound, far, above, price, counted, count, met_long, few, bounded, within, short))
 ]
 
 -- the boxes of a tree that reaches no other goal are a crowd
 pub IsCrowd-closed : (b : Numbered) (boxes : List ℕ) (goals : ℕ) (cost : Costing) (g : Growth) (members : List ℕ) → TellCosts b boxes goals cost
     → goals ≡ length (goals_of b)
-    → IsGrowing cost (length boxes) goals (length boxes) g → IsClosed g → ListsMarked g.met (length g.met) members → IsCrowd b boxes members
+    → IsSeen cost (length boxes) goals g → ReachesNoOther g → ListsMarked g.met (length g.met) members → IsCrowd b boxes members
 IsCrowd-closed b boxes goals cost g members told goals_are growing closed lists = record {
   listed = record {
     rising = lists.rising;
@@ -230,7 +241,8 @@ IsCrowd-closed b boxes goals cost g members told goals_are growing closed lists 
       let inside : j < goals = omega (arith, j_within, goals_are) in
       let (pushes, way) = chain-some b (goal_at b j) (get_or boxes i 0) n (cost i j) (told i j i_within inside).exact
       (subst (λ k. Chain b k (goal_at b j) n) x_is (subst (λ k. Chain b x k n) goal_is chain)) in
-      let taken = taken-closed cost (length boxes) goals g growing closed i j pushes met i_within inside way in
+      let short = short-some (cost i j) pushes (told i j i_within inside).short way in
+      let taken = taken-closed cost (length boxes) goals g growing closed i j pushes met inside way short in
       subst (Contains (picked g.taken (goals_of b))) (sym goal_is) (Contains-picked g.taken (goals_of b) j 0 taken j_within);
   fewer =
       let few = length-picked g.taken (goals_of b) in

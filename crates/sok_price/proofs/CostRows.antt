@@ -78,7 +78,7 @@ cost-last entries row goals members goal whole =
     let place : (members * goals + goal) - (members * goals) ≡ goal = omega arith in
     get_or-append_right entries row (members * goals) (members * goals + goal) None whole (omega arith) ∙ ap (λ n. get_or row n None) place
 
-short-some : (cost : Option ℕ) (pushes : ℕ) → IfSome cost (λ n. n ≤ 1024) → cost ≡ Some pushes → pushes ≤ 1024
+pub short-some : (cost : Option ℕ) (pushes : ℕ) → IfSome cost (λ n. n ≤ 1024) → cost ≡ Some pushes → pushes ≤ 1024
 short-some None pushes short there = absurd (none-some pushes there)
 short-some (Some n) pushes short there = let same = same_Some n pushes there in omega (arith, short, same)
 

@@ -36,7 +36,7 @@ use Rattle.sok_price.specs.Costs.{cost_in, cost_of, AreCosts}
 use Rattle.sok_price.specs.Exchanges.{moved_from, AreMoved, AreExchanged}
 use Rattle.sok_price.specs.Matchings.{Costing, low}
 use Rattle.sok_price.specs.Searches.{Growth, IsReady}
-use Rattle.sok_price.proofs.Beginning.{price-at}
+use Rattle.sok_price.proofs.Marks.{price-at}
 use Rattle.sok_price.proofs.Rematching.{swapped-apart}
 
 -- an exchange with the last place, seen from the places before it

@@ -4,11 +4,15 @@ use Rattle.std.proofs.Common.{
   ◌≡◌,
   ◌≢◌,
   ◌<◌,
+  ◌≤◌,
+  ◌+◌,
+  ◌*◌,
   ◌-◌,
   ◌∙◌,
   ◌++◌,
   inl,
   inr,
+  refl,
   sym,
   ap,
   subst,
@@ -29,11 +33,11 @@ use Rattle.std.proofs.lemmas.List.{get_or_default, get_or_append_left, get_or_pu
 use Rattle.sok_price.specs.declared.search.Branch.{Branch}
 use Rattle.sok_price.specs.declared.slacks.Slack.{Slack}
 use Rattle.sok_price.specs.declared.slacks.Near.{Near}
-use Rattle.sok_price.specs.Matchings.{Costing, IsTight, low}
-use Rattle.sok_price.specs.Searches.{Growth, IsGrowing, joined, newest}
-use Rattle.sok_price.specs.Trees.{count_of, is_marked, slack_at, branch_at, AreMarked, AreNear, GoesTight, IsMet, IsSlack, IsTree}
+use Rattle.sok_price.specs.Matchings.{Costing}
+use Rattle.sok_price.specs.Searches.{Growth, IsAhead, IsNext, IsSeen, joined}
+use Rattle.sok_price.specs.Slacks.{slack_at}
+use Rattle.sok_price.specs.Trees.{count_of, is_marked, branch_at, AreMarked, AreRises, IsBound, IsMet, IsSlack, IsTree}
 use Rattle.sok_price.proofs.Marks.{
-  marked-within,
   count_of-lt,
   count_of-set,
   marked-set_same,
@@ -42,30 +46,33 @@ use Rattle.sok_price.proofs.Marks.{
   marked-set_cases,
   marked-set_clear,
 }
-use Rattle.sok_price.proofs.Raising.{AreShort}
 
--- what a goal and a box join with: the box has the goal, and the goal lies at an exact price from a box of the tree
+-- the costs are those of distances on a board
+abbrev pub AreShort : Costing → Type 0
+AreShort cost = (member goal pushes : ℕ) → cost member goal ≡ Some pushes → pushes ≤ 1024
+
+-- what a goal and a box join with: the box has the goal, which the tree reaches next
 pub record IsJoining (cost : Costing) (members goals : ℕ) (g : Growth) (near : Near) (member : ℕ) : Type 0 where
   pub short : AreShort cost
-  pub growing : IsGrowing cost members goals members g
+  pub growing : IsSeen cost members goals g
   pub earlier : member < length g.goal_of
   pub has : get_or g.goal_of member 0 ≡ near.goal
   pub within : near.goal < goals
   pub free : is_marked g.taken near.goal ≡ false
-  pub from : near.slack.from < length g.branches
-  pub tight : IsTight cost g.u g.v (branch_at g.branches near.slack.from).member near.goal
+  pub next : IsNext cost g near
 
 abbrev branch_of : Near → ℕ → Branch
-branch_of near member = record { member = member; goal = near.goal; parent = near.slack.from }
+branch_of near member = record { member = member; goal = near.goal; parent = near.slack.from; rise = near.slack.rise }
 
 abbrev grown_by : Growth → Near → ℕ → List Branch
 grown_by g near member = g.branches ++ branch_of near member ∷ []
 
 branch-old : (g : Growth) (near : Near) (member at : ℕ) → at < length g.branches → branch_at (grown_by g near member) at ≡ branch_at g.branches at
-branch-old g near member at within = get_or_append_left g.branches (branch_of near member ∷ []) (record { member = 0; goal = 0; parent = 0 }) at within
+branch-old g near member at within =
+    get_or_append_left g.branches (branch_of near member ∷ []) (record { member = 0; goal = 0; parent = 0; rise = 0 }) at within
 
 branch-new : (g : Growth) (near : Near) (member at : ℕ) → at ≡ length g.branches → branch_at (grown_by g near member) at ≡ branch_of near member
-branch-new g near member at same = get_or_push g.branches (branch_of near member) (record { member = 0; goal = 0; parent = 0 }) at (sym same)
+branch-new g near member at same = get_or_push g.branches (branch_of near member) (record { member = 0; goal = 0; parent = 0; rise = 0 }) at (sym same)
 
 -- what holds of each branch of the tree and of the new one holds of each
 each_branch : (P : ℕ → Branch → Type 0) (g : Growth) (near : Near) (member : ℕ) → ((at : ℕ) → at < length g.branches → P at (branch_at g.branches at))
@@ -155,7 +162,7 @@ tree-joined cost members goals g near member is =
       some = omega (arith, long);
       root = ap (λ (b : Branch). b.member) (branch-old g near member 0 some) ∙ tree.root;
       before = λ at later within. each_branch (λ k b. 0 < k → b.parent < k) g near member (λ k inside after. tree.before k after inside)
-          (λ _. is.from) at within later;
+          (λ _. is.next.way.within) at within later;
       earlier = λ at later within. each_branch (λ k b. 0 < k → b.member < length g.goal_of) g near member (λ k inside after. tree.earlier k after inside)
           (λ _. is.earlier) at within later;
       has = λ at later within. each_branch (λ k b. 0 < k → get_or g.goal_of b.member 0 ≡ b.goal) g near member (λ k inside after. tree.has k after inside)
@@ -164,33 +171,31 @@ tree-joined cost members goals g near member is =
           let inside : at < length g.branches = omega (arith, before, within, long) in
           subst (λ (b : Branch). b.member ≢ (branch_at (grown_by g near member) to).member) (sym (branch-old g near member at inside))
           (each_branch (λ k b. at < k → (branch_at g.branches at).member ≢ b.member) g near member (λ k inside' after. tree.apart at k after inside')
-          (λ _ same. true≢false (sym (is.growing.met at inside) ∙ ap (is_marked g.met) same ∙ unmet cost members goals g near member is)) to within before);
+          (λ _ same. true≢false (sym (is.growing.met.marked at inside) ∙ ap (is_marked g.met) same ∙ unmet cost members goals g near member is)) to within
+          before);
     }
 
 met-joined : (cost : Costing) (members goals : ℕ) (g : Growth) (near : Near) (member : ℕ) → IsJoining cost members goals g near member
     → IsMet (set g.met member true) (grown_by g near member)
 met-joined cost members goals g near member is =
     let room = met-room cost members goals g near member is in
-    each_branch (λ _ b. is_marked (set g.met member true) b.member ≡ true) g near member
-    (λ at inside. marked-set_kept g.met member (branch_at g.branches at).member room (is.growing.met at inside)) (marked-set_same g.met member room)
+    let long = length_push g.branches (branch_of near member) in
+    record {
+      marked = each_branch (λ _ b. is_marked (set g.met member true) b.member ≡ true) g near member
+          (λ at inside. marked-set_kept g.met member (branch_at g.branches at).member room (is.growing.met.marked at inside))
+          (marked-set_same g.met member room);
+      of = λ other there. elim (marked-set_cases g.met member other there) [
+        | inl same ↦ (length g.branches, omega (arith, long), ap (λ (b : Branch). b.member) (branch-new g near member (length g.branches) refl) ∙ sym same)
+        | inr old ↦
+            let (at, inside, is_at) = is.growing.met.of other old.1 in
+            (at, omega (arith, inside, long), ap (λ (b : Branch). b.member) (branch-old g near member at inside) ∙ is_at)
+      ];
+    }
 
-goes-joined : (cost : Costing) (members goals : ℕ) (g : Growth) (near : Near) (member : ℕ) → IsJoining cost members goals g near member
-    → GoesTight cost g.u g.v (grown_by g near member)
-goes-joined cost members goals g near member is at later within =
-    let P : ℕ → Branch → Type 0 = λ k b. 0 < k → IsTight cost g.u g.v (branch_at (grown_by g near member) b.parent).member b.goal in
-    each_branch P g near member
-    (λ k inside after.
-    let before = is.growing.tree.before k after inside in
-    subst (λ (b : Branch). IsTight cost g.u g.v b.member (branch_at g.branches k).goal)
-    (sym (branch-old g near member (branch_at g.branches k).parent (omega (arith, before, inside)))) (is.growing.tight k after inside))
-    (λ _. subst (λ (b : Branch). IsTight cost g.u g.v b.member near.goal) (sym (branch-old g near member near.slack.from is.from)) is.tight) at within later
-
-slack-joined : (cost : Costing) (members goals : ℕ) (g : Growth) (near : Near) (member : ℕ) → IsJoining cost members goals g near member
-    → (goal : ℕ) (slack : Slack) → is_marked (set g.taken near.goal true) goal ≡ false → slack_at g.slacks goal ≡ Some slack
+-- a way of the tree is one of the grown tree
+slack-grown : (cost : Costing) (g : Growth) (near : Near) (member goal : ℕ) (slack : Slack) → IsSlack cost g.u g.v g.branches goal slack
     → IsSlack cost g.u g.v (grown_by g near member) goal slack
-slack-joined cost members goals g near member is goal slack clear there =
-    let (_, free) = marked-set_clear g.taken near.goal goal (taken-room cost members goals g near member is) clear in
-    let old = is.growing.slack goal slack free there in
+slack-grown cost g near member goal slack old =
     let same = branch-old g near member slack.from old.within in
     let long = length_push g.branches (branch_of near member) in
     let within = old.within in
@@ -199,53 +204,103 @@ slack-joined cost members goals g near member is goal slack clear there =
       within = omega (arith, within, long);
       pushes = old.pushes;
       way = ap (λ (b : Branch). cost b.member goal) same ∙ old.way;
-      exact = let price = ap (λ (b : Branch). get_or g.u b.member 0) same in omega (arith, exact, price);
+      exact = let price = ap (λ (b : Branch). get_or g.u b.member 0) same in let rise = ap (λ (b : Branch). b.rise) same in omega (arith, exact, price, rise);
     }
 
-near-joined : (cost : Costing) (members goals : ℕ) (g : Growth) (near : Near) (member : ℕ) → IsJoining cost members goals g near member
-    → AreNear (low members g.floor) g.u g.v g.goal_of (set g.met member true) (set g.taken near.goal true)
-near-joined cost members goals g near member is =
-    let met_room = met-room cost members goals g near member is in
-    let taken_room = taken-room cost members goals g near member is in
-    let counted = count_of-set g.taken near.goal taken_room is.free in
-    let from_met = is.growing.met near.slack.from is.from in
-    let parent = (branch_at g.branches near.slack.from).member in
-    let way = is.tight.exact in
-    let way_short = is.short parent near.goal is.tight.pushes is.tight.way in
-    let own = is.growing.matched.exact member is.earlier in
+-- each rise of the tree is at most that of the goal that is next
+pub rises-next : (cost : Costing) (members goals : ℕ) (g : Growth) (near : Near) (at : ℕ) → IsSeen cost members goals g → IsNext cost g near
+    → at < length g.branches → (branch_at g.branches at).rise ≤ near.slack.rise
+rises-next cost members goals g near at growing next inside =
+    let within = next.within in
+    let v_long = growing.matched.a_price_a_goal in
+    let last = growing.rises.last at inside in
+    let ahead = growing.ahead near.goal (omega (arith, within, v_long)) next.outside in
+    let slack = ap (λ (s : Slack). s.rise) next.slack in
+    omega (arith, last, ahead, slack)
+
+-- no box of the tree reaches the next goal earlier
+bound-next : (cost : Costing) (members goals : ℕ) (g : Growth) (near : Near) (at : ℕ) → IsSeen cost members goals g → IsNext cost g near
+    → at < length g.branches → IsBound cost g.u g.v g.branches near.slack.rise at near.goal
+bound-next cost members goals g near at growing next inside pushes way =
+    let within = next.within in
+    let v_long = growing.matched.a_price_a_goal in
+    let bound = growing.bounds at near.goal inside inside (omega (arith, within, v_long)) next.outside pushes way in
+    let slack = ap (λ (s : Slack). s.rise) next.slack in
+    omega (arith, bound, slack)
+
+-- the goal of a branch exists
+pub goal-within : (cost : Costing) (members goals : ℕ) (g : Growth) (at : ℕ) → IsSeen cost members goals g → 0 < at → at < length g.branches
+    → (branch_at g.branches at).goal < length g.v
+goal-within cost members goals g at growing later inside =
+    let exists = growing.matched.exist (branch_at g.branches at).member 0 (growing.tree.earlier at later inside) in
+    let has = growing.tree.has at later inside in
+    let v_long = growing.matched.a_price_a_goal in
+    omega (arith, exists, has, v_long)
+
+rises-joined : (cost : Costing) (members goals : ℕ) (g : Growth) (near : Near) (member : ℕ) → IsJoining cost members goals g near member
+    → AreRises cost g.u g.v (grown_by g near member)
+rises-joined cost members goals g near member is =
+    let growing = is.growing in
+    let next = is.next in
+    let bs = grown_by g near member in
+    let long = length_push g.branches (branch_of near member) in
+    let earlier = is.earlier in
+    let more = growing.more in
+    let u_long = growing.matched.a_price_a_box in
+    let within = next.within in
+    let from = next.way.within in
+    let exact = next.way.exact in
+    let some = growing.tree.some in
+    let short = is.short (branch_at g.branches near.slack.from).member near.goal next.way.pushes next.way.way in
+    let own = growing.matched.exact member earlier in
     let own_exact = own.exact in
     let own_short = is.short member (get_or g.goal_of member 0) own.pushes own.way in
     let goal_price = ap (λ k. get_or g.v k 0) is.has in
-    let above = is.growing.near.above parent from_met in
-    let below = is.growing.near.below parent from_met in
+    let above = growing.rises.above near.slack.from from in
+    let below = growing.rises.below near.slack.from from in
+    let old = λ (at : ℕ) (inside : at < length g.branches). branch-old g near member at inside in
+    let root = ap (λ (b : Branch). get_or g.u b.member 0) (old 0 some) in
+    let last = branch-new g near member (length bs - 1) (omega (arith, long)) in
+    let last_rise = ap (λ (b : Branch). b.rise) last in
+    let fair : (goal pushes : ℕ) → goal < length g.v → cost member goal ≡ Some pushes → get_or g.u member 0 ≤ get_or g.v goal 0 + pushes =
+    λ goal pushes inside way. growing.matched.fair member goal pushes (omega (arith, earlier, more, u_long)) inside way in
     record {
-      above = λ other there. elim (marked-set_cases g.met member other there) [
-        | inl same ↦ let price = ap (λ k. get_or g.u k 0) same in omega (arith, way, own_exact, own_short, goal_price, above, counted, price)
-        | inr old ↦ let bound = is.growing.near.above other old.1 in omega (arith, bound, counted)
-      ];
-      below = λ other there. elim (marked-set_cases g.met member other there) [
-        | inl same ↦ let price = ap (λ k. get_or g.u k 0) same in omega (arith, way, way_short, own_exact, goal_price, below, counted, price)
-        | inr old ↦ let bound = is.growing.near.below other old.1 in omega (arith, bound, counted)
-      ];
-      boxes = λ other clear. is.growing.near.boxes other (marked-set_clear g.met member other met_room clear).1;
-      goals = λ goal clear. is.growing.near.goals goal (marked-set_clear g.taken near.goal goal taken_room clear).1;
+      way = λ at later inside. each_branch (λ k b. 0 < k → IsSlack cost g.u g.v bs b.goal (record { rise = b.rise; from = b.parent })) g near member
+          (λ k k_in after. slack-grown cost g near member (branch_at g.branches k).goal
+          (record { rise = (branch_at g.branches k).rise; from = (branch_at g.branches k).parent }) (growing.rises.way k after k_in))
+          (λ _. slack-grown cost g near member near.goal near.slack next.way) at inside later;
+      bound = λ at to at_in later to_in. each_branch (λ _ a. (pushes : ℕ) → cost a.member (branch_at bs to).goal ≡ Some pushes
+          → (branch_at bs to).rise + get_or g.u a.member 0 ≤ a.rise + get_or g.v (branch_at bs to).goal 0 + pushes) g near member
+          (λ k k_in. each_branch (λ t b. 0 < t → (pushes : ℕ) → cost (branch_at g.branches k).member b.goal ≡ Some pushes
+          → b.rise + get_or g.u (branch_at g.branches k).member 0 ≤ (branch_at g.branches k).rise + get_or g.v b.goal 0 + pushes) g near member
+          (λ t t_in after. growing.rises.bound k t k_in after t_in) (λ _. bound-next cost members goals g near k growing next k_in) to to_in later)
+          (each_branch (λ t b. 0 < t → (pushes : ℕ) → cost member b.goal ≡ Some pushes
+          → b.rise + get_or g.u member 0 ≤ near.slack.rise + get_or g.v b.goal 0 + pushes) g near member
+          (λ t t_in after pushes way. let bound = fair (branch_at g.branches t).goal pushes (goal-within cost members goals g t growing after t_in) way in
+          let first = rises-next cost members goals g near t growing next t_in in omega (arith, bound, first))
+          (λ _ pushes way. let bound = fair near.goal pushes within way in omega (arith, bound)) to to_in later) at at_in;
+      last = λ at inside. each_branch (λ _ b. b.rise ≤ (branch_at bs (length bs - 1)).rise) g near member
+          (λ k k_in. let first = rises-next cost members goals g near k growing next k_in in omega (arith, first, last_rise))
+          (omega (arith, last_rise)) at inside;
+      above = λ at inside. each_branch (λ k b. get_or g.u (branch_at bs 0).member 0 + b.rise ≤ get_or g.u b.member 0 + 1024 * k) g near member
+          (λ k k_in. let bound = growing.rises.above k k_in in omega (arith, bound, root))
+          (omega (arith, exact, own_exact, goal_price, above, from, short, root)) at inside;
+      below = λ at inside. each_branch (λ k b. get_or g.u b.member 0 ≤ get_or g.u (branch_at bs 0).member 0 + b.rise + 1024 * k) g near member
+          (λ k k_in. let bound = growing.rises.below k k_in in omega (arith, bound, root))
+          (omega (arith, exact, own_exact, own_short, goal_price, below, from, root)) at inside;
     }
 
-newest-joined : (near : Near) (member : ℕ) (g : Growth) → newest (joined near member g) ≡ member
-unfolding joined
-newest-joined near member g =
-    let long = length_push g.branches (branch_of near member) in
-    let last : length (grown_by g near member) - 1 ≡ length g.branches = omega (arith, long) in
-    ap (λ (b : Branch). b.member) (branch-new g near member (length (grown_by g near member) - 1) last)
-
 -- once it has joined, all but the new box are looked at
-pub IsGrowing-joined : (cost : Costing) (members goals : ℕ) (g : Growth) (near : Near) (member : ℕ) → IsJoining cost members goals g near member
-    → IsGrowing cost members goals (newest (joined near member g)) (joined near member g)
+pub IsAhead-joined : (cost : Costing) (members goals : ℕ) (g : Growth) (near : Near) (member : ℕ) → IsJoining cost members goals g near member
+    → IsAhead cost members goals (joined near member g)
 unfolding joined
-IsGrowing-joined cost members goals g near member is =
+IsAhead-joined cost members goals g near member is =
     let growing = is.growing in
-    let met_room = met-room cost members goals g near member is in
     let taken_room = taken-room cost members goals g near member is in
+    let long = length_push g.branches (branch_of near member) in
+    let v_long = growing.matched.a_price_a_goal in
+    let last = branch-new g near member (length (grown_by g near member) - 1) (omega (arith, long)) in
+    let last_rise = ap (λ (b : Branch). b.rise) last in
     record {
       matched = growing.matched;
       roomy = record {
@@ -256,21 +311,22 @@ IsGrowing-joined cost members goals g near member is =
       };
       few = growing.few;
       bounded = growing.bounded;
+      low = growing.low;
       more = growing.more;
       tells = growing.tells;
       marked = marked-joined cost members goals g near member is;
       tree = tree-joined cost members goals g near member is;
       counted = counted-joined cost members goals g near member is;
       met = met-joined cost members goals g near member is;
-      tight = goes-joined cost members goals g near member is;
-      slack = slack-joined cost members goals g near member is;
-      bounds = λ other goal pushes unseen there within clear way. elim (marked-set_cases g.met member other there) [
-        | inl same ↦ absurd (unseen (same ∙ sym (newest-joined near member g)))
-        | inr old ↦
-            let inside = marked-within g.met other old.1 in
-            let long = growing.roomy.met in
-            growing.bounds other goal pushes (λ e. omega (arith, e, inside, long)) old.1 within (marked-set_clear g.taken near.goal goal taken_room clear).1 way
-      ];
-      near = near-joined cost members goals g near member is;
-      high = growing.high;
+      rises = rises-joined cost members goals g near member is;
+      slack = λ goal within clear reached. slack-grown cost g near member goal (slack_at g.slacks goal)
+          (growing.slack goal within (marked-set_clear g.taken near.goal goal taken_room clear).1 reached);
+      bounds = λ at goal seen _ within clear.
+          let inside : at < length g.branches = omega (arith, seen, long) in
+          subst (λ (b : Branch). (pushes : ℕ) → cost b.member goal ≡ Some pushes
+          → (slack_at g.slacks goal).rise + get_or g.u b.member 0 ≤ b.rise + get_or g.v goal 0 + pushes) (sym (branch-old g near member at inside))
+          (growing.bounds at goal inside inside within (marked-set_clear g.taken near.goal goal taken_room clear).1);
+      ahead = λ goal within clear.
+          let least = is.next.least goal (omega (arith, within, v_long)) (marked-set_clear g.taken near.goal goal taken_room clear).1 in
+          omega (arith, least, last_rise);
     }

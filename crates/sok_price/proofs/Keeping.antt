@@ -11,7 +11,7 @@ use Rattle.sok_price.specs.declared.search.Search.{Search}
 use Rattle.sok_price.specs.Costs.{cost_in, cost_of, AreCosts, AreOfBoxes, TellsCost}
 use Rattle.sok_price.specs.Exchanges.{AreExchanged, IsWhole, Tells}
 use Rattle.sok_price.specs.Kept.{AreExactly, AreKept, AreListed, AreOf, AreRows, IsMovedTo, IsShaped}
-use Rattle.sok_price.specs.Matched.{CanMove, HasWorth, Holds, IsCopied, IsSound, Kept}
+use Rattle.sok_price.specs.Matched.{CanMove, HasWorth, Holds, IsCopied, IsSound, KeptMatching}
 use Rattle.sok_price.specs.Matchings.{Costing}
 use Rattle.sok_price.specs.Prices.{IsCrowd}
 use Rattle.sok_price.specs.Searches.{Growth, growth_of, HasRoom, IsReady}
@@ -100,7 +100,8 @@ IsShaped-found costs search false (floor, (growing, _)) room =
     record { a_price_a_box = growing.matched.a_price_a_box; a_price_a_goal = growing.matched.a_price_a_goal; roomy = growing.roomy; room = room }
 
 -- the rows of the boxes with one moved, by a copy of the rows
-pub AreKept-tried : (b : Numbered) (kept : Kept) (before changed : Costs) (boxes after : List ℕ) (row from to : ℕ) → Holds b boxes kept → CanMove kept from to
+pub AreKept-tried : (b : Numbered) (kept : KeptMatching) (before changed : Costs) (boxes after : List ℕ) (row from to : ℕ) → Holds b boxes kept
+    → CanMove kept from to
     → AreCopied kept.costs before → row < length before.rows.items → get_or before.rows.items row 0 ≡ from
     → AreExchanged row to before changed → IsMoved boxes from to after → All (λ square. square < length b.area) after
     → AreKept b changed × AreExactly (length b.area) changed.rows.items after
@@ -132,12 +133,12 @@ AreKept-tried b kept before changed boxes after row from to holds can copied ins
     )
 
 -- a matching after a row was tried in a copy of its rows, and the rows are put back
-pub IsSound-tried : (squares : ℕ) (costs after final : Costs) (search scratch trial : Search) (matched whole : Bool) (old rows : List ℕ)
-    → IsSound squares costs search matched scratch old → final ≡ costs → after.members ≡ costs.members → after.goals ≡ costs.goals → AreCosts after
-    → Tells after trial whole → HasRoom costs.members trial → rows ≡ after.rows.items → IsSound squares final search matched trial rows
-IsSound-tried squares costs after final search scratch trial matched whole old rows sound final_is members goals shaped tells room rows_are =
+pub IsSound-tried : (squares : ℕ) (costs after final : Costs) (search scratch trial : Search) (matched whole : Bool) (old rows : List ℕ) (marks : List Bool)
+    → IsSound squares costs search matched scratch old marks → final ≡ costs → after.members ≡ costs.members → after.goals ≡ costs.goals → AreCosts after
+    → Tells after trial whole → HasRoom costs.members trial → rows ≡ after.rows.items → IsSound squares final search matched trial rows marks
+IsSound-tried squares costs after final search scratch trial matched whole old rows marks sound final_is members goals shaped tells room rows_are =
     let found = IsShaped-found after trial whole tells (subst (λ n. HasRoom n trial) (sym members) room) in
-    subst (λ (h : Costs). IsSound squares h search matched trial rows) (sym final_is) (record {
+    subst (λ (h : Costs). IsSound squares h search matched trial rows marks) (sym final_is) (record {
       shaped = sound.shaped;
       square = sound.square;
       small = sound.small;
@@ -145,6 +146,7 @@ IsSound-tried squares costs after final search scratch trial matched whole old r
       search_shaped = sound.search_shaped;
       trial_shaped = subst (λ n. IsShaped n costs.goals trial) members (subst (λ n. IsShaped after.members n trial) goals found);
       as_many = ap length rows_are ∙ shaped.a_row_a_box ∙ members;
+      a_mark_a_square = sound.a_mark_a_square;
       whole = sound.whole;
       low = sound.low;
     })

@@ -1,6 +1,6 @@
--- Marks of boxes and of goals.
+-- Marks of boxes and of goals, and prices that are limited.
 use Rattle.std.proofs.Common.{ℕ, ◌≡◌, ◌≢◌, ◌<◌, ◌≤◌, ◌+◌, ◌∙◌, ◌⊎◌, inl, inr, refl, sym, ap, List, [], ◌∷◌, Option, Some, None, Bool, true, false, true≢false}
-use Rattle.std.proofs.Common.{arith, length, get_or, set, cond, map, sum_by, suc}
+use Rattle.std.proofs.Common.{All, arith, length, get_or, set, cond, map, sum_by, suc}
 use Rattle.std.proofs.lemmas.Bool.{cases_lt, cases_eq}
 use Rattle.std.proofs.lemmas.Option.{none-some}
 use Rattle.std.proofs.lemmas.List.{get_or_past, length-set, get_or-set_same, get_or-set_other}
@@ -80,3 +80,10 @@ count_of-map p (x ∷ xs) =
     let left = sum_by-cons (λ (t : Bool). cond t 1 0) (p x) (map p xs) in
     let right = sum_by-cons (λ x. cond (p x) 1 0) x xs in
     omega (arith, rest, left, right)
+
+-- a price that is limited, in the list or past its end
+pub price-at : (limit : ℕ) (prices : List ℕ) (k : ℕ) → All (λ price. price ≤ limit) prices → get_or prices k 0 ≤ limit
+price-at limit prices k low = elim (cases_lt k (length prices)) [
+  | inl within ↦ low k 0 within
+  | inr past ↦ let none = get_or_past prices k 0 past in omega (arith, none)
+]

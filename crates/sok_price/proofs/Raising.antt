@@ -1,276 +1,184 @@
--- Prices of a tree that are raised until a goal is reached stay fair, exact and 0 at goals that no box has.
-use Rattle.std.proofs.Common.{
-  ℕ,
-  ◌≡◌,
-  ◌<◌,
-  ◌≤◌,
-  ◌+◌,
-  ◌*◌,
-  ◌-◌,
-  ◌∙◌,
-  inl,
-  inr,
-  refl,
-  sym,
-  ap,
-  subst,
-  Option,
-  Some,
-  None,
-  Bool,
-  true,
-  false,
-  arith,
-  length,
-  get_or,
-  if◌then◌else◌,
-}
-use Rattle.std.proofs.lemmas.Bool.{cases_Bool}
-use Rattle.std.proofs.lemmas.Option.{none-some, same_Some}
+-- Prices of a tree, raised until its next goal is reached, stay fair and exact.
+use Rattle.std.proofs.Common.{ℕ, ◌≡◌, ◌≢◌, ◌<◌, ◌≤◌, ◌+◌, ◌*◌, ◌-◌, ◌∙◌, inl, inr, sym, ap, subst, List, true, false, true≢false, arith}
+use Rattle.std.proofs.Common.{length, get_or}
+use Rattle.std.proofs.lemmas.Bool.{cases_Bool, cases_eq, cases_lt}
 use Rattle.std.proofs.lemmas.List.{get_or_default}
-use Rattle.std.proofs.lemmas.List.Elements.{All-from_get_or}
-use Rattle.sok_price.specs.declared.slacks.Slack.{Slack}
 use Rattle.sok_price.specs.declared.slacks.Near.{Near}
-use Rattle.sok_price.specs.Matchings.{Costing, IsTight, IsMatched, AreFair, AreTight, low}
-use Rattle.sok_price.specs.Searches.{Growth, IsGrowing, IsRaised}
-use Rattle.sok_price.specs.Slacks.{IsNearest, lowered}
-use Rattle.sok_price.specs.Trees.{is_marked, slack_at, branch_at, IsSlack, BoundsSlack, AreNear, GoesTight}
-use Rattle.sok_price.proofs.Marks.{marked-within, some-within, count_of-le}
+use Rattle.sok_price.specs.Matchings.{AreFair, AreTight, Costing, IsMatched, IsTight, low}
+use Rattle.sok_price.specs.Searches.{Growth, IsNext, IsRaised, IsSeen}
+use Rattle.sok_price.specs.Trees.{branch_at, is_marked, GoesTight}
+use Rattle.sok_price.proofs.Joining.{AreShort, rises-next}
+use Rattle.sok_price.proofs.Marks.{count_of-le, price-at}
 
--- the costs are those of distances on a board
-abbrev pub AreShort : Costing → Type 0
-AreShort cost = (member goal pushes : ℕ) → cost member goal ≡ Some pushes → pushes ≤ 1024
-
--- how much a price rises
-abbrev rise : Bool → ℕ → ℕ
-rise marked by = if marked then by else 0
-
-raised_yes : (before after by : ℕ) (marked : Bool) → after ≡ before + rise marked by → marked ≡ true → after ≡ before + by
-raised_yes before after by marked raised is = raised ∙ ap (λ b. before + rise b by) is
-
-raised_no : (before after by : ℕ) (marked : Bool) → after ≡ before + rise marked by → marked ≡ false → after ≡ before
-raised_no before after by marked raised is = let e : after ≡ before + 0 = raised ∙ ap (λ b. before + rise b by) is in omega (arith, e)
-
-lowered-some : (by : ℕ) (o : Option Slack) (s : Slack) → lowered by o ≡ Some s
-    → (old : Slack) × (o ≡ Some old) × (s.amount ≡ old.amount - by) × (s.from ≡ old.from)
-unfolding lowered
-lowered-some by None s e = absurd (none-some s e)
-lowered-some by (Some old) s e = let same = same_Some (record old { amount = old.amount - by }) s e in
-    (old, refl, sym (ap (λ (t : Slack). t.amount) same), sym (ap (λ (t : Slack). t.from) same))
-
-lowered-is : (by : ℕ) (o : Option Slack) (s : Slack) → o ≡ Some s → lowered by o ≡ Some (record s { amount = s.amount - by })
-unfolding lowered
-lowered-is by o s e = ap (lowered by) e
-
--- what a raise begins with: the tree, a nearest goal, and the lists after it
-pub record AreRaised (cost : Costing) (members goals : ℕ) (g : Growth) (near : Near) (after : Growth) : Type 0 where
+-- a search before and after the prices of its tree are raised to its next goal
+pub record AreLifted (cost : Costing) (members goals : ℕ) (g : Growth) (near : Near) (after : Growth) : Type 0 where
   pub short : AreShort cost
-  pub growing : IsGrowing cost members goals members g
-  pub nearest : IsNearest g.taken g.slacks goals near
-  pub raised : IsRaised near.slack.amount g after
+  pub growing : IsSeen cost members goals g
+  pub next : IsNext cost g near
+  pub raised : IsRaised near.slack.rise g after
 
--- the slack of the nearest goal
-slack-near : (cost : Costing) (members goals : ℕ) (g : Growth) (near : Near) (after : Growth) → AreRaised cost members goals g near after
-    → IsSlack cost g.u g.v g.branches near.goal near.slack
-slack-near cost members goals g near after are = are.growing.slack near.goal near.slack are.nearest.free are.nearest.slack
-
-u-met : (cost : Costing) (members goals : ℕ) (g : Growth) (near : Near) (after : Growth) → AreRaised cost members goals g near after → (member : ℕ)
-    → is_marked g.met member ≡ true → get_or after.u member 0 ≡ get_or g.u member 0 + near.slack.amount
-u-met cost members goals g near after are member met = raised_yes (get_or g.u member 0) (get_or after.u member 0) near.slack.amount (is_marked g.met member)
-    (are.raised.u_raised member) met
-
-u-unmet : (cost : Costing) (members goals : ℕ) (g : Growth) (near : Near) (after : Growth) → AreRaised cost members goals g near after → (member : ℕ)
-    → is_marked g.met member ≡ false → get_or after.u member 0 ≡ get_or g.u member 0
-u-unmet cost members goals g near after are member unmet = raised_no (get_or g.u member 0) (get_or after.u member 0) near.slack.amount (is_marked g.met member)
-    (are.raised.u_raised member) unmet
-
-v-taken : (cost : Costing) (members goals : ℕ) (g : Growth) (near : Near) (after : Growth) → AreRaised cost members goals g near after → (goal : ℕ)
-    → is_marked g.taken goal ≡ true → get_or after.v goal 0 ≡ get_or g.v goal 0 + near.slack.amount
-v-taken cost members goals g near after are goal taken = raised_yes (get_or g.v goal 0) (get_or after.v goal 0) near.slack.amount (is_marked g.taken goal)
-    (are.raised.v_raised goal) taken
-
-v-free : (cost : Costing) (members goals : ℕ) (g : Growth) (near : Near) (after : Growth) → AreRaised cost members goals g near after → (goal : ℕ)
-    → is_marked g.taken goal ≡ false → get_or after.v goal 0 ≡ get_or g.v goal 0
-v-free cost members goals g near after are goal free = raised_no (get_or g.v goal 0) (get_or after.v goal 0) near.slack.amount (is_marked g.taken goal)
-    (are.raised.v_raised goal) free
-
-fair-raised : (cost : Costing) (members goals : ℕ) (g : Growth) (near : Near) (after : Growth) → AreRaised cost members goals g near after
-    → AreFair cost after.u after.v
-fair-raised cost members goals g near after are member goal pushes member_within goal_within way =
-    let u_whole = are.raised.u_whole in
-    let v_whole = are.raised.v_whole in
-    let v_long = are.growing.matched.a_price_a_goal in
-    let fair = are.growing.matched.fair member goal pushes (omega (arith, member_within, u_whole)) (omega (arith, goal_within, v_whole)) way in
-    elim (cases_Bool (is_marked g.met member)) [
-      | inr unmet ↦ let price = u-unmet cost members goals g near after are member unmet in let rises = are.raised.v_raised goal in
-          omega (arith, fair, price, rises)
-      | inl met ↦
-          let price = u-met cost members goals g near after are member met in
-          elim (cases_Bool (is_marked g.taken goal)) [
-            | inl taken ↦ let goal_price = v-taken cost members goals g near after are goal taken in omega (arith, fair, price, goal_price)
-            | inr free ↦
-                let goal_price = v-free cost members goals g near after are goal free in
-                let inside : goal < goals = omega (arith, goal_within, v_whole, v_long) in
-                let within = marked-within g.met member met in
-                let met_long = are.growing.roomy.met in
-                let bounds = are.growing.bounds member goal pushes (λ e. omega (arith, e, within, met_long)) met inside free way in
-                let least = are.nearest.least goal bounds.slack inside free bounds.there in
-                let bound = bounds.bound in
-                omega (arith, price, goal_price, least, bound)
-          ]
-    ]
-
--- an exact price stays exact where box and goal are both of the tree or both are not
-tight-both : (cost : Costing) (members goals : ℕ) (g : Growth) (near : Near) (after : Growth) → AreRaised cost members goals g near after → (member goal : ℕ)
-    → is_marked g.met member ≡ is_marked g.taken goal
-    → IsTight cost g.u g.v member goal → IsTight cost after.u after.v member goal
-tight-both cost members goals g near after are member goal both tight = record {
-  pushes = tight.pushes;
-  way = tight.way;
-  exact =
-      let price = are.raised.u_raised member in
-      let goal_price = are.raised.v_raised goal in
-      let rises = ap (λ b. rise b near.slack.amount) both in
-      let exact = tight.exact in
-      omega (arith, price, goal_price, rises, exact);
-}
-
--- the goal of a branch is marked
-branch-taken : (cost : Costing) (members goals : ℕ) (g : Growth) → IsGrowing cost members goals members g → (at : ℕ) → 0 < at → at < length g.branches
+-- the goal of a branch is taken, and one that is taken is that of a branch
+branch-taken : (cost : Costing) (members goals : ℕ) (g : Growth) → IsSeen cost members goals g → (at : ℕ) → 0 < at → at < length g.branches
     → is_marked g.taken (branch_at g.branches at).goal ≡ true
 branch-taken cost members goals g growing at later within =
     ap (is_marked g.taken) (sym (growing.tree.has at later within))
-    ∙ sym (growing.marked.partner (branch_at g.branches at).member (growing.tree.earlier at later within)) ∙ growing.met at within
+    ∙ sym (growing.marked.partner (branch_at g.branches at).member (growing.tree.earlier at later within)) ∙ growing.met.marked at within
 
-goes-raised : (cost : Costing) (members goals : ℕ) (g : Growth) (near : Near) (after : Growth) → AreRaised cost members goals g near after
-    → GoesTight cost after.u after.v g.branches
-goes-raised cost members goals g near after are at later within =
-    let parent = (branch_at g.branches at).parent in
-    let before = are.growing.tree.before at later within in
-    let met = are.growing.met parent (omega (arith, before, within)) in
-    let taken = branch-taken cost members goals g are.growing at later within in
-    tight-both cost members goals g near after are (branch_at g.branches parent).member (branch_at g.branches at).goal (met ∙ sym taken)
-    (are.growing.tight at later within)
+-- a box that is met is that of a branch, and of a later one if it has a goal
+met-branch : (cost : Costing) (members goals : ℕ) (g : Growth) → IsSeen cost members goals g → (member : ℕ) → member < length g.goal_of
+    → is_marked g.met member ≡ true → (at : ℕ) × (0 < at) × (at < length g.branches) × ((branch_at g.branches at).member ≡ member)
+met-branch cost members goals g growing member has met =
+    let (at, within, is) = growing.met.of member met in
+    elim (cases_eq at 0) [
+      | inl root ↦
+          let root_is = ap (λ k. (branch_at g.branches k).member) root in
+          let tree_root = growing.tree.root in
+          absurd (omega (arith, root_is, tree_root, is, has))
+      | inr later ↦ (at, omega (arith, later), within, is)
+    ]
 
-slack-raised : (cost : Costing) (members goals : ℕ) (g : Growth) (near : Near) (after : Growth) → AreRaised cost members goals g near after
-    → (goal : ℕ) (slack : Slack) → is_marked g.taken goal ≡ false → slack_at after.slacks goal ≡ Some slack → goal < goals
-    → IsSlack cost after.u after.v g.branches goal slack
-slack-raised cost members goals g near after are goal slack free there inside =
-    let (old, old_there, amount, from) = lowered-some near.slack.amount (slack_at g.slacks goal) slack (sym (are.raised.slack goal) ∙ there) in
-    let is = are.growing.slack goal old free old_there in
-    let least = are.nearest.least goal old inside free old_there in
-    let price = u-met cost members goals g near after are (branch_at g.branches old.from).member (are.growing.met old.from is.within) in
-    let goal_price = v-free cost members goals g near after are goal free in
-    let exact = is.exact in
-    let within = is.within in
-    record {
-      within = omega (arith, within, from);
-      pushes = is.pushes;
-      way = ap (λ at. cost (branch_at g.branches at).member goal) from ∙ is.way;
-      exact = let same = ap (λ at. get_or after.u (branch_at g.branches at).member 0) from in omega (arith, same, price, goal_price, exact, amount, least);
-    }
+taken-branch : (cost : Costing) (members goals : ℕ) (g : Growth) → IsSeen cost members goals g → (goal : ℕ) → is_marked g.taken goal ≡ true
+    → (at : ℕ) × (0 < at) × (at < length g.branches) × ((branch_at g.branches at).goal ≡ goal)
+taken-branch cost members goals g growing goal taken =
+    let (member, within, has) = growing.marked.held goal taken in
+    let has' = get_or_default g.goal_of member 0 goal within ∙ has in
+    let (at, later, inside, is) = met-branch cost members goals g growing member within
+    (growing.marked.partner member within ∙ ap (is_marked g.taken) has' ∙ taken) in
+    (at, later, inside, sym (growing.tree.has at later inside) ∙ ap (λ k. get_or g.goal_of k 0) is ∙ has')
 
-bounds-raised : (cost : Costing) (members goals : ℕ) (g : Growth) (near : Near) (after : Growth) → AreRaised cost members goals g near after
-    → (member goal pushes : ℕ) → (member ≡ members → ⊥) → is_marked g.met member ≡ true → goal < goals → is_marked g.taken goal ≡ false
-    → cost member goal ≡ Some pushes → BoundsSlack after.u after.v after.slacks member goal pushes
-bounds-raised cost members goals g near after are member goal pushes apart met inside free way =
-    let old = are.growing.bounds member goal pushes apart met inside free way in
-    let least = are.nearest.least goal old.slack inside free old.there in
-    let price = u-met cost members goals g near after are member met in
-    let goal_price = v-free cost members goals g near after are goal free in
-    let bound = old.bound in
-    record {
-      slack = record old.slack { amount = old.slack.amount - near.slack.amount };
-      there = are.raised.slack goal ∙ lowered-is near.slack.amount (slack_at g.slacks goal) old.slack old.there;
-      bound = omega (arith, price, goal_price, least, bound);
-    }
+-- goals of different branches differ, since those of different boxes do
+pub goals-apart : (cost : Costing) (members goals : ℕ) (g : Growth) → IsSeen cost members goals g → (at to : ℕ) → 0 < at → at < to → to < length g.branches
+    → (branch_at g.branches at).goal ≢ (branch_at g.branches to).goal
+goals-apart cost members goals g growing at to later before within same =
+    let tree = growing.tree in
+    let first = tree.earlier at later (omega (arith, before, within)) in
+    let second = tree.earlier to (omega (arith, later, before)) within in
+    let equal = tree.has at later (omega (arith, before, within)) ∙ same ∙ sym (tree.has to (omega (arith, later, before)) within) in
+    elim (cases_lt (branch_at g.branches at).member (branch_at g.branches to).member) [
+      | inl less ↦ growing.matched.apart (branch_at g.branches at).member (branch_at g.branches to).member 0 less second equal
+      | inr more ↦
+          let other = tree.apart at to before within in
+          growing.matched.apart (branch_at g.branches to).member (branch_at g.branches at).member 0 (omega (arith, more, other)) first (sym equal)
+    ]
 
-near-raised : (cost : Costing) (members goals : ℕ) (g : Growth) (near : Near) (after : Growth) → AreRaised cost members goals g near after
-    → AreNear (low members g.floor) after.u after.v g.goal_of g.met g.taken
-near-raised cost members goals g near after are = record {
-  above = λ member met.
-      let price = u-met cost members goals g near after are member met in
-      let root = u-met cost members goals g near after are (length g.goal_of) are.growing.marked.root in
-      let old = are.growing.near.above member met in
-      omega (arith, price, root, old);
-  below = λ member met.
-      let price = u-met cost members goals g near after are member met in
-      let root = u-met cost members goals g near after are (length g.goal_of) are.growing.marked.root in
-      let old = are.growing.near.below member met in
-      omega (arith, price, root, old);
-  boxes = λ member unmet. let price = u-unmet cost members goals g near after are member unmet in let old = are.growing.near.boxes member unmet in
-      omega (arith, price, old);
-  goals = λ goal free. let price = v-free cost members goals g near after are goal free in let old = are.growing.near.goals goal free in
-      omega (arith, price, old);
-}
+u-unmet : (cost : Costing) (members goals : ℕ) (g : Growth) (near : Near) (after : Growth) → AreLifted cost members goals g near after → (member : ℕ)
+    → is_marked g.met member ≡ false → get_or after.u member 0 ≡ get_or g.u member 0
+u-unmet cost members goals g near after are member unmet = are.raised.boxes.others member
+    (λ at _ within same. true≢false (sym (are.growing.met.marked at within) ∙ ap (is_marked g.met) same ∙ unmet))
 
--- the goal that is reached lies at an exact price from its box
-pub tight-near : (cost : Costing) (members goals : ℕ) (g : Growth) (near : Near) (after : Growth) → AreRaised cost members goals g near after
-    → IsTight cost after.u after.v (branch_at g.branches near.slack.from).member near.goal
-tight-near cost members goals g near after are =
-    let is = slack-near cost members goals g near after are in
-    let price = u-met cost members goals g near after are (branch_at g.branches near.slack.from).member (are.growing.met near.slack.from is.within) in
-    let goal_price = v-free cost members goals g near after are near.goal are.nearest.free in
-    let exact = is.exact in
-    record { pushes = is.pushes; way = is.way; exact = omega (arith, price, goal_price, exact) }
+v-free : (cost : Costing) (members goals : ℕ) (g : Growth) (near : Near) (after : Growth) → AreLifted cost members goals g near after → (goal : ℕ)
+    → is_marked g.taken goal ≡ false → get_or after.v goal 0 ≡ get_or g.v goal 0
+v-free cost members goals g near after are goal free = are.raised.goals.others goal
+    (λ at later within same. true≢false (sym (branch-taken cost members goals g are.growing at later within) ∙ ap (is_marked g.taken) same ∙ free))
 
--- how high the prices of a tree are above the price of a goal that is reached
-pub price-near : (cost : Costing) (members goals : ℕ) (g : Growth) (near : Near) (after : Growth) → AreRaised cost members goals g near after
-    → (member : ℕ) → is_marked g.met member ≡ true → get_or after.u member 0 ≤ get_or after.v near.goal 0 + 2048 * members
-price-near cost members goals g near after are member met =
-    let is = slack-near cost members goals g near after are in
-    let tight = tight-near cost members goals g near after are in
-    let exact = tight.exact in
-    let short = are.short (branch_at g.branches near.slack.from).member near.goal tight.pushes tight.way in
-    let nears = near-raised cost members goals g near after are in
-    let above = nears.above member met in
-    let below = nears.below (branch_at g.branches near.slack.from).member (are.growing.met near.slack.from is.within) in
-    let counted = are.growing.marked.count in
-    let bound = count_of-le g.met in
-    let met_long = are.growing.roomy.met in
-    omega (arith, exact, short, above, below, counted, bound, met_long)
-
-high-boxes : (cost : Costing) (members goals : ℕ) (g : Growth) (near : Near) (after : Growth) → AreRaised cost members goals g near after → (member : ℕ)
-    → get_or after.u member 0 ≤ 1073741824
-high-boxes cost members goals g near after are member = elim (cases_Bool (is_marked g.met member)) [
-  | inr unmet ↦ let price = u-unmet cost members goals g near after are member unmet in let old = are.growing.near.boxes member unmet in
-      let few = are.growing.few in let bounded = are.growing.bounded in omega (arith, price, old, few, bounded)
-  | inl met ↦
-      let few = are.growing.few in
-      let bounded = are.growing.bounded in
-      let price = price-near cost members goals g near after are member met in
-      let goal_price = v-free cost members goals g near after are near.goal are.nearest.free in
-      let below = are.growing.near.goals near.goal are.nearest.free in
-      omega (arith, price, goal_price, below, few, bounded)
-]
-
-exact-raised : (cost : Costing) (members goals : ℕ) (g : Growth) (near : Near) (after : Growth) → AreRaised cost members goals g near after
-    → AreTight cost after.u after.v g.goal_of
-exact-raised cost members goals g near after are member within =
-    tight-both cost members goals g near after are member (get_or g.goal_of member 0) (are.growing.marked.partner member within)
-    (are.growing.matched.exact member within)
-
--- a price of a goal of the tree is at most that of its box
-high-goals : (cost : Costing) (members goals : ℕ) (g : Growth) (near : Near) (after : Growth) → AreRaised cost members goals g near after → (goal : ℕ)
-    → get_or after.v goal 0 ≤ 1073741824
-high-goals cost members goals g near after are goal = elim (cases_Bool (is_marked g.taken goal)) [
-  | inr free ↦ let price = v-free cost members goals g near after are goal free in let old = are.growing.near.goals goal free in let few = are.growing.few in
-      let bounded = are.growing.bounded in omega (arith, price, old, few, bounded)
+-- no price falls
+v-rises : (cost : Costing) (members goals : ℕ) (g : Growth) (near : Near) (after : Growth) → AreLifted cost members goals g near after → (goal : ℕ)
+    → get_or g.v goal 0 ≤ get_or after.v goal 0
+v-rises cost members goals g near after are goal = elim (cases_Bool (is_marked g.taken goal)) [
+  | inr free ↦ let price = v-free cost members goals g near after are goal free in omega (arith, price)
   | inl taken ↦
-      let (member, within, has) = are.growing.marked.held goal taken in
-      let same = get_or_default g.goal_of member 0 goal within in
-      let tight = exact-raised cost members goals g near after are member within in
-      let exact = tight.exact in
-      let goal_is = ap (λ k. get_or after.v k 0) (same ∙ has) in
-      let high = high-boxes cost members goals g near after are member in
-      omega (arith, exact, goal_is, high)
+      let (at, later, within, is) = taken-branch cost members goals g are.growing goal taken in
+      let price = are.raised.goals.raised at later within in
+      let old = ap (λ k. get_or g.v k 0) is in
+      let new = ap (λ k. get_or after.v k 0) is in
+      omega (arith, price, old, new)
 ]
 
-matched-raised : (cost : Costing) (members goals : ℕ) (g : Growth) (near : Near) (after : Growth) → AreRaised cost members goals g near after
+fair-raised : (cost : Costing) (members goals : ℕ) (g : Growth) (near : Near) (after : Growth) → AreLifted cost members goals g near after
+    → AreFair cost after.u after.v
+fair-raised cost members goals g near after are member goal pushes member_within goal_within way =
+    let growing = are.growing in
+    let u_whole = are.raised.boxes.whole in
+    let v_whole = are.raised.goals.whole in
+    let fair = growing.matched.fair member goal pushes (omega (arith, member_within, u_whole)) (omega (arith, goal_within, v_whole)) way in
+    elim (cases_Bool (is_marked g.met member)) [
+      | inr unmet ↦ let price = u-unmet cost members goals g near after are member unmet in let rises = v-rises cost members goals g near after are goal in
+          omega (arith, fair, price, rises)
+      | inl met ↦
+          let (at, within, is) = growing.met.of member met in
+          let price = are.raised.boxes.raised at (omega arith) within in
+          let old = ap (λ k. get_or g.u k 0) is in
+          let new = ap (λ k. get_or after.u k 0) is in
+          let way' = ap (λ k. cost k goal) is ∙ way in
+          let rise = rises-next cost members goals g near at growing are.next within in
+          elim (cases_Bool (is_marked g.taken goal)) [
+            | inl taken ↦
+                let (to, later, to_within, to_is) = taken-branch cost members goals g growing goal taken in
+                let goal_price = are.raised.goals.raised to later to_within in
+                let goal_old = ap (λ k. get_or g.v k 0) to_is in
+                let goal_new = ap (λ k. get_or after.v k 0) to_is in
+                let bound = growing.rises.bound at to within later to_within pushes (ap (cost (branch_at g.branches at).member) to_is ∙ way') in
+                let to_rise = rises-next cost members goals g near to growing are.next to_within in
+                omega (arith, price, old, new, goal_price, goal_old, goal_new, bound, rise, to_rise)
+            | inr free ↦
+                let goal_price = v-free cost members goals g near after are goal free in
+                let inside : goal < length g.v = omega (arith, goal_within, v_whole) in
+                let v_long = growing.matched.a_price_a_goal in
+                let bound = growing.bounds at goal within within (omega (arith, inside, v_long)) free pushes way' in
+                let least = are.next.least goal inside free in
+                omega (arith, price, old, new, goal_price, bound, least, rise)
+          ]
+    ]
+
+exact-raised : (cost : Costing) (members goals : ℕ) (g : Growth) (near : Near) (after : Growth) → AreLifted cost members goals g near after
+    → AreTight cost after.u after.v g.goal_of
+exact-raised cost members goals g near after are member has =
+    let growing = are.growing in
+    let tight = growing.matched.exact member has in
+    let exact = tight.exact in
+    let goal = get_or g.goal_of member 0 in
+    let partner = growing.marked.partner member has in
+    record {
+      pushes = tight.pushes;
+      way = tight.way;
+      exact = elim (cases_Bool (is_marked g.met member)) [
+        | inr unmet ↦
+            let price = u-unmet cost members goals g near after are member unmet in
+            let goal_price = v-free cost members goals g near after are goal (sym partner ∙ unmet) in
+            omega (arith, price, goal_price, exact)
+        | inl met ↦
+            let (at, later, within, is) = met-branch cost members goals g growing member has met in
+            let price = are.raised.boxes.raised at (omega arith) within in
+            let goal_price = are.raised.goals.raised at later within in
+            let goal_is = sym (growing.tree.has at later within) ∙ ap (λ k. get_or g.goal_of k 0) is in
+            let old = ap (λ k. get_or g.u k 0) is in
+            let new = ap (λ k. get_or after.u k 0) is in
+            let goal_old = ap (λ k. get_or g.v k 0) goal_is in
+            let goal_new = ap (λ k. get_or after.v k 0) goal_is in
+            omega (arith, price, goal_price, old, new, goal_old, goal_new, exact)
+      ];
+    }
+
+-- each way of the tree becomes exact
+pub tight-raised : (cost : Costing) (members goals : ℕ) (g : Growth) (near : Near) (after : Growth) → AreLifted cost members goals g near after
+    → GoesTight cost after.u after.v g.branches
+tight-raised cost members goals g near after are at later within =
+    let growing = are.growing in
+    let way = growing.rises.way at later within in
+    let exact = way.exact in
+    let parent = (branch_at g.branches at).parent in
+    let price = are.raised.boxes.raised parent (omega arith) way.within in
+    let goal_price = are.raised.goals.raised at later within in
+    let rise = rises-next cost members goals g near at growing are.next within in
+    let parent_rise = rises-next cost members goals g near parent growing are.next way.within in
+    record { pushes = way.pushes; way = way.way; exact = omega (arith, price, goal_price, exact, rise, parent_rise) }
+
+-- and so does that to the next goal
+pub tight-next : (cost : Costing) (members goals : ℕ) (g : Growth) (near : Near) (after : Growth) → AreLifted cost members goals g near after
+    → IsTight cost after.u after.v (branch_at g.branches near.slack.from).member near.goal
+tight-next cost members goals g near after are =
+    let way = are.next.way in
+    let exact = way.exact in
+    let price = are.raised.boxes.raised near.slack.from (omega arith) way.within in
+    let goal_price = v-free cost members goals g near after are near.goal are.next.outside in
+    let rise = rises-next cost members goals g near near.slack.from are.growing are.next way.within in
+    record { pushes = way.pushes; way = way.way; exact = omega (arith, price, goal_price, exact, rise) }
+
+pub IsMatched-raised : (cost : Costing) (members goals : ℕ) (g : Growth) (near : Near) (after : Growth) → AreLifted cost members goals g near after
     → IsMatched cost members goals g.floor after.u after.v g.goal_of
-matched-raised cost members goals g near after are = record {
-  a_price_a_box = are.raised.u_whole ∙ are.growing.matched.a_price_a_box;
-  a_price_a_goal = are.raised.v_whole ∙ are.growing.matched.a_price_a_goal;
+IsMatched-raised cost members goals g near after are = record {
+  a_price_a_box = are.raised.boxes.whole ∙ are.growing.matched.a_price_a_box;
+  a_price_a_goal = are.raised.goals.whole ∙ are.growing.matched.a_price_a_goal;
   exist = are.growing.matched.exist;
   apart = are.growing.matched.apart;
   fair = fair-raised cost members goals g near after are;
@@ -282,58 +190,66 @@ matched-raised cost members goals g near after are = record {
   ];
 }
 
--- a raise keeps all that a search keeps
-pub IsGrowing-raised : (cost : Costing) (members goals : ℕ) (g : Growth) (near : Near) (after : Growth) → AreRaised cost members goals g near after
-    → IsGrowing cost members goals members after
-IsGrowing-raised cost members goals g near after are =
-    let growing = are.growing in
-    subst (IsGrowing cost members goals members) (sym are.raised.same) (record {
-      matched = matched-raised cost members goals g near after are;
-      roomy = record {
-        met = growing.roomy.met;
-        taken = growing.roomy.taken;
-        slacks = are.raised.slacks_whole ∙ growing.roomy.slacks;
-        takers = growing.roomy.takers;
-      };
-      few = growing.few;
-      bounded = growing.bounded;
-      more = growing.more;
-      tells = growing.tells;
-      marked = growing.marked;
-      tree = growing.tree;
-      counted = growing.counted;
-      met = growing.met;
-      tight = goes-raised cost members goals g near after are;
-      slack = λ goal slack free there.
-          let long = are.raised.slacks_whole in
-          let slacks_long = growing.roomy.slacks in
-          let within = some-within after.slacks goal slack there in
-          slack-raised cost members goals g near after are goal slack free there (omega (arith, within, long, slacks_long));
-      bounds = bounds-raised cost members goals g near after are;
-      near = near-raised cost members goals g near after are;
-      high = record {
-        boxes = All-from_get_or (λ price. price ≤ 1073741824) after.u 0 (λ member _. high-boxes cost members goals g near after are member);
-        goals = All-from_get_or (λ price. price ≤ 1073741824) after.v 0 (λ goal _. high-goals cost members goals g near after are goal);
-      };
-    })
+-- prices of the boxes of a tree are close to that of a goal that no box has
+low-box : (cost : Costing) (members goals : ℕ) (g : Growth) (near : Near) (after : Growth) → AreLifted cost members goals g near after
+    → get_or g.v near.goal 0 ≤ g.floor → (member : ℕ) → get_or g.u member 0 ≤ low members g.floor → get_or after.u member 0 ≤ low members g.floor
+low-box cost members goals g near after are idle member old_low = elim (cases_Bool (is_marked g.met member)) [
+  | inr unmet ↦ let price = u-unmet cost members goals g near after are member unmet in omega (arith, price, old_low)
+  | inl met ↦
+      let growing = are.growing in
+      let (at, within, is) = growing.met.of member met in
+      let price = are.raised.boxes.raised at (omega arith) within in
+      let old = ap (λ k. get_or g.u k 0) is in
+      let new = ap (λ k. get_or after.u k 0) is in
+      let way = are.next.way in
+      let exact = way.exact in
+      let from = way.within in
+      let short = are.short (branch_at g.branches near.slack.from).member near.goal way.pushes way.way in
+      let rise = rises-next cost members goals g near at growing are.next within in
+      let below = growing.rises.below at within in
+      let above = growing.rises.above near.slack.from from in
+      let counted = growing.counted in
+      let bound = count_of-le g.met in
+      let met_long = growing.roomy.met in
+      omega (arith, price, old, new, exact, short, rise, below, above, from, within, counted, bound, met_long, idle)
+]
 
-unmoved : (by n : ℕ) → by ≡ 0 → (mark : Bool) → n ≡ n + (if mark then by else 0)
-unmoved by n none true = omega (arith, none)
-unmoved by n none false = omega arith
+-- after a raise to a goal that no box has prices are low
+pub low-raised : (cost : Costing) (members goals : ℕ) (g : Growth) (near : Near) (after : Growth) → AreLifted cost members goals g near after
+    → get_or g.v near.goal 0 ≤ g.floor → ((member : ℕ) → get_or after.u member 0 ≤ low members g.floor)
+    × ((goal : ℕ) → get_or after.v goal 0 ≤ low members g.floor)
+low-raised cost members goals g near after are idle =
+    let boxes : (member : ℕ) → get_or after.u member 0 ≤ low members g.floor = λ member.
+    low-box cost members goals g near after are idle member (price-at (low members g.floor) g.u member are.growing.low.boxes) in (
+      boxes,
+      λ goal. elim (cases_Bool (is_marked g.taken goal)) [
+        | inr free ↦
+            let price = v-free cost members goals g near after are goal free in
+            let old = price-at (low members g.floor) g.v goal are.growing.low.goals in
+            omega (arith, price, old)
+        | inl taken ↦
+            let (member, within, has) = are.growing.marked.held goal taken in
+            let tight = exact-raised cost members goals g near after are member within in
+            let exact = tight.exact in
+            let goal_is = ap (λ k. get_or after.v k 0) (get_or_default g.goal_of member 0 goal within ∙ has) in
+            let below = boxes member in
+            omega (arith, exact, goal_is, below)
+      ],
+    )
 
-unlowered : (by : ℕ) → by ≡ 0 → (slack : Option Slack) → slack ≡ lowered by slack
-unfolding lowered
-unlowered by none None = refl
-unlowered by none (Some slack) = let same : slack.amount ≡ slack.amount - by = omega (arith, none) in ap (λ n. Some (record slack { amount = n })) same
-
--- prices that are raised by nothing stay
-pub IsRaised-none : (by : ℕ) (g : Growth) → by ≡ 0 → IsRaised by g g
-IsRaised-none by g none = record {
-  same = refl;
-  u_whole = refl;
-  v_whole = refl;
-  slacks_whole = refl;
-  u_raised = λ member. unmoved by (get_or g.u member 0) none (is_marked g.met member);
-  v_raised = λ goal. unmoved by (get_or g.v goal 0) none (is_marked g.taken goal);
-  slack = λ goal. unlowered by none (slack_at g.slacks goal);
-}
+-- the rise to a next goal is small
+pub rise-small : (cost : Costing) (members goals : ℕ) (g : Growth) (near : Near) → AreShort cost → IsSeen cost members goals g → IsNext cost g near
+    → near.slack.rise ≤ 2147483648
+rise-small cost members goals g near short growing next =
+    let way = next.way in
+    let exact = way.exact in
+    let from = way.within in
+    let pushes = short (branch_at g.branches near.slack.from).member near.goal way.pushes way.way in
+    let above = growing.rises.above near.slack.from from in
+    let counted = growing.counted in
+    let bound = count_of-le g.met in
+    let met_long = growing.roomy.met in
+    let few = growing.few in
+    let bounded = growing.bounded in
+    let price = price-at (low members g.floor) g.v near.goal growing.low.goals in
+    omega (arith, exact, from, pushes, above, counted, bound, met_long, few, bounded, price)

@@ -17,7 +17,7 @@ use Rattle.sok_price.specs.Costs.{cost_in, cost_of, AreCosts, TellsCost}
 use Rattle.sok_price.specs.Kept.{AreKept, AreRows, IsCrowded, IsProved}
 use Rattle.sok_price.specs.Marked.{ListsMarked}
 use Rattle.sok_price.specs.Matchings.{Costing, low}
-use Rattle.sok_price.specs.Searches.{Growth, IsClosed, IsGrowing, IsReady}
+use Rattle.sok_price.specs.Searches.{Growth, IsReady, IsSeen, ReachesNoOther}
 use Rattle.sok_price.specs.Trees.{count_of, is_marked}
 use Rattle.sok_price.proofs.Answering.{AreIdle, Contains-picked, HasSums, HasSums-ready, chain-some, fair-told, length-picked, picked, taken-closed}
 use Rattle.sok_price.proofs.CrowdLaws.{among_contains, among_range, fewer_without, kept_without, pigeonhole, without}
@@ -178,21 +178,21 @@ listed-from marks (suc end) within =
     ]
 
 -- all goals are marked where a spare row is
-spare-unmet : (b : Numbered) (costs : Costs) (g : Growth) → AreKept b costs → IsGrowing (cost_of costs) costs.members costs.goals costs.members g → IsClosed g
+spare-unmet : (b : Numbered) (costs : Costs) (g : Growth) → AreKept b costs → IsSeen (cost_of costs) costs.members costs.goals g → ReachesNoOther g
     → (k : ℕ) → k < costs.members → get_or costs.rows.items k 0 ≡ length b.area → is_marked g.met k ≡ true → ⊥
 spare-unmet b costs g kept growing closed k within spare met =
     let met_long = growing.roomy.met in
     let taken_long = growing.roomy.taken in
     let square = kept.square in
-    let all = count_of-all g.taken (λ goal inside. taken-closed (cost_of costs) costs.members costs.goals g growing closed k goal 0 met within
-    (omega (arith, inside, taken_long)) (spare-row b costs kept k goal spare (omega (arith, inside, taken_long)))) in
+    let all = count_of-all g.taken (λ goal inside. taken-closed (cost_of costs) costs.members costs.goals g growing closed k goal 0 met
+    (omega (arith, inside, taken_long)) (spare-row b costs kept k goal spare (omega (arith, inside, taken_long))) (omega arith)) in
     let count = growing.marked.count in
     let bound = count_of-le g.met in
     omega (arith, all, count, bound, met_long, taken_long, square)
 
 -- the boxes of a tree that reaches no other goal are a crowd of all boxes whose list has those of the rows
 pub IsCrowded-closed : (b : Numbered) (costs : Costs) (g : Growth) → AreKept b costs → AreCosts costs
-    → IsGrowing (cost_of costs) costs.members costs.goals costs.members g → IsClosed g → IsCrowded b costs.rows.items
+    → IsSeen (cost_of costs) costs.members costs.goals g → ReachesNoOther g → IsCrowded b costs.rows.items
 IsCrowded-closed b costs g kept shaped growing closed boxes exist are_of =
     let rows = costs.rows.items in
     let rows_long = shaped.a_row_a_box in
@@ -251,7 +251,7 @@ IsCrowded-closed b costs g kept shaped growing closed boxes exist are_of =
                   let (pushes, way) = chain-some b (goal_at b j) (get_or rows k 0) n (cost_of costs k j) told.exact
                   (subst (λ t. Chain b t (goal_at b j) n) (sym is) (subst (λ t. Chain b x t n) goal_is chain)) in
                   let taken = taken-closed (cost_of costs) costs.members costs.goals g growing closed k j pushes met
-                  (omega (arith, within, rows_long)) j_in way in
+                  j_in way (shaped.short k j pushes way) in
                   subst (Contains (picked g.taken (goals_of b))) (sym goal_is) (Contains-picked g.taken (goals_of b) j 0 taken j_within)
             ];
         fewer =

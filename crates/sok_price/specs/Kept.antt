@@ -1,5 +1,6 @@
 -- A matching with a row for each goal of a board: rows of boxes, and spare rows that cost nothing.
-use Rattle.std.specs.Prelude.{ℕ, ◌≡◌, ◌≢◌, ◌≤◌, ◌<◌, ◌+◌, ◌*◌, List, Option, Some, None, All, Contains, length, slice_index, sum}
+use Rattle.std.specs.Prelude.{ℕ, ◌≡◌, ◌≢◌, ◌≤◌, ◌<◌, ◌+◌, ◌*◌, List, Option, Some, None, Bool, true, false}
+use Rattle.std.specs.Prelude.{All, Contains, length, slice_index, slice_index_or, sum}
 use Rattle.sok_board.specs.Area.{Numbered, goals_of}
 use Rattle.sok_price.specs.declared.costs.Costs.{Costs}
 use Rattle.sok_price.specs.declared.search.Search.{Search}
@@ -35,6 +36,11 @@ pub record AreListed (end members : ℕ) (boxes rows : List ℕ) : Type 0 where
   pub whole : length rows ≡ members
   pub front : (k : ℕ) → k < length boxes → slice_index rows k ≡ slice_index boxes k
   pub back : (k : ℕ) → length boxes ≤ k → k < members → slice_index rows k ≡ end
+
+-- marks of the first squares of a list, where they are marked at all, and of no others
+pub record AreMarksOf (marks : List Bool) (list : List ℕ) (end : ℕ) : Type 0 where
+  pub each : (k : ℕ) → k < end → slice_index list k < length marks → slice_index_or marks (slice_index list k) false ≡ true
+  pub only : (square : ℕ) → slice_index_or marks square false ≡ true → (k : ℕ) × (k < end) × (slice_index list k ≡ square)
 
 -- a row is to be exchanged for another that is not there
 pub record IsChange (end : ℕ) (rows : List ℕ) (row entry : ℕ) : Type 0 where

@@ -9,14 +9,14 @@ use Rattle.sok_price.specs.Kept.{AreExactly, AreKept, IsBounded, IsCost, IsShape
 use Rattle.sok_price.specs.Searches.{KeepsRoom, growth_of}
 
 -- what is seen of a matching: its costs, its prices and goals, and whether they are those of boxes
-pub record Kept : Type 0 where
+pub record KeptMatching : Type 0 where
   pub squares : ℕ
   pub costs : Costs
   pub search : Search
   pub matched : Bool
 
 -- what always holds of a matching: where all rows have goals, no price is near its limit
-pub record IsSound (squares : ℕ) (costs : Costs) (search : Search) (matched : Bool) (trial : Search) (rows : List ℕ) : Type 0 where
+pub record IsSound (squares : ℕ) (costs : Costs) (search : Search) (matched : Bool) (trial : Search) (rows : List ℕ) (marks : List Bool) : Type 0 where
   pub shaped : AreCosts costs
   pub square : costs.members ≡ costs.goals
   pub small : squares ≤ 1024
@@ -24,16 +24,17 @@ pub record IsSound (squares : ℕ) (costs : Costs) (search : Search) (matched : 
   pub search_shaped : IsShaped costs.members costs.goals search
   pub trial_shaped : IsShaped costs.members costs.goals trial
   pub as_many : length rows ≡ costs.members
+  pub a_mark_a_square : length marks ≡ squares
   pub whole : matched ≡ true → IsWhole costs search
   pub low : matched ≡ true → search.floor ≤ 268435456
 
 -- a matching is for the boxes of a board
-pub record Serves (b : Numbered) (kept : Kept) : Type 0 where
+pub record Serves (b : Numbered) (kept : KeptMatching) : Type 0 where
   pub squares : kept.squares ≡ length b.area
   pub costs : AreKept b kept.costs
 
 -- a matching of some boxes of a board
-pub record Holds (b : Numbered) (boxes : List ℕ) (kept : Kept) : Type 0 where
+pub record Holds (b : Numbered) (boxes : List ℕ) (kept : KeptMatching) : Type 0 where
   pub serves : Serves b kept
   pub matched : kept.matched ≡ true
   pub exactly : AreExactly (length b.area) kept.costs.rows.items boxes
@@ -44,7 +45,7 @@ TellsLeast b boxes None = IsBounded b boxes None
 TellsLeast b boxes (Some total) = IsBounded b boxes (Some total) × IsCost b boxes total
 
 -- a box of a matching may be moved to a square where no box is
-pub record CanMove (kept : Kept) (from to : ℕ) : Type 0 where
+pub record CanMove (kept : KeptMatching) (from to : ℕ) : Type 0 where
   pub b : Numbered
   pub boxes : List ℕ
   pub holds : Holds b boxes kept

@@ -32,8 +32,8 @@ use Rattle.sok_price.specs.declared.search.Search.{Search}
 use Rattle.sok_price.specs.declared.slacks.Slack.{Slack}
 use Rattle.sok_price.specs.declared.slacks.Near.{Near}
 use Rattle.sok_price.specs.Matchings.{Costing, IsTight, AreTight, IsMatched, low, AreWithin, TellTakers}
-use Rattle.sok_price.specs.Slacks.{lowered}
-use Rattle.sok_price.specs.Trees.{branch_at, count_of, is_marked, slack_at, IsTree, GoesTight, IsMet, AreMarked, IsSlack, BoundsSlack, AreNear}
+use Rattle.sok_price.specs.Slacks.{slack_at, unreached}
+use Rattle.sok_price.specs.Trees.{branch_at, count_of, is_marked, AreMarked, AreRaised, AreRises, IsBound, IsMet, IsSlack, IsTree}
 
 -- prices of boxes and goals, the goals of the first boxes, and a search for a goal for the next box
 pub record Growth : Type 0 where
@@ -43,7 +43,7 @@ pub record Growth : Type 0 where
   pub branches : List Branch
   pub met : List Bool
   pub taken : List Bool
-  pub slacks : List (Option Slack)
+  pub slacks : List Slack
   pub takers : List (Option ℕ)
   pub floor : ℕ
 
@@ -76,53 +76,54 @@ pub record IsRoomy (members goals : ℕ) (g : Growth) : Type 0 where
   pub slacks : length g.slacks ≡ goals
   pub takers : length g.takers ≡ goals
 
--- a search for a goal for the next box, of whose tree each box but one is looked at
-pub record IsGrowing (cost : Costing) (members goals unseen : ℕ) (g : Growth) : Type 0 where
+-- a search for a goal for the next box, of whose tree the first boxes are looked at
+pub record IsGrowing (cost : Costing) (members goals seen : ℕ) (g : Growth) : Type 0 where
   pub matched : IsMatched cost members goals g.floor g.u g.v g.goal_of
   pub roomy : IsRoomy members goals g
   pub few : members ≤ 1024
   pub bounded : g.floor ≤ 536870912
+  pub low : AreWithin (low members g.floor) g.u g.v
   pub more : length g.goal_of < members
   pub tells : TellTakers g.goal_of g.takers
   pub marked : AreMarked g.goal_of g.met g.taken
   pub tree : IsTree g.goal_of g.branches
   pub counted : length g.branches ≡ count_of g.met
   pub met : IsMet g.met g.branches
-  pub tight : GoesTight cost g.u g.v g.branches
-  pub slack : (goal : ℕ) (slack : Slack) → is_marked g.taken goal ≡ false → slack_at g.slacks goal ≡ Some slack → IsSlack cost g.u g.v g.branches goal slack
-  pub bounds : (member goal pushes : ℕ) → member ≢ unseen → is_marked g.met member ≡ true → goal < goals → is_marked g.taken goal ≡ false
-      → cost member goal ≡ Some pushes → BoundsSlack g.u g.v g.slacks member goal pushes
-  pub near : AreNear (low members g.floor) g.u g.v g.goal_of g.met g.taken
-  pub high : AreWithin 1073741824 g.u g.v
+  pub rises : AreRises cost g.u g.v g.branches
+  pub slack : (goal : ℕ) → goal < goals → is_marked g.taken goal ≡ false → (slack_at g.slacks goal).rise < unreached
+      → IsSlack cost g.u g.v g.branches goal (slack_at g.slacks goal)
+  pub bounds : (at goal : ℕ) → at < seen → at < length g.branches → goal < goals → is_marked g.taken goal ≡ false
+      → IsBound cost g.u g.v g.branches (slack_at g.slacks goal).rise at goal
+  pub ahead : (goal : ℕ) → goal < goals → is_marked g.taken goal ≡ false
+      → (branch_at g.branches (length g.branches - 1)).rise ≤ (slack_at g.slacks goal).rise
 
--- the box that joined a tree last
-abbrev pub newest : Growth → ℕ
-newest g = (branch_at g.branches (length g.branches - 1)).member
+-- a search of whose tree each box is looked at, and one of whose tree all but the last are
+abbrev pub IsSeen : Costing → ℕ → ℕ → Growth → Type 0
+IsSeen cost members goals g = IsGrowing cost members goals (length g.branches) g
+
+abbrev pub IsAhead : Costing → ℕ → ℕ → Growth → Type 0
+IsAhead cost members goals g = IsGrowing cost members goals (length g.branches - 1) g
 
 -- a search that has begun: a tree of the next box alone, of which nothing is looked at
 pub record IsBegun (g after : Growth) : Type 0 where
   pub same : after ≡ record after { u = g.u; v = g.v; goal_of = g.goal_of; floor = g.floor }
-  pub branches : after.branches ≡ record { member = length g.goal_of; goal = 0; parent = 0 } ∷ []
+  pub branches : after.branches ≡ record { member = length g.goal_of; goal = 0; parent = 0; rise = 0 } ∷ []
   pub met : after.met ≡ slice_set (replicate (length g.met) false) (length g.goal_of) true
   pub taken : after.taken ≡ replicate (length g.taken) false
-  pub slacks : after.slacks ≡ replicate (length g.slacks) None
+  pub slacks : after.slacks ≡ replicate (length g.slacks) (record { rise = unreached; from = 0 })
   pub whole : length after.takers ≡ length g.takers
   pub tells : TellTakers g.goal_of after.takers
 
--- a search after the prices of its tree are raised
-pub record IsRaised (by : ℕ) (g after : Growth) : Type 0 where
-  pub same : after ≡ record g { u = after.u; v = after.v; slacks = after.slacks }
-  pub u_whole : length after.u ≡ length g.u
-  pub v_whole : length after.v ≡ length g.v
-  pub slacks_whole : length after.slacks ≡ length g.slacks
-  pub u_raised : (member : ℕ) → slice_index after.u member ≡ slice_index g.u member + (if is_marked g.met member then by else 0)
-  pub v_raised : (goal : ℕ) → slice_index after.v goal ≡ slice_index g.v goal + (if is_marked g.taken goal then by else 0)
-  pub slack : (goal : ℕ) → slack_at after.slacks goal ≡ lowered by (slack_at g.slacks goal)
+-- a search after the prices of its tree are raised by what is left of a rise behind each branch
+pub record IsRaised (total : ℕ) (g after : Growth) : Type 0 where
+  pub same : after ≡ record g { u = after.u; v = after.v }
+  pub boxes : AreRaised (λ branch. branch.member) total g.branches 0 (length g.branches) g.u after.u
+  pub goals : AreRaised (λ branch. branch.goal) total g.branches 1 (length g.branches) g.v after.v
 
 -- a goal and the box that has it join a tree
 unfoldable pub joined : Near → ℕ → Growth → Growth
 joined near member g = record g {
-  branches = g.branches ++ record { member = member; goal = near.goal; parent = near.slack.from } ∷ [];
+  branches = g.branches ++ record { member = member; goal = near.goal; parent = near.slack.from; rise = near.slack.rise } ∷ [];
   met = slice_set g.met member true;
   taken = slice_set g.taken near.goal true;
 }
@@ -134,26 +135,27 @@ pub record IsReached (cost : Costing) (g : Growth) (near : Near) : Type 0 where
   pub from : near.slack.from < length g.branches
   pub tight : IsTight cost g.u g.v (branch_at g.branches near.slack.from).member near.goal
 
--- no goal outside a tree has a slack, so none is reached by its boxes
-abbrev pub IsClosed : Growth → Type 0
-IsClosed g = (goal : ℕ) → goal < length g.v → is_marked g.taken goal ≡ false → slack_at g.slacks goal ≡ None
+-- no goal outside a tree is reached by its boxes
+abbrev pub ReachesNoOther : Growth → Type 0
+ReachesNoOther g = (goal : ℕ) → goal < length g.v → is_marked g.taken goal ≡ false → unreached ≤ (slack_at g.slacks goal).rise
 
--- a goal outside a tree lies at an exact price from a box of it
+-- the goal outside a tree that its boxes reach first
 pub record IsNext (cost : Costing) (g : Growth) (near : Near) : Type 0 where
   pub within : near.goal < length g.v
   pub outside : is_marked g.taken near.goal ≡ false
-  pub from : near.slack.from < length g.branches
-  pub tight : IsTight cost g.u g.v (branch_at g.branches near.slack.from).member near.goal
+  pub slack : slack_at g.slacks near.goal ≡ near.slack
+  pub way : IsSlack cost g.u g.v g.branches near.goal near.slack
+  pub least : (goal : ℕ) → goal < length g.v → is_marked g.taken goal ≡ false → near.slack.rise ≤ (slack_at g.slacks goal).rise
 
 -- what is told of the goals outside a tree: the next one to be reached, and None where none is
 abbrev pub TellsNext : Costing → Growth → Option Near → Type 0
-TellsNext cost g None = IsClosed g
+TellsNext cost g None = ReachesNoOther g
 TellsNext cost g (Some near) = IsNext cost g near
 
--- how a search ends: at a goal that no box has, or where there is no way on
+-- how a search ends: at a next goal that no box has, or where there is no way on
 abbrev pub TellsEnd : Costing → Growth → Option Near → Type 0
-TellsEnd cost g None = IsClosed g
-TellsEnd cost g (Some near) = IsReached cost g near
+TellsEnd cost g None = ReachesNoOther g
+TellsEnd cost g (Some near) = IsNext cost g near × ((member : ℕ) → member < length g.goal_of → slice_index g.goal_of member ≢ near.goal)
 
 -- goals of the boxes, the next box among them, that lie at exact prices
 pub record IsRematched (cost : Costing) (g : Growth) (goal_of : List ℕ) : Type 0 where
@@ -174,4 +176,4 @@ pub record IsReady (cost : Costing) (members goals : ℕ) (g : Growth) : Type 0 
 abbrev pub TellsFound : Costing → ℕ → ℕ → ℕ → Search → Bool → Type 0
 TellsFound cost members goals floor search true = IsReady cost members goals (growth_of search) × (length search.goal_of.items ≡ members)
     × (search.floor ≡ floor)
-TellsFound cost members goals floor search false = IsGrowing cost members goals members (growth_of search) × IsClosed (growth_of search)
+TellsFound cost members goals floor search false = IsSeen cost members goals (growth_of search) × ReachesNoOther (growth_of search)

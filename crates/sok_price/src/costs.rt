@@ -14,10 +14,12 @@ ghost use Rattle.std.specs.Prelude.{
   length,
   replicate,
   slice_index,
+  slice_index_or,
+  None,
 };
 ghost use Rattle.sok_board.specs.Area.{IsAccepted, goals_of};
 ghost use Rattle.sok_price.specs.Kept.{AreKept};
-ghost use Rattle.sok_price.specs.Costs.{cost_in, cost_of, AreCosts, TellCosts, IsRow};
+ghost use Rattle.sok_price.specs.Costs.{cost_of, AreCosts, TellCosts, IsRow};
 
 use sok_board::area::Sq;
 use sok_push::tables::Tables;
@@ -92,23 +94,16 @@ impl Costs {
         })
     }
 
-    /// The cost of bringing a box to a goal, both by their indices. None where no pushes do.
-    pub(crate) fn at(&self, member: usize, goal: usize) -> Option<u16>
+    /// The costs of bringing a box to each goal. None where no pushes do.
+    pub(crate) fn row(&self, member: usize) -> &[Option<u16>]
         requires costs { AreCosts self.now }
         requires member { member < self.now.members }
-        requires goal { goal < self.now.goals }
-        ensures { result ≡ cost_of self.now member goal }
+        ensures whole { length result.now ≡ self.now.goals }
+        ensures each { (goal : ℕ) → goal < self.now.goals
+            → slice_index_or result.now goal None ≡ cost_of self.now member goal }
     {
-        self.entry(self.rows[member], goal)
-    }
-
-    /// The entry of a row and a goal.
-    #[tactic(auto, unfolding(crate::specs::Costs::cost_in))]
-    fn entry(&self, row: usize, goal: usize) -> Option<u16>
-        requires { row * self.now.goals + goal < length self.now.entries.items }
-        ensures { result ≡ cost_in self.now.goals self.now.entries.items row goal }
-    {
-        self.entries[row * self.goals + goal]
+        let start = self.rows[member] * self.goals;
+        &self.entries[start..start + self.goals]
     }
 }
 

@@ -49,12 +49,13 @@ pub struct Matching {
     matched: bool,
     trial: Search,
     trial_rows: Vec<usize>,
+    marks: Vec<bool>,
 }
 
 impl Model for Matching {
-    ghost use Rattle.sok_price.specs.Matched.{Kept, IsSound};
+    ghost use Rattle.sok_price.specs.Matched.{KeptMatching, IsSound};
 
-    ghost Value = { Kept };
+    ghost Value = { KeptMatching };
 
     ghost view = { λ m. record {
       squares = m.squares;
@@ -64,7 +65,7 @@ impl Model for Matching {
     } };
 
     ghost invariant = { λ m. IsSound m.squares m.costs m.search m.matched m.trial
-        m.trial_rows.items };
+        m.trial_rows.items m.marks.items };
 }
 
 impl Matching {
@@ -83,6 +84,7 @@ impl Matching {
             matched: false,
             trial: Search::new(alloc, goals, goals)?,
             trial_rows: vec![in alloc; squares; goals]?,
+            marks: vec![in alloc; false; squares]?,
         })
     }
 
@@ -104,6 +106,7 @@ impl Matching {
             self.squares,
             boxes,
             self.matched,
+            &mut self.marks,
             &mut self.costs,
             &mut self.search,
         );

@@ -5,6 +5,7 @@ ghost use Rattle.std.specs.Prelude.{
   vec_len,
   ℕ,
   ◌≡◌,
+  ◌≢◌,
   ◌<◌,
   ◌≤◌,
   ◌+◌,
@@ -18,43 +19,49 @@ ghost use Rattle.std.specs.Prelude.{
   false,
   length,
   replicate,
-  slice_index,
-  slice_index_or,
-  if◌then◌else◌,
 };
 ghost use Rattle.sok_price.specs.Costs.{cost_of, AreCosts};
-ghost use Rattle.sok_price.specs.Matchings.{Costing, AreWithin, IsMatched, TellTakers};
+ghost use Rattle.sok_price.specs.Matchings.{Costing, IsMatched, TellTakers};
 ghost use Rattle.sok_price.specs.Searches.{
   growth_of,
-  newest,
   joined,
   HasRoom,
   KeepsRoom,
+  IsAhead,
   IsBegun,
-  IsGrowing,
+  IsNext,
   IsRaised,
   IsReached,
   IsRematched,
+  IsSeen,
   TellsEnd,
   TellsNext,
   IsReady,
   TellsFound,
 };
-ghost use Rattle.sok_price.specs.Trees.{GoesTight, IsTree};
+ghost use Rattle.sok_price.specs.Slacks.{unreached};
+ghost use Rattle.sok_price.specs.Trees.{branch_at, AreRaised, GoesTight, IsTree};
 
 use crate::costs::Costs;
-use crate::slacks::{Near, Slack, look, lower, nearest};
+use crate::slacks::{Near, Slack, UNREACHED, look, nearest};
 use sok_rules::fault::Memory;
 use std::alloc::Global;
 
-/// A box of a tree, with the goal that it has, and the branch from which that goal was reached.
-/// The root has no goal, and is its own parent.
+/// A box of a tree, with the goal that it has, the branch from which that goal was reached, and how
+/// far the root's price rises until it is reached. The root has no goal, and is its own parent.
 #[derive(Clone, Copy, Drop)]
 pub(crate) struct Branch {
     pub(crate) member: usize,
     pub(crate) goal: usize,
     pub(crate) parent: usize,
+    pub(crate) rise: u32,
 }
+
+/// The slack of a goal that no box is looked at from.
+const UNSEEN: Slack = Slack {
+    rise: UNREACHED,
+    from: 0,
+};
 
 /// Prices of boxes and goals, the goals of the first boxes, and a search for a goal for the next
 /// box: a tree of boxes, whether each box is in it, whether each goal is had by a box of it, the
@@ -68,7 +75,7 @@ pub(crate) struct Search {
     pub(crate) branches: Vec<Branch>,
     pub(crate) met: Vec<bool>,
     pub(crate) taken: Vec<bool>,
-    pub(crate) slacks: Vec<Option<Slack>>,
+    pub(crate) slacks: Vec<Slack>,
     pub(crate) takers: Vec<Option<usize>>,
     pub(crate) floor: u32,
 }
@@ -83,7 +90,7 @@ impl Search {
           branches = [];
           met = replicate members false;
           taken = replicate goals false;
-          slacks = replicate goals None;
+          slacks = replicate goals (record { rise = unreached; from = 0 });
           takers = replicate goals None;
           floor = 0;
         }) }
@@ -96,26 +103,47 @@ impl Search {
             branches: Vec::with_capacity(alloc, members)?,
             met: vec![in alloc; false; members]?,
             taken: vec![in alloc; false; goals]?,
-            slacks: vec![in alloc; None; goals]?,
+            slacks: vec![in alloc; UNSEEN; goals]?,
             takers: vec![in alloc; None; goals]?,
             floor: 0,
         })
     }
 }
 
-/// Raises the prices that are marked.
-fn raise(prices: &mut Vec<u32>, marked: &[bool], by: u32)
-    requires marked { length marked.now ≡ length prices.old.items }
-    requires low { All (λ price. price ≤ 1073741824) prices.old.items }
-    requires small { by ≤ 1073741824 }
-    ensures whole { length prices.new.items ≡ length prices.old.items }
-    ensures raised { (k : ℕ) → slice_index prices.new.items k
-        ≡ slice_index prices.old.items k + (if slice_index_or marked.now k false then by else 0) }
+/// Raises the prices of the boxes of some branches by what is left of a rise behind each.
+fn raise_boxes(total: u32, branches: &[Branch], prices: &mut [u32])
+    requires small { total ≤ 2147483648 }
+    requires low { All (λ price. price ≤ 1073741824) prices.old }
+    requires exist { (at : ℕ) → at < length branches.now
+        → (branch_at branches.now at).member < length prices.old }
+    requires apart { (at to : ℕ) → at < to → to < length branches.now
+        → (branch_at branches.now at).member ≢ (branch_at branches.now to).member }
+    requires earlier { (at : ℕ) → at < length branches.now
+        → (branch_at branches.now at).rise ≤ total }
+    ensures { AreRaised (λ branch. branch.member) total branches.now 0 (length branches.now)
+        prices.old prices.new }
 {
-    for k in 0..marked.len() {
-        if marked[k] {
-            prices[k] += by;
-        }
+    for at in 0..branches.len() {
+        prices[branches[at].member] += total - branches[at].rise;
+    }
+}
+
+/// Raises the prices of the goals of some branches by what is left of a rise behind each.
+fn raise_goals(total: u32, branches: &[Branch], prices: &mut [u32])
+    requires small { total ≤ 2147483648 }
+    requires low { All (λ price. price ≤ 1073741824) prices.old }
+    requires exist { (at : ℕ) → 0 < at → at < length branches.now
+        → (branch_at branches.now at).goal < length prices.old }
+    requires apart { (at to : ℕ) → 0 < at → at < to → to < length branches.now
+        → (branch_at branches.now at).goal ≢ (branch_at branches.now to).goal }
+    requires earlier { (at : ℕ) → at < length branches.now
+        → (branch_at branches.now at).rise ≤ total }
+    requires some { 0 < length branches.now }
+    ensures { AreRaised (λ branch. branch.goal) total branches.now 1 (length branches.now)
+        prices.old prices.new }
+{
+    for at in 1..branches.len() {
+        prices[branches[at].goal] += total - branches[at].rise;
     }
 }
 
@@ -159,31 +187,31 @@ pub(crate) fn begin(search: &mut Search)
             member: root,
             goal: 0,
             parent: 0,
+            rise: 0,
         },
     );
     search.met.fill(false);
     search.met[root] = true;
     search.taken.fill(false);
-    search.slacks.fill(None);
+    search.slacks.fill(UNSEEN);
     find_takers(&search.goal_of, &mut search.takers);
 }
 
 /// Looks at the goals outside the tree from the box that joined it last.
 fn look_on(costs: &Costs, search: &mut Search)
     requires costs { AreCosts costs.now }
-    requires growing { IsGrowing (cost_of costs.now) costs.now.members costs.now.goals
-        (newest (growth_of search.old)) (growth_of search.old) }
-    ensures growing { IsGrowing (cost_of costs.now) costs.now.members costs.now.goals
-        costs.now.members (growth_of search.new) }
+    requires growing { IsAhead (cost_of costs.now) costs.now.members costs.now.goals
+        (growth_of search.old) }
+    ensures growing { IsSeen (cost_of costs.now) costs.now.members costs.now.goals
+        (growth_of search.new) }
     ensures same { search.new ≡ record search.old { slacks = search.new.slacks } }
 {
     let from = search.branches.len() - 1;
-    let member = search.branches[from].member;
-    let price = search.u[member];
+    let branch = search.branches[from];
     look(
-        costs,
-        member,
-        price,
+        costs.row(branch.member),
+        search.u[branch.member],
+        branch.rise,
         from,
         &search.v,
         &search.taken,
@@ -191,45 +219,19 @@ fn look_on(costs: &Costs, search: &mut Search)
     );
 }
 
-/// Raises the prices of the tree until a goal is reached.
-fn raise_to(near: Near, search: &mut Search)
-    requires met { length search.old.met.items ≡ length search.old.u.items }
-    requires taken { length search.old.taken.items ≡ length search.old.v.items }
-    requires high { AreWithin 1073741824 search.old.u.items search.old.v.items }
-    requires small { near.slack.amount ≤ 1073741824 }
-    ensures raised { IsRaised near.slack.amount (growth_of search.old) (growth_of search.new) }
-    ensures same { search.new ≡ record search.old
-        { u = search.new.u; v = search.new.v; slacks = search.new.slacks } }
-{
-    let by = near.slack.amount;
-    if by == 0 {
-        return;
-    }
-    raise(&mut search.u, &search.met, by);
-    raise(&mut search.v, &search.taken, by);
-    lower(&mut search.slacks, by);
-}
-
-/// Looks on from the tree, and raises its prices until the nearest goal outside it is reached. None
-/// where none is.
+/// Looks on from the tree, and tells the goal outside it that it reaches next. None where it
+/// reaches none.
 fn widen(costs: &Costs, search: &mut Search) -> Option<Near>
     requires costs { AreCosts costs.now }
-    requires growing { IsGrowing (cost_of costs.now) costs.now.members costs.now.goals
-        (newest (growth_of search.old)) (growth_of search.old) }
-    ensures growing { IsGrowing (cost_of costs.now) costs.now.members costs.now.goals
-        costs.now.members (growth_of search.new) }
+    requires growing { IsAhead (cost_of costs.now) costs.now.members costs.now.goals
+        (growth_of search.old) }
+    ensures growing { IsSeen (cost_of costs.now) costs.now.members costs.now.goals
+        (growth_of search.new) }
     ensures next { TellsNext (cost_of costs.now) (growth_of search.new) result }
-    ensures same { search.new ≡ record search.old
-        { u = search.new.u; v = search.new.v; slacks = search.new.slacks } }
+    ensures same { search.new ≡ record search.old { slacks = search.new.slacks } }
 {
     look_on(costs, search);
-    match nearest(&search.taken, &search.slacks) {
-        None => None,
-        Some(near) => {
-            raise_to(near, search);
-            Some(near)
-        }
-    }
+    nearest(&search.taken, &search.slacks)
 }
 
 /// Takes a goal that was reached, and the box that has it, into the tree.
@@ -247,6 +249,7 @@ fn join(near: Near, member: usize, search: &mut Search)
             member,
             goal: near.goal,
             parent: near.slack.from,
+            rise: near.slack.rise,
         },
     );
     search.met[member] = true;
@@ -254,14 +257,14 @@ fn join(near: Near, member: usize, search: &mut Search)
 }
 
 /// Grows the tree goal by goal until it reaches one that no box has, and says which. None where
-/// its boxes reach no goal but those that its other boxes have.
+/// its boxes reach no goal but those that its other boxes have. Prices stay.
 pub(crate) fn grow(costs: &Costs, search: &mut Search) -> Option<Near>
     requires costs { AreCosts costs.now }
-    requires growing { IsGrowing (cost_of costs.now) costs.now.members costs.now.goals
-        (newest (growth_of search.old)) (growth_of search.old) }
+    requires growing { IsAhead (cost_of costs.now) costs.now.members costs.now.goals
+        (growth_of search.old) }
     requires room { HasRoom costs.now.members search.old }
-    ensures growing { IsGrowing (cost_of costs.now) costs.now.members costs.now.goals
-        costs.now.members (growth_of search.new) }
+    ensures growing { IsSeen (cost_of costs.now) costs.now.members costs.now.goals
+        (growth_of search.new) }
     ensures end { TellsEnd (cost_of costs.now) (growth_of search.new) result }
     ensures same { search.new.goal_of.items ≡ search.old.goal_of.items }
     ensures floor { search.new.floor ≡ search.old.floor }
@@ -276,6 +279,19 @@ pub(crate) fn grow(costs: &Costs, search: &mut Search) -> Option<Near>
             },
         }
     }
+}
+
+/// Raises the prices of the tree until a goal lies at an exact price from its box.
+pub(crate) fn raise(near: Near, costs: &Costs, search: &mut Search)
+    requires costs { AreCosts costs.now }
+    requires growing { IsSeen (cost_of costs.now) costs.now.members costs.now.goals
+        (growth_of search.old) }
+    requires next { IsNext (cost_of costs.now) (growth_of search.old) near }
+    ensures raised { IsRaised near.slack.rise (growth_of search.old) (growth_of search.new) }
+    ensures room { KeepsRoom search.old search.new }
+{
+    raise_boxes(near.slack.rise, &search.branches, &mut search.u);
+    raise_goals(near.slack.rise, &search.branches, &mut search.v);
 }
 
 /// Gives the goal that was reached to the box from which it was reached, that box's goal to the
@@ -321,7 +337,10 @@ pub(crate) fn match_all(costs: &Costs, search: &mut Search) -> bool
         begin(search);
         match grow(costs, search) {
             None => return false,
-            Some(near) => rematch(near, search),
+            Some(near) => {
+                raise(near, costs, search);
+                rematch(near, search);
+            }
         }
     }
     true

@@ -6,7 +6,6 @@ ghost use Rattle.std.specs.Prelude.{
   ◌≤◌,
   ◌+◌,
   ◌*◌,
-  ◌↔◌,
   [],
   None,
   All,
@@ -25,6 +24,7 @@ ghost use Rattle.sok_price.specs.Kept.{
   AreExactly,
   AreKept,
   AreListed,
+  AreMarksOf,
   AreOf,
   IsBounded,
   IsChange,
@@ -38,28 +38,38 @@ use crate::exchange::exchange;
 use crate::search::{Search, match_all};
 use sok_board::area::Sq;
 
-/// Whether a box is on a square.
-fn has_box(boxes: &[Sq], square: usize) -> bool
-    requires { square < 65536 }
-    ensures { IsTrue result ↔ Contains boxes.now square }
+/// Marks the squares of some boxes, and no others.
+fn mark_boxes(boxes: &[Sq], marks: &mut [bool])
+    requires { All (λ square. square < length marks.old) boxes.now }
+    ensures { AreMarksOf marks.new boxes.now (length boxes.now) }
 {
-    boxes.contains(&(square as Sq))
+    marks.fill(false);
+    for square in boxes {
+        marks[*square as usize] = true;
+    }
 }
 
-/// Whether a row is there.
-fn has_row(rows: &[usize], row: usize) -> bool
-    ensures { IsTrue result ↔ Contains rows.now row }
+/// Marks the squares of the rows that are not spare, and no others.
+fn mark_rows(rows: &[usize], marks: &mut [bool])
+    ensures { AreMarksOf marks.new rows.now (length rows.now) }
 {
-    rows.contains(&row)
+    marks.fill(false);
+    for row in rows {
+        if *row < marks.len() {
+            marks[*row] = true;
+        }
+    }
 }
 
 /// A row whose box is not there any more.
-fn stale(rows: &[usize], boxes: &[Sq], squares: usize) -> Option<usize>
-    requires { squares ≤ 1024 }
-    ensures { MatchOption result (AreOf squares rows.now boxes.now) (λ row. row < length rows.now) }
+fn stale(rows: &[usize], boxes: &[Sq], marks: &mut [bool]) -> Option<usize>
+    requires { All (λ square. square < length marks.old) boxes.now }
+    ensures { MatchOption result (AreOf (length marks.old) rows.now boxes.now)
+        (λ row. row < length rows.now) }
 {
+    mark_boxes(boxes, marks);
     for (k, row) in rows.iter().enumerate() {
-        if *row < squares && !has_box(boxes, *row) {
+        if *row < marks.len() && !marks[*row] {
             return Some(k);
         }
     }
@@ -67,12 +77,14 @@ fn stale(rows: &[usize], boxes: &[Sq], squares: usize) -> Option<usize>
 }
 
 /// The square of a box that has no row yet.
-fn missing(rows: &[usize], boxes: &[Sq]) -> Option<usize>
+fn missing(rows: &[usize], boxes: &[Sq], marks: &mut [bool]) -> Option<usize>
+    requires { All (λ square. square < length marks.old) boxes.now }
     ensures { MatchOption result (All (Contains rows.now) boxes.now)
         (λ square. Contains boxes.now square × (Contains rows.now square → ⊥)) }
 {
+    mark_rows(rows, marks);
     for square in boxes {
-        if !has_row(rows, *square as usize) {
+        if !marks[*square as usize] {
             return Some(*square as usize);
         }
     }
@@ -93,14 +105,19 @@ fn spare(rows: &[usize], squares: usize) -> usize
 }
 
 /// Which row is to be exchanged next, and for which, until the rows are those of the boxes.
-fn change(rows: &[usize], boxes: &[Sq], squares: usize) -> Option<(usize, usize)>
+fn change(
+    rows: &[usize],
+    boxes: &[Sq],
+    squares: usize,
+    marks: &mut [bool],
+) -> Option<(usize, usize)>
     requires some { 0 < length rows.now }
-    requires small { squares ≤ 1024 }
+    requires marks { length marks.old ≡ squares }
     requires exist { All (λ square. square < squares) boxes.now }
     ensures { MatchOption result (AreExactly squares rows.now boxes.now)
         (λ change. IsChange squares rows.now change.0 change.1) }
 {
-    match (stale(rows, boxes, squares), missing(rows, boxes)) {
+    match (stale(rows, boxes, marks), missing(rows, boxes, marks)) {
         (None, None) => None,
         (Some(row), None) => Some((row, squares)),
         (Some(row), Some(square)) => Some((row, square)),
@@ -164,13 +181,14 @@ fn settle(
     squares: usize,
     boxes: &[Sq],
     matched: bool,
+    marks: &mut [bool],
     costs: &mut Costs,
     search: &mut Search,
 ) -> bool
     requires costs { AreCosts costs.old }
     requires whole { IsTrue matched → IsWhole costs.old search.old }
     requires shaped { IsShaped costs.old.members costs.old.goals search.old }
-    requires small { squares ≤ 1024 }
+    requires marks { length marks.old ≡ squares }
     requires entries { (squares + 1) * costs.old.goals ≤ length costs.old.entries.items }
     requires exist { All (λ square. square < squares) boxes.now }
     ensures costs { AreCosts costs.new }
@@ -187,7 +205,7 @@ fn settle(
         if search.floor > 268435456 {
             return false;
         }
-        match change(&costs.rows, boxes, squares) {
+        match change(&costs.rows, boxes, squares, marks) {
             None => return true,
             Some((row, entry)) => {
                 if !exchange(row, entry, costs, search) {
@@ -206,6 +224,7 @@ pub(crate) fn match_boxes(
     squares: usize,
     boxes: &[Sq],
     matched: bool,
+    marks: &mut [bool],
     costs: &mut Costs,
     search: &mut Search,
 ) -> bool
@@ -213,7 +232,7 @@ pub(crate) fn match_boxes(
     requires whole { IsTrue matched → IsWhole costs.old search.old }
     requires shaped { IsShaped costs.old.members costs.old.goals search.old }
     requires square { costs.old.members ≡ costs.old.goals }
-    requires small { squares ≤ 1024 }
+    requires marks { length marks.old ≡ squares }
     requires entries { (squares + 1) * costs.old.goals ≤ length costs.old.entries.items }
     requires enough { length boxes.now ≤ costs.old.members }
     requires exist { All (λ square. square < squares) boxes.now }
@@ -227,7 +246,7 @@ pub(crate) fn match_boxes(
     ensures crowd { result ≡ false → (b : Numbered) → length b.area ≡ squares → AreKept b costs.old
         → IsBounded b boxes.now None }
 {
-    if settle(squares, boxes, matched, costs, search) {
+    if settle(squares, boxes, matched, marks, costs, search) {
         return true;
     }
     match_anew(squares, boxes, costs, search)

@@ -1,4 +1,4 @@
-//! How much the prices of a tree may rise before a goal joins it.
+//! How far the price of a tree's root may rise before a goal joins the tree.
 
 ghost use Rattle.std.specs.Prelude.{
   ℕ,
@@ -7,28 +7,28 @@ ghost use Rattle.std.specs.Prelude.{
   ◌≤◌,
   ◌+◌,
   List,
-  Option,
   Bool,
   All,
   IfSome,
   None,
+  Some,
   false,
   length,
   slice_index,
   slice_index_or,
 };
-ghost use Rattle.sok_price.specs.Costs.{cost_of, AreCosts};
-ghost use Rattle.sok_price.specs.Slacks.{closer, lowered, smaller, TellsNearest};
+ghost use Rattle.sok_price.specs.Slacks.{closer, smaller, slack_at, TellsNearest};
 
-use crate::costs::Costs;
-
-/// How much the price of a box of a tree may rise before it is that of a goal and the cost of the
-/// way there: the least of the tree's boxes, and the branch of that box.
+/// How far the price of a tree's root may rise before a box of the tree reaches a goal at an exact
+/// price, the least of the tree's boxes, and the branch of that box. `UNREACHED` where none does.
 #[derive(Clone, Copy, Drop)]
 pub(crate) struct Slack {
-    pub(crate) amount: u32,
+    pub(crate) rise: u32,
     pub(crate) from: usize,
 }
+
+/// The rise to a goal that no box of a tree reaches.
+pub(crate) const UNREACHED: u32 = u32::MAX;
 
 /// A goal and its slack.
 #[derive(Clone, Copy, Drop)]
@@ -37,136 +37,85 @@ pub(crate) struct Near {
     pub(crate) slack: Slack,
 }
 
-/// The smaller of a slack, if there is one, and one of a branch.
+/// The smaller of a slack and one of a branch.
 #[tactic(auto, unfolding(crate::specs::Slacks::smaller))]
-fn smaller(amount: u32, from: usize, slack: Option<Slack>) -> Option<Slack>
-    ensures { result ≡ smaller amount from slack }
+fn smaller(rise: u32, from: usize, slack: Slack) -> Slack
+    ensures { result ≡ smaller rise from slack }
 {
-    match slack {
-        Some(known) => {
-            if amount < known.amount {
-                Some(Slack { amount, from })
-            } else {
-                Some(known)
-            }
-        }
-        None => Some(Slack { amount, from }),
+    if rise < slack.rise {
+        Slack { rise, from }
+    } else {
+        slack
     }
 }
 
-/// A goal's slack once a box of the tree is looked at, with its price and the goal's.
+/// A goal's slack once a box of the tree is looked at, with its price, the goal's, and the rise at
+/// which the box joined.
 #[tactic(auto, unfolding(crate::specs::Slacks::closer))]
 fn closer(
     cost: Option<u16>,
     price: u32,
     goal_price: u32,
+    rise: u32,
     from: usize,
-    slack: Option<Slack>,
-) -> Option<Slack>
-    requires small { goal_price ≤ 1073741824 }
+    slack: Slack,
+) -> Slack
+    requires small { rise + goal_price ≤ 2147483648 }
     requires fair { IfSome cost (λ pushes. price ≤ goal_price + pushes) }
-    ensures { result ≡ closer cost price goal_price from slack }
+    ensures { result ≡ closer cost price goal_price rise from slack }
 {
     match cost {
-        Some(pushes) => smaller(goal_price + u32::from(pushes) - price, from, slack),
+        Some(pushes) => smaller(rise + (goal_price + u32::from(pushes) - price), from, slack),
         None => slack,
     }
 }
 
-/// Looks at the goals outside the tree from a box of it, with the box's price and its branch.
+/// Looks at the goals outside the tree from a box of it, with the box's costs, its price, and its
+/// branch, which joined at some rise.
 pub(crate) fn look(
-    costs: &Costs,
-    member: usize,
+    row: &[Option<u16>],
     price: u32,
+    rise: u32,
     from: usize,
     prices: &[u32],
     taken: &[bool],
-    slacks: &mut Vec<Option<Slack>>,
+    slacks: &mut [Slack],
 )
-    requires goals { length prices.now ≡ costs.now.goals }
-    requires taken { length taken.now ≡ costs.now.goals }
-    requires slacks { length slacks.old.items ≡ costs.now.goals }
-    requires costs { AreCosts costs.now }
-    requires member { member < costs.now.members }
-    requires small { All (λ goal_price. goal_price ≤ 1073741824) prices.now }
+    requires row { length row.now ≡ length prices.now }
+    requires taken { length taken.now ≡ length prices.now }
+    requires slacks { length slacks.old ≡ length prices.now }
+    requires small { All (λ goal_price. rise + goal_price ≤ 2147483648) prices.now }
     requires fair { (goal pushes : ℕ) → goal < length prices.now
-        → cost_of costs.now member goal ≡ Some pushes
+        → slice_index_or row.now goal None ≡ Some pushes
         → price ≤ slice_index prices.now goal + pushes }
-    ensures whole { length slacks.new.items ≡ length slacks.old.items }
-    ensures closer { (goal : ℕ) → goal < length slacks.new.items
+    ensures closer { (goal : ℕ) → goal < length slacks.new
         → slice_index_or taken.now goal false ≡ false
-        → slice_index_or slacks.new.items goal None ≡ closer (cost_of costs.now member goal) price
-        (slice_index prices.now goal) from (slice_index_or slacks.old.items goal None) }
+        → slack_at slacks.new goal ≡ closer (slice_index_or row.now goal None) price
+        (slice_index prices.now goal) rise from (slack_at slacks.old goal) }
 {
     for goal in 0..prices.len() {
         if !taken[goal] {
-            slacks[goal] = closer(
-                costs.at(member, goal),
-                price,
-                prices[goal],
-                from,
-                slacks[goal],
-            );
+            slacks[goal] = closer(row[goal], price, prices[goal], rise, from, slacks[goal]);
         }
     }
 }
 
-/// The nearer of two goals: the second if it is nearer than the first.
-fn nearer(best: Option<Near>, goal: usize, slack: Option<Slack>) -> Option<Near>
-    ensures { (taken : List Bool) (slacks : List (Option Slack))
-        → slice_index_or taken goal false ≡ false
-        → slice_index_or slacks goal None ≡ slack → TellsNearest taken slacks goal best
-        → TellsNearest taken slacks (goal + 1) result }
-{
-    match (best, slack) {
-        (_, None) => best,
-        (None, Some(slack)) => Some(Near { goal, slack }),
-        (Some(known), Some(slack)) => {
-            if slack.amount < known.slack.amount {
-                Some(Near { goal, slack })
-            } else {
-                Some(known)
-            }
-        }
-    }
-}
-
-/// The goal outside the tree with the least slack, None where none has any.
-pub(crate) fn nearest(taken: &[bool], slacks: &[Option<Slack>]) -> Option<Near>
+/// The goal outside the tree with the least slack, None where none is reached.
+pub(crate) fn nearest(taken: &[bool], slacks: &[Slack]) -> Option<Near>
     requires { length taken.now ≡ length slacks.now }
     ensures { TellsNearest taken.now slacks.now (length slacks.now) result }
 {
-    let mut best = None;
+    let mut least = UNREACHED;
+    let mut at = 0;
     for goal in 0..slacks.len() {
-        if !taken[goal] {
-            best = nearer(best, goal, slacks[goal]);
+        if !taken[goal] && slacks[goal].rise < least {
+            least = slacks[goal].rise;
+            at = goal;
         }
     }
-    best
-}
-
-/// A slack after the prices of the tree are raised.
-#[tactic(auto, unfolding(crate::specs::Slacks::lowered))]
-fn lowered(by: u32, slack: Option<Slack>) -> Option<Slack>
-    ensures { result ≡ lowered by slack }
-{
-    match slack {
-        Some(slack) => Some(Slack {
-            amount: slack.amount.saturating_sub(by),
-            from: slack.from,
-        }),
-        None => None,
+    if least == UNREACHED {
+        return None;
     }
-}
-
-/// The slacks after the prices of the tree are raised.
-pub(crate) fn lower(slacks: &mut Vec<Option<Slack>>, by: u32)
-    ensures whole { length slacks.new.items ≡ length slacks.old.items }
-    ensures lowered { (goal : ℕ)
-        → slice_index_or slacks.new.items goal None ≡ lowered by
-        (slice_index_or slacks.old.items goal None) }
-{
-    for goal in 0..slacks.len() {
-        slacks[goal] = lowered(by, slacks[goal]);
-    }
+    let slack = slacks[at];
+    Some(Near { goal: at, slack })
 }

@@ -48,8 +48,7 @@ new-trans : (b : Numbered) (t n : ℕ) (f g h : Found) → Grows b t n f g → G
 new-trans b t n f g h first second x m (inr new) = inr new
 new-trans b t n f g h first second x m (inl there) = elim (first.new x m there) [
   | inl before ↦ inl before
-  | inr new ↦ inr
-      (IsNew-more b t n x m g h second.kept new)
+  | inr new ↦ inr (IsNew-more b t n x m g h second.kept new)
 ]
 
 pub Grows-trans : (b : Numbered) (t n : ℕ) (f g h : Found) → Grows b t n f g → Grows b t n g h → Grows b t n f h

@@ -47,6 +47,7 @@ impl Tables {
     /// It refuses only for want of memory.
     pub fn new(alloc: Global, board: &Board) -> Result<Tables, Memory>
         ensures board { IfOk result (λ tables. tables.board ≡ board.now) }
+        ensures accepted { IsAccepted board.now }
     {
         let level = board.level().copy(alloc)?;
         let squares = spots(alloc, board)?;

@@ -7,6 +7,7 @@ use Rattle.std.proofs.lemmas.List.Kept.{AllPairs-cons, AllPairs-from_increasing,
 use Rattle.std.proofs.lemmas.List.Elements.{All-contains, Contains-get_or}
 use Rattle.std.specs.List.Sorted.{IsStrictlyIncreasing}
 use Rattle.sok_board.proofs.Lists.{AllPairs-head, AllPairs-tail, Contains-cons, Contains-cons_cases, Contains-filter, Contains-from_filter}
+use Rattle.sok_board.specs.Limits.{box_limit}
 use Rattle.sok_region.specs.BoxSets.{IsBoxList, IsMoved, put_in_order, without}
 
 -- which squares there are in the end
@@ -168,7 +169,8 @@ length-put from to (x ∷ boxes) pairs there = elim (cases_Bool (nat_lt to x)) [
 pub IsMoved-put : (from to : ℕ) (boxes : List ℕ) → IsMoved boxes from to (put_in_order from to boxes)
 IsMoved-put from to boxes = λ s. (put-sound from to boxes s, put-whole from to boxes s)
 
-pub IsBoxList-put : (from to : ℕ) (boxes : List ℕ) → IsStrictlyIncreasing boxes → length boxes ≤ 128 → Contains boxes from → (Contains boxes to → ⊥)
+pub IsBoxList-put : (from to : ℕ) (boxes : List ℕ) → IsStrictlyIncreasing boxes → length boxes ≤ box_limit → Contains boxes from
+    → (Contains boxes to → ⊥)
     → IsBoxList (put_in_order from to boxes) × (length (put_in_order from to boxes) ≡ length boxes)
 IsBoxList-put from to boxes rising few there new =
     let same = length-put from to boxes (AllPairs-from_increasing boxes rising) there in

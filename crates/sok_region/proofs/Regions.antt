@@ -16,7 +16,7 @@ use Rattle.sok_board.proofs.Lists.{Contains-filter, Contains-from_filter}
 use Rattle.sok_board.proofs.Numbering.{rising-chosen}
 use Rattle.sok_region.specs.Regions.{IsPlaced, IsRegion, IsWalkBetween, HasSquare, squares_of}
 use Rattle.sok_field.specs.Fields.{has}
-use Rattle.sok_field.specs.Numbers.{Draws, bit_of_number, has_number}
+use Rattle.sok_field.specs.Numbers.{Draws, bit_of_number, has_number, word_bits}
 use Rattle.sok_field.specs.Trails.{trail, Leads}
 use Rattle.sok_field.proofs.OneSquare.{has-within}
 use Rattle.sok_region.specs.Floods.{marked, Met, IsFlood, FindsWay}
@@ -32,15 +32,15 @@ Contains-range n k within =
 pub Contains-squares_of : (words : List ℕ) (s : ℕ) → Contains (squares_of words) s ↔ (has_number words s ≡ true)
 unfolding squares_of
 Contains-squares_of words s = (
-  λ there. (Contains-from_filter (has_number words) (range_with_len 0 (64 * length words)) s there).1,
+  λ there. (Contains-from_filter (has_number words) (range_with_len 0 (word_bits * length words)) s there).1,
   λ e.
       let word = has-within words (bit_of_number s) e in
-      Contains-filter (has_number words) (range_with_len 0 (64 * length words)) s (Contains-range (64 * length words) s (omega (arith, word))) e,
+      Contains-filter (has_number words) (range_with_len 0 (word_bits * length words)) s (Contains-range (word_bits * length words) s (omega (arith, word))) e,
 )
 
 pub squares_of-rising : (words : List ℕ) → IsStrictlyIncreasing (squares_of words)
 unfolding squares_of
-squares_of-rising words = rising-chosen (has_number words) (64 * length words)
+squares_of-rising words = rising-chosen (has_number words) (word_bits * length words)
 
 pub placed_boxes : (b : Numbered) (boxes : List ℕ) (player : ℕ) → IsProper b.rows → IsArea b.rows b.area → IsPlaced b boxes player → AreBoxes b boxes
 placed_boxes b boxes player proper area placed = record { proper = proper; area = area; exist = placed.boxes_exist }

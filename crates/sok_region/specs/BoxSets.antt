@@ -1,11 +1,12 @@
 -- Sets of boxes, as the rising lists of their squares' numbers.
 use Rattle.std.specs.Prelude.{ℕ, ◌≡◌, ◌≤◌, ◌↔◌, ◌⊎◌, List, [], ◌∷◌, ◌==◌, not, filter, nat_lt, if◌then◌else◌, Contains, length}
 use Rattle.std.specs.List.Sorted.{IsStrictlyIncreasing}
+use Rattle.sok_board.specs.Limits.{box_limit}
 
--- at most 128 squares, rising
+-- squares of at most so many boxes as an area may have, rising
 pub record IsBoxList (boxes : List ℕ) : Type 0 where
   pub rising : IsStrictlyIncreasing boxes
-  pub few : length boxes ≤ 128
+  pub few : length boxes ≤ box_limit
 
 -- the squares of one set without from and with to
 abbrev pub IsMoved : List ℕ → ℕ → ℕ → List ℕ → Type 0

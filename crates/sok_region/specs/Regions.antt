@@ -6,7 +6,7 @@ use Rattle.sok_rules.specs.declared.cell.Dir.{Dir}
 use Rattle.sok_rules.specs.Play.{run, pushes}
 use Rattle.sok_rules.specs.States.{Same}
 use Rattle.sok_board.specs.Area.{Numbered, position_of}
-use Rattle.sok_field.specs.Numbers.{has_number}
+use Rattle.sok_field.specs.Numbers.{has_number, word_bits}
 
 -- numbers of squares that make a position: boxes rising, and the player on none of them
 pub record IsPlaced (b : Numbered) (boxes : List ℕ) (player : ℕ) : Type 0 where
@@ -34,7 +34,7 @@ pub record IsWalkBetween (b : Numbered) (boxes : List ℕ) (from to : ℕ) (w : 
 
 -- the squares whose bits are set, rising
 unfoldable pub squares_of : List ℕ → List ℕ
-squares_of words = filter (has_number words) (range_with_len 0 (64 * length words))
+squares_of words = filter (has_number words) (range_with_len 0 (word_bits * length words))
 
 -- the bit of some square is set
 abbrev pub HasSquare : List ℕ → Type 0

@@ -6,16 +6,33 @@ use sok_board::board::Board;
 use sok_board::fault::BoardFault;
 use sok_rules::cell::{Cell, Dir, Spot};
 use sok_sketch::{rooms, sketch};
+use std::alloc::Global;
 use std::test::Fail;
 
-/// A board, the rows and columns of its squares in order, the player's square, the boxes and the
-/// goals.
-type Numbered<'a> = (&'a str, &'a [(u32, u32)], Sq, &'a [Sq], &'a [Sq]);
+/// Whether the square of a number lies at a row and a column.
+fn lies(board: &Board, number: usize, row: u32, col: u32) -> bool {
+    if number >= board.squares() {
+        return false;
+    }
+    let spot = Spot { row, col };
+    board.square(spot) == Some(number as Sq) && board.spot(number as Sq) == spot
+}
+
+/// Whether the squares of a board lie at these rows and columns, in order.
+fn has_squares(alloc: Global, text: &str, squares: &[(u32, u32)]) -> Result<bool, Fail> {
+    let board = board(alloc, text)?;
+    for (number, (row, col)) in squares.iter().enumerate() {
+        if !lies(&board, number, *row, *col) {
+            return Ok(false);
+        }
+    }
+    Ok(board.squares() == squares.len())
+}
 
 #[test]
 fn squares_of_boards(rt: HostRuntime) -> Result<(), Fail> {
     let corridor: &[(u32, u32)] = &[(1, 1), (1, 2), (1, 3)];
-    let room: &[(u32, u32)] = &[
+    let two_rows: &[(u32, u32)] = &[
         (1, 1),
         (1, 2),
         (1, 3),
@@ -39,28 +56,35 @@ fn squares_of_boards(rt: HostRuntime) -> Result<(), Fail> {
         (3, 5),
         (3, 6),
     ];
-    let cases: [Numbered<'_>; 5] = [
-        (sketch::ONE_PUSH, corridor, 0, &[1], &[2]),
-        (sketch::ROOM_OF_TWO_ROWS, room, 6, &[5], &[7]),
-        (sketch::CORRIDOR_OF_SIX_PUSHES, with_a_room, 4, &[5], &[3]),
-        (sketch::DECORATED, corridor, 0, &[1], &[2]),
-        (sketch::NO_BOX_INSIDE, &[(1, 1)], 0, &[], &[]),
+    for (text, squares) in [
+        (sketch::ONE_PUSH, corridor),
+        (sketch::ROOM_OF_TWO_ROWS, two_rows),
+        (sketch::CORRIDOR_OF_SIX_PUSHES, with_a_room),
+        (sketch::DECORATED, corridor),
+        (sketch::NO_BOX_INSIDE, &[(1, 1)]),
+    ] {
+        assert!(rt; has_squares(rt.alloc(), text, squares)?, "{text}");
+    }
+    Ok(())
+}
+
+/// Whether a board has its player on a square, and these boxes and goals.
+fn starts(alloc: Global, text: &str, player: Sq, boxes: &[Sq], goals: &[Sq]) -> Result<bool, Fail> {
+    let board = board(alloc, text)?;
+    Ok(board.start() == (player, boxes) && board.goals() == goals)
+}
+
+#[test]
+fn starts_of_boards(rt: HostRuntime) -> Result<(), Fail> {
+    let cases: [(&str, Sq, &[Sq], &[Sq]); 5] = [
+        (sketch::ONE_PUSH, 0, &[1], &[2]),
+        (sketch::ROOM_OF_TWO_ROWS, 6, &[5], &[7]),
+        (sketch::CORRIDOR_OF_SIX_PUSHES, 4, &[5], &[3]),
+        (sketch::DECORATED, 0, &[1], &[2]),
+        (sketch::NO_BOX_INSIDE, 0, &[], &[]),
     ];
-    for (text, squares, player, boxes, goals) in cases {
-        let board = board(rt.alloc(), text)?;
-        assert_eq!(rt; board.squares(), squares.len(), "{text}");
-        assert!(rt; board.start() == (player, boxes), "{text}");
-        assert_eq!(rt; board.goals(), goals, "{text}");
-        for (number, (row, col)) in squares.iter().enumerate() {
-            let spot = Spot {
-                row: *row,
-                col: *col,
-            };
-            assert!(rt; number < 1024);
-            assert_eq!(rt; board.square(spot), Some(number as Sq), "{text}");
-            assert!(rt; number < board.squares());
-            assert_eq!(rt; board.spot(number as Sq), spot, "{text}");
-        }
+    for (text, player, boxes, goals) in cases {
+        assert!(rt; starts(rt.alloc(), text, player, boxes, goals)?, "{text}");
     }
     Ok(())
 }
@@ -89,28 +113,43 @@ fn squares_beside_and_outside(rt: HostRuntime) -> Result<(), Fail> {
     Ok(())
 }
 
-/// The count of squares of a large room, or why a level is refused, with the number of the fault.
+/// How many squares a board has, or why there is none, with the number of the fault.
+type Told = Result<usize, (BoardFault, u8)>;
+
+fn told(alloc: Global, text: &str) -> Result<Told, Fail> {
+    let level = sketch::level(alloc, text)?;
+    match Board::new(alloc, &level) {
+        Ok(board) => Ok(Ok(board.squares())),
+        Err(fault) => Ok(Err((fault, fault.number()))),
+    }
+}
+
 #[test]
-fn large_rooms_and_refused_levels(rt: HostRuntime) -> Result<(), Fail> {
-    let large = rooms::ROOM_OF_1024.text(rt.alloc())?;
-    let too_large = rooms::ROOM_OF_1025.text(rt.alloc())?;
-    let too_many_boxes = rooms::ROOM_OF_129_BOXES.text(rt.alloc())?;
+fn refused_levels(rt: HostRuntime) -> Result<(), Fail> {
     let open = BoardFault::NotEnclosed(Spot { row: 1, col: 3 });
     let stray = BoardFault::BoxOutside(Spot { row: 1, col: 5 });
-    for (text, told) in [
-        (large.as_str(), Ok(1024)),
-        (sketch::OPEN_AT_THE_SIDE, Err((open, 6))),
-        (sketch::STRAY_BOX, Err((stray, 7))),
-        (sketch::NO_GOAL, Err((BoardFault::TooFewGoals, 8))),
-        (too_large.as_str(), Err((BoardFault::TooLarge, 9))),
-        (too_many_boxes.as_str(), Err((BoardFault::TooManyBoxes, 10))),
+    for (text, fault, number) in [
+        (sketch::OPEN_AT_THE_SIDE, open, 6),
+        (sketch::STRAY_BOX, stray, 7),
+        (sketch::NO_GOAL, BoardFault::TooFewGoals, 8),
     ] {
-        let level = sketch::level(rt.alloc(), text)?;
-        let found = match Board::new(rt.alloc(), &level) {
-            Ok(board) => Ok(board.squares()),
-            Err(fault) => Err((fault, fault.number())),
-        };
-        assert_eq!(rt; found, told, "{text}");
+        assert!(rt; told(rt.alloc(), text)? == Err((fault, number)), "{text}");
+    }
+    Ok(())
+}
+
+#[test]
+fn large_rooms(rt: HostRuntime) -> Result<(), Fail> {
+    for (room, count) in [
+        (rooms::ROOM_OF_1024, Ok(1024)),
+        (rooms::ROOM_OF_1025, Err((BoardFault::TooLarge, 9))),
+        (
+            rooms::ROOM_OF_129_BOXES,
+            Err((BoardFault::TooManyBoxes, 10)),
+        ),
+    ] {
+        let text = room.text(rt.alloc())?;
+        assert!(rt; told(rt.alloc(), text.as_str())? == count);
     }
     Ok(())
 }

@@ -5,9 +5,11 @@
 //! |---|---|
 //! | `boards` | which levels a solver accepts, and their square numbers |
 //! | `distances` | how far a box is from each goal, and where it is stuck |
-//! | `regions` | sets of boxes, where the player comes without a push, and by which letters |
+//! | `mazes` | regions of spirals, combs and wide rooms |
+//! | `regions` | where the player comes without a push, and by which letters |
 //! | `rounds` | rounds of squares, in rows of words |
-//! | `setting` | the board of a worked level |
+//! | `sets` | sets of boxes |
+//! | `setting` | the board of a worked level, and sets of boxes on it |
 //! | `states` | the states of a level, their pushes, and tables of them |
 #![tactic(auto)]
 
@@ -16,9 +18,13 @@ mod boards;
 #[cfg(test)]
 mod distances;
 #[cfg(test)]
+mod mazes;
+#[cfg(test)]
 mod regions;
 #[cfg(test)]
 mod rounds;
+#[cfg(test)]
+mod sets;
 #[cfg(test)]
 mod setting;
 #[cfg(test)]

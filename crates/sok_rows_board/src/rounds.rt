@@ -1,6 +1,12 @@
 //! Rounds of squares, in rows of words.
 
+use crate::setting::board;
+use sok_field::drawing::free_squares;
+use sok_field::field::Field;
 use sok_field::spread::spread;
+use sok_rules::cell::Spot;
+use sok_sketch::sketch;
+use std::alloc::Global;
 use std::test::Fail;
 
 /// A row of squares, and none where there is no such row.
@@ -34,4 +40,51 @@ fn rounds_of_each_length(rt: HostRuntime) -> Result<(), Fail> {
         }
     }
     Ok(())
+}
+
+/// The word of a row of squares.
+fn word(field: &Field, row: u32) -> u64 {
+    let mut word = 0;
+    for col in 0..64 {
+        if field.has(Spot { row, col }) {
+            word |= 1 << col;
+        }
+    }
+    word
+}
+
+/// The words of the rows 1 to 3 of a board's free squares.
+fn free_words(alloc: Global, text: &str) -> Result<[u64; 3], Fail> {
+    let board = board(alloc, text)?;
+    let (_, boxes) = board.start();
+    let free = free_squares(&board, boxes);
+    Ok([word(&free, 1), word(&free, 2), word(&free, 3)])
+}
+
+#[test]
+fn free_squares_of_the_corridor(rt: HostRuntime) -> Result<(), Fail> {
+    for (text, free) in [
+        (sketch::CORRIDOR_OF_SIX_PUSHES, [112, 118, 112]),
+        (sketch::CORRIDOR_WITH_THE_BOX_ON_6, [112, 110, 112]),
+    ] {
+        assert!(rt; free_words(rt.alloc(), text)? == free, "{text}");
+    }
+    Ok(())
+}
+
+/// From the square on each side of the box, round by round until a round changes nothing.
+#[test]
+fn rounds_in_the_corridor(rt: HostRuntime) {
+    for (free, seen, after) in [
+        ([112, 118, 112], [0, 4, 0], [0, 6, 0]),
+        ([112, 118, 112], [0, 6, 0], [0, 6, 0]),
+        ([112, 110, 112], [0, 64, 0], [64, 96, 64]),
+        ([112, 110, 112], [64, 96, 64], [96, 96, 96]),
+        ([112, 110, 112], [96, 96, 96], [112, 96, 112]),
+        ([112, 110, 112], [112, 96, 112], [112, 96, 112]),
+    ] {
+        let mut out: [u64; 3] = [0; 3];
+        spread(&seen, &free, &mut out);
+        assert!(rt; out == after, "{seen:?}");
+    }
 }

@@ -3,10 +3,9 @@
 ghost use Rattle.std.specs.Prelude.{IfOk};
 ghost use Rattle.sok_state.specs.Keys.{IsKey};
 
-use crate::setting::board;
+use crate::setting::{board, box_set};
 use sok_board::area::Sq;
 use sok_board::board::Board;
-use sok_region::box_set::BoxSet;
 use sok_rules::cell::Dir;
 use sok_sketch::sketch;
 use sok_state::key::Key;
@@ -23,22 +22,32 @@ fn key(rt: &impl Abort, alloc: Global, board: &Board, boxes: &[Sq], player: Sq) 
     let squares = board.squares();
     assert!(rt; boxes.iter().all(|square| (*square as usize) < squares));
     assert!(rt; (player as usize) < squares);
-    assert!(rt; boxes.len() <= 128);
-    for i in 1..boxes.len() {
-        assert!(rt; boxes[i - 1] < boxes[i]);
-    }
-    let boxes = BoxSet::of(alloc, boxes)?;
+    let boxes = box_set(rt, alloc, boxes)?;
     assert!(rt; !boxes.has(player));
     Ok(Key::of(alloc, board, &boxes, player)?)
+}
+
+/// Whether the key of a box and a player has a least square, and is another's state.
+fn has_key(
+    rt: &impl Abort,
+    alloc: Global,
+    board: &Board,
+    square: Sq,
+    player: Sq,
+    least: Sq,
+    same: bool,
+) -> Result<bool, Fail> {
+    let left = key(rt, alloc, board, &[6], 5)?;
+    let found = key(rt, alloc, board, &[square], player)?;
+    Ok(found.boxes.list() == [square].as_slice() && found.least == least && (found == left) == same)
 }
 
 /// The corridor, with the box on some square and the player on either side of it.
 #[test]
 fn keys_of_positions(rt: HostRuntime) -> Result<(), Fail> {
     let board = board(rt.alloc(), sketch::CORRIDOR_OF_SIX_PUSHES)?;
-    let left = key(&rt, rt.alloc(), &board, &[6], 5)?;
-    // the box, the player, the least square of the player's region, and whether it is the same
-    // state
+    // the box, the player, the least square of the player's region, and whether it is the state
+    // with the box on 6 and the player on its left
     for (square, player, least, same) in [
         (5, 4, 3, false),
         (6, 3, 3, true),
@@ -46,89 +55,160 @@ fn keys_of_positions(rt: HostRuntime) -> Result<(), Fail> {
         (6, 8, 0, false),
         (6, 1, 0, false),
     ] {
-        let found = key(&rt, rt.alloc(), &board, &[square], player)?;
-        assert_eq!(rt; found.boxes.list(), [square].as_slice());
-        assert_eq!(rt; found.least, least);
-        assert_eq!(rt; found == left, same);
+        assert!(rt;
+            has_key(&rt, rt.alloc(), &board, square, player, least, same)?,
+            "{player}"
+        );
     }
     Ok(())
 }
 
-/// A board, its boxes and player, the legal pushes: from which square, and in which direction; and
-/// the boxes and the least square of the state after the first of them.
-type Case<'a> = (&'a str, &'a [Sq], Sq, &'a [(Sq, Dir)], &'a [Sq], Sq);
+/// Whether the legal pushes of a state are these: from which square, and in which direction.
+fn has_pushes(
+    rt: &impl Abort,
+    alloc: Global,
+    text: &str,
+    boxes: &[Sq],
+    player: Sq,
+    told: &[(Sq, Dir)],
+) -> Result<bool, Fail> {
+    let board = board(alloc, text)?;
+    let state = key(rt, alloc, &board, boxes, player)?;
+    let legal = pushes(alloc, &board, &state)?;
+    for (i, push) in legal.iter().enumerate() {
+        if told.get(i) != Some(&(push.from, push.dir)) {
+            return Ok(false);
+        }
+    }
+    Ok(legal.len() == told.len())
+}
+
+/// Whether the state after the first legal push has these boxes and this least square.
+fn leads_to(
+    rt: &impl Abort,
+    alloc: Global,
+    text: &str,
+    boxes: &[Sq],
+    player: Sq,
+    boxes_after: &[Sq],
+    least: Sq,
+) -> Result<bool, Fail> {
+    let board = board(alloc, text)?;
+    let state = key(rt, alloc, &board, boxes, player)?;
+    let legal = pushes(alloc, &board, &state)?;
+    if legal.len() == 0 {
+        return Ok(false);
+    }
+    let next = after(alloc, &board, &state, legal[0])?;
+    Ok(next.boxes.list() == boxes_after && next.least == least)
+}
 
 #[test]
 fn pushes_of_states(rt: HostRuntime) -> Result<(), Fail> {
     let (left, up, right, down) = (Dir::Left, Dir::Up, Dir::Right, Dir::Down);
-    let both: &[(Sq, Dir)] = &[(8, left), (8, right), (10, left), (10, right)];
-    let each: &[(Sq, Dir)] = &[(4, left), (4, up), (4, right), (4, down)];
-    let cases: [Case<'_>; 3] = [
-        (
-            sketch::CORRIDOR_OF_SIX_PUSHES,
-            &[5],
-            4,
-            &[(5, right)],
-            &[6],
-            3,
-        ),
-        // the player comes to each side of both boxes, and below them there is a wall
+    // in the second case the player comes to each side of both boxes, below which there is a wall
+    let cases: [(&str, &[Sq], Sq, &[(Sq, Dir)]); 3] = [
+        (sketch::CORRIDOR_OF_SIX_PUSHES, &[5], 4, &[(5, right)]),
         (
             sketch::TWO_BOXES_AND_THREE_GOALS,
             &[8, 10],
             0,
-            both,
-            &[7, 10],
-            0,
+            &[(8, left), (8, right), (10, left), (10, right)],
         ),
-        (sketch::BOX_IN_THE_OPEN, &[4], 6, each, &[3], 0),
+        (
+            sketch::BOX_IN_THE_OPEN,
+            &[4],
+            6,
+            &[(4, left), (4, up), (4, right), (4, down)],
+        ),
     ];
-    for (text, boxes, player, told, boxes_after, least) in cases {
-        let board = board(rt.alloc(), text)?;
-        let state = key(&rt, rt.alloc(), &board, boxes, player)?;
-        let legal = pushes(rt.alloc(), &board, &state)?;
-        assert_eq!(rt; legal.len(), told.len(), "in {text}");
-        for (i, push) in legal.iter().enumerate() {
-            assert!(rt;
-                told.get(i) == Some(&(push.from, push.dir)),
-                "push {i} in {text}"
-            );
-        }
-        assert!(rt; legal.len() > 0, "in {text}");
-        let next = after(rt.alloc(), &board, &state, legal[0])?;
-        assert_eq!(rt; next.boxes.list(), boxes_after, "in {text}");
-        assert_eq!(rt; next.least, least, "in {text}");
+    for (text, boxes, player, told) in cases {
+        assert!(rt;
+            has_pushes(&rt, rt.alloc(), text, boxes, player, told)?,
+            "{text}"
+        );
     }
     Ok(())
 }
 
-/// A present key keeps its place and its depth. Depths are lowered and never raised.
 #[test]
-fn table_of_states(rt: HostRuntime) -> Result<(), Fail> {
-    let alloc = rt.alloc();
-    let board = board(alloc, sketch::CORRIDOR_OF_SIX_PUSHES)?;
-    let start = key(&rt, alloc, &board, &[5], 4)?;
-    let next = key(&rt, alloc, &board, &[6], 5)?;
-    let mut table = Table::new(alloc)?;
-    assert_eq!(rt; table.get(&start), None);
-    for (state, depth, index, kept) in [
-        (&start, 2, 0, 2),
-        (&next, 7, 1, 7),
-        (&start, 9, 0, 2),
-        (&start, 1, 0, 2),
-    ] {
-        let found = table.insert(state.copy(alloc)?, depth)?;
-        assert_eq!(rt; found, index);
-        assert_eq!(rt; table.get(state), Some(index));
-        assert!(rt; index < table.len());
-        assert_eq!(rt; table.depth(index), kept);
-        assert!(rt; table.key(alloc, index)? == *state);
-    }
-    for (depth, lowered, kept) in [(3, false, 2), (2, false, 2), (1, true, 1)] {
-        assert_eq!(rt; table.len(), 2);
-        assert_eq!(rt; table.lower_depth(0, depth), lowered);
-        assert!(rt; 0 < table.len());
-        assert_eq!(rt; table.depth(0), kept);
+fn states_after_pushes(rt: HostRuntime) -> Result<(), Fail> {
+    let cases: [(&str, &[Sq], Sq, &[Sq], Sq); 3] = [
+        (sketch::CORRIDOR_OF_SIX_PUSHES, &[5], 4, &[6], 3),
+        (sketch::TWO_BOXES_AND_THREE_GOALS, &[8, 10], 0, &[7, 10], 0),
+        (sketch::BOX_IN_THE_OPEN, &[4], 6, &[3], 0),
+    ];
+    for (text, boxes, player, boxes_after, least) in cases {
+        assert!(rt;
+            leads_to(&rt, rt.alloc(), text, boxes, player, boxes_after, least)?,
+            "{text}"
+        );
     }
     Ok(())
+}
+
+/// Whether a table has a state at an index, with a depth.
+fn has_state(
+    alloc: Global,
+    table: &Table,
+    state: &Key,
+    index: usize,
+    depth: u32,
+) -> Result<bool, Fail> {
+    if table.get(state) != Some(index) || index >= table.len() {
+        return Ok(false);
+    }
+    Ok(table.depth(index) == depth && table.key(alloc, index)? == *state)
+}
+
+/// Whether an insertion tells an index, at which the table then has the state with a depth.
+fn inserts(
+    alloc: Global,
+    table: &mut Table,
+    state: &Key,
+    depth: u32,
+    index: usize,
+    kept: u32,
+) -> Result<bool, Fail> {
+    let found = table.insert(state.copy(alloc)?, depth)?;
+    Ok(found == index && has_state(alloc, table, state, index, kept)?)
+}
+
+/// Whether the depth of the state at 0 is lowered or not, and what it is then.
+fn lowers(table: &mut Table, depth: u32, lowered: bool, kept: u32) -> bool {
+    if table.len() == 0 {
+        return false;
+    }
+    let told = table.lower_depth(0, depth);
+    told == lowered && 0 < table.len() && table.depth(0) == kept
+}
+
+/// A present key keeps its place and its depth. Depths are lowered and never raised.
+fn assert_table(rt: &impl Abort, alloc: Global, start: &Key, next: &Key) -> Result<(), Fail> {
+    let mut table = Table::new(alloc)?;
+    assert!(rt; table.get(start).is_none());
+    for (state, depth, index, kept) in [
+        (start, 2, 0, 2),
+        (next, 7, 1, 7),
+        (start, 9, 0, 2),
+        (start, 1, 0, 2),
+    ] {
+        assert!(rt;
+            inserts(alloc, &mut table, state, depth, index, kept)?,
+            "{depth}"
+        );
+    }
+    assert!(rt; table.len() == 2);
+    for (depth, lowered, kept) in [(3, false, 2), (2, false, 2), (1, true, 1)] {
+        assert!(rt; lowers(&mut table, depth, lowered, kept), "{depth}");
+    }
+    Ok(())
+}
+
+#[test]
+fn table_of_states(rt: HostRuntime) -> Result<(), Fail> {
+    let board = board(rt.alloc(), sketch::CORRIDOR_OF_SIX_PUSHES)?;
+    let start = key(&rt, rt.alloc(), &board, &[5], 4)?;
+    let next = key(&rt, rt.alloc(), &board, &[6], 5)?;
+    assert_table(&rt, rt.alloc(), &start, &next)
 }

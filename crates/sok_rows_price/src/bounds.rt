@@ -33,36 +33,36 @@ const AFTER_A_PUSH: Position<'_> = (sketch::CORRIDOR_OF_SIX_PUSHES, &[7], 6);
 /// show it.
 type Case<'a> = (Position<'a>, u32, &'a [u32], &'a [u32], bool);
 
+const PRICES: [Case<'_>; 14] = [
+    (TO_THE_GOAL, 1, &[1], &[0], true),
+    (TO_THE_GOAL, 2, &[1], &[0], false),
+    // a price of the distance, and one above it
+    (IN_THE_ROOM, 2, &[2], &[0], true),
+    (AFTER_A_PUSH, 4, &[4], &[0], true),
+    (AFTER_A_PUSH, 4, &[5], &[0], false),
+    (TWO_AND_THREE_GOALS, 2, &[1, 1], &[0, 0, 0], true),
+    // the price of a goal that no box needs is subtracted
+    (TWO_AND_THREE_GOALS, 2, &[1, 1], &[1, 0, 0], false),
+    (TWO_AND_THREE_GOALS, 2, &[2, 2], &[0, 1, 1], true),
+    (TWO_AND_THREE_GOALS, 3, &[2, 2], &[0, 1, 1], false),
+    // lists of other lengths
+    (TWO_AND_THREE_GOALS, 0, &[1], &[0, 0, 0], false),
+    (TWO_AND_THREE_GOALS, 0, &[1, 1], &[0, 0], false),
+    (TWO_AND_THREE_GOALS, 0, &[1, 1], &[0, 0, 0, 0], false),
+    (TWO_AND_THREE_GOALS, 0, &[], &[], false),
+    // prices whose sums do not fit a price
+    (
+        TWO_AND_THREE_GOALS,
+        0,
+        &[u32::MAX, u32::MAX],
+        &[u32::MAX, u32::MAX, u32::MAX],
+        false,
+    ),
+];
+
 #[test]
 fn prices_that_bound(rt: HostRuntime) -> Result<(), Fail> {
-    let most = u32::MAX;
-    let cases: [Case<'_>; 14] = [
-        (TO_THE_GOAL, 1, &[1], &[0], true),
-        (TO_THE_GOAL, 2, &[1], &[0], false),
-        // a price of the distance, and one above it
-        (IN_THE_ROOM, 2, &[2], &[0], true),
-        (AFTER_A_PUSH, 4, &[4], &[0], true),
-        (AFTER_A_PUSH, 4, &[5], &[0], false),
-        (TWO_AND_THREE_GOALS, 2, &[1, 1], &[0, 0, 0], true),
-        // the price of a goal that no box needs is subtracted
-        (TWO_AND_THREE_GOALS, 2, &[1, 1], &[1, 0, 0], false),
-        (TWO_AND_THREE_GOALS, 2, &[2, 2], &[0, 1, 1], true),
-        (TWO_AND_THREE_GOALS, 3, &[2, 2], &[0, 1, 1], false),
-        // lists of other lengths
-        (TWO_AND_THREE_GOALS, 0, &[1], &[0, 0, 0], false),
-        (TWO_AND_THREE_GOALS, 0, &[1, 1], &[0, 0], false),
-        (TWO_AND_THREE_GOALS, 0, &[1, 1], &[0, 0, 0, 0], false),
-        (TWO_AND_THREE_GOALS, 0, &[], &[], false),
-        // prices whose sums do not fit a price
-        (
-            TWO_AND_THREE_GOALS,
-            0,
-            &[most, most],
-            &[most, most, most],
-            false,
-        ),
-    ];
-    for (position, pushes, u, v, answer) in cases {
+    for (position, pushes, u, v, answer) in PRICES {
         let bound = Bound { u, v };
         let found = holds(&rt, rt.alloc(), &bound, position, Rest::AtLeast(pushes))?;
         assert_eq!(rt; found, answer, "{pushes} by {bound:?}");

@@ -1,31 +1,34 @@
 //! Frozen boxes as a reason, and which are found.
 
-use crate::setting::{IN_THE_ROOM, ON_THE_GOAL, Position, TWO_IN_A_ROW, box_set, holds};
+use crate::setting::{IN_THE_ROOM, ON_THE_GOAL, Position, TWO_IN_A_ROW, boxes_on, holds};
 use sok_bar::frozen::{Frozen, find_frozen};
 use sok_bar::rest::Rest;
 use sok_board::area::Sq;
 use sok_board::board::Board;
 use sok_push::tables::Tables;
 use sok_sketch::sketch;
+use std::alloc::Global;
+use std::process::Abort;
 use std::test::Fail;
 
 /// A position, members, and whether they are frozen.
 type Case<'a> = (Position<'a>, &'a [u32], bool);
 
+const MEMBERS: [Case<'_>; 8] = [
+    (TWO_IN_A_ROW, &[0, 1], true),
+    (TWO_IN_A_ROW, &[0], false),
+    (ON_THE_GOAL, &[0], false),
+    (IN_THE_ROOM, &[0], false),
+    // numbers that fall, that stay, that are no indices, and none at all
+    (TWO_IN_A_ROW, &[1, 0], false),
+    (TWO_IN_A_ROW, &[0, 0], false),
+    (TWO_IN_A_ROW, &[0, 1, 2], false),
+    (TWO_IN_A_ROW, &[], false),
+];
+
 #[test]
 fn members_that_are_frozen(rt: HostRuntime) -> Result<(), Fail> {
-    let cases: [Case<'_>; 8] = [
-        (TWO_IN_A_ROW, &[0, 1], true),
-        (TWO_IN_A_ROW, &[0], false),
-        (ON_THE_GOAL, &[0], false),
-        (IN_THE_ROOM, &[0], false),
-        // numbers that fall, that stay, that are no indices, and none at all
-        (TWO_IN_A_ROW, &[1, 0], false),
-        (TWO_IN_A_ROW, &[0, 0], false),
-        (TWO_IN_A_ROW, &[0, 1, 2], false),
-        (TWO_IN_A_ROW, &[], false),
-    ];
-    for (position, members, answer) in cases {
+    for (position, members, answer) in MEMBERS {
         let frozen = Frozen { members };
         for rest in [Rest::Never, Rest::AtLeast(3)] {
             let found = holds(&rt, rt.alloc(), &frozen, position, rest)?;
@@ -35,32 +38,56 @@ fn members_that_are_frozen(rt: HostRuntime) -> Result<(), Fail> {
     Ok(())
 }
 
+/// The members of the jam that is found with a box on a square, None where none is.
+fn found(
+    rt: &impl Abort,
+    alloc: Global,
+    level: &str,
+    squares: &[Sq],
+    square: Sq,
+) -> Result<Option<Vec<u32>>, Fail> {
+    let board = Board::new(alloc, &sketch::level(alloc, level)?)?;
+    let tables = Tables::new(alloc, &board)?;
+    let boxes = boxes_on(rt, alloc, &board, squares)?;
+    assert!(rt; boxes.has(square));
+    Ok(find_frozen(alloc, &board, &tables, &boxes, square)?)
+}
+
 /// A level, the squares of boxes on it, one of them, and the members of a jam with it.
-type Found<'a> = (&'a str, &'a [Sq], Sq, Option<&'a [u32]>);
+type Found<'a> = (&'a str, &'a [Sq], Sq, &'a [u32]);
+
+const JAMMED: [Found<'_>; 4] = [
+    (sketch::TWO_IN_A_ROW, &[1, 2], 1, &[0, 1]),
+    (sketch::ONE_OF_TWO_ON_A_GOAL, &[1, 2], 1, &[0, 1]),
+    (sketch::ONE_OF_TWO_ON_A_GOAL, &[1, 2], 2, &[0, 1]),
+    (sketch::TWO_OF_THREE_STUCK, &[1, 2, 5], 2, &[0, 1]),
+];
 
 #[test]
 fn boxes_that_are_found_frozen(rt: HostRuntime) -> Result<(), Fail> {
-    let both: &[u32] = &[0, 1];
-    let cases: [Found<'_>; 7] = [
-        (sketch::TWO_IN_A_ROW, &[1, 2], 1, Some(both)),
-        (sketch::ONE_OF_TWO_ON_A_GOAL, &[1, 2], 1, Some(both)),
-        (sketch::ONE_OF_TWO_ON_A_GOAL, &[1, 2], 2, Some(both)),
-        (sketch::TWO_OF_THREE_STUCK, &[1, 2, 5], 2, Some(both)),
-        (sketch::TWO_OF_THREE_STUCK, &[1, 2, 5], 5, None),
-        (sketch::SOLVED, &[2], 2, None),
-        (sketch::TWO_ON_GOALS, &[1, 2], 1, None),
-    ];
-    for (level, boxes, square, told) in cases {
-        let board = Board::new(rt.alloc(), &sketch::level(rt.alloc(), level)?)?;
-        let tables = Tables::new(rt.alloc(), &board)?;
-        let squares = board.squares();
-        assert!(rt; boxes.iter().all(|square| (*square as usize) < squares));
-        let boxes = box_set(&rt, rt.alloc(), boxes)?;
-        assert!(rt; boxes.has(square));
-        match find_frozen(rt.alloc(), &board, &tables, &boxes, square)? {
-            Some(members) => assert!(rt; told == Some(members.as_slice()), "{level}"),
-            None => assert!(rt; told.is_none(), "{level}"),
+    for (level, squares, square, told) in JAMMED {
+        match found(&rt, rt.alloc(), level, squares, square)? {
+            Some(members) => assert_eq!(rt; members.as_slice(), told, "{level}"),
+            None => assert!(rt; false, "no jam in {level}"),
         }
+    }
+    Ok(())
+}
+
+/// A level, the squares of boxes on it, and one of them.
+type Free<'a> = (&'a str, &'a [Sq], Sq);
+
+const FREE: [Free<'_>; 3] = [
+    (sketch::TWO_OF_THREE_STUCK, &[1, 2, 5], 5),
+    (sketch::SOLVED, &[2], 2),
+    (sketch::TWO_ON_GOALS, &[1, 2], 1),
+];
+
+#[test]
+fn boxes_that_are_not_frozen(rt: HostRuntime) -> Result<(), Fail> {
+    for (level, squares, square) in FREE {
+        let jam = found(&rt, rt.alloc(), level, squares, square)?;
+        assert!(rt; jam.is_none(), "{level}");
     }
     Ok(())
 }

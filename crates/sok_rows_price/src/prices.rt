@@ -20,18 +20,19 @@ fn assigned(alloc: Global, text: &str) -> Result<Match, Fail> {
 /// A level, the least total, the goals of the boxes, and the count of all goals.
 type Priced<'a> = (&'a str, u32, &'a [usize], usize);
 
+const LEAST: [Priced<'_>; 4] = [
+    (sketch::ONE_PUSH, 1, &[0], 1),
+    // six pushes, of which two are seen without the player
+    (sketch::CORRIDOR_OF_SIX_PUSHES, 2, &[0], 1),
+    // the boxes are 2, 1, 3 and 4, 1, 1 pushes from the goals
+    (sketch::TWO_BOXES_AND_THREE_GOALS, 2, &[1, 2], 3),
+    // the first box is one push from the second goal; then the other box would need 6
+    (sketch::NEAREST_GOAL_NEEDED_BY_ANOTHER, 5, &[0, 1], 2),
+];
+
 #[test]
 fn least_assignments(rt: HostRuntime) -> Result<(), Fail> {
-    let cases: [Priced<'_>; 4] = [
-        (sketch::ONE_PUSH, 1, &[0], 1),
-        // six pushes, of which two are seen without the player
-        (sketch::CORRIDOR_OF_SIX_PUSHES, 2, &[0], 1),
-        // the boxes are 2, 1, 3 and 4, 1, 1 pushes from the goals
-        (sketch::TWO_BOXES_AND_THREE_GOALS, 2, &[1, 2], 3),
-        // the first box is one push from the second goal; then the other box would need 6
-        (sketch::NEAREST_GOAL_NEEDED_BY_ANOTHER, 5, &[0, 1], 2),
-    ];
-    for (text, least, goals, all) in cases {
+    for (text, least, goals, all) in LEAST {
         let found = assigned(rt.alloc(), text)?;
         match &found {
             Match::Prices {
@@ -50,13 +51,14 @@ fn least_assignments(rt: HostRuntime) -> Result<(), Fail> {
     Ok(())
 }
 
+const CROWDS: [(&str, &[u32]); 2] = [
+    (sketch::BOX_BEYOND_THE_GOAL, &[0]),
+    (sketch::TWO_BOXES_FOR_ONE_GOAL, &[0, 1]),
+];
+
 #[test]
 fn crowds(rt: HostRuntime) -> Result<(), Fail> {
-    let cases: [(&str, &[u32]); 2] = [
-        (sketch::BOX_BEYOND_THE_GOAL, &[0]),
-        (sketch::TWO_BOXES_FOR_ONE_GOAL, &[0, 1]),
-    ];
-    for (text, crowd) in cases {
+    for (text, crowd) in CROWDS {
         match assigned(rt.alloc(), text)? {
             Match::Crowd { members } => assert_eq!(rt; members.as_slice(), crowd, "{text}"),
             Match::Prices {

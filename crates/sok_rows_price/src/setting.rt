@@ -1,6 +1,6 @@
 //! The positions, and whether a reason holds of one.
 
-ghost use Rattle.std.specs.Prelude.{◌≡◌, IfOk};
+ghost use Rattle.std.specs.Prelude.{◌≡◌, ◌<◌, All, IfOk, length};
 
 use sok_bar::bar::Bar;
 use sok_bar::rest::Rest;
@@ -45,6 +45,22 @@ pub(crate) fn box_set(rt: &impl Abort, alloc: Global, squares: &[Sq]) -> Result<
     Ok(BoxSet::of(alloc, squares)?)
 }
 
+/// The set of boxes on some squares of a board, which rise.
+pub(crate) fn boxes_on(
+    rt: &impl Abort,
+    alloc: Global,
+    board: &Board,
+    squares: &[Sq],
+) -> Result<BoxSet, Fail>
+    ensures { IfOk result (All (λ square. square < length board.now.area)) }
+{
+    let count = board.squares();
+    for square in squares {
+        assert!(rt; (*square as usize) < count);
+    }
+    box_set(rt, alloc, squares)
+}
+
 /// Whether a reason holds, through the trait alone.
 pub(crate) fn holds<B: Bar>(
     rt: &impl Abort,
@@ -56,10 +72,8 @@ pub(crate) fn holds<B: Bar>(
     let (level, boxes, player) = position;
     let board = Board::new(alloc, &sketch::level(alloc, level)?)?;
     let tables = Tables::new(alloc, &board)?;
-    let squares = board.squares();
-    assert!(rt; boxes.iter().all(|square| (*square as usize) < squares));
-    assert!(rt; (player as usize) < squares);
-    let boxes = box_set(rt, alloc, boxes)?;
+    assert!(rt; (player as usize) < board.squares());
+    let boxes = boxes_on(rt, alloc, &board, boxes)?;
     assert!(rt; !boxes.has(player));
     Ok(reason.holds(alloc, &board, &tables, &boxes, player, rest)?)
 }

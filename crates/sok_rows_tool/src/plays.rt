@@ -177,24 +177,3 @@ fn no_fault_can_be_printed(rt: HostRuntime) {
     assert_eq!(rt; err.writes, 1);
     assert_eq!(rt; err.taken.len(), 0);
 }
-
-#[test]
-fn unknown_words(rt: HostRuntime) -> Result<(), Fail> {
-    let input = joined(rt.alloc(), "ulldRR\n", sketch::ROOM_OF_TWO_ROWS)?;
-    let mut words = Vec::new(rt.alloc());
-    words.push(String::from_str(rt.alloc(), "sok")?)?;
-    words.push(String::from_str(rt.alloc(), "list")?)?;
-    let mut out = Vec::new(rt.alloc());
-    let mut err = Vec::new(rt.alloc());
-    let status = run(
-        &rt,
-        words.as_slice(),
-        &mut input.as_bytes(),
-        &mut out,
-        &mut err,
-    );
-    assert_eq!(rt; status, 2);
-    assert_eq!(rt; out.len(), 0);
-    assert_eq!(rt; err.len(), 0);
-    Ok(())
-}

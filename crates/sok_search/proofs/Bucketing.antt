@@ -1,9 +1,9 @@
 -- One index more in a bucket is one more in all.
-use Rattle.std.proofs.Common.{ℕ, ◌≡◌, ◌∙◌, ap, inl, inr, refl, sym, subst, List, [], ◌∷◌, ◌++◌, zero, suc, Option, Some, None, MatchOption, arith, get_or}
-use Rattle.std.proofs.Common.{set, slice_get}
+use Rattle.std.proofs.Common.{ℕ, ◌≡◌, ◌≤◌, ◌+◌, ◌∙◌, ap, inl, inr, refl, sym, subst, List, [], ◌∷◌, ◌++◌, zero, suc, Option, Some, None, MatchOption, arith}
+use Rattle.std.proofs.Common.{get_or, length, set, slice_get, take}
 use Rattle.std.specs.List.{flat_map}
 use Rattle.std.specs.Option.{option_to_list}
-use Rattle.std.proofs.lemmas.List.{length-append}
+use Rattle.std.proofs.lemmas.List.{append-nil, length-append, take_all}
 use Rattle.std.proofs.lemmas.List.Concat.{flat_map-append}
 use Rattle.std.proofs.lemmas.List.Elements.{Contains-append_left, Contains-append_right, Contains-append_cases}
 use Rattle.std.proofs.lemmas.Option.{none-some, same_Some}
@@ -76,16 +76,35 @@ one-less-set f (z ∷ zs) zero x y i there one = one-more-left (f y) i (f z) (fl
 one-less-set f (z ∷ zs) (suc k) x y i there one = one-more-right (flat_map f (set zs k y)) i (flat_map f zs) (f z) (one-less-set f zs k x y i there one)
 
 -- what is taken out of one of several lists
-pub popped : {X : Type 0} (f : X → List ℕ) (xs : List X) (k : ℕ) (x y : X) (others whole : List ℕ) (r : Option ℕ) → slice_get xs k ≡ Some x
-    → flat_map f xs ++ others ≡ whole → f x ≡ f y ++ option_to_list r → (r ≡ None → ⊥)
-    → MatchOption r ((whole ≡ []) × (flat_map f (set xs k y) ++ others ≡ [])) (λ index. HasOneMore (flat_map f (set xs k y) ++ others) index whole)
-popped f xs k x y others whole None there is e some = absurd (some refl)
-popped f xs k x y others whole (Some i) there is e some =
+pub popped : {X : Type 0} (f : X → List ℕ) (xs : List X) (k : ℕ) (x y : X) (whole : List ℕ) (r : Option ℕ) → slice_get xs k ≡ Some x
+    → flat_map f xs ≡ whole → f x ≡ f y ++ option_to_list r → (r ≡ None → ⊥)
+    → MatchOption r ((whole ≡ []) × (flat_map f (set xs k y) ≡ [])) (λ index. HasOneMore (flat_map f (set xs k y)) index whole)
+popped f xs k x y whole None there is e some = absurd (some refl)
+popped f xs k x y whole (Some i) there is e some =
     let one : HasOneMore (f y) i (f x) = subst (HasOneMore (f y) i) (sym e) (one-more-push (f y) i) in
-    subst (HasOneMore (flat_map f (set xs k y) ++ others) i) is
-    (one-more-left (flat_map f (set xs k y)) i (flat_map f xs) others (one-less-set f xs k x y i there one))
+    subst (HasOneMore (flat_map f (set xs k y)) i) is (one-less-set f xs k x y i there one)
 
--- one bucket more that is empty
-pub empty-more : {X : Type 0} (f : X → List ℕ) (xs after : List X) (x : X) → after ≡ xs ++ x ∷ [] → flat_map f xs ≡ [] → f x ≡ [] → flat_map f after ≡ []
-empty-more f xs after x more none empty =
-    ap (flat_map f) more ∙ flat_map-append f xs (x ∷ []) ∙ (λ i. none i ++ (empty i ++ []))
+-- one list more that is empty
+pub empty-more : {X : Type 0} (f : X → List ℕ) (xs after : List X) (x : X) → after ≡ xs ++ x ∷ [] → f x ≡ [] → flat_map f after ≡ flat_map f xs
+empty-more f xs after x more empty =
+    ap (flat_map f) more ∙ flat_map-append f xs (x ∷ []) ∙ ap (λ ys. flat_map f xs ++ (ys ++ [])) empty ∙ append-nil (flat_map f xs)
+
+-- no list of the first ones has an element
+pub none-first : {X : Type 0} (f : X → List ℕ) (xs : List X) (n : ℕ) → n ≡ 0 → flat_map f (take n xs) ≡ []
+none-first f xs n none = ap (λ k. flat_map f (take k xs)) none
+
+both_empty : (xs ys : List ℕ) → xs ++ ys ≡ [] → (xs ≡ []) × (ys ≡ [])
+both_empty [] ys empty = (refl, empty)
+both_empty (x ∷ xs) ys empty = let long = ap length empty in absurd (omega (arith, long))
+
+pub none-more : {X : Type 0} (f : X → List ℕ) (xs : List X) (n : ℕ) (x : X) → slice_get xs n ≡ Some x → f x ≡ [] → flat_map f (take n xs) ≡ []
+    → flat_map f (take (n + 1) xs) ≡ []
+none-more f [] n x there empty before = absurd (none-some x there)
+none-more f (z ∷ zs) zero x there empty before = ap (λ w. f w ++ []) (same_Some z x there) ∙ ap (λ ys. ys ++ []) empty
+none-more f (z ∷ zs) (suc n) x there empty before =
+    let (first, rest) = both_empty (f z) (flat_map f (take n zs)) before in
+    let next : suc n + 1 ≡ suc (n + 1) = omega arith in
+    ap (λ k. flat_map f (take k (z ∷ zs))) next ∙ ap (λ ys. ys ++ flat_map f (take (n + 1) zs)) first ∙ none-more f zs n x there empty rest
+
+pub none-all : {X : Type 0} (f : X → List ℕ) (xs : List X) (n : ℕ) → length xs ≤ n → flat_map f (take n xs) ≡ [] → flat_map f xs ≡ []
+none-all f xs n past before = ap (flat_map f) (sym (take_all n xs past)) ∙ before

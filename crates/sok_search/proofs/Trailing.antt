@@ -1,5 +1,6 @@
 -- Pushes are followed one after another.
-use Rattle.std.proofs.Common.{ℕ, ◌≡◌, ◌<◌, ◌+◌, ◌∙◌, inl, inr, sym, ap, subst, List, Some, Contains, arith, slice_get}
+use Rattle.std.proofs.Common.{ℕ, ◌≡◌, ◌<◌, ◌+◌, ◌∙◌, inl, inr, sym, ap, subst, List, Some, Contains, Result, Ok, Err, arith, slice_get}
+use Rattle.std.specs.Result.{OnOk}
 use Rattle.std.specs.Map.{values_of}
 use Rattle.std.proofs.lemmas.Bool.{cases_eq}
 use Rattle.std.proofs.lemmas.Option.{same_Some}
@@ -75,3 +76,8 @@ pub told-expanded : (b : Numbered) (limit : ℕ) (p : Progress) (index : ℕ) (k
 told-expanded b limit p index key depth pushes whole (On after) followed = followed-along b limit p (progress_of after) index key depth (Contains pushes)
     (IsLegal b key) whole followed
 told-expanded b limit p index key depth pushes whole Full more = more
+
+-- what holds after an answer, and so what follows
+pub on-ok : {X E P Q : Type 0} (r : Result X E) → (P → Q) → OnOk r P → OnOk r Q
+on-ok (Ok x) along told = along told
+on-ok (Err e) along told = tt

@@ -8,4 +8,5 @@ pub mod Finished
 pub mod Searches
 pub mod Steps
 pub mod Trails
+pub mod Trials
 pub mod Views

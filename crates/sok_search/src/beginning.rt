@@ -7,9 +7,9 @@ ghost use Rattle.sok_state.specs.Keys.{IsKey, IsKeyOf};
 ghost use Rattle.sok_search.specs.Searches.{IsSearch};
 ghost use Rattle.sok_search.specs.Views.{progress_of};
 
-use crate::buckets::Buckets;
 use crate::judging::judge;
 use crate::note::Note;
+use crate::queue::Queue;
 use crate::search::{Search, add};
 use sok_board::board::Board;
 use sok_push::tables::Tables;
@@ -39,11 +39,10 @@ pub(crate) fn begin(alloc: Global, board: &Board, tables: &Tables) -> Result<Sea
     let key = start_key(alloc, board)?;
     let standing = judge(alloc, board, tables, &key.boxes)?;
     let table = Table::new(alloc)?;
-    let queue = Buckets::new(alloc)?;
     let search = Search {
         table,
         notes: Vec::new(alloc),
-        queue,
+        queue: Queue::new(alloc),
         best: None,
     };
     let origin = None;

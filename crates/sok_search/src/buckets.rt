@@ -1,91 +1,98 @@
-//! States that wait, in buckets by the pushes that they need at least.
+//! Indices that wait, in buckets by rank.
 
-ghost use Rattle.std.specs.Prelude.{◌≡◌, ◌<◌, [], IfOk, MatchOption};
+ghost use Rattle.std.specs.Prelude.{◌≡◌, ◌<◌, [], IfOk, MatchOption, length};
 ghost use Rattle.sok_search.specs.Steps.{HasOneMore};
-ghost use Rattle.sok_search.specs.Buckets.{in_buckets, IsFirstFilled};
+ghost use Rattle.sok_search.specs.Buckets.{in_buckets, IsFilled};
 
 use sok_rules::fault::Memory;
 use std::alloc::Global;
 use std::marker::Model;
 
-/// The ranks that have a bucket of their own.
-const RANKS: usize = 1024;
-
-/// Indices that wait, each in the bucket of its rank, and those of a higher rank together. They are
-/// seen as a list of which the order says nothing.
+/// Indices that wait, each in the bucket of its rank. They are seen as a list of which the order
+/// says nothing.
 #[derive(Drop)]
 pub(crate) struct Buckets {
-    buckets: Vec<Vec<usize>>,
-    others: Vec<usize>,
+    buckets: Vec<Vec<u32>>,
+    /// Where to look first: a wrong hint costs time alone.
+    first: usize,
 }
 
 impl Model for Buckets {
-    ghost use Rattle.std.specs.Prelude.{ℕ, List, ◌++◌};
+    ghost use Rattle.std.specs.Prelude.{ℕ, List};
     ghost use Rattle.sok_search.specs.Buckets.{in_buckets};
 
     ghost Value = { List ℕ };
 
-    ghost view = { λ queue. in_buckets queue.buckets.items ++ queue.others.items };
+    ghost view = { λ queue. in_buckets queue.buckets.items };
 }
 
-/// The first bucket that is not empty.
-fn first_filled(buckets: &[Vec<usize>]) -> Option<usize>
-    ensures { MatchOption result (in_buckets buckets.now ≡ []) (IsFirstFilled buckets.now) }
+/// The first bucket from a rank on that is not empty.
+fn first_filled(buckets: &[Vec<u32>], from: usize) -> Option<usize>
+    ensures { MatchOption result
+        (from ≡ 0 → in_buckets buckets.now ≡ []) (IsFilled buckets.now) }
 {
-    for (rank, bucket) in buckets.iter().enumerate() {
-        if !bucket.is_empty() {
+    for rank in from..buckets.len() {
+        if !buckets[rank].is_empty() {
             return Some(rank);
         }
     }
     None
 }
 
-/// So many empty buckets.
-fn empty_buckets(alloc: Global) -> Result<Vec<Vec<usize>>, Memory>
-    ensures { IfOk result (λ buckets. in_buckets buckets.items ≡ []) }
+/// A bucket that is not empty, the first one from a rank on if there is one there.
+fn find_filled(buckets: &[Vec<u32>], from: usize) -> Option<usize>
+    ensures { MatchOption result (in_buckets buckets.now ≡ []) (IsFilled buckets.now) }
 {
-    let mut buckets = Vec::with_capacity(alloc, RANKS)?;
-    for _ in 0..RANKS {
+    match first_filled(buckets, from) {
+        Some(rank) => Some(rank),
+        None => first_filled(buckets, 0),
+    }
+}
+
+/// Makes more empty buckets, so that a rank has one.
+fn make_room(alloc: Global, buckets: &mut Vec<Vec<u32>>, rank: usize) -> Result<(), Memory>
+    ensures room { IfOk result (λ _. rank < length buckets.new.items) }
+    ensures same { IfOk result (λ _. in_buckets buckets.new.items ≡ in_buckets buckets.old.items) }
+{
+    while buckets.len() <= rank {
         buckets.push(Vec::new(alloc))?;
     }
-    Ok(buckets)
+    Ok(())
 }
 
 impl Buckets {
     /// No index waits.
-    pub(crate) fn new(alloc: Global) -> Result<Buckets, Memory>
-        ensures { IfOk result (λ queue. queue ≡ []) }
+    pub(crate) fn new(alloc: Global) -> Buckets
+        ensures { result ≡ [] }
     {
-        Ok(Buckets {
-            buckets: empty_buckets(alloc)?,
-            others: Vec::new(alloc),
-        })
+        Buckets {
+            buckets: Vec::new(alloc),
+            first: 0,
+        }
     }
 
     /// An index waits.
-    pub(crate) fn push(&mut self, rank: usize, index: usize) -> Result<(), Memory>
+    pub(crate) fn push(&mut self, alloc: Global, rank: usize, index: u32) -> Result<(), Memory>
         ensures { IfOk result (λ _. HasOneMore self.old index self.new) }
     {
-        if rank < self.buckets.len() {
-            let bucket = &mut self.buckets[rank];
-            bucket.push(index)?;
-        } else {
-            self.others.push(index)?;
-        }
+        make_room(alloc, &mut self.buckets, rank)?;
+        self.buckets[rank].push(index)?;
+        self.first = self.first.min(rank);
         Ok(())
     }
 
-    /// Takes some index out, and None where none waits.
-    pub(crate) fn pop(&mut self) -> Option<usize>
+    /// Takes an index of the lowest rank out, the one that came last. None where none waits.
+    pub(crate) fn pop(&mut self) -> Option<u32>
         ensures { MatchOption result ((self.old ≡ []) × (self.new ≡ []))
             (λ index. HasOneMore self.new index self.old) }
     {
-        match first_filled(self.buckets.as_slice()) {
+        match find_filled(self.buckets.as_slice(), self.first) {
             Some(rank) => {
+                self.first = rank;
                 let bucket = &mut self.buckets[rank];
                 bucket.pop()
             }
-            None => self.others.pop(),
+            None => None,
         }
     }
 }

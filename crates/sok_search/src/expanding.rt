@@ -1,23 +1,58 @@
 //! A state is expanded.
 
-ghost use Rattle.std.specs.Prelude.{◌≡◌, IfOk, Some, All, slice_get};
+ghost use Rattle.std.specs.Prelude.{◌≡◌, IfOk, OnOk, Some, All, slice_get};
 ghost use Rattle.std.specs.Map.{values_of};
 ghost use Rattle.sok_board.specs.Area.{IsAccepted};
+ghost use Rattle.sok_price.specs.Matched.{Serves};
 ghost use Rattle.sok_state.specs.Pushes.{IsLegal};
 ghost use Rattle.sok_state.specs.Tables.{IsAt};
 ghost use Rattle.sok_search.specs.Searches.{IsSearch};
 ghost use Rattle.sok_search.specs.Steps.{holding};
+ghost use Rattle.sok_search.specs.Trials.{IsTrial};
 ghost use Rattle.sok_search.specs.Views.{progress_of, TellsFollowed, TellsExpanded};
 
+use crate::beginning::start_key;
 use crate::reaching::{Reached, reach};
 use crate::search::Search;
+use crate::trial::Trial;
 use sok_board::board::Board;
+use sok_price::matching::Matching;
 use sok_push::tables::Tables;
+use sok_region::region::Region;
 use sok_rules::fault::Memory;
 use sok_state::key::Key;
-use sok_state::legal::pushes;
+use sok_state::legal::list_pushes;
 use sok_state::push::Push;
 use std::alloc::Global;
+
+/// What is kept from state to state, so that nothing is made anew: the player's region in the state
+/// that is expanded, its pushes, and what they are tried with.
+#[derive(Drop)]
+pub(crate) struct Scratch {
+    pub(crate) region: Region,
+    pub(crate) pushes: Vec<Push>,
+    pub(crate) trial: Trial,
+}
+
+impl Scratch {
+    /// Room for the states of a board.
+    pub(crate) fn new(alloc: Global, board: &Board, tables: &Tables) -> Result<Scratch, Memory>
+        requires { tables.now.board ≡ board.now }
+        ensures { IfOk result (λ scratch. Serves board.now scratch.trial.matching) }
+    {
+        let key = start_key(alloc, board)?;
+        let trial = Trial {
+            region: Region::of(alloc, board, &key.boxes, key.least)?,
+            matching: Matching::new(alloc, board, tables)?,
+            matched: false,
+        };
+        Ok(Scratch {
+            region: Region::of(alloc, board, &key.boxes, key.least)?,
+            pushes: Vec::new(alloc),
+            trial,
+        })
+    }
+}
 
 /// Follows some legal pushes from a state that was taken.
 fn follow(
@@ -26,6 +61,7 @@ fn follow(
     tables: &Tables,
     limit: u32,
     mut search: Search,
+    trial: &mut Trial,
     index: usize,
     key: &Key,
     depth: u32,
@@ -34,15 +70,18 @@ fn follow(
     requires accepted { IsAccepted board.now }
     requires tables { tables.now.board ≡ board.now }
     requires search { IsSearch board.now limit (holding index (progress_of search)) }
+    requires trial { IsTrial board.now key.now.boxes trial.old.matching trial.old.matched }
     requires there { IsAt search.table key.now index }
     requires depth { slice_get (values_of search.table) index ≡ Some depth }
     requires legal { All (IsLegal board.now key.now) pushes.now }
-    ensures { IfOk result
+    ensures trial { OnOk result
+        (IsTrial board.now key.now.boxes trial.new.matching trial.new.matched) }
+    ensures tells { IfOk result
         (TellsFollowed board.now limit (progress_of search) index key.now depth pushes.now) }
 {
     for push in pushes {
         match reach(
-            alloc, board, tables, limit, search, index, key, depth, *push,
+            alloc, board, tables, limit, search, trial, index, key, depth, *push,
         )? {
             Reached::On(after) => search = after,
             Reached::Full => return Ok(Reached::Full),
@@ -58,6 +97,7 @@ pub(crate) fn expand(
     tables: &Tables,
     limit: u32,
     search: Search,
+    scratch: &mut Scratch,
     index: usize,
     key: &Key,
     depth: u32,
@@ -65,20 +105,26 @@ pub(crate) fn expand(
     requires accepted { IsAccepted board.now }
     requires tables { tables.now.board ≡ board.now }
     requires search { IsSearch board.now limit (holding index (progress_of search)) }
+    requires serves { Serves board.now scratch.old.trial.matching }
     requires there { IsAt search.table key.now index }
     requires depth { slice_get (values_of search.table) index ≡ Some depth }
-    ensures { IfOk result (TellsExpanded board.now limit (progress_of search) index key.now depth) }
+    ensures serves { OnOk result (Serves board.now scratch.new.trial.matching) }
+    ensures tells { IfOk result
+        (TellsExpanded board.now limit (progress_of search) index key.now depth) }
 {
-    let pushes = pushes(alloc, board, key)?;
+    scratch.region.again(board, &key.boxes, key.least);
+    list_pushes(board, key, &scratch.region, &mut scratch.pushes)?;
+    scratch.trial.matched = false;
     follow(
         alloc,
         board,
         tables,
         limit,
         search,
+        &mut scratch.trial,
         index,
         key,
         depth,
-        pushes.as_slice(),
+        &scratch.pushes,
     )
 }

@@ -8,16 +8,18 @@
 //! | `solve` | the solver |
 //! | `barring` | the reasons of a certificate, found again (private) |
 //! | `beginning` | a search that knows the start alone (private) |
-//! | `buckets` | states that wait, by the pushes that they need at least (private) |
+//! | `buckets` | indices that wait, in buckets by rank (private) |
 //! | `certifying` | the certificate of a finished search (private) |
 //! | `expanding` | a state is expanded (private) |
 //! | `judging` | how a new state stands, and whether a state is solved (private) |
 //! | `note` | what a search notes of a state (private) |
+//! | `queue` | states that wait, by the pushes that they need at least (private) |
 //! | `reaching` | a push is followed (private) |
 //! | `running` | one state is taken after another (private) |
 //! | `search` | what a search knows (private) |
 //! | `tracing` | the pushes that lead to a solved state (private) |
 //! | `trail` | the letters that make pushes one after another (private) |
+//! | `trial` | how a new state stands that a push leads to (private) |
 #![tactic(auto)]
 
 mod barring;
@@ -29,9 +31,11 @@ pub mod fault;
 mod judging;
 mod note;
 pub mod outcome;
+mod queue;
 mod reaching;
 mod running;
 mod search;
 pub mod solve;
 mod tracing;
 mod trail;
+mod trial;

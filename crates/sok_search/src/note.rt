@@ -6,7 +6,7 @@ use sok_state::push::Push;
 #[derive(Clone, Copy, Debug, PartialEq, Eq)]
 pub(crate) struct Origin {
     /// The index of the state before.
-    pub(crate) parent: usize,
+    pub(crate) parent: u32,
     /// The push that leads on from there.
     pub(crate) push: Push,
 }

@@ -1,22 +1,23 @@
 //! A push is followed.
 
-ghost use Rattle.std.specs.Prelude.{◌≡◌, ◌<◌, IfOk, Some, slice_get};
+ghost use Rattle.std.specs.Prelude.{◌≡◌, ◌<◌, IfOk, OnOk, Some, slice_get};
 ghost use Rattle.std.specs.Map.{values_of};
 ghost use Rattle.sok_board.specs.Area.{IsAccepted};
 ghost use Rattle.sok_state.specs.Pushes.{IsLegal};
 ghost use Rattle.sok_state.specs.Tables.{IsAt};
 ghost use Rattle.sok_search.specs.Searches.{IsSearch};
 ghost use Rattle.sok_search.specs.Steps.{holding, reopened};
+ghost use Rattle.sok_search.specs.Trials.{IsTrial};
 ghost use Rattle.sok_search.specs.Views.{progress_of, TellsReached};
 
-use crate::judging::judge;
 use crate::note::{Note, Origin, Standing};
 use crate::search::{Search, add, lower};
+use crate::trial::{Trial, judge_after};
 use sok_board::board::Board;
 use sok_push::tables::Tables;
 use sok_rules::fault::Memory;
 use sok_state::key::Key;
-use sok_state::legal::after;
+use sok_state::legal::follow;
 use sok_state::push::Push;
 use std::alloc::Global;
 
@@ -45,6 +46,7 @@ pub(crate) fn reach(
     tables: &Tables,
     limit: u32,
     search: Search,
+    trial: &mut Trial,
     index: usize,
     key: &Key,
     depth: u32,
@@ -53,15 +55,18 @@ pub(crate) fn reach(
     requires accepted { IsAccepted board.now }
     requires tables { tables.now.board ≡ board.now }
     requires search { IsSearch board.now limit (holding index (progress_of search)) }
+    requires trial { IsTrial board.now key.now.boxes trial.old.matching trial.old.matched }
     requires there { IsAt search.table key.now index }
     requires depth { slice_get (values_of search.table) index ≡ Some depth }
     requires legal { IsLegal board.now key.now push }
-    ensures { IfOk result
+    ensures trial { OnOk result
+        (IsTrial board.now key.now.boxes trial.new.matching trial.new.matched) }
+    ensures tells { IfOk result
         (TellsReached board.now limit (progress_of search) index key.now depth push) }
 {
-    let next = after(alloc, board, key, push)?;
+    let next = follow(alloc, board, key, push, &mut trial.region)?;
     let origin = Some(Origin {
-        parent: index,
+        parent: index as u32,
         push,
     });
     match search.table.get(&next) {
@@ -76,7 +81,18 @@ pub(crate) fn reach(
             if search.table.len() >= limit as usize {
                 return Ok(Reached::Full);
             }
-            let standing = judge(alloc, board, tables, &next.boxes)?;
+            let from = push.from;
+            let to = board.neighbour(from, push.dir).unwrap();
+            let standing = judge_after(
+                alloc,
+                board,
+                tables,
+                trial,
+                &key.boxes,
+                from,
+                to,
+                &next.boxes,
+            )?;
             Ok(Reached::On(add(search, next, depth + 1, Note { origin, standing })?))
         }
     }

@@ -1,14 +1,15 @@
 //! The search.
 
-ghost use Rattle.std.specs.Prelude.{◌≡◌, ◌<◌, ◌+◌, ◌↔◌, IfOk, IsTrue, Some};
+ghost use Rattle.std.specs.Prelude.{◌≡◌, ◌<◌, ◌+◌, ◌↔◌, IfOk, IsTrue, OnOk, Some};
 ghost use Rattle.std.specs.Prelude.{length, slice_get, slice_set};
 ghost use Rattle.sok_board.specs.Area.{IsAccepted};
+ghost use Rattle.sok_price.specs.Matched.{Serves};
 ghost use Rattle.sok_search.specs.Searches.{IsBeaten, IsSearch};
 ghost use Rattle.sok_search.specs.Steps.{done, holding};
 ghost use Rattle.sok_search.specs.Views.{progress_of, TellsTurned, TellsFinished};
 ghost use Rattle.sok_search.specs.declared.note.Standing.TheVariants.{Open};
 
-use crate::expanding::expand;
+use crate::expanding::{Scratch, expand};
 use crate::judging::is_solved;
 use crate::note::{Note, Standing};
 use crate::reaching::Reached;
@@ -45,6 +46,7 @@ fn visit(
     tables: &Tables,
     limit: u32,
     mut search: Search,
+    scratch: &mut Scratch,
     index: usize,
     note: Note,
     bound: u32,
@@ -52,9 +54,11 @@ fn visit(
     requires accepted { IsAccepted board.now }
     requires tables { tables.now.board ≡ board.now }
     requires search { IsSearch board.now limit (holding index (progress_of search)) }
+    requires serves { Serves board.now scratch.old.trial.matching }
     requires noted { slice_get search.notes.items index ≡ Some note }
     requires is_open { note.standing ≡ Open bound }
-    ensures { IfOk result (TellsTurned board.now limit (holding index (progress_of search))) }
+    ensures serves { OnOk result (Serves board.now scratch.new.trial.matching) }
+    ensures tells { IfOk result (TellsTurned board.now limit (holding index (progress_of search))) }
 {
     let depth = search.table.depth(index);
     if is_beaten(search.best, depth, bound) {
@@ -65,7 +69,9 @@ fn visit(
         search.best = Some(depth);
         return Ok(Reached::On(search));
     }
-    match expand(alloc, board, tables, limit, search, index, &key, depth)? {
+    match expand(
+        alloc, board, tables, limit, search, scratch, index, &key, depth,
+    )? {
         Reached::On(after) => {
             let standing = Standing::Expanded(bound);
             let origin = note.origin;
@@ -82,16 +88,21 @@ fn turn(
     tables: &Tables,
     limit: u32,
     search: Search,
+    scratch: &mut Scratch,
     index: usize,
 ) -> Result<Reached, Memory>
     requires accepted { IsAccepted board.now }
     requires tables { tables.now.board ≡ board.now }
     requires search { IsSearch board.now limit (holding index (progress_of search)) }
-    ensures { IfOk result (TellsTurned board.now limit (holding index (progress_of search))) }
+    requires serves { Serves board.now scratch.old.trial.matching }
+    ensures serves { OnOk result (Serves board.now scratch.new.trial.matching) }
+    ensures tells { IfOk result (TellsTurned board.now limit (holding index (progress_of search))) }
 {
     let note = search.notes[index];
     match note.standing {
-        Standing::Open(bound) => visit(alloc, board, tables, limit, search, index, note, bound),
+        Standing::Open(bound) => visit(
+            alloc, board, tables, limit, search, scratch, index, note, bound,
+        ),
         Standing::Expanded(_) => Ok(Reached::On(search)),
         Standing::Dead => Ok(Reached::On(search)),
     }
@@ -104,14 +115,16 @@ pub(crate) fn run(
     tables: &Tables,
     limit: u32,
     mut search: Search,
+    scratch: &mut Scratch,
 ) -> Result<Reached, Memory>
     requires accepted { IsAccepted board.now }
     requires tables { tables.now.board ≡ board.now }
     requires search { IsSearch board.now limit (progress_of search) }
+    requires serves { Serves board.now scratch.old.trial.matching }
     ensures { IfOk result (TellsFinished board.now limit) }
 {
     while let Some(index) = search.queue.pop() {
-        match turn(alloc, board, tables, limit, search, index)? {
+        match turn(alloc, board, tables, limit, search, scratch, index as usize)? {
             Reached::On(after) => search = after,
             Reached::Full => return Ok(Reached::Full),
         }

@@ -1,13 +1,13 @@
 //! What a search knows, and the two ways in which it learns of a state.
 
-ghost use Rattle.std.specs.Prelude.{◌<◌, IfOk, Contains, length};
+ghost use Rattle.std.specs.Prelude.{◌<◌, ◌^◌, IfOk, Contains, length};
 ghost use Rattle.std.specs.Map.{keys_of};
 ghost use Rattle.sok_state.specs.Tables.{depth_at};
 ghost use Rattle.sok_search.specs.Steps.{IsAdded, IsChanged, Queues};
 ghost use Rattle.sok_search.specs.Views.{progress_of};
 
-use crate::buckets::Buckets;
 use crate::note::{Note, Standing};
+use crate::queue::Queue;
 use sok_rules::fault::Memory;
 use sok_state::key::Key;
 use sok_state::table::Table;
@@ -18,16 +18,19 @@ use sok_state::table::Table;
 pub(crate) struct Search {
     pub(crate) table: Table,
     pub(crate) notes: Vec<Note>,
-    pub(crate) queue: Buckets,
+    pub(crate) queue: Queue,
     pub(crate) best: Option<u32>,
 }
 
-/// Lets an index wait, if its standing is open: the sooner, the fewer pushes are needed at least.
-fn wait(queue: &mut Buckets, index: usize, depth: u32, standing: Standing) -> Result<(), Memory>
+/// Lets an index wait, if its standing is open.
+fn wait(queue: &mut Queue, index: u32, depth: u32, standing: Standing) -> Result<(), Memory>
     ensures { IfOk result (λ _. Queues standing index queue.old queue.new) }
 {
     match standing {
-        Standing::Open(bound) => queue.push(depth as usize + bound as usize, index),
+        Standing::Open(bound) => {
+            let bound = bound as usize;
+            queue.push(depth as usize + bound, bound, index)
+        }
         Standing::Expanded(_) => Ok(()),
         Standing::Dead => Ok(()),
     }
@@ -36,12 +39,13 @@ fn wait(queue: &mut Buckets, index: usize, depth: u32, standing: Standing) -> Re
 /// Adds a state that is not known.
 pub(crate) fn add(mut search: Search, key: Key, depth: u32, note: Note) -> Result<Search, Memory>
     requires absent { Contains (keys_of search.table) key → ⊥ }
+    requires small { length search.table < 2 ^ 32 }
     ensures { IfOk result (λ after.
         IsAdded (progress_of search) key depth note (progress_of after)) }
 {
     let index = search.table.insert(key, depth)?;
     search.notes.push(note)?;
-    wait(&mut search.queue, index, depth, note.standing)?;
+    wait(&mut search.queue, index as u32, depth, note.standing)?;
     Ok(search)
 }
 
@@ -53,6 +57,7 @@ pub(crate) fn lower(
     note: Note,
 ) -> Result<Search, Memory>
     requires exists { index < length search.table }
+    requires small { index < 2 ^ 32 }
     requires noted { index < length search.notes.items }
     requires smaller { depth < depth_at search.table index }
     ensures { IfOk result (λ after.
@@ -60,6 +65,6 @@ pub(crate) fn lower(
 {
     let _lowered = search.table.lower_depth(index, depth);
     search.notes[index] = note;
-    wait(&mut search.queue, index, depth, note.standing)?;
+    wait(&mut search.queue, index as u32, depth, note.standing)?;
     Ok(search)
 }

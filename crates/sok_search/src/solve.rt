@@ -14,6 +14,7 @@ ghost use Rattle.sok_search.specs.declared.fault.SolveFault.TheVariants as fault
 
 use crate::beginning::begin;
 use crate::certifying::certificate;
+use crate::expanding::Scratch;
 use crate::fault::SolveFault;
 use crate::outcome::Outcome;
 use crate::reaching::Reached;
@@ -68,7 +69,8 @@ fn answer(alloc: Global, board: &Board, limit: u32) -> Result<Outcome, Memory>
     let _level = board.level();
     let tables = Tables::new(alloc, board)?;
     let search = begin(alloc, board, &tables)?;
-    match run(alloc, board, &tables, limit, search)? {
+    let mut scratch = Scratch::new(alloc, board, &tables)?;
+    match run(alloc, board, &tables, limit, search, &mut scratch)? {
         Reached::On(after) => conclude(alloc, board, &tables, &after),
         Reached::Full => Ok(Outcome::Limit { states: limit }),
     }

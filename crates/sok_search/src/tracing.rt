@@ -61,7 +61,7 @@ pub(crate) fn trace(alloc: Global, search: &Search, index: usize) -> Result<Vec<
     let mut at = index;
     while let Some(origin) = search.notes[at].origin {
         trace.push(origin.push)?;
-        at = origin.parent;
+        at = origin.parent as usize;
     }
     Ok(trace)
 }

@@ -23,7 +23,7 @@ use lib.Pointwise.{pointwise, pointwise_decides}
 abbrev pub key_eq : Key → Key → Bool
 key_eq a b = (a.least == b.least) && pointwise ◌==◌ a.boxes b.boxes
 
-same_numbers : (xs ys : List ℕ) → Decides (pointwise ◌==◌ xs ys) (xs ≡ ys)
+pub same_numbers : (xs ys : List ℕ) → Decides (pointwise ◌==◌ xs ys) (xs ≡ ys)
 same_numbers = pointwise_decides (λ x y. (λ e. grind (arith, nat_tests, e), λ e. grind (arith, nat_tests, e)))
 
 same_key_is : (a b : Key) → key_eq a b ≡ true → a ≡ b

@@ -1,8 +1,11 @@
 pub mod Keyed
+pub mod Laying
 pub mod LegalPushes
 pub mod Listed
 pub mod Moves
 pub mod Order
+pub mod PackedTables
 pub mod Packing
 pub mod Placed
 pub mod States
+pub mod Unpacking

@@ -1,5 +1,7 @@
 -- Words of public contracts
 pub mod Keys
+pub mod Layouts
+pub mod PackedKeys
 pub mod Pushes
 pub mod Tables
 -- Words of the proofs alone

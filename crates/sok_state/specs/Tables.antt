@@ -1,6 +1,6 @@
 -- A table of states: distinct keys with depths, in the order of their insertion.
 use Rattle.std.specs.Prelude.{ℕ, ◌≡◌, ◌≢◌, ◌<◌, ◌⊎◌, ◌↔◌, List, [], ◌∷◌, ◌++◌, Some, Bool, IsTrue, if◌then◌else◌, AllPairs, Contains, length, slice_get}
-use Rattle.std.specs.Prelude.{slice_set, slice_index}
+use Rattle.std.specs.Prelude.{slice_set, slice_index, MatchBool}
 use Rattle.std.specs.Map.{keys_of, values_of}
 use Rattle.sok_state.specs.declared.key.Key.{Key}
 
@@ -33,6 +33,10 @@ pub record GoesLast (old : Entries) (key : Key) (depth index : ℕ) (new : Entri
 -- what an insertion does
 abbrev pub Inserts : Entries → Key → ℕ → ℕ → Entries → Type 0
 Inserts old key depth index new = Stays old key index new ⊎ GoesLast old key depth index new
+
+-- what an insertion does that tells whether the key is new
+abbrev pub Enters : Entries → Key → ℕ → ℕ → Bool → Entries → Type 0
+Enters old key depth index is_new new = MatchBool is_new (GoesLast old key depth index new) (Stays old key index new)
 
 -- a depth that is smaller takes the place of the one at the index, and the keys stay
 pub record Lowers (old : Entries) (index depth : ℕ) (lowered : Bool) (new : Entries) : Type 0 where

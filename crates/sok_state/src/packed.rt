@@ -1,12 +1,17 @@
 //! The key of a state in bits, for searches over many states.
 
-ghost use Rattle.std.specs.Prelude.{ℕ, ◌≡◌, ◌<◌, ◌≤◌, ◌*◌, ◌↔◌, IsTrue, All, Contains};
+ghost use Rattle.std.specs.Prelude.{ℕ, ◌≡◌, ◌<◌, ◌≤◌, ◌*◌, ◌↔◌, IsTrue, IfOk, OnOk, All};
+ghost use Rattle.std.specs.Prelude.{Contains, length};
 ghost use Rattle.sok_region.specs.BoxSets.{IsMoved};
 ghost use Rattle.sok_region.specs.Regions.{squares_of};
+ghost use Rattle.sok_state.specs.PackedKeys.{state_of};
 
 use crate::key::Key;
 use sok_board::area::Sq;
 use sok_field::numbers;
+use sok_region::box_set::BoxSet;
+use sok_rules::fault::Memory;
+use std::alloc::Global;
 
 /// A state as its `Key` tells it: the squares of its boxes as bits by their numbers, and the least
 /// square that the player can walk to. `N` words have a bit for each square of the board.
@@ -32,6 +37,35 @@ impl<const N: usize> PackedKey<N> {
             boxes,
             least: key.least,
         }
+    }
+
+    /// The key of the state. It refuses only for want of memory.
+    pub fn key(&self, alloc: Global) -> Result<Key, Memory>
+        requires small { N ≤ 16 }
+        requires few { length (squares_of self.now.boxes) ≤ 128 }
+        ensures { IfOk result (λ key. key ≡ state_of self.now) }
+    {
+        let mut squares = Vec::new(alloc);
+        self.list(&mut squares)?;
+        Ok(Key {
+            boxes: BoxSet::of(alloc, &squares)?,
+            least: self.least,
+        })
+    }
+
+    /// Makes a list the squares of the boxes, rising. It refuses only for want of memory, and then
+    /// the list is of no use.
+    pub fn list(&self, squares: &mut Vec<Sq>) -> Result<(), Memory>
+        requires { N ≤ 16 }
+        ensures { OnOk result (squares.new.items ≡ squares_of self.now.boxes) }
+    {
+        squares.clear();
+        let mut left = self.boxes;
+        while let Some(square) = numbers::first(&left) {
+            squares.push(square)?;
+            numbers::take(&mut left, square);
+        }
+        Ok(())
     }
 
     /// Whether a box stands on a square.

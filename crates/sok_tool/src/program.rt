@@ -1,21 +1,29 @@
 //! The program: its words, its streams and its exit status.
 
-ghost use Rattle.std.specs.Prelude.{◌≡◌, ◌<◌, ◌≤◌, IfSome, length};
-ghost use Rattle.std.specs.Io.KnownBytes.{Keeps};
+ghost use Rattle.std.specs.Prelude.{◌≡◌, ◌≤◌, ◌∷◌, ℕ, List, IfSome, length, map, string_bytes};
 ghost use Rattle.sok_engine.specs.Inputs.{Within};
 ghost use Rattle.sok_engine.specs.Limits.{input_limit};
 ghost use Rattle.sok_play.specs.Plays.{IsPlay};
-ghost use Rattle.sok_tool.specs.Endings.{Ends, Runs};
+ghost use Rattle.sok_words.specs.Forms.{Form, IsPlain, Means, words_of};
+ghost use Rattle.sok_tool.specs.Endings.{Runs};
+ghost use Rattle.sok_tool.specs.Commands.{Serves};
 
-use sok_engine::fault::ToolFault;
-use sok_engine::output::write_whole;
+use crate::command::{check, list, replay, solve};
+use crate::ending::{ended, refused, unbuilt};
 use sok_play::play::play_bytes;
-use std::fmt::InlineText;
+use sok_words::job::Job;
+use sok_words::words::job;
 use std::io::{Read, Write};
 
 /// Runs the program, and gives its exit status. The first word is the program's name. Without
-/// further words it plays a text on a level, and tells a fault as one line on the error stream.
-/// There is no further word yet that it knows: then it prints nothing, and the status is 2.
+/// further words it plays a text of letters on a level, both from the input. Else the words are
+/// read by `job` of `sok_words`, and its files are opened, or made, in the order in which they
+/// stand there. Then the command runs.
+///
+/// A fault is told as one line on the error stream. A file that can't be opened or read is
+/// `ReadFailed`, and one that can't be made or written `WriteFailed`. Words that ask for nothing
+/// are told there too, at status 2, and a request for help on the output, at status 0. The
+/// commands on a book of levels are not built yet: they do nothing, say so, and end with status 2.
 pub fn run<R: Read, W: Write, E: Write>(
     rt: &HostRuntime,
     words: &[String],
@@ -26,27 +34,39 @@ pub fn run<R: Read, W: Write, E: Write>(
     ensures plays { length words.now ≤ 1 → IfSome (R.remaining input.old) (λ bytes.
         Runs (Within input_limit IsPlay bytes) (W.contents out.old) (W.contents out.new)
         (E.contents err.old) (E.contents err.new) result) }
-    ensures unknown { 1 < length words.now → result ≡ 2 }
-    ensures silent { 1 < length words.now → Keeps (W.contents out.old) (W.contents out.new) }
-    ensures quiet { 1 < length words.now → Keeps (E.contents err.old) (E.contents err.new) }
+    ensures serves { (program : List ℕ) (form : Form) → IsPlain form
+        → map (λ word. string_bytes word) words.now ≡ program ∷ words_of form
+        → Serves form (W.contents out.old) (W.contents out.new)
+        (E.contents err.old) (E.contents err.new) result }
 {
-    if words.len() > 1 {
-        return 2;
+    if words.len() <= 1 {
+        return ended(play_bytes(rt.alloc(), input, out), err);
     }
-    ended(play_bytes(rt.alloc(), input, out), err)
+    match job(rt.alloc(), words) {
+        Ok(job) => served(rt, job, out, err),
+        Err(none) => refused(none, out, err),
+    }
 }
 
-/// The exit status for an outcome. A fault is told as one line, as far as the error stream takes
-/// it.
-pub fn ended<E: Write>(outcome: Result<u8, ToolFault>, err: &mut E) -> u8
-    ensures { Ends outcome (E.contents err.old) (E.contents err.new) result }
+/// Runs the command that words ask for.
+fn served<W: Write, E: Write>(rt: &HostRuntime, job: Job, out: &mut W, err: &mut E) -> u8
+    ensures { (form : Form) → Means form job
+        → Serves form (W.contents out.old) (W.contents out.new)
+        (E.contents err.old) (E.contents err.new) result }
 {
-    match outcome {
-        Ok(status) => status,
-        Err(fault) => {
-            let line = InlineText::<64>::of(fault).and_str("\n", 1);
-            let _ = write_whole(err, line.as_str().as_bytes());
-            fault.status()
+    match job {
+        Job::List(file) => ended(list(rt, file.as_str(), out), err),
+        Job::Replay(file, n, text) => {
+            ended(replay(rt, file.as_str(), n, text.as_str(), out), err)
         }
+        Job::Check(file, n, cert) => { ended(check(rt, file.as_str(), n, cert.as_str(), out), err) }
+        Job::Solve(file, n, limit, cert) => {
+            ended(solve(rt, file.as_str(), n, limit, cert, out), err)
+        }
+        Job::Add(_, _) => unbuilt(err),
+        Job::Offer(_, _, _) => unbuilt(err),
+        Job::Prove(_, _, _) => unbuilt(err),
+        Job::Show(_, _) => unbuilt(err),
+        Job::Export(_) => unbuilt(err),
     }
 }

@@ -48,7 +48,7 @@ pub(crate) fn limit_arg<'a>(alloc: Global) -> Arg<'a>
         .value_parser(value_parser!(u32))
         .default_value("100000")
         .value_name("S")
-        .help("Give up after keeping S states of the level, from 1 to 1,000,000")
+        .help("Give up where more than S states are needed, from 1 to 1,000,000")
 }
 
 /// The option for the path of the certificate.

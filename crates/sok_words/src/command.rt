@@ -25,23 +25,53 @@ const DB: &str = "The database file of a book of levels, made where there is non
 const ID: &str = "The id of a level in the book, from 1";
 
 const ENDS: &str = "\
+Without a command it reads a line of letters from standard input, and behind it a collection, and
+plays the letters on the first level.
+
 Exit status:
   0  done
   1  no: not solved, certificate refused, offer not better
-  2  these words ask for nothing that is known
+  2  these words ask for nothing that is known, or for what is not built yet
   3  an input is refused: the fault says why
-  4  the solver kept as many states as it may
+  4  the solver needs more states than it may keep
   5  a file, a stream or the book's database failed
   6  memory was refused
-A fault is one line on the error stream: fault NUMBER NAME, and what it names.
-Rows, columns, letters, bytes and entries are counted from 0.";
+A fault is one line on the error stream: fault NUMBER NAME, and what it names. Rows, columns,
+letters, bytes and entries are counted from 0 there, and lines from 1.";
 
-/// A command without places and options, and what it does.
-fn described<'a>(alloc: Global, name: &'a str, about: &'a str) -> Command<'a>
+const LISTS: &str = "\
+Writes a line for each level:
+  N ROWS COLS BOXES GOALS TITLE  floor at row ends is not counted, boxes and goals outside are
+  N fault NUMBER NAME ..         the level's fault; the levels behind it are told all the same";
+
+const REPLAYS: &str = "\
+Writes one line:
+  solved PUSHES MOVES  all boxes stand on goals after the last letter (status 0)
+  open PUSHES MOVES    some box does not (status 1)
+MOVES counts all letters. A letter that is not legal is fault 12 Blocked (status 3).";
+
+const SOLVES: &str = "\
+Writes one of these:
+  solved PUSHES MOVES  and the letters on the next line, in upper case where a box is pushed:
+                       no letters solve the level with fewer pushes (status 0)
+  unsolvable           no letters solve the level (status 0)
+  limit S              it needs more than S states, and nothing is known (status 4)
+The certificate shows the first two to whoever checks it. With limit it stays empty.";
+
+const CHECKS: &str = "\
+Writes one line:
+  accepted at least K pushes  no letters solve the level with fewer than K pushes (status 0)
+  accepted unsolvable         no letters solve the level (status 0)
+  refused NUMBER NAME ..      the first fault of the certificate, which shows nothing (status 1)";
+
+const UNBUILT: &str = "Not built yet: it does nothing, says so, and ends with status 2.";
+
+/// A command without places and options: what it does, and what it writes.
+fn described<'a>(alloc: Global, name: &'a str, about: &'a str, writes: &'a str) -> Command<'a>
     ensures app { app_of result ≡ new_app name.entry.now }
     ensures local { (out-Command result).has_globals ≡ false }
 {
-    Command::new(alloc, name).about(about)
+    Command::new(alloc, name).about(about).after_help(writes)
 }
 
 /// The subcommand that tells what a collection holds.
@@ -52,6 +82,7 @@ fn list_command<'a>(alloc: Global) -> Result<Command<'a>, AllocError>
         alloc,
         "list",
         "Tells the size, the boxes, the goals and the title of each level",
+        LISTS,
     )
     .arg(required_arg(alloc, "FILE", FILE))?;
     Ok(command)
@@ -65,6 +96,7 @@ fn replay_command<'a>(alloc: Global) -> Result<Command<'a>, AllocError>
         alloc,
         "replay",
         "Plays a text of letters on a level, and tells whether it solves it",
+        REPLAYS,
     )
     .arg(required_arg(alloc, "FILE", FILE))?
     .arg(number_arg(alloc, "N", N))?
@@ -80,6 +112,7 @@ fn solve_command<'a>(alloc: Global) -> Result<Command<'a>, AllocError>
         alloc,
         "solve",
         "Finds a solution with fewest pushes, or shows that there is none",
+        SOLVES,
     )
     .arg(required_arg(alloc, "FILE", FILE))?
     .arg(number_arg(alloc, "N", N))?
@@ -96,6 +129,7 @@ fn check_command<'a>(alloc: Global) -> Result<Command<'a>, AllocError>
         alloc,
         "check",
         "Judges a certificate, which shows how many pushes a level needs",
+        CHECKS,
     )
     .arg(required_arg(alloc, "FILE", FILE))?
     .arg(number_arg(alloc, "N", N))?
@@ -107,9 +141,14 @@ fn check_command<'a>(alloc: Global) -> Result<Command<'a>, AllocError>
 fn add_command<'a>(alloc: Global) -> Result<Command<'a>, AllocError>
     ensures { IfOk result (λ c. (app_of c ≡ add_app) × ((out-Command c).has_globals ≡ false)) }
 {
-    let command = described(alloc, "add", "Adds the levels of a collection to a book")
-        .arg(required_arg(alloc, "DB", DB))?
-        .arg(required_arg(alloc, "FILE", FILE))?;
+    let command = described(
+        alloc,
+        "add",
+        "Adds the levels of a collection to a book (not built yet)",
+        UNBUILT,
+    )
+    .arg(required_arg(alloc, "DB", DB))?
+    .arg(required_arg(alloc, "FILE", FILE))?;
     Ok(command)
 }
 
@@ -120,7 +159,8 @@ fn offer_command<'a>(alloc: Global) -> Result<Command<'a>, AllocError>
     let command = described(
         alloc,
         "offer",
-        "Offers a solution, which the book keeps if it has fewer pushes",
+        "Offers a solution, which the book keeps if it has fewer pushes (not built yet)",
+        UNBUILT,
     )
     .arg(required_arg(alloc, "DB", DB))?
     .arg(id_arg(alloc, "ID", ID))?
@@ -135,7 +175,8 @@ fn prove_command<'a>(alloc: Global) -> Result<Command<'a>, AllocError>
     let command = described(
         alloc,
         "prove",
-        "Judges a certificate for a level of a book, and keeps the verdict",
+        "Judges a certificate for a level of a book, and keeps the verdict (not built yet)",
+        UNBUILT,
     )
     .arg(required_arg(alloc, "DB", DB))?
     .arg(id_arg(alloc, "ID", ID))?
@@ -150,7 +191,8 @@ fn show_command<'a>(alloc: Global) -> Result<Command<'a>, AllocError>
     let command = described(
         alloc,
         "show",
-        "Shows a level of a book: its rows, title, best solution and verdict",
+        "Shows a level of a book: its rows, title, best solution and verdict (not built yet)",
+        UNBUILT,
     )
     .arg(required_arg(alloc, "DB", DB))?
     .arg(id_arg(alloc, "ID", ID))?;
@@ -164,7 +206,8 @@ fn export_command<'a>(alloc: Global) -> Result<Command<'a>, AllocError>
     let command = described(
         alloc,
         "export",
-        "Writes the levels of a book as a collection",
+        "Writes the levels of a book as a collection (not built yet)",
+        UNBUILT,
     )
     .arg(required_arg(alloc, "DB", DB))?;
     Ok(command)
@@ -178,9 +221,9 @@ fn top_command<'a>(alloc: Global) -> Command<'a>
     described(
         alloc,
         "sok",
-        "Plays, solves and proves levels of Sokoban, and keeps them in a book",
+        "Plays, solves and proves levels of Sokoban: what it answers is proved",
+        ENDS,
     )
-    .after_help(ENDS)
     .subcommand_required(true)
 }
 

@@ -14,6 +14,9 @@ numbers-requires-clause-within c = HasPlace-area c.args.level.now c.args.squares
 pub list_neighbours-requires : goal.list_neighbours-requires
 list_neighbours-requires c = HasPlace-area c.args.level.now c.args.squares.now c.requires.proper c.requires.area
 
+pub list_runs-requires-clause-within : goal.list_runs-requires-clause-within
+list_runs-requires-clause-within c = HasPlace-area c.args.level.now c.args.squares.now c.requires.proper c.requires.area
+
 pub first_stray-requires-clause-numbers : goal.first_stray-requires-clause-numbers
 first_stray-requires-clause-numbers c =
     let b : Numbered = record { rows = c.args.level.now; area = c.args.squares.now } in
@@ -49,6 +52,7 @@ returns-clause-accepted c =
       numbers = c.in_ok-numbers.ensures;
       trimmed = c.requires.trimmed;
       neighbours = c.in_ok-neighbours.ensures ∙ ap (λ table. map (neighbours_of table) c.args.squares.now) c.deref-2.ensures.value;
+      runs = c.in_ok-runs.ensures b refl;
       goals = goals;
       player = sym c.unwrap-player.ensures ∙ is;
       boxes = boxes;

@@ -1,6 +1,6 @@
 use Rattle.std.proofs.Common.{◌∙◌, sym, true≢false}
 use Rattle.std.proofs.lemmas.Result.{IfErr-weaker, IfOk-weaker}
-use Rattle.sok_cert.proofs.Closing.{AreFine-all, IsClosed-fine, IsLooking-fine, IsRefused-open}
+use Rattle.sok_cert.proofs.Closing.{IsClosed-fine, IsLooking-fine, IsRefused-open}
 use Rattle.sok_cert.proofs.check.check_list.Goals as goal
 
 pub returns-then-not-branch-clause-refused : goal.returns-then-not-branch-clause-refused
@@ -9,8 +9,9 @@ returns-then-not-branch-clause-refused c =
     let looking = IsLooking-fine c.args.board.now c.args.claim entries c.args.table.now c.requires.accepted c.requires.fine c.requires.entered in
     (c.requires.fine, λ e starter. true≢false (sym ((c.in_ok-has_start.ensures entries looking).1 (e, starter)) ∙ c.if-not-branch.true))
 
-pub check_pushes-requires-clause-positions : goal.check_pushes-requires-clause-positions
-check_pushes-requires-clause-positions c = AreFine-all c.args.board.now c.args.claim c.args.entries.now c.requires.fine (λ i e one. one.position)
+pub check_pushes-requires : goal.check_pushes-requires
+check_pushes-requires c = IsLooking-fine c.args.board.now c.args.claim c.args.entries.now c.args.table.now c.requires.accepted c.requires.fine
+    c.requires.entered
 
 pub returns-clause-closed : goal.returns-clause-closed
 returns-clause-closed c =

@@ -1,23 +1,35 @@
-use Rattle.std.proofs.Common.{◌≡◌, ◌∙◌, ◌⊎◌, ◌↔◌, ap, sym, subst, true, arith}
-use Rattle.sok_rules.specs.declared.cell.Spot.{Spot}
-use Rattle.sok_board.specs.Area.{number_of}
-use Rattle.sok_field.specs.Fields.{has}
-use Rattle.sok_field.proofs.Drawings.{Draws-put}
-use Rattle.sok_board.specs.Tables.{HasPlace}
-use Rattle.sok_board.proofs.Accepted.{HasPlace-spot_of}
+use Rattle.std.proofs.Common.{◌<◌, ◌∙◌, sym, subst, arith, true≢false, get_or, ◌+◌}
+use Rattle.sok_field.specs.Numbers.{Draws}
+use Rattle.sok_field.proofs.ByRuns.{no_run, next-run, no-more, Draws-run}
 use Rattle.sok_field.proofs.drawing.area.Goals as goal
 
-pub put-requires : goal.put-requires
-put-requires c =
-    let place = HasPlace-spot_of c.args.board.now c.squares-square-end.ensures.accepted c.loop-square.square (omega arith) in
-    let here = subst HasPlace (sym c.spot.ensures.spot) place in
-    record { row = here.row; col = here.col }
+pub loop-run-init : goal.loop-run-init
+loop-run-init c = record {
+  to = 0;
+  rest = c.runs-runs.ensures.runs;
+  drawn = λ s. (λ e. absurd (true≢false (sym e ∙ c.new-field.ensures s)), λ (n, _, below). absurd (omega (arith, below)));
+}
 
-pub loop-square-preserved : goal.loop-square-preserved
-loop-square-preserved c =
+pub put_run-requires : goal.put_run-requires
+put_run-requires c =
     let b = c.args.board.now in
-    let old = c.loop-square.field in
-    let new = c.put.new.self in
-    let spot = c.spot.ensures.spot in
-    let put = subst (λ p. (s : Spot) → (has new s ≡ true) ↔ ((s ≡ p) ⊎ (has old s ≡ true))) spot c.put.ensures in
-    Draws-put b old new c.loop-square.square (ap (number_of b) (sym spot) ∙ c.spot.ensures.inverse) put c.loop-square.invariant
+    let (is, _, _) = next-run b c.runs-runs.result.now c.loop-run.run-index c.loop-run.invariant.to _ c.loop-run-test.true c.loop-run.invariant.rest in
+    record { some = is.some; row = is.row; columns = is.columns }
+
+pub loop-run-preserved : goal.loop-run-preserved
+loop-run-preserved c =
+    let b = c.args.board.now in
+    let to = c.loop-run.invariant.to in
+    let run = get_or c.runs-runs.result.now c.loop-run.run-index no_run in
+    let (is, at, rest) = next-run b c.runs-runs.result.now c.loop-run.run-index to _ c.loop-run-test.true c.loop-run.invariant.rest in
+    record {
+      to = to + run.length;
+      rest = rest;
+      drawn = Draws-run b c.runs-runs.ensures.accepted.numbered c.loop-run.field c.put_run.new.self to run is at c.put_run.ensures c.loop-run.invariant.drawn;
+    }
+
+pub returns : goal.returns
+returns c =
+    let b = c.args.board.now in
+    let all = no-more b c.runs-runs.result.now c.loop-run.run-index c.loop-run.invariant.to _ c.loop-run-test.false c.loop-run.invariant.rest in
+    record { drawn = subst (λ k. Draws b (λ n. n < k) c.loop-run.field) all c.loop-run.invariant.drawn; accepted = c.runs-runs.ensures.accepted }

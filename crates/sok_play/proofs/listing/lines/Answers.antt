@@ -7,7 +7,7 @@ loop-index-preserved c =
     let blocks = c.args.collection.now in
     let here = c.loop-index in
     let within : here.index < length blocks = omega arith in
-    IsPartOf-more blocks here.index here.text.items c.push_level.new.text.items within here.invariant c.in_ok-push_level.ensures
+    IsPartOf-more blocks here.index here.text.items c.push_line.new.text.items within here.invariant c.in_ok-push_line.ensures
 
 pub returns : goal.returns
 returns c =

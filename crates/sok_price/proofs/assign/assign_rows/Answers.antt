@@ -1,7 +1,7 @@
 use Rattle.std.proofs.Common.{◌∙◌, ap, subst, arith, length}
 use Rattle.sok_price.specs.Costs.{cost_of}
 use Rattle.sok_price.specs.Marked.{ListsMarked}
-use Rattle.sok_price.specs.Searches.{Growth, growth_of, IsGrowing, IsReady, TellsFound}
+use Rattle.sok_price.specs.Searches.{Growth, growth_of, IsReady, IsSeen, TellsFound}
 use Rattle.sok_price.proofs.Answering.{ArePrices-ready, idle-floor, HasSums-ready, IsCrowd-closed, IsMatch-prices, sum-small}
 use Rattle.sok_price.proofs.assign.assign_rows.Goals as goal
 
@@ -56,6 +56,6 @@ returns c = λ b boxes of.
     let g = growth_of c.match_all.new.search in
     let (growing, closed) = subst (TellsFound
     (cost_of costs) costs.members costs.goals c.in_ok-search.search.floor c.match_all.new.search) c.if-match_all.false c.match_all.ensures.tells in
-    let here = subst (λ k. IsGrowing (cost_of costs) k costs.goals k g) of.members growing in
+    let here = subst (λ k. IsSeen (cost_of costs) k costs.goals g) of.members growing in
     IsCrowd-closed b boxes costs.goals (cost_of costs) g c.in_ok-marked.field-0.items of.told of.goals here closed
     (subst (λ marks. ListsMarked marks (length marks) c.in_ok-marked.field-0.items) c.deref.ensures.value c.in_ok-marked.ensures)

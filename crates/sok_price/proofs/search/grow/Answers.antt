@@ -1,10 +1,10 @@
 use Rattle.std.proofs.Common.{◌∙◌, ap, sym, subst, arith, Some}
 use Rattle.sok_price.specs.Costs.{cost_of}
 use Rattle.sok_price.specs.declared.search.Search.{Search}
-use Rattle.sok_price.specs.Searches.{Growth, growth_of, newest, HasRoom, IsGrowing, TellsNext}
+use Rattle.sok_price.specs.Searches.{Growth, growth_of, HasRoom, IsAhead, TellsNext}
 use Rattle.sok_price.specs.Trees.{count_of}
 use Rattle.sok_price.proofs.Growing.{IsJoining-next, taker-next, joined-goal_of, joined-floor, fewer-joined}
-use Rattle.sok_price.proofs.Joining.{IsGrowing-joined, fewer-branches}
+use Rattle.sok_price.proofs.Joining.{IsAhead-joined, fewer-branches}
 use Rattle.sok_price.proofs.search.grow.Goals as goal
 
 pub join-requires-clause-member : goal.join-requires-clause-member
@@ -63,8 +63,8 @@ growing-preserved c =
     let joined_is = c.join.ensures.joined in
     let same = c.widen.ensures.same in
     let (_, goals, floor, room) = c.growing.invariant in (
-      subst (λ (h : Growth). IsGrowing (cost_of costs) costs.members costs.goals (newest h) h) (sym joined_is)
-          (IsGrowing-joined (cost_of costs) costs.members costs.goals g near member
+      subst (IsAhead (cost_of costs) costs.members costs.goals) (sym joined_is)
+          (IsAhead-joined (cost_of costs) costs.members costs.goals g near member
           (IsJoining-next (cost_of costs) costs.members costs.goals g near member c.requires.costs.short growing next has)),
       ap (λ (h : Growth). h.goal_of) joined_is ∙ joined-goal_of near member g ∙ ap (λ (s : Search). s.goal_of.items) same ∙ goals,
       ap (λ (h : Growth). h.floor) joined_is ∙ joined-floor near member g ∙ ap (λ (s : Search). s.floor) same ∙ floor,

@@ -33,7 +33,7 @@ loop-at-preserved c =
     let branch = c.index-branch.result.now in
     let branch_is : branch ≡ branch_at g.branches at =
     c.index-branch.ensures ∙ ap (λ (bs : List Branch). get_or bs at branch) branches_are
-    ∙ sym (get_or_default g.branches at (record { member = 0; goal = 0; parent = 0 }) branch within) in
+    ∙ sym (get_or_default g.branches at (record { member = 0; goal = 0; parent = 0; rise = 0 }) branch within) in
     let later : 0 < at = omega arith in
     let root_is : c.len-root.result ≡ length g.goal_of = let counted = c.len-root.ensures in omega arith in
     let member_is : branch.member ≡ (branch_at g.branches at).member = ap (λ (b : Branch). b.member) branch_is in

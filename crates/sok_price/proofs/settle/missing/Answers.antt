@@ -1,9 +1,11 @@
-use Rattle.std.proofs.Common.{◌≤◌, subst, Contains, arith, rules, length, below_more}
+use Rattle.std.proofs.Common.{◌≤◌, ◌≡◌, ◌∙◌, sym, ap, subst, Contains, arith, length, below_more}
 use Rattle.std.proofs.lemmas.List.{get_or_default}
+use Rattle.sok_price.specs.Trees.{is_marked}
 use Rattle.sok_price.proofs.settle.missing.Goals as goal
 
 pub loop-square-preserved : goal.loop-square-preserved
-loop-square-preserved c = below_more _ _ c.loop-square.invariant (c.if-not-has_row.ensures.0 (search rules))
+loop-square-preserved c = below_more _ _ c.loop-square.invariant
+    (let (k, within, is) = c.mark_rows.ensures.only _ c.if-not-marks-square.false in (k, within, get_or_default c.args.rows.now k _ 0 within ∙ is))
 
 pub returns : goal.returns
 returns c = λ k d within.

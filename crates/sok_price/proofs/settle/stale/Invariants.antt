@@ -1,5 +1,5 @@
-use Rattle.std.proofs.Common.{ℕ, ◌<◌, Contains, get_or}
+use Rattle.std.proofs.Common.{ℕ, ◌<◌, Contains, get_or, length}
 use Rattle.sok_price.proofs.settle.stale.Given as goal
 
 abbrev pub invariant-loop-k : goal.invariant-loop-k
-invariant-loop-k l = (j : ℕ) → j < l.k → get_or l.rows j 0 < l.squares → Contains l.boxes (get_or l.rows j 0)
+invariant-loop-k l = (j : ℕ) → j < l.k → get_or l.rows j 0 < length l.marks → Contains l.boxes (get_or l.rows j 0)

@@ -12,8 +12,8 @@ returns c = λ limit positive.
     let b = c.args.board.now in
     let key = c.in_ok-key.key in
     let note : Note = record { origin = None; standing = c.in_ok-standing.standing } in
-    let p : Progress = record { table = c.in_ok-table.table; notes = c.new-3.result.items; queue = c.in_ok-queue.queue; best = None } in
-    let same : p ≡ nothing = λ i. record { table = c.in_ok-table.ensures i; notes = c.new-3.ensures.items i; queue = c.in_ok-queue.ensures i; best = None } in
+    let p : Progress = record { table = c.in_ok-table.table; notes = c.new-2.result.items; queue = c.new-3.result; best = None } in
+    let same : p ≡ nothing = λ i. record { table = c.in_ok-table.ensures i; notes = c.new-2.ensures.items i; queue = c.new-3.ensures i; best = None } in
     IfOk-weaker c.add.result _ _ (λ after added. begun b limit positive key note (progress_of after)
     (subst (λ x. IsAdded x key 0 note (progress_of after)) same added)
     c.in_ok-key.ensures.of_board c.in_ok-key.ensures.key c.in_ok-key.ensures.as_many refl c.in_ok-standing.ensures) c.add.ensures

@@ -7,32 +7,32 @@ use Rattle.sok_search.proofs.Turning.{held-search, work-taken}
 use Rattle.sok_search.proofs.running.run.Goals as goal
 
 pub loop-index-init : goal.loop-index-init
-loop-index-init c = c.requires.search
+loop-index-init c = (c.requires.search, c.requires.serves)
 
 pub turn-requires-clause-search : goal.turn-requires-clause-search
 turn-requires-clause-search c = held-search c.args.board.now c.args.limit c.in-Some.index
-    (progress_of c.loop-index.search) c.pop.new.self c.loop-index.invariant c.in-Some.ensures
+    (progress_of c.loop-index.search) c.pop.new.self c.loop-index.invariant.0 c.in-Some.ensures
 
 pub loop-index-preserved : goal.loop-index-preserved
 loop-index-preserved c =
     let b = c.args.board.now in
     let p = progress_of c.loop-index.search in
     let taken : Progress = holding c.in-Some.index (record p { queue = c.pop.new.self }) in
-    let told : TellsTurned b c.args.limit taken (On c.in-On.after) = subst (TellsTurned b c.args.limit taken) c.in-On.is c.in_ok-after.ensures in
-    told.0
+    let told : TellsTurned b c.args.limit taken (On c.in-On.after) = subst (TellsTurned b c.args.limit taken) c.in-On.is c.in_ok-after.ensures.tells in
+    (told.0, c.in_ok-after.ensures.serves)
 
 pub loop-index-smaller : goal.loop-index-smaller
 loop-index-smaller c =
     let b = c.args.board.now in
     let p = progress_of c.loop-index.search in
     let taken : Progress = holding c.in-Some.index (record p { queue = c.pop.new.self }) in
-    let told : TellsTurned b c.args.limit taken (On c.in-On.after) = subst (TellsTurned b c.args.limit taken) c.in-On.is c.in_ok-after.ensures in
+    let told : TellsTurned b c.args.limit taken (On c.in-On.after) = subst (TellsTurned b c.args.limit taken) c.in-On.is c.in_ok-after.ensures.tells in
     subst (λ n. work c.args.limit (progress_of c.in-On.after) < n) (work-taken c.args.limit c.in-Some.index p c.pop.new.self c.in-Some.ensures) told.1
 
 pub returns : goal.returns
 returns c =
     let (before, after) = c.in_default.ensures in (
       subst (λ (queue : List ℕ). IsSearch c.args.board.now c.args.limit (record (progress_of c.loop-index.search) { queue = queue })) (before
-          ∙ sym after) c.loop-index.invariant,
+          ∙ sym after) c.loop-index.invariant.0,
       after,
     )

@@ -12,15 +12,15 @@ visit-requires-clause-noted c =
     let within = held-noted c.args.board.now c.args.limit c.args.index (progress_of c.args.search) c.requires.search in
     slice_get-get_or c.args.search.notes.items c.args.index c.index-note.result.now within ∙ ap Some (sym c.index-note.ensures)
 
-pub returns-in-Expanded : goal.returns-in-Expanded
-returns-in-Expanded c =
+pub returns-in-Expanded-clause-tells : goal.returns-in-Expanded-clause-tells
+returns-in-Expanded-clause-tells c =
     let within = held-noted c.args.board.now c.args.limit c.args.index (progress_of c.args.search) c.requires.search in
     let there = slice_get-get_or c.args.search.notes.items c.args.index c.index-note.result.now within ∙ ap Some (sym c.index-note.ensures) in
     go-expanded c.args.board.now c.args.limit c.args.index c.in-Expanded.field-0
     (progress_of c.args.search) c.index-note.result.now c.requires.search there c.in-Expanded.is
 
-pub returns-in-Dead : goal.returns-in-Dead
-returns-in-Dead c =
+pub returns-in-Dead-clause-tells : goal.returns-in-Dead-clause-tells
+returns-in-Dead-clause-tells c =
     let within = held-noted c.args.board.now c.args.limit c.args.index (progress_of c.args.search) c.requires.search in
     let there = slice_get-get_or c.args.search.notes.items c.args.index c.index-note.result.now within ∙ ap Some (sym c.index-note.ensures) in
     go-dead c.args.board.now c.args.limit c.args.index (progress_of c.args.search) c.index-note.result.now c.requires.search there c.in-Dead.is

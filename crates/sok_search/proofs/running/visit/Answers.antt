@@ -12,8 +12,8 @@ depth-depth-requires c = held-within c.args.board.now c.args.limit c.args.index 
 pub key-requires : goal.key-requires
 key-requires c = held-within c.args.board.now c.args.limit c.args.index (progress_of c.args.search) c.requires.search
 
-pub returns-then-is_beaten : goal.returns-then-is_beaten
-returns-then-is_beaten c = go-beaten c.args.board.now c.args.limit c.args.index c.args.bound c.depth-depth.result
+pub returns-then-is_beaten-clause-tells : goal.returns-then-is_beaten-clause-tells
+returns-then-is_beaten-clause-tells c = go-beaten c.args.board.now c.args.limit c.args.index c.args.bound c.depth-depth.result
     (progress_of c.args.search) c.args.note c.requires.search c.requires.noted c.requires.is_open c.depth-depth.ensures (c.if-is_beaten.ensures.0 refl)
 
 pub is_solved-requires : goal.is_solved-requires
@@ -22,8 +22,8 @@ is_solved-requires c = record {
       (progress_of c.args.search) c.in_ok-key.key c.depth-depth.result c.requires.search c.in_ok-key.ensures c.depth-depth.ensures).is.placed.boxes_exist;
 }
 
-pub returns-then-is_solved : goal.returns-then-is_solved
-returns-then-is_solved c =
+pub returns-then-is_solved-clause-tells : goal.returns-then-is_solved-clause-tells
+returns-then-is_solved-clause-tells c =
     let p = progress_of c.args.search in
     let key = c.in_ok-key.key in
     let state : IsState p c.args.index key c.depth-depth.result c.args.note = record {
@@ -40,16 +40,16 @@ pub mark-requires : goal.mark-requires
 mark-requires c =
     let b = c.args.board.now in
     let told : TellsExpanded b c.args.limit (progress_of c.args.search) c.args.index c.in_ok-key.key c.depth-depth.result (On c.in-On.after) = subst
-    (TellsExpanded b c.args.limit (progress_of c.args.search) c.args.index c.in_ok-key.key c.depth-depth.result) c.in-On.is c.in_ok-after.ensures in
+    (TellsExpanded b c.args.limit (progress_of c.args.search) c.args.index c.in_ok-key.key c.depth-depth.result) c.in-On.is c.in_ok-after.ensures.tells in
     held-noted b c.args.limit c.args.index (progress_of c.in-On.after) told.search
 
-pub returns-in-On : goal.returns-in-On
-returns-in-On c =
+pub returns-in-On-clause-tells : goal.returns-in-On-clause-tells
+returns-in-On-clause-tells c =
     let b = c.args.board.now in
     let p = progress_of c.args.search in
     let key = c.in_ok-key.key in
     let told : TellsExpanded b c.args.limit p c.args.index key c.depth-depth.result (On c.in-On.after) = subst
-    (TellsExpanded b c.args.limit p c.args.index key c.depth-depth.result) c.in-On.is c.in_ok-after.ensures in
+    (TellsExpanded b c.args.limit p c.args.index key c.depth-depth.result) c.in-On.is c.in_ok-after.ensures.tells in
     let state : IsState p c.args.index key c.depth-depth.result c.args.note = record {
       there = c.in_ok-key.ensures;
       depth_is = c.depth-depth.ensures;

@@ -1,7 +1,7 @@
 use Rattle.std.proofs.Common.{ℕ, ◌≡◌, ◌<◌, ◌∙◌, refl, ap, sym, subst, List, All, IfOk, arith, length, get_or}
 use Rattle.sok_price.specs.declared.costs.Costs.{Costs}
 use Rattle.sok_price.specs.Kept.{AreListed}
-use Rattle.sok_price.specs.Matched.{IsSound, Kept, Serves}
+use Rattle.sok_price.specs.Matched.{IsSound, KeptMatching, Serves}
 use Rattle.sok_price.specs.Matches.{IsMatch}
 use Rattle.sok_price.proofs.Keeping.{AreListed-boxes, AreOfBoxes-listed}
 use Rattle.sok_price.proofs.Setting.{AreCosts-listed}
@@ -13,7 +13,7 @@ assign_rows-found-requires-clause-costs c =
     let boxes = c.list-boxes.result.now in
     let costs : Costs = record inside.costs { members = length boxes; rows = c.swap.new.x } in
     let items : c.swap.new.x.items ≡ c.in_ok-rows.rows.items = λ i. (c.swap.ensures.x_after i).items in
-    let squares = ap (λ (kept : Kept). kept.squares) c.self.view_is in
+    let squares = ap (λ (kept : KeptMatching). kept.squares) c.self.view_is in
     let exist = subst (λ n. All (λ square. square < n) boxes) (sym squares)
     (subst (All (λ square. square < c.args.self.now.squares)) (sym c.list-boxes.ensures.list) c.requires.exist) in
     let listed = subst (λ rows. AreListed inside.squares (length boxes) boxes rows) (sym items)
@@ -28,7 +28,8 @@ invariant_of-self c =
     let back = c.swap-2.ensures.x_after ∙ c.swap.ensures.y_after in
     let final : Costs = record inside.costs { rows = c.swap-2.new.x } in
     let final_is : final ≡ inside.costs = λ i. record inside.costs { rows = back i } in
-    subst (λ (h : Costs). IsSound inside.squares h inside.search inside.matched inside.trial inside.trial_rows.items) (sym final_is) c.self.invariant
+    subst (λ (h : Costs). IsSound inside.squares h inside.search inside.matched inside.trial inside.trial_rows.items inside.marks.items) (sym final_is)
+    c.self.invariant
 
 pub returns-clause-least : goal.returns-clause-least
 returns-clause-least c = λ b serves.

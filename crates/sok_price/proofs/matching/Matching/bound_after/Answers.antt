@@ -2,7 +2,7 @@ use Rattle.std.proofs.Common.{ℕ, ◌≡◌, ◌∙◌, refl, ap, sym, subst, L
 use Rattle.std.proofs.lemmas.List.Elements.{All-contains}
 use Rattle.sok_price.specs.declared.costs.Costs.{Costs}
 use Rattle.sok_price.specs.Costs.{cost_of}
-use Rattle.sok_price.specs.Matched.{CanMove, Holds, Kept}
+use Rattle.sok_price.specs.Matched.{CanMove, Holds, KeptMatching}
 use Rattle.sok_price.specs.Searches.{growth_of, TellsFound}
 use Rattle.sok_price.proofs.Keeping.{AreKept-tried, HasWorth-whole, IsSound-tried, IsWhole-copied}
 use Rattle.sok_price.proofs.Reaching.{IsCost-ready}
@@ -11,13 +11,13 @@ use Rattle.sok_price.proofs.matching.Matching.bound_after.Goals as goal
 
 pub row_of-row-requires : goal.row_of-row-requires
 row_of-row-requires c =
-    let can = subst (λ (kept : Kept). CanMove kept c.args.from c.args.to) (sym c.self.view_is) c.requires.moves in
+    let can = subst (λ (kept : KeptMatching). CanMove kept c.args.from c.args.to) (sym c.self.view_is) c.requires.moves in
     subst (λ (rows : List ℕ). Contains rows c.args.from) (sym c.deref.ensures.value)
     (All-contains (Contains c.self.inside.costs.rows.items) can.boxes c.args.from can.holds.exactly.each can.there)
 
 pub exchange-matched-requires-clause-whole : goal.exchange-matched-requires-clause-whole
 exchange-matched-requires-clause-whole c =
-    let can = subst (λ (kept : Kept). CanMove kept c.args.from c.args.to) (sym c.self.view_is) c.requires.moves in
+    let can = subst (λ (kept : KeptMatching). CanMove kept c.args.from c.args.to) (sym c.self.view_is) c.requires.moves in
     let costs = c.self.inside.costs in
     let items : c.swap.new.x.items ≡ c.self.inside.costs.rows.items = (λ i. (c.swap.ensures.x_after i).items) ∙ c.copy_from_slice.ensures.items
     ∙ c.deref-2.ensures.value in
@@ -37,7 +37,8 @@ invariant_of-self c =
     let final : Costs = record { members = after.members; goals = after.goals; rows = c.swap-2.new.x; entries = after.entries } in
     let final_is : final ≡ costs = λ i. record { members = (same i).members; goals = (same i).goals; rows = back i; entries = (same i).entries } in
     IsSound-tried c.self.inside.squares costs after final c.self.inside.search c.self.inside.trial tried.new.search c.self.inside.matched tried.result
-    c.self.inside.trial_rows.items c.swap-2.new.y.items c.self.invariant final_is (ap (λ (h : Costs). h.members) same) (ap (λ (h : Costs). h.goals) same)
+    c.self.inside.trial_rows.items c.swap-2.new.y.items c.self.inside.marks.items c.self.invariant final_is
+    (ap (λ (h : Costs). h.members) same) (ap (λ (h : Costs). h.goals) same)
     tried.ensures.costs tried.ensures.tells tried.ensures.room (λ i. (c.swap-2.ensures.y_after i).items)
 
 pub invariant_of-self-2 : goal.invariant_of-self-2
@@ -50,7 +51,8 @@ invariant_of-self-2 c =
     let final : Costs = record { members = after.members; goals = after.goals; rows = c.swap-2.new.x; entries = after.entries } in
     let final_is : final ≡ costs = λ i. record { members = (same i).members; goals = (same i).goals; rows = back i; entries = (same i).entries } in
     IsSound-tried c.self.inside.squares costs after final c.self.inside.search c.self.inside.trial tried.new.search c.self.inside.matched tried.result
-    c.self.inside.trial_rows.items c.swap-2.new.y.items c.self.invariant final_is (ap (λ (h : Costs). h.members) same) (ap (λ (h : Costs). h.goals) same)
+    c.self.inside.trial_rows.items c.swap-2.new.y.items c.self.inside.marks.items c.self.invariant final_is
+    (ap (λ (h : Costs). h.members) same) (ap (λ (h : Costs). h.goals) same)
     tried.ensures.costs tried.ensures.tells tried.ensures.room (λ i. (c.swap-2.ensures.y_after i).items)
 
 pub worth-requires : goal.worth-requires
@@ -65,9 +67,10 @@ worth-requires c =
 
 pub returns-clause-least : goal.returns-clause-least
 returns-clause-least c = λ b boxes after holds moved exist rising.
-    let can = subst (λ (kept : Kept). CanMove kept c.args.from c.args.to) (sym c.self.view_is) c.requires.moves in
+    let can = subst (λ (kept : KeptMatching). CanMove kept c.args.from c.args.to) (sym c.self.view_is) c.requires.moves in
     let here = subst (Holds b boxes) (sym c.self.view_is) holds in
-    let kept : Kept = record { squares = c.self.inside.squares; costs = c.self.inside.costs; search = c.self.inside.search; matched = c.self.inside.matched } in
+    let inside = c.self.inside in
+    let kept : KeptMatching = record { squares = inside.squares; costs = inside.costs; search = inside.search; matched = inside.matched } in
     let before : Costs = record c.self.inside.costs { rows = c.swap.new.x } in
     let items : c.swap.new.x.items ≡ c.self.inside.costs.rows.items = (λ i. (c.swap.ensures.x_after i).items) ∙ c.copy_from_slice.ensures.items
     ∙ c.deref-2.ensures.value in
@@ -89,9 +92,10 @@ returns-clause-least c = λ b boxes after holds moved exist rising.
 
 pub returns-then-not-matched-clause-least : goal.returns-then-not-matched-clause-least
 returns-then-not-matched-clause-least c = λ b boxes after holds moved exist rising.
-    let can = subst (λ (kept : Kept). CanMove kept c.args.from c.args.to) (sym c.self.view_is) c.requires.moves in
+    let can = subst (λ (kept : KeptMatching). CanMove kept c.args.from c.args.to) (sym c.self.view_is) c.requires.moves in
     let here = subst (Holds b boxes) (sym c.self.view_is) holds in
-    let kept : Kept = record { squares = c.self.inside.squares; costs = c.self.inside.costs; search = c.self.inside.search; matched = c.self.inside.matched } in
+    let inside = c.self.inside in
+    let kept : KeptMatching = record { squares = inside.squares; costs = inside.costs; search = inside.search; matched = inside.matched } in
     let before : Costs = record c.self.inside.costs { rows = c.swap.new.x } in
     let items : c.swap.new.x.items ≡ c.self.inside.costs.rows.items = (λ i. (c.swap.ensures.x_after i).items) ∙ c.copy_from_slice.ensures.items
     ∙ c.deref-2.ensures.value in

@@ -16,5 +16,5 @@ returns-in-Some c =
     let same : found.bucket ≡ old = same_Some found.bucket old (sym at ∙ there) in
     let filled : 0 < length old.items = subst (λ bucket. 0 < length bucket.items) same found.filled in
     let some = c.pop.ensures.value 0 (omega (arith, filled, old.ok)) in
-    popped (λ bucket. bucket.items) buckets.items c.in-Some.rank old c.pop.new.self c.self.inside.others.items c.args.self.now c.pop.result there
+    popped (λ bucket. bucket.items) buckets.items c.in-Some.rank old c.pop.new.self c.args.self.now c.pop.result there
     c.self.view_is c.pop.ensures.items (λ none. none-some _ (sym none ∙ some))

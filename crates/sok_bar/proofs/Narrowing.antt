@@ -1,0 +1,238 @@
+-- Boxes are taken away from bit rows until each that is left is held.
+use Rattle.std.proofs.Common.{ℕ, ◌≡◌, ◌<◌, ◌≤◌, ◌+◌, inl, inr, refl, sym, ap, ◌∙◌, subst, List, [], ◌∷◌, Bool, true, false, true≢false, zero, suc, Contains}
+use Rattle.std.proofs.Common.{Some, arith, filter, length, get_or, slice_get, ◌||◌, if◌then◌else◌, below_more}
+use Rattle.std.specs.List.{range_with_len}
+use Rattle.std.proofs.lemmas.Bool.{cases_Bool, cases_eq}
+use Rattle.std.proofs.lemmas.List.{get_or_default}
+use Rattle.std.proofs.lemmas.List.Elements.{All-contains, Contains-get_or}
+use Rattle.std.proofs.lemmas.List.FromFn.{length-range_with_len, get_or-range_with_len}
+use Rattle.std.proofs.lemmas.Option.{same_Some, get_or_from_slice_get, slice_get_within}
+use Rattle.sok_board.specs.Area.{Numbered, IsArea, spot_of}
+use Rattle.sok_board.proofs.AreaLaws.{number_of-spot_of, same_number}
+use Rattle.sok_board.proofs.Lists.{Contains-filter, Contains-from_filter}
+use Rattle.sok_board.proofs.Numbering.{rising-chosen}
+use Rattle.sok_field.specs.Fields.{has}
+use Rattle.sok_price.specs.Prices.{AreMembers, IsMember}
+use Rattle.sok_state.specs.Layouts.{IsLaidOut, Laid}
+use Rattle.sok_bar.specs.Jam.{HasJamWith, IsGoalSquare, IsHeld}
+use Rattle.sok_bar.specs.Narrowed.{HasDrawnOffGoal, IsLeft, IsNarrowed, IsTaken, KeepsJams, TellsPass, TellsTaken}
+use Rattle.sok_bar.specs.Settings.{IsDrawn}
+use Rattle.sok_bar.proofs.Removal.{IsHeld-more}
+use Rattle.sok_bar.proofs.Rising.{Contains-member, index_of}
+
+-- fewer pass a test that asks for more
+no_more : (p q : ℕ → Bool) → ((x : ℕ) → q x ≡ true → p x ≡ true) → (xs : List ℕ) → length (filter q xs) ≤ length (filter p xs)
+no_more p q less [] = omega arith
+no_more p q less (x ∷ xs) =
+    let rest = no_more p q less xs in
+    elim (cases_Bool (q x)) [
+      | inl on ↦
+          let left = ap (λ t. length (if t then x ∷ filter q xs else filter q xs)) on in
+          let right = ap (λ t. length (if t then x ∷ filter p xs else filter p xs)) (less x on) in
+          omega (arith, rest, left, right)
+      | inr off ↦
+          let left = ap (λ t. length (if t then x ∷ filter q xs else filter q xs)) off in
+          elim (cases_Bool (p x)) [
+            | inl on ↦ let right = ap (λ t. length (if t then x ∷ filter p xs else filter p xs)) on in omega (arith, rest, left, right)
+            | inr out ↦ let right = ap (λ t. length (if t then x ∷ filter p xs else filter p xs)) out in omega (arith, rest, left, right)
+          ]
+    ]
+
+fewer : (p q : ℕ → Bool) → ((x : ℕ) → q x ≡ true → p x ≡ true) → (xs : List ℕ) (k : ℕ) → k < length xs → p (get_or xs k 0) ≡ true
+    → q (get_or xs k 0) ≡ false → length (filter q xs) < length (filter p xs)
+fewer p q less [] k within on off = absurd (omega (arith, within))
+fewer p q less (x ∷ xs) zero within on off =
+    let rest = no_more p q less xs in
+    let left = ap (λ t. length (if t then x ∷ filter q xs else filter q xs)) off in
+    let right = ap (λ t. length (if t then x ∷ filter p xs else filter p xs)) on in
+    omega (arith, rest, left, right)
+fewer p q less (x ∷ xs) (suc k) within on off =
+    let rest = fewer p q less xs k (omega (arith, within)) on off in
+    elim (cases_Bool (q x)) [
+      | inl there ↦
+          let left = ap (λ t. length (if t then x ∷ filter q xs else filter q xs)) there in
+          let right = ap (λ t. length (if t then x ∷ filter p xs else filter p xs)) (less x there) in
+          omega (arith, rest, left, right)
+      | inr gone ↦
+          let left = ap (λ t. length (if t then x ∷ filter q xs else filter q xs)) gone in
+          elim (cases_Bool (p x)) [
+            | inl here ↦ let right = ap (λ t. length (if t then x ∷ filter p xs else filter p xs)) here in omega (arith, rest, left, right)
+            | inr out ↦ let right = ap (λ t. length (if t then x ∷ filter p xs else filter p xs)) out in omega (arith, rest, left, right)
+          ]
+    ]
+
+-- a box that is not held is in no jam
+KeepsJams-taken : (b : Numbered) → IsArea b.rows b.area → (boxes old new : List ℕ) (s : ℕ) → IsTaken b s old new → KeepsJams b boxes old → KeepsJams b boxes new
+KeepsJams-taken b area boxes old new s taken keeps = record {
+  among = λ t (within, there). keeps.among t (within, ((taken.others (spot_of b t)).0 there).1);
+  most = λ members jam t member.
+      let (within, was) = keeps.most members jam t member in
+      elim (cases_eq t s) [
+        | inr other ↦ (within, (taken.others (spot_of b t)).1 (λ same. other (same_number b area t s within taken.drawn.0 same), was))
+        | inl same ↦ absurd (taken.loose (IsHeld-more b (IsMember boxes members) (IsDrawn b old) (keeps.most members jam) s
+            (jam.held s (subst (IsMember boxes members) same member))))
+      ];
+}
+
+pub TellsPass-none : (b : Numbered) (boxes rows : List ℕ) → TellsPass b boxes 0 rows rows false
+TellsPass-none b boxes rows = record {
+  jams = λ others keeps. keeps;
+  fewer = omega arith;
+  some = λ e. absurd (true≢false (sym e));
+  none = λ _. (refl, λ k below. absurd (omega (arith, below)));
+}
+
+-- one box more is taken away
+pub TellsPass-taken : (b : Numbered) → IsArea b.rows b.area → (boxes : List ℕ) (n : ℕ) (old mid new : List ℕ) (before : Bool) → n < length boxes
+    → TellsPass b boxes n old mid before → IsTaken b (get_or boxes n 0) mid new → TellsPass b boxes (n + 1) old new true
+TellsPass-taken b area boxes n old mid new before within pass taken =
+    let s = get_or boxes n 0 in
+    let less = fewer (λ x. has mid (spot_of b x)) (λ x. has new (spot_of b x)) (λ x there. ((taken.others (spot_of b x)).0 there).1) boxes n within
+    taken.drawn.1
+    (gone s) in
+    let rest = pass.fewer in
+    record {
+      jams = λ others keeps. KeepsJams-taken b area others mid new s taken (pass.jams others keeps);
+      fewer = omega (arith, less, rest);
+      some = λ _. omega (arith, less, rest);
+      none = λ e. absurd (true≢false e);
+    }
+  where
+    gone : (s : ℕ) → has new (spot_of b (get_or boxes n 0)) ≡ false
+    gone s = elim (cases_Bool (has new (spot_of b (get_or boxes n 0)))) [
+      | inl on ↦ absurd (((taken.others (spot_of b (get_or boxes n 0))).0 on).0 refl)
+      | inr off ↦ off
+    ]
+
+-- or left
+pub TellsPass-left : (b : Numbered) (boxes : List ℕ) (n : ℕ) (old mid new : List ℕ) (before : Bool) → TellsPass b boxes n old mid before
+    → IsLeft b (get_or boxes n 0) mid new → TellsPass b boxes (n + 1) old new before
+TellsPass-left b boxes n old mid new before pass left =
+    subst (λ rows. TellsPass b boxes (n + 1) old rows before) (sym left.same) (record {
+      jams = pass.jams;
+      fewer = pass.fewer;
+      some = pass.some;
+      none = λ e.
+          let (same, held) = pass.none e in (
+            same,
+            below_more (λ k. IsDrawn b old (get_or boxes k 0) → IsHeld b (IsDrawn b old) (get_or boxes k 0)) n held
+                (subst (λ rows. IsDrawn b rows (get_or boxes n 0) → IsHeld b (IsDrawn b rows) (get_or boxes n 0)) same left.held),
+          );
+    })
+
+-- whether it is one or the other
+pub TellsPass-more : (b : Numbered) → IsArea b.rows b.area → (boxes : List ℕ) (n : ℕ) (old mid new : List ℕ) (before one : Bool) → n < length boxes
+    → TellsPass b boxes n old mid before → TellsTaken b (get_or boxes n 0) mid new one → TellsPass b boxes (n + 1) old new (before || one)
+TellsPass-more b area boxes n old mid new before one within pass told = elim (cases_Bool one) [
+  | inl on ↦ subst (TellsPass b boxes (n + 1) old new) (sym (ap (λ t. before || t) on ∙ or_on before))
+      (TellsPass-taken b area boxes n old mid new before within pass (told.gone on))
+  | inr off ↦ subst (TellsPass b boxes (n + 1) old new) (sym (ap (λ t. before || t) off ∙ or_off before))
+      (TellsPass-left b boxes n old mid new before pass (told.left off))
+]
+  where
+    or_on : (t : Bool) → (t || true) ≡ true
+    or_on true = refl
+    or_on false = refl
+
+    or_off : (t : Bool) → (t || false) ≡ t
+    or_off true = refl
+    or_off false = refl
+
+-- all boxes are drawn at first
+pub KeepsJams-laid : (b : Numbered) → IsArea b.rows b.area → (boxes : List ℕ) (laid : Laid) → IsLaidOut b boxes laid → KeepsJams b boxes laid.boxed
+KeepsJams-laid b area boxes laid out = record {
+  among = λ s (within, there).
+      let (n, number, one) = (out.boxed (spot_of b s)).0 there in
+      subst (Contains boxes) (same_Some n s (sym number ∙ number_of-spot_of b area s within)) one;
+  most = λ members jam s member.
+      let one = Contains-member boxes members s member in
+      let within = All-contains (λ n. n < length b.area) laid.boxes s out.exist ((out.listed s).1 one) in
+      (within, (out.boxed (spot_of b s)).1 (s, number_of-spot_of b area s within, one));
+}
+
+-- a box of a jam is held by the boxes that are drawn
+pub loose-alone : (b : Numbered) (boxes rows : List ℕ) (s : ℕ) → KeepsJams b boxes rows → (IsHeld b (IsDrawn b rows) s → ⊥) → HasJamWith b boxes s → ⊥
+loose-alone b boxes rows s keeps loose (members, jam, member) =
+    loose (IsHeld-more b (IsMember boxes members) (IsDrawn b rows) (keeps.most members jam) s (jam.held s member))
+
+-- the members that are drawn
+module _ (b : Numbered) (boxes rows : List ℕ) (exist : (s : ℕ) → Contains boxes s → s < length b.area) (keeps : KeepsJams b boxes rows) where
+  test : ℕ → Bool
+  test i = has rows (spot_of b (get_or boxes i 0))
+
+  chosen : List ℕ
+  chosen = filter test (range_with_len 0 (length boxes))
+
+  chosen-at : (i s : ℕ) → slice_get boxes i ≡ Some s → test i ≡ has rows (spot_of b s)
+  unfolding test
+  chosen-at i s at = ap (λ n. has rows (spot_of b n)) (get_or_from_slice_get boxes i s 0 at)
+
+  in_range : (i : ℕ) → i < length boxes → Contains (range_with_len 0 (length boxes)) i
+  in_range i within =
+      let counted : 0 + i ≡ i = omega arith in
+      (i, omega (arith, within, length-range_with_len 0 (length boxes)), get_or-range_with_len 0 (length boxes) i i within ∙ counted)
+
+  drawn-member : (s : ℕ) → IsDrawn b rows s → IsMember boxes chosen s
+  unfolding chosen
+  drawn-member s drawn =
+      let (i, at) = index_of boxes s (keeps.among s drawn) in (
+        i,
+        Contains-filter test (range_with_len 0 (length boxes)) i (in_range i (slice_get_within boxes i s at)) (chosen-at i s at ∙ drawn.1),
+        at,
+      )
+
+  member-drawn : (s : ℕ) → IsMember boxes chosen s → IsDrawn b rows s
+  unfolding chosen
+  member-drawn s (i, one, at) = (
+    exist s (Contains-member boxes chosen s (i, one, at)),
+    sym (chosen-at i s at) ∙ (Contains-from_filter test (range_with_len 0 (length boxes)) i one).1,
+  )
+
+  listed : AreMembers boxes chosen
+  unfolding chosen
+  listed = record {
+    rising = rising-chosen test (length boxes);
+    within = λ k d inside.
+        let (j, j_within, is) = (Contains-from_filter test (range_with_len 0 (length boxes)) (get_or chosen k d) (Contains-get_or chosen k d inside)).0 in
+        let long = length-range_with_len 0 (length boxes) in
+        let at = get_or-range_with_len 0 (length boxes) j (get_or chosen k d) (omega (arith, j_within, long)) in
+        omega (arith, j_within, long, at, is);
+  }
+
+  -- where all that are left are held, they are a jam, if one of them stands off a goal
+  pub HasJamWith-left : (s : ℕ) → ((t : ℕ) → IsDrawn b rows t → IsHeld b (IsDrawn b rows) t) → IsDrawn b rows s → (off : ℕ) → IsDrawn b rows off
+      → (IsGoalSquare b off → ⊥) → HasJamWith b boxes s
+  HasJamWith-left s held here off off_drawn off_goal = (
+    chosen,
+    record {
+      listed = listed;
+      held = λ t member. IsHeld-more b (IsDrawn b rows) (IsMember boxes chosen) drawn-member t (held t (member-drawn t member));
+      off_goal = (off, drawn-member off off_drawn, off_goal);
+    },
+    drawn-member s here,
+  )
+
+module _ (b : Numbered) (area : IsArea b.rows b.area) (boxes : List ℕ) (laid : Laid) (out : IsLaidOut b boxes laid) (held : List ℕ)
+    (narrowed : IsNarrowed b laid.boxes laid.boxed held) where
+  left : KeepsJams b boxes held
+  left = narrowed.jams boxes (KeepsJams-laid b area boxes laid out)
+
+  each_held : (t : ℕ) → IsDrawn b held t → IsHeld b (IsDrawn b held) t
+  each_held t drawn =
+      let (k, within, is) = (out.listed t).1 (left.among t drawn) in
+      let at : get_or laid.boxes k 0 ≡ t = get_or_default laid.boxes k 0 t within ∙ is in
+      subst (IsHeld b (IsDrawn b held)) at (narrowed.held k within (subst (IsDrawn b held) (sym at) drawn))
+
+  -- what is left of a layout is a jam
+  pub HasJamWith-narrowed : (s : ℕ) → IsDrawn b held s → HasDrawnOffGoal b laid.boxes held → HasJamWith b boxes s
+  HasJamWith-narrowed s drawn (off, one, off_drawn, off_goal) =
+      HasJamWith-left b boxes held (λ t listed. All-contains (λ n. n < length b.area) laid.boxes t out.exist ((out.listed t).1 listed)) left s each_held drawn
+      off off_drawn off_goal
+
+  -- and each jam is left
+  pub narrowed-jam : (s : ℕ) → HasJamWith b boxes s → IsDrawn b held s × HasDrawnOffGoal b laid.boxes held
+  narrowed-jam s (members, jam, member) =
+      let (off, one, off_goal) = jam.off_goal in (
+        left.most members jam s member,
+        (off, (out.listed off).1 (Contains-member boxes members off one), left.most members jam off one, off_goal),
+      )

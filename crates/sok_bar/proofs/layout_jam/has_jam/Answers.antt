@@ -1,0 +1,43 @@
+use Rattle.std.proofs.Common.{ℕ, sym, ◌∙◌, subst, true≢false, List}
+use Rattle.sok_bar.specs.Jam.{IsHeld}
+use Rattle.sok_bar.specs.Narrowed.{HasDrawnOffGoal, IsNarrowed}
+use Rattle.sok_bar.specs.Settings.{IsDrawn}
+use Rattle.sok_bar.proofs.Narrowing.{HasJamWith-narrowed, KeepsJams-laid, loose-alone, narrowed-jam}
+use Rattle.sok_bar.proofs.layout_jam.has_jam.Goals as goal
+
+pub returns-then-not-is_held : goal.returns-then-not-is_held
+returns-then-not-is_held c = λ boxes laid. (
+  (λ e. absurd (true≢false (sym e))),
+  λ jam. absurd (loose-alone c.args.board.now boxes c.args.layout.now.boxed c.args.square
+      (KeepsJams-laid c.args.board.now c.requires.accepted.numbered boxes c.args.layout.now laid)
+      (λ held. true≢false (sym (c.is_held.ensures.1 (subst (λ (rows : List ℕ). IsHeld c.args.board.now (IsDrawn c.args.board.now rows) c.args.square)
+      (sym c.boxed.ensures) held)) ∙ c.if-not-is_held.true)) jam),
+)
+
+pub returns-then-is_drawn : goal.returns-then-is_drawn
+returns-then-is_drawn c = λ boxes laid.
+    let b = c.args.board.now in
+    let layout = c.args.layout.now in
+    let narrowed : IsNarrowed b layout.boxes layout.boxed c.narrow.new.held =
+    subst (λ (squares : List ℕ). IsNarrowed b squares layout.boxed c.narrow.new.held) c.boxes.ensures
+    (subst (λ (rows : List ℕ). IsNarrowed b c.boxes.result.now rows c.narrow.new.held) (c.copy_from.ensures ∙ c.boxed-2.ensures) c.narrow.ensures) in (
+      λ off. HasJamWith-narrowed b c.requires.accepted.numbered boxes layout laid c.narrow.new.held narrowed c.args.square
+          (c.is_drawn.ensures.0 c.if-is_drawn.true)
+          (subst (λ (squares : List ℕ). HasDrawnOffGoal b squares c.narrow.new.held) c.boxes-then-is_drawn.ensures (c.has_off_goal.ensures.0 off)),
+      λ jam.
+          let (_, off) = narrowed-jam b c.requires.accepted.numbered boxes layout laid c.narrow.new.held narrowed c.args.square jam in
+          c.has_off_goal.ensures.1 (subst (λ (squares : List ℕ). HasDrawnOffGoal b squares c.narrow.new.held) (sym c.boxes-then-is_drawn.ensures) off),
+    )
+
+pub returns-else-is_drawn : goal.returns-else-is_drawn
+returns-else-is_drawn c = λ boxes laid.
+    let b = c.args.board.now in
+    let layout = c.args.layout.now in
+    let narrowed : IsNarrowed b layout.boxes layout.boxed c.narrow.new.held =
+    subst (λ (squares : List ℕ). IsNarrowed b squares layout.boxed c.narrow.new.held) c.boxes.ensures
+    (subst (λ (rows : List ℕ). IsNarrowed b c.boxes.result.now rows c.narrow.new.held) (c.copy_from.ensures ∙ c.boxed-2.ensures) c.narrow.ensures) in (
+      λ drawn. absurd (true≢false (sym drawn ∙ c.if-is_drawn.false)),
+      λ jam.
+          let (drawn, _) = narrowed-jam b c.requires.accepted.numbered boxes layout laid c.narrow.new.held narrowed c.args.square jam in
+          c.is_drawn.ensures.1 drawn,
+    )

@@ -1,0 +1,48 @@
+-- Boxes in bit rows, of which those are taken away that are not held.
+use Rattle.std.specs.Prelude.{ℕ, ◌≡◌, ◌<◌, ◌≤◌, ◌↔◌, List, Bool, true, false, IsTrue, Contains, filter, length, slice_index}
+use Rattle.sok_rules.specs.declared.cell.Spot.{Spot}
+use Rattle.sok_board.specs.Area.{Numbered, spot_of}
+use Rattle.sok_field.specs.Fields.{has}
+use Rattle.sok_price.specs.Prices.{IsMember}
+use Rattle.sok_bar.specs.Jam.{IsGoalSquare, IsHeld, IsJam}
+use Rattle.sok_bar.specs.Settings.{IsDrawn}
+
+-- boxes of a list, and those of each jam among them
+pub record KeepsJams (b : Numbered) (boxes rows : List ℕ) : Type 0 where
+  pub among : (s : ℕ) → IsDrawn b rows s → Contains boxes s
+  pub most : (members : List ℕ) → IsJam b boxes members → (s : ℕ) → IsMember boxes members s → IsDrawn b rows s
+
+-- how many boxes of a list are drawn
+abbrev pub drawn_of : Numbered → List ℕ → List ℕ → ℕ
+drawn_of b boxes rows = length (filter (λ s. has rows (spot_of b s)) boxes)
+
+-- a box was taken away, since those that were left did not hold it
+pub record IsTaken (b : Numbered) (s : ℕ) (old new : List ℕ) : Type 0 where
+  pub drawn : IsDrawn b old s
+  pub loose : IsHeld b (IsDrawn b old) s → ⊥
+  pub others : (t : Spot) → IsTrue (has new t) ↔ ((t ≡ spot_of b s → ⊥) × IsTrue (has old t))
+
+-- it stays, or was not there
+pub record IsLeft (b : Numbered) (s : ℕ) (old new : List ℕ) : Type 0 where
+  pub same : new ≡ old
+  pub held : IsDrawn b old s → IsHeld b (IsDrawn b old) s
+
+pub record TellsTaken (b : Numbered) (s : ℕ) (old new : List ℕ) (taken : Bool) : Type 0 where
+  pub gone : taken ≡ true → IsTaken b s old new
+  pub left : taken ≡ false → IsLeft b s old new
+
+-- so it is of the first boxes of a list in turn
+pub record TellsPass (b : Numbered) (boxes : List ℕ) (n : ℕ) (old new : List ℕ) (taken : Bool) : Type 0 where
+  pub jams : (others : List ℕ) → KeepsJams b others old → KeepsJams b others new
+  pub fewer : drawn_of b boxes new ≤ drawn_of b boxes old
+  pub some : taken ≡ true → drawn_of b boxes new < drawn_of b boxes old
+  pub none : taken ≡ false → (new ≡ old) × ((k : ℕ) → k < n → IsDrawn b old (slice_index boxes k) → IsHeld b (IsDrawn b old) (slice_index boxes k))
+
+-- until each that is left is held by those that are left
+pub record IsNarrowed (b : Numbered) (boxes old new : List ℕ) : Type 0 where
+  pub jams : (others : List ℕ) → KeepsJams b others old → KeepsJams b others new
+  pub held : (k : ℕ) → k < length boxes → IsDrawn b new (slice_index boxes k) → IsHeld b (IsDrawn b new) (slice_index boxes k)
+
+-- one of them stands off a goal
+abbrev pub HasDrawnOffGoal : Numbered → List ℕ → List ℕ → Type 0
+HasDrawnOffGoal b boxes rows = (s : ℕ) × Contains boxes s × IsDrawn b rows s × (IsGoalSquare b s → ⊥)

@@ -1,0 +1,94 @@
+//! Whether the boxes of a layout have a jam.
+
+ghost use Rattle.std.specs.Prelude.{ℕ, List, ◌≡◌, ◌<◌, ◌↔◌, IsTrue, All, length};
+ghost use Rattle.sok_board.specs.Area.{IsAccepted};
+ghost use Rattle.sok_state.specs.Layouts.{IsLaidOut};
+ghost use Rattle.sok_bar.specs.Jam.{HasJamWith};
+ghost use Rattle.sok_bar.specs.Narrowed.{HasDrawnOffGoal, IsNarrowed, TellsPass, TellsTaken};
+
+use crate::held::{Holders, is_drawn, is_held};
+use sok_board::area::Sq;
+use sok_board::board::Board;
+use sok_field::field::Field;
+use sok_push::tables::Tables;
+use sok_state::layout::Layout;
+
+/// Whether the boxes of a layout have a jam with the box on a square: exactly where `find_frozen`
+/// finds one. Most boxes are free where they stand; only else boxes are taken away that are not
+/// held, until there is none. It takes no memory.
+pub fn has_jam(board: &Board, tables: &Tables, layout: &Layout, square: Sq) -> bool
+    requires accepted { IsAccepted board.now }
+    requires tables { tables.now.board ≡ board.now }
+    requires exists { square < length board.now.area }
+    requires laid { (boxes : List ℕ) × IsLaidOut board.now boxes layout.now }
+    ensures { (boxes : List ℕ) → IsLaidOut board.now boxes layout.now
+        → IsTrue result ↔ HasJamWith board.now boxes square }
+{
+    if !is_held(board, tables, &[], Holders::Drawn(layout.boxed()), square) {
+        return false;
+    }
+    let mut held = Field::new();
+    held.copy_from(layout.boxed());
+    narrow(board, tables, layout.boxes(), &mut held);
+    is_drawn(board, &held, square) && has_off_goal(board, layout.boxes(), &held)
+}
+
+/// Takes boxes away that are not held by those that are left, until there is none.
+fn narrow(board: &Board, tables: &Tables, boxes: &[Sq], held: &mut Field)
+    requires accepted { IsAccepted board.now }
+    requires tables { tables.now.board ≡ board.now }
+    requires exist { All (λ square. square < length board.now.area) boxes.now }
+    ensures { IsNarrowed board.now boxes.now held.old held.new }
+{
+    'passes: loop {
+        if !take_loose(board, tables, boxes, held) {
+            return;
+        }
+    }
+}
+
+/// Takes each of some boxes away that is not held by those that are left. Tells whether there was
+/// one.
+fn take_loose(board: &Board, tables: &Tables, boxes: &[Sq], held: &mut Field) -> bool
+    requires accepted { IsAccepted board.now }
+    requires tables { tables.now.board ≡ board.now }
+    requires exist { All (λ square. square < length board.now.area) boxes.now }
+    ensures { TellsPass board.now boxes.now (length boxes.now) held.old held.new result }
+{
+    let mut taken = false;
+    for square in boxes {
+        taken |= take_if_loose(board, tables, *square, held);
+    }
+    taken
+}
+
+/// Takes a box away, if it is not held by those that are left. Tells whether it was.
+fn take_if_loose(board: &Board, tables: &Tables, square: Sq, held: &mut Field) -> bool
+    requires accepted { IsAccepted board.now }
+    requires tables { tables.now.board ≡ board.now }
+    requires exists { square < length board.now.area }
+    ensures { TellsTaken board.now square held.old held.new result }
+{
+    if !is_drawn(board, held, square) {
+        return false;
+    }
+    if is_held(board, tables, &[], Holders::Drawn(held), square) {
+        return false;
+    }
+    held.take(board.spot(square));
+    true
+}
+
+/// Whether one of some boxes that are left stands off a goal.
+fn has_off_goal(board: &Board, boxes: &[Sq], held: &Field) -> bool
+    requires accepted { IsAccepted board.now }
+    requires exist { All (λ square. square < length board.now.area) boxes.now }
+    ensures { IsTrue result ↔ HasDrawnOffGoal board.now boxes.now held.now }
+{
+    for square in boxes {
+        if is_drawn(board, held, *square) && !board.is_goal(*square) {
+            return true;
+        }
+    }
+    false
+}

@@ -1,0 +1,58 @@
+-- Runs that have the squares of an area in order.
+use Rattle.std.proofs.Common.{ℕ, ◌≡◌, ◌<◌, ◌≤◌, ◌+◌, ◌-◌, ap, sym, ◌∙◌, subst, inl, inr, arith, List, [], ◌∷◌, ◌++◌, All, length, get_or}
+use Rattle.std.proofs.lemmas.Bool.{cases_lt}
+use Rattle.std.proofs.lemmas.Option.{unwrap_or-slice_get}
+use Rattle.sok_rules.specs.declared.cell.Spot.{Spot}
+use Rattle.sok_board.specs.Area.{Numbered}
+use Rattle.sok_board.specs.Runs.{IsRun, Covers, spot_at, right_of}
+use Rattle.sok_board.specs.Tables.{HasPlace}
+use Rattle.sok_board.specs.declared.runs.Run.{Run}
+use Rattle.sok_board.proofs.AreaLaws.{origin}
+
+-- one run more
+pub Covers-push : (b : Numbered) (runs : List Run) (from to : ℕ) (run : Run) → Covers b from runs to → IsRun b run → run.number ≡ to
+    → Covers b from (runs ++ run ∷ []) (to + run.length)
+Covers-push b [] from to run covers is at = (is, at ∙ sym covers, ap (λ n. n + run.length) covers)
+Covers-push b (first ∷ runs) from to run (here, number, rest) is at = (here, number, Covers-push b runs (from + first.length) to run rest is at)
+
+-- a square lies beside itself, and further ones one by one
+pub right_of-none : (squares : List Spot) (n k : ℕ) → k < 1 → spot_at squares (n + k) ≡ right_of (spot_at squares n) k
+right_of-none squares n k within =
+    let here : n + k ≡ n = omega arith in
+    let s = spot_at squares n in
+    let col : s.col ≡ s.col + k = omega arith in
+    ap (spot_at squares) here ∙ (λ i. record { row = s.row; col = col i })
+
+pub right_of-more : (squares : List Spot) (n m : ℕ) → (get_or squares (n + m) origin).row ≡ (get_or squares n origin).row
+    → (get_or squares (n + m) origin).col ≡ (get_or squares n origin).col + m
+    → ((k : ℕ) → k < m → spot_at squares (n + k) ≡ right_of (spot_at squares n) k)
+    → (k : ℕ) → k < m + 1 → spot_at squares (n + k) ≡ right_of (spot_at squares n) k
+right_of-more squares n m row col before k within = elim (cases_lt k m) [
+  | inl below ↦ before k below
+  | inr past ↦
+      let last : k ≡ m = omega arith in
+      let there = unwrap_or-slice_get squares (n + m) origin in
+      let here = unwrap_or-slice_get squares n origin in
+      subst (λ j. spot_at squares (n + j) ≡ right_of (spot_at squares n) j) (sym last)
+      (there ∙ (λ i. record { row = row i; col = col i }) ∙ ap (λ s. right_of s m) (sym here))
+]
+
+-- squares that lie side by side are a run
+pub IsRun-beside : (b : Numbered) (squares : List Spot) (n m : ℕ) → b.area ≡ squares → All HasPlace squares → 0 < m → n + m ≤ length squares
+    → ((k : ℕ) → k < m → spot_at squares (n + k) ≡ right_of (spot_at squares n) k)
+    → IsRun b (record { first = get_or squares n origin; number = n; length = m })
+IsRun-beside b squares n m same places some within lies =
+    let here = unwrap_or-slice_get squares n origin in
+    let last : m - 1 < m = omega arith in
+    let end : n + (m - 1) < length squares = omega arith in
+    let there = sym (unwrap_or-slice_get squares (n + (m - 1)) origin) ∙ lies (m - 1) last ∙ ap (λ s. right_of s (m - 1)) here in
+    let place = subst HasPlace there (places (n + (m - 1)) origin end) in
+    let col = place.col in
+    let long = ap length same in
+    record {
+      some = some;
+      within = omega (arith, long, within);
+      row = place.row;
+      columns = omega (arith, col, some);
+      lies = λ k below. ap (λ area. spot_at area (n + k)) same ∙ lies k below ∙ ap (λ s. right_of s k) here;
+    }

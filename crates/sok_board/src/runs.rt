@@ -1,0 +1,65 @@
+//! The area as runs of squares that lie side by side.
+
+ghost use Rattle.std.specs.Prelude.{◌≡◌, ◌<◌, ◌≤◌, ◌+◌, ℕ, IfOk, All, length};
+ghost use Rattle.sok_board.specs.Area.{Numbered};
+ghost use Rattle.sok_board.specs.Limits.{square_limit};
+ghost use Rattle.sok_board.specs.Runs.{Covers, right_of, spot_at};
+ghost use Rattle.sok_board.specs.Tables.{HasPlace};
+
+use crate::area::Sq;
+use sok_rules::cell::Spot;
+use sok_rules::fault::Memory;
+use std::alloc::Global;
+
+/// Squares of the area that lie side by side in a row, with numbers that follow each other.
+#[derive(Clone, Copy, Debug)]
+pub struct Run {
+    /// The leftmost square, and its number.
+    pub first: Spot,
+    pub number: Sq,
+    /// How many squares there are, at least 1.
+    pub length: u32,
+}
+
+/// The runs of an area, in order.
+pub(crate) fn list_runs(alloc: Global, squares: &[Spot]) -> Result<Vec<Run>, Memory>
+    requires few { length squares.now ≤ square_limit }
+    requires within { All HasPlace squares.now }
+    ensures { (b : Numbered) → b.area ≡ squares.now
+        → IfOk result (λ runs. Covers b 0 runs.items (length b.area)) }
+{
+    let mut runs = Vec::new(alloc);
+    let mut number = 0;
+    while number < squares.len() {
+        let length = run_length(squares, number);
+        runs.push(Run {
+            first: squares[number],
+            number: number as Sq,
+            length: length as u32,
+        })?;
+        number += length;
+    }
+    Ok(runs)
+}
+
+/// How many squares lie side by side from one on.
+fn run_length(squares: &[Spot], number: usize) -> usize
+    requires number { number < length squares.now }
+    requires few { length squares.now ≤ square_limit }
+    requires within { All HasPlace squares.now }
+    ensures some { 0 < result }
+    ensures within { number + result ≤ length squares.now }
+    ensures lies { (k : ℕ) → k < result → spot_at squares.now (number + k)
+        ≡ right_of (spot_at squares.now number) k }
+{
+    let first = squares[number];
+    let mut length = 1;
+    while number + length < squares.len() {
+        let next = squares[number + length];
+        if next.row != first.row || next.col != first.col + length as u32 {
+            break;
+        }
+        length += 1;
+    }
+    length
+}

@@ -1,0 +1,73 @@
+-- Sets of which no square lies in a row from one on.
+use Rattle.std.proofs.Common.{ℕ, ◌≡◌, ◌<◌, ◌+◌, ◌-◌, ◌⊎◌, ◌↔◌, inl, inr, List, ◌++◌, sym, ap, ◌∙◌, arith, true, false, eqb, get_or, max, length, refl}
+use Rattle.std.proofs.Common.{take, drop}
+use Rattle.std.specs.Int.{bit_at}
+use Rattle.std.proofs.lemmas.Bool.{cases_Bool, cases_lt}
+use Rattle.std.proofs.lemmas.List.{get_or-take, get_or-drop, get_or_append_left, get_or-append_right, length-append, length-take-le}
+use Rattle.sok_rules.specs.declared.cell.Spot.{Spot}
+use Rattle.sok_field.specs.Fields.{has, IsHigh}
+use Rattle.sok_field.specs.Ways.{way, Joined}
+use Rattle.sok_field.proofs.OneSquare.{has-past, has-within}
+
+has-row : (a b : List ℕ) (s : Spot) (r : ℕ) → get_or a s.row 0 ≡ get_or b r 0 → (t : Spot) → t.row ≡ r → t.col ≡ s.col → has a s ≡ has b t
+unfolding has
+has-row a b s r same t row col =
+    ap (λ n. eqb (bit_at n s.col) 1) (same ∙ ap (λ k. get_or b k 0) (sym row)) ∙ ap (λ c. eqb (bit_at (get_or b t.row 0) c) 1) (sym col)
+
+-- the rows that have squares
+pub has-take : (rows : List ℕ) (height : ℕ) → IsHigh rows height → (s : Spot) → has (take height rows) s ≡ has rows s
+has-take rows height high s = elim (cases_lt s.row height) [
+  | inl below ↦ has-row (take height rows) rows s s.row (get_or-take height rows s.row 0 below) s refl refl
+  | inr past ↦
+      let within = high.within in
+      let long = length-take-le height rows within in
+      has-past (take height rows) s (omega (arith, long, past)) ∙ sym (elim (cases_Bool (has rows s)) [
+        | inl there ↦ let below = high.below s there in absurd (omega (arith, below, past))
+        | inr none ↦ none
+      ])
+]
+
+-- rows with blank ones below them
+pub has-blank : (seen blank : List ℕ) (height : ℕ) → length seen ≡ height → ((s : Spot) → has blank s ≡ false) → (s : Spot)
+    → has (seen ++ drop height blank) s ≡ has seen s
+has-blank seen blank height long none s = elim (cases_lt s.row (length seen)) [
+  | inl below ↦ has-row (seen ++ drop height blank) seen s s.row (get_or_append_left seen (drop height blank) 0 s.row below) s refl refl
+  | inr past ↦
+      let back : height + (s.row - length seen) ≡ s.row = omega arith in
+      let right = get_or-append_right seen (drop height blank) (length seen) s.row 0 refl past in
+      has-row (seen ++ drop height blank) blank s s.row
+      (right ∙ get_or-drop height blank (s.row - length seen) 0 ∙ ap (λ k. get_or blank k 0) back) s refl refl
+      ∙ none s ∙ sym (has-past seen s past)
+]
+
+-- a row more may have squares
+pub IsHigh-more : (old new : List ℕ) (height more row : ℕ) → IsHigh old height → length new ≡ length old → row < length old → more ≡ max height (row + 1)
+    → ((s : Spot) → has new s ≡ true → (s.row ≡ row) ⊎ (has old s ≡ true)) → IsHigh new more
+IsHigh-more old new height more row high same inside is from =
+    let within = high.within in
+    record {
+      within = omega (arith, within, same, inside, is);
+      below = λ s e. elim (from s e) [
+        | inl here ↦ omega (arith, here, is)
+        | inr before ↦ let below = high.below s before in omega (arith, below, is)
+      ];
+    }
+
+-- what a flood over the rows that have squares has met
+pub flooded-low : (free seen blank : List ℕ) (height : ℕ) (from : Spot) → IsHigh free height → length seen ≡ height → ((s : Spot) → has blank s ≡ false)
+    → ((s : Spot) → (has seen s ≡ true) ↔ Joined (has (take height free)) from s)
+    → (s : Spot) → (has (seen ++ drop height blank) s ≡ true) ↔ Joined (has free) from s
+flooded-low free seen blank height from high long none joined s =
+    let is = has-blank seen blank height long none s in
+    let lets : has (take height free) ≡ has free = λ i t. has-take free height high t i in (
+      λ e. let (w, leads) = (joined s).0 (sym is ∙ e) in (w, ap (λ through. way through from w) (sym lets) ∙ leads),
+      λ (w, leads). is ∙ (joined s).1 (w, ap (λ through. way through from w) lets ∙ leads),
+    )
+
+pub IsHigh-low : (seen blank : List ℕ) (height : ℕ) → length seen ≡ height → ((s : Spot) → has blank s ≡ false) → IsHigh (seen ++ drop height blank) height
+IsHigh-low seen blank height long none =
+    let more = length-append seen (drop height blank) in
+    record {
+      within = omega (arith, more, long);
+      below = λ s e. let within = has-within seen s (sym (has-blank seen blank height long none s) ∙ e) in omega (arith, within, long);
+    }

@@ -1,0 +1,4 @@
+pub mod Ascii
+pub mod Broken
+pub mod Rows
+pub mod Titles

@@ -1,0 +1,42 @@
+-- What is kept of a title: one line, without blanks at its ends.
+use Rattle.std.specs.Prelude.{ℕ, ◌≡◌, ◌<◌, ◌-◌, List, [], ◌∷◌, Option, Some, Bool, false, ◌||◌, ◌==◌, All, IfSome, if◌then◌else◌}
+use Rattle.std.specs.Prelude.{codes, length, reverse, slice_index}
+use Rattle.std.specs.List.{before_first}
+use Rattle.sok_text.specs.Characters.{code}
+use Rattle.sok_text.specs.Lines.{is_newline}
+use Rattle.sok_text.specs.Titles.{is_space, some_text, trimmed_front}
+
+-- space, tab or CR
+abbrev pub is_end_blank : ℕ → Bool
+is_end_blank c = is_space c || c == code (codes "\r")
+
+-- a text without the bytes at its front that pass a test
+abbrev pub without_front : (ℕ → Bool) → List ℕ → List ℕ
+without_front test [] = []
+without_front test (c ∷ text) = if test c then without_front test text else c ∷ text
+
+-- without those at its back
+abbrev pub without_back : (ℕ → Bool) → List ℕ → List ℕ
+without_back test text = reverse (without_front test (reverse text))
+
+-- what stands before the first LF, without spaces and tabs at its front, and without spaces, tabs and CRs at its back
+abbrev pub kept_line : List ℕ → List ℕ
+kept_line text = without_back is_end_blank (trimmed_front (before_first is_newline text))
+
+-- the title that is kept of a text; of nothing there is none
+abbrev pub kept_title : List ℕ → Option (List ℕ)
+kept_title text = some_text (kept_line text)
+
+-- not empty, of one line, with no space or tab at either end, and with no CR at its back
+pub record IsTitle (title : List ℕ) : Type 0 where
+  pub some : 0 < length title
+  pub one_line : All (λ c. is_newline c ≡ false) title
+  pub front : is_space (slice_index title 0) ≡ false
+  pub back : is_end_blank (slice_index title (length title - 1)) ≡ false
+
+-- what is kept is a title, and a title is kept as it is
+abbrev pub KeptAreTitles : Type 0
+KeptAreTitles = (text : List ℕ) → IfSome (kept_title text) IsTitle
+
+abbrev pub TitlesAreKept : Type 0
+TitlesAreKept = (title : List ℕ) → IsTitle title → kept_title title ≡ Some title

@@ -1,0 +1,195 @@
+//! Rows as records, and what is shown of them.
+
+use sok_book::fault::BookFault;
+use sok_page::columns::{Columns, columns_of};
+use sok_page::reading::record_of;
+use sok_page::title::kept_title;
+use sok_shelf::export::export_text;
+use sok_shelf::show::shown_text;
+use std::alloc::{AllocError, Global};
+use std::test::Fail;
+
+/// The values of a row.
+#[derive(Clone, Copy)]
+struct Row<'a> {
+    text: &'a str,
+    title: Option<&'a str>,
+    lurd: Option<&'a str>,
+    pushes: Option<u32>,
+    moves: Option<u32>,
+    verdict: u32,
+}
+
+/// A room with its best solution, which is proved.
+const ROOM: Row<'static> = Row {
+    text: "######\n#    #\n# $@.#\n######\n",
+    title: Some("A room"),
+    lurd: Some("ulldRR"),
+    pushes: Some(2),
+    moves: Some(6),
+    verdict: 1,
+};
+
+/// A level of which nothing is known.
+const UNTITLED: Row<'static> = Row {
+    text: "#####\n#@$.#\n#####\n",
+    title: None,
+    lurd: None,
+    pushes: None,
+    moves: None,
+    verdict: 0,
+};
+
+fn columns(alloc: Global, row: Row<'_>) -> Result<Columns, AllocError> {
+    let text = String::from_str(alloc, row.text)?;
+    let title = match row.title {
+        Some(title) => Some(title.as_bytes().to_vec(alloc)?),
+        None => None,
+    };
+    let lurd = match row.lurd {
+        Some(lurd) => Some(String::from_str(alloc, lurd)?),
+        None => None,
+    };
+    Ok(Columns {
+        text,
+        title,
+        lurd,
+        pushes: row.pushes,
+        moves: row.moves,
+        verdict: row.verdict,
+    })
+}
+
+#[test]
+fn records_are_shown_and_exported(rt: HostRuntime) -> Result<(), Fail> {
+    let alloc = rt.alloc();
+    let mut records = Vec::new(alloc);
+    for (id, row, lines) in [
+        (1, ROOM, "title A room\nbest 2 6 ulldRR\nverdict optimal\n"),
+        (2, UNTITLED, "best none\nverdict untested\n"),
+    ] {
+        let kept = record_of(alloc, id, columns(alloc, row)?)?;
+        let shown = shown_text(alloc, &kept)?;
+        let whole = format!(in alloc; "{}{lines}", row.text)?;
+        assert_eq!(rt; shown.as_slice(), whole.as_bytes());
+        records.push(kept)?;
+    }
+    let text = export_text(alloc, records.as_slice())?;
+    let whole = format!(in alloc; "; A room\n{}\n{}\n", ROOM.text, UNTITLED.text)?;
+    assert_eq!(rt; text.as_slice(), whole.as_bytes());
+    for kept in records {
+        let again = columns_of(kept);
+        assert_eq!(rt; again.pushes.is_some(), again.verdict == 1);
+    }
+    Ok(())
+}
+
+#[test]
+fn rows_that_break_a_rule_are_refused(rt: HostRuntime) -> Result<(), Fail> {
+    let alloc = rt.alloc();
+    let rows = [
+        Row {
+            text: "######\n#    #\n# $@.#\n######",
+            ..ROOM
+        },
+        Row {
+            text: "#####\n#@$.#\n##### \n",
+            ..UNTITLED
+        },
+        Row {
+            text: "#####\n#@$./\n#####\n",
+            ..UNTITLED
+        },
+        Row {
+            text: "#####\n#@$.\n#####\n",
+            ..UNTITLED
+        },
+        Row {
+            title: Some(""),
+            ..ROOM
+        },
+        Row {
+            title: Some("A\nroom"),
+            ..ROOM
+        },
+        Row {
+            title: Some("A room\r"),
+            ..ROOM
+        },
+        Row {
+            title: Some(" A room"),
+            ..ROOM
+        },
+        Row {
+            title: Some("A room\t"),
+            ..ROOM
+        },
+        Row {
+            lurd: Some("ulldrr"),
+            ..ROOM
+        },
+        Row {
+            lurd: Some("ulld RR"),
+            ..ROOM
+        },
+        Row {
+            lurd: Some("ulld"),
+            moves: Some(4),
+            pushes: Some(0),
+            ..ROOM
+        },
+        Row {
+            lurd: Some("uu"),
+            ..ROOM
+        },
+        Row {
+            lurd: Some("x"),
+            ..ROOM
+        },
+        Row { lurd: None, ..ROOM },
+        Row {
+            pushes: None,
+            ..ROOM
+        },
+        Row {
+            moves: None,
+            ..ROOM
+        },
+        Row {
+            pushes: Some(3),
+            ..ROOM
+        },
+        Row {
+            moves: Some(7),
+            ..ROOM
+        },
+        Row { verdict: 2, ..ROOM },
+        Row { verdict: 3, ..ROOM },
+        Row {
+            verdict: 1,
+            ..UNTITLED
+        },
+    ];
+    for row in rows {
+        let fault = record_of(alloc, 7, columns(alloc, row)?).err();
+        assert_eq!(rt; fault, Some(BookFault::BadBook(7)));
+    }
+    Ok(())
+}
+
+#[test]
+fn titles_are_kept_in_one_line(rt: HostRuntime) -> Result<(), Fail> {
+    for (text, title) in [
+        (" \t A \t room \r\t\r\nmore", Some("A \t room")),
+        ("\r \r", None),
+        ("\nA room", None),
+        ("", None),
+    ] {
+        match (kept_title(text.as_bytes()), title) {
+            (Some(kept), Some(title)) => assert_eq!(rt; kept, title.as_bytes()),
+            (None, None) => {}
+            _ => assert!(rt; false, "one title is there, and the other is not"),
+        }
+    }
+    Ok(())
+}

@@ -1,0 +1,198 @@
+//! Worked levels, the limits, and levels whose states were all searched.
+
+use sok_judge::check::check_bytes;
+use sok_play::play::replay_bytes;
+use sok_sketch::sketch;
+use sok_solve::solve::solve_bytes;
+use sok_text::line::cut_line;
+use std::alloc::Global;
+use std::process::Abort;
+use std::test::Fail;
+
+/// What solving a level leaves behind.
+#[derive(Drop)]
+pub struct Reply {
+    pub status: u8,
+    pub out: Vec<u8>,
+    pub cert: Vec<u8>,
+}
+
+/// Solves the second level of a collection, of which the first is at fault.
+pub fn answered(alloc: Global, board: &str, limit: u32) -> Result<Reply, Fail> {
+    let mut boards = String::from_str(alloc, "#####\n#$ .#\n#####\n\n")?;
+    boards.push_str(board)?;
+    let mut out = Vec::new(alloc);
+    let mut cert = Vec::new(alloc);
+    let mut input = boards.as_bytes();
+    let status = solve_bytes(alloc, &mut input, 2, limit, &mut out, &mut cert)?;
+    Ok(Reply { status, out, cert })
+}
+
+/// Asserts that a certificate has at most so many entries, and is accepted.
+fn assert_accepted(
+    rt: &impl Abort,
+    alloc: Global,
+    board: &str,
+    limit: u32,
+    cert: &[u8],
+    line: &str,
+) -> Result<(), Fail> {
+    let ends = cert.iter().filter(|byte| **byte == b'\n').count();
+    assert!(rt; ends <= limit as usize + 3);
+    let mut out = Vec::new(alloc);
+    let status = check_bytes(alloc, &mut board.as_bytes(), 1, &mut { cert }, &mut out)?;
+    assert_eq!(rt; out.as_slice(), line.as_bytes());
+    assert_eq!(rt; status, 0);
+    Ok(())
+}
+
+/// Asserts that a level is solved with so many pushes: the text that is written is replayed, and
+/// the certificate judged.
+fn assert_solved(
+    rt: &impl Abort,
+    alloc: Global,
+    board: &str,
+    limit: u32,
+    pushes: u32,
+) -> Result<(), Fail> {
+    let reply = answered(alloc, board, limit)?;
+    let (line, text) = cut_line(reply.out.as_slice());
+    let front = format!(in alloc; "solved {pushes} ")?;
+    assert!(rt; line.starts_with(front.as_bytes()));
+    let mut replayed = Vec::new(alloc);
+    let solved = replay_bytes(alloc, &mut board.as_bytes(), 1, text, &mut replayed)?;
+    assert_eq!(rt; cut_line(replayed.as_slice()).0, line);
+    assert_eq!(rt; solved, 0);
+    assert_eq!(rt; reply.status, 0);
+    let accepted = format!(in alloc; "accepted at least {pushes} pushes\n")?;
+    assert_accepted(rt, alloc, board, limit, reply.cert.as_slice(), &accepted)
+}
+
+/// Asserts that none solves a level, and that its certificate says so.
+fn assert_unsolvable(rt: &impl Abort, alloc: Global, board: &str, limit: u32) -> Result<(), Fail> {
+    let reply = answered(alloc, board, limit)?;
+    assert_eq!(rt; reply.out.as_slice(), b"unsolvable\n".as_slice());
+    assert_eq!(rt; reply.status, 0);
+    let line = "accepted unsolvable\n";
+    assert_accepted(rt, alloc, board, limit, reply.cert.as_slice(), line)
+}
+
+/// A level, a limit, and the fewest pushes, or that none solves it. Both numbers are those of a
+/// plain search, breadth first over all states of the level, but where another source is named: the
+/// limit is the number of the states.
+const LEVELS: [(&str, u32, Option<u32>); 21] = [
+    (sketch::ONE_PUSH, 2, Some(1)),
+    (sketch::SOLVED, 1, Some(0)),
+    (sketch::BOX_BEYOND_THE_GOAL, 1, None),
+    (sketch::TWO_IN_A_ROW, 1, None),
+    (sketch::ROOM_OF_TWO_ROWS, 4, Some(2)),
+    (sketch::CORRIDOR_OF_SIX_PUSHES, 14, Some(6)),
+    (sketch::TWO_BOXES_FOR_ONE_GOAL, 10, None),
+    (sketch::TWO_BOXES_AND_THREE_GOALS, 15, Some(2)),
+    // this one by hand, at the greatest limit
+    (sketch::DECORATED, 1_000_000, Some(1)),
+    (sketch::NO_BOX_INSIDE, 1, Some(0)),
+    (sketch::BOX_IN_THE_OPEN, 9, Some(2)),
+    (sketch::WIDE_ROOM_OF_TWO_ROWS, 6, Some(2)),
+    (sketch::NEAREST_GOAL_NEEDED_BY_ANOTHER, 4, None),
+    (sketch::PILLARS, 224, Some(10)),
+    (THREE_WAYS_OUT, 1_542, Some(9)),
+    (GOALS_IN_THREE_CORNERS, 216, Some(4)),
+    (ROUND_THE_BLOCK, 990, Some(6)),
+    (RING_OF_BOXES, 1_140, Some(3)),
+    (PASSAGE_BEHIND_A_BOX, 125, Some(4)),
+    (TWO_CHAMBERS, 54, Some(4)),
+    (SLANTED_ROOM, 86, None),
+];
+
+const THREE_WAYS_OUT: &str = "\
+#######
+#.#  .#
+#  $  #
+# $@  #
+#  $ ##
+#.   #
+######
+";
+
+const GOALS_IN_THREE_CORNERS: &str = "\
+########
+#  .   #
+# #$## #
+# .@$  #
+#  # $.#
+########
+";
+
+const ROUND_THE_BLOCK: &str = "\
+#######
+#.@.  #
+# $#$ #
+#  $ .#
+#     #
+#######
+";
+
+const RING_OF_BOXES: &str = "\
+#######
+#  .  #
+# .$. #
+# $@$ #
+#     #
+#######
+";
+
+const PASSAGE_BEHIND_A_BOX: &str = "\
+########
+#   .  #
+# $#.$ #
+#   @  #
+########
+";
+
+const TWO_CHAMBERS: &str = "\
+########
+#. #   #
+#  $ $ #
+#  #@. #
+########
+";
+
+const SLANTED_ROOM: &str = "\
+########
+###  . #
+#  $#  #
+#@ *   #
+#    ###
+########
+";
+
+#[test]
+fn levels(rt: HostRuntime) -> Result<(), Fail> {
+    for (board, limit, pushes) in LEVELS {
+        match pushes {
+            Some(pushes) => assert_solved(&rt, rt.alloc(), board, limit, pushes)?,
+            None => assert_unsolvable(&rt, rt.alloc(), board, limit)?,
+        }
+    }
+    Ok(())
+}
+
+/// Answers that are no other: the text of the solution, or the limit, which has no certificate.
+#[test]
+fn whole_answers(rt: HostRuntime) -> Result<(), Fail> {
+    for (board, limit, text, status) in [
+        (sketch::ONE_PUSH, 2, "solved 1 1\nR\n", 0),
+        (sketch::SOLVED, 1, "solved 0 0\n\n", 0),
+        (sketch::DECORATED, 2, "solved 1 1\nR\n", 0),
+        (sketch::NO_BOX_INSIDE, 1, "solved 0 0\n\n", 0),
+        (sketch::CORRIDOR_OF_SIX_PUSHES, 1, "limit 1\n", 4),
+        (sketch::CORRIDOR_OF_SIX_PUSHES, 2, "limit 2\n", 4),
+    ] {
+        let reply = answered(rt.alloc(), board, limit)?;
+        assert_eq!(rt; reply.out.as_slice(), text.as_bytes());
+        assert_eq!(rt; reply.status, status);
+        assert_eq!(rt; reply.cert.is_empty(), status == 4);
+    }
+    Ok(())
+}

@@ -1,0 +1,5 @@
+use Rattle.std.proofs.Common.{◌<◌, All, length, subst, sym}
+use Rattle.sok_search.proofs.trial.match_boxes.Goals as goal
+
+pub set-requires : goal.set-requires
+set-requires c = record { exist = subst (λ n. All (λ square. square < n) c.args.boxes.now) (sym c.requires.trial.serves.squares) c.requires.exist }

@@ -1,0 +1,105 @@
+//! States that wait, by the pushes that they need at least.
+
+ghost use Rattle.std.specs.Prelude.{◌≡◌, ◌<◌, [], IfOk, MatchOption, length};
+ghost use Rattle.sok_search.specs.Steps.{HasOneMore};
+ghost use Rattle.sok_search.specs.Buckets.{in_layers};
+
+use crate::buckets::Buckets;
+use sok_rules::fault::Memory;
+use std::alloc::Global;
+use std::marker::Model;
+
+/// Indices of states that wait, in layers by the pushes that solve with them at least, and in each
+/// by those that are still to come. They are seen as a list of which the order says nothing.
+#[derive(Drop)]
+pub(crate) struct Queue {
+    alloc: Global,
+    layers: Vec<Buckets>,
+    /// Where to look first: a wrong hint costs time alone.
+    first: usize,
+}
+
+impl Model for Queue {
+    ghost use Rattle.std.specs.Prelude.{ℕ, List};
+    ghost use Rattle.sok_search.specs.Buckets.{in_layers};
+
+    ghost Value = { List ℕ };
+
+    ghost view = { λ queue. in_layers queue.layers.items };
+}
+
+/// Takes an index out of the first layer from a place on that has one.
+fn pop_from(layers: &mut [Buckets], from: usize) -> Option<(usize, u32)>
+    ensures { MatchOption result
+        ((layers.new ≡ layers.old) × (from ≡ 0 → in_layers layers.old ≡ []))
+        (λ found. HasOneMore (in_layers layers.new) found.1 (in_layers layers.old)) }
+{
+    for place in from..layers.len() {
+        let layer = &mut layers[place];
+        if let Some(index) = layer.pop() {
+            return Some((place, index));
+        }
+    }
+    None
+}
+
+/// Takes an index out of a layer, the first one from a place on if there is one there.
+fn pop_any(layers: &mut [Buckets], from: usize) -> Option<(usize, u32)>
+    ensures { MatchOption result ((in_layers layers.old ≡ []) × (in_layers layers.new ≡ []))
+        (λ found. HasOneMore (in_layers layers.new) found.1 (in_layers layers.old)) }
+{
+    match pop_from(layers, from) {
+        Some((place, index)) => Some((place, index)),
+        None => pop_from(layers, 0),
+    }
+}
+
+/// Makes more empty layers, so that a place has one.
+fn make_room(alloc: Global, layers: &mut Vec<Buckets>, place: usize) -> Result<(), Memory>
+    ensures room { IfOk result (λ _. place < length layers.new.items) }
+    ensures same { IfOk result (λ _. in_layers layers.new.items ≡ in_layers layers.old.items) }
+{
+    while layers.len() <= place {
+        layers.push(Buckets::new(alloc))?;
+    }
+    Ok(())
+}
+
+impl Queue {
+    /// No state waits.
+    pub(crate) fn new(alloc: Global) -> Queue
+        ensures { result ≡ [] }
+    {
+        Queue {
+            alloc,
+            layers: Vec::new(alloc),
+            first: 0,
+        }
+    }
+
+    /// A state waits, by its index: a solution from it has at least so many pushes, and `bound` of
+    /// them are still to come.
+    pub(crate) fn push(&mut self, pushes: usize, bound: usize, index: u32) -> Result<(), Memory>
+        ensures { IfOk result (λ _. HasOneMore self.old index self.new) }
+    {
+        make_room(self.alloc, &mut self.layers, pushes)?;
+        self.layers[pushes].push(self.alloc, bound, index)?;
+        self.first = self.first.min(pushes);
+        Ok(())
+    }
+
+    /// Takes a state out for which the fewest pushes are known to be needed, and of those one with
+    /// the fewest to come. None where none waits.
+    pub(crate) fn pop(&mut self) -> Option<u32>
+        ensures { MatchOption result ((self.old ≡ []) × (self.new ≡ []))
+            (λ index. HasOneMore self.new index self.old) }
+    {
+        match pop_any(&mut self.layers, self.first) {
+            Some((place, index)) => {
+                self.first = place;
+                Some(index)
+            }
+            None => None,
+        }
+    }
+}

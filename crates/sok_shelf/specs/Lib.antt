@@ -1,0 +1,3 @@
+-- Each file holds the words of public contracts.
+pub mod Exported
+pub mod Shown

@@ -1,0 +1,66 @@
+-- What is answered to a level that is to be solved.
+use Rattle.std.proofs.Common.{ℕ, ◌≡◌, ◌↔◌, List, Option, Some, None, Result, Ok, Err}
+use Rattle.std.proofs.Common.{IsSome, MatchResult, refl, subst, sym}
+use Rattle.std.specs.Option.{IsSomeAnd}
+use Rattle.sok_rules.specs.declared.cell.Dir.{Dir}
+use Rattle.sok_rules.specs.declared.fault.PlayFault.{PlayFault}
+use Rattle.sok_rules.specs.declared.fault.PlayFault.TheVariants as play
+use Rattle.sok_rules.specs.Play.{Position, Solves}
+use Rattle.sok_rules.specs.Replay.{IsReplayFault}
+use Rattle.sok_rules.specs.Squares.{Rows}
+use Rattle.sok_rules.proofs.Outcomes.{blocked_not_legal}
+use Rattle.sok_board.specs.declared.fault.BoardFault.TheVariants as board
+use Rattle.sok_board.specs.Refusals.{IsAcceptable}
+use Rattle.sok_search.specs.declared.fault.SolveFault.{SolveFault}
+use Rattle.sok_search.specs.declared.fault.SolveFault.TheVariants as solve
+use Rattle.sok_search.specs.declared.outcome.Outcome.{Outcome}
+use Rattle.sok_search.specs.Faults.{IsBadLimit, IsRefusal}
+use Rattle.sok_engine.specs.declared.fault.ToolFault.{ToolFault}
+use Rattle.sok_engine.specs.declared.fault.ToolFault.TheVariants as tool
+use Rattle.sok_engine.specs.Certified.{Certified}
+use Rattle.sok_engine.specs.Faults.{of_play}
+use Rattle.sok_engine.specs.Written.{Gives, IsFaultOf}
+use Rattle.sok_solve.specs.Faults.{of_solve}
+use Rattle.sok_solve.specs.Solves.{IsSolveAnswer, TellsOutcome, is_bad, is_refused, is_told}
+
+-- letters that solve are legal
+solves_legal : (end : Option Position) (P : Position → Type 0) → IsSomeAnd end P → IsSome end
+solves_legal None P solved = absurd solved
+solves_legal (Some x) P solved = refl
+
+-- and so they are marked, memory aside
+pub replayed : (rows : Rows) (w : List Dir) (fault : PlayFault) → Solves rows w → IsReplayFault rows w fault → of_play fault ≡ tool.Memory
+replayed rows w (play.Blocked at) solves blocked = absurd (blocked_not_legal rows w at blocked (solves_legal _ _ solves))
+replayed rows w play.TooLong solves blocked = absurd blocked
+replayed rows w play.Memory solves blocked = refl
+
+-- a fault is no outcome
+abbrev fails : SolveFault → Result Outcome SolveFault
+fails fault = Err fault
+
+-- why a level is not solved is one of its answers, memory aside
+pub refused_answer : (rows : Rows) (limit : ℕ) (fault : SolveFault) → (fails fault ≡ fails solve.BadLimit) ↔ IsBadLimit limit → IsRefusal rows limit fault
+    → IsFaultOf (IsSolveAnswer limit rows) (of_solve fault)
+refused_answer rows limit solve.BadLimit bad_limit is = is_bad is refl
+refused_answer rows limit (solve.NotEnclosed spot) bad_limit is =
+    is_refused (λ bad. let same = bad_limit.1 bad in cc) (board.NotEnclosed spot) (λ same. cc) is refl
+refused_answer rows limit (solve.BoxOutside spot) bad_limit is =
+    is_refused (λ bad. let same = bad_limit.1 bad in cc) (board.BoxOutside spot) (λ same. cc) is refl
+refused_answer rows limit solve.TooFewGoals bad_limit is = is_refused (λ bad. let same = bad_limit.1 bad in cc) board.TooFewGoals (λ same. cc) is refl
+refused_answer rows limit solve.TooLarge bad_limit is = is_refused (λ bad. let same = bad_limit.1 bad in cc) board.TooLarge (λ same. cc) is refl
+refused_answer rows limit solve.TooManyBoxes bad_limit is = is_refused (λ bad. let same = bad_limit.1 bad in cc) board.TooManyBoxes (λ same. cc) is refl
+refused_answer rows limit solve.Memory bad_limit is = tt
+
+-- what is told of an outcome is the answer of an acceptable level within its limit
+pub told_answer : (rows : Rows) (limit : ℕ) (answer : Result Certified ToolFault) → ¬ (IsBadLimit limit) → IsAcceptable rows
+    → MatchResult answer (TellsOutcome limit rows) (λ fault. fault ≡ tool.Memory) → Gives (IsSolveAnswer limit rows) answer
+told_answer rows limit (Ok told) good acceptable tells = is_told good acceptable told tells refl
+told_answer rows limit (Err fault) good acceptable memory = subst (IsFaultOf (IsSolveAnswer limit rows)) (sym memory) tt
+
+-- a certificate, and an answer with its status
+abbrev certified : List ℕ → List ℕ → ℕ → Certified
+certified cert text status = record { cert = cert; answer = record { text = text; status = status } }
+
+pub same_certified : (cert shown text words : List ℕ) (status exit : ℕ) → cert ≡ shown → text ≡ words → status ≡ exit
+    → certified cert text status ≡ certified shown words exit
+same_certified cert shown text words status exit certs texts statuses = λ i. certified (certs i) (texts i) (statuses i)

@@ -1,0 +1,163 @@
+//! A solution with the fewest pushes, with its certificate.
+
+ghost use Rattle.std.specs.Prelude.{◌≡◌, IfOk, IfSome, MatchResult, string_bytes};
+ghost use Rattle.sok_engine.specs.Certified.{WritesBoth};
+ghost use Rattle.sok_engine.specs.Inputs.{Within};
+ghost use Rattle.sok_engine.specs.Limits.{input_limit};
+ghost use Rattle.sok_engine.specs.Written.{Gives};
+ghost use Rattle.sok_engine.specs.declared.fault.ToolFault.TheVariants as tool;
+ghost use Rattle.sok_rules.specs.Play.{Solves};
+ghost use Rattle.sok_search.specs.Outcomes.{IsAnswer};
+ghost use Rattle.sok_solve.specs.Faults.{of_solve};
+ghost use Rattle.sok_solve.specs.Solves.{IsSolve, IsSolveAnswer, TellsOutcome, solution_text};
+
+use sok_cert::claim::Claim;
+use sok_cert::writing::write;
+use sok_engine::answer::Answer;
+use sok_engine::certified::write_both;
+use sok_engine::fault::ToolFault;
+use sok_engine::input::read_input;
+use sok_rules::cell::Dir;
+use sok_rules::level::Level;
+use sok_search::fault::SolveFault;
+use sok_search::outcome::Outcome;
+use sok_search::solve::solve;
+use sok_text::collection::Collection;
+use sok_text::lurd::print_lurd;
+use std::alloc::Global;
+use std::io::{Read, Write};
+use std::marker::Model;
+
+/// Solves the n-th level of a collection, counted from 1, within a limit of states from 1 to
+/// 1,000,000. Written is `solved PUSHES MOVES` and on a line of its own the text of a solution,
+/// upper case where it pushes; then no text of letters solves the level with fewer pushes. Or it is
+/// `unsolvable`; then none solves it. Before either its certificate is written to `cert_out`. Or it
+/// is `limit S`, at status 4, where more states than the limit can be reached; then there is no
+/// certificate.
+///
+/// Where there is no such answer nothing is written, and the fault is the first of these:
+/// `ReadFailed` or `TooMuch`; `NoSuchLevel` or another fault of the level; `BadLimit`; one of its
+/// board. A write that fails is `WriteFailed` at once: after a front of the certificate, with
+/// nothing of the answer; or after the certificate and a front of the answer. A reader that does
+/// not tell which bytes it holds is promised nothing.
+pub fn solve_bytes<R: Read, W: Write, C: Write>(
+    alloc: Global,
+    input: &mut R,
+    n: usize,
+    limit: u32,
+    out: &mut W,
+    cert_out: &mut C,
+) -> Result<u8, ToolFault>
+    ensures { IfSome (R.remaining input.old) (λ bytes.
+        WritesBoth (Within input_limit (IsSolve n limit) bytes)
+        (record { old = C.contents cert_out.old; new = C.contents cert_out.new })
+        (record { old = W.contents out.old; new = W.contents out.new }) result) }
+{
+    let bytes = read_input(alloc, input)?;
+    let told = solved(alloc, bytes.as_slice(), n, limit)?;
+    write_both(cert_out, &told.cert, out, &told.answer)
+}
+
+/// An answer, and the text of its certificate, which is empty where there is none.
+#[derive(Debug, Drop)]
+struct CertifiedAnswer {
+    cert: Vec<u8>,
+    answer: Answer,
+}
+
+impl Model for CertifiedAnswer {
+    ghost use Rattle.sok_engine.specs.Certified as certified;
+
+    ghost Value = { certified.Certified };
+
+    ghost view = { λ told. record { cert = told.cert.items; answer = told.answer } };
+}
+
+/// The answer to a level of a collection.
+fn solved(
+    alloc: Global,
+    collection: &[u8],
+    n: usize,
+    limit: u32,
+) -> Result<CertifiedAnswer, ToolFault>
+    ensures { Gives (IsSolve n limit collection.now) result }
+{
+    let level = Collection::read(alloc, collection)?.level(alloc, n)?;
+    answer(alloc, &level, limit)
+}
+
+/// The answer to a level.
+fn answer(alloc: Global, level: &Level, limit: u32) -> Result<CertifiedAnswer, ToolFault>
+    ensures { Gives (IsSolveAnswer limit level.now) result }
+{
+    match solve(alloc, level, limit) {
+        Ok(outcome) => told(alloc, level, limit, outcome),
+        Err(fault) => Err(tool_fault(fault)),
+    }
+}
+
+fn tool_fault(fault: SolveFault) -> ToolFault
+    ensures { result ≡ of_solve fault }
+{
+    match fault {
+        SolveFault::BadLimit => ToolFault::BadLimit,
+        SolveFault::NotEnclosed(spot) => ToolFault::NotEnclosed(spot.row, spot.col),
+        SolveFault::BoxOutside(spot) => ToolFault::BoxOutside(spot.row, spot.col),
+        SolveFault::TooFewGoals => ToolFault::TooFewGoals,
+        SolveFault::TooLarge => ToolFault::TooLarge,
+        SolveFault::TooManyBoxes => ToolFault::TooManyBoxes,
+        SolveFault::Memory => ToolFault::Memory,
+    }
+}
+
+/// What is told of an outcome.
+fn told(
+    alloc: Global,
+    level: &Level,
+    limit: u32,
+    outcome: Outcome,
+) -> Result<CertifiedAnswer, ToolFault>
+    requires { IsAnswer level.now limit outcome }
+    ensures { MatchResult result (TellsOutcome limit level.now) (λ fault. fault ≡ tool.Memory) }
+{
+    match outcome {
+        Outcome::Solved { dirs, pushes, cert } => {
+            let cert = write(alloc, &Claim::Pushes(pushes), &cert)?;
+            let text = solution_text(alloc, level, dirs.as_slice(), pushes)?;
+            let answer = Answer::new(text, 0);
+            Ok(CertifiedAnswer { cert, answer })
+        }
+        Outcome::Unsolvable { cert } => {
+            let cert = write(alloc, &Claim::Unsolvable, &cert)?;
+            let text = String::from_str(alloc, "unsolvable\n")?;
+            let answer = Answer::new(text.into_bytes(), 0);
+            Ok(CertifiedAnswer { cert, answer })
+        }
+        Outcome::Limit { states } => {
+            let text = format!(in alloc; "limit {states}\n")?;
+            let cert = Vec::new(alloc);
+            let answer = Answer::new(text.into_bytes(), 4);
+            Ok(CertifiedAnswer { cert, answer })
+        }
+    }
+}
+
+/// The line of a solution, and its marked text on a line of its own.
+fn solution_text(
+    alloc: Global,
+    level: &Level,
+    dirs: &[Dir],
+    pushes: u32,
+) -> Result<Vec<u8>, ToolFault>
+    requires { Solves level.now dirs.now }
+    ensures { MatchResult result (λ text. text.items ≡ solution_text level.now dirs.now pushes)
+        (λ fault. fault ≡ tool.Memory) }
+{
+    let moves = dirs.len();
+    let line = format!(in alloc; "solved {pushes} {moves}\n")?;
+    let mut text = line.into_bytes();
+    let marked = print_lurd(alloc, level, dirs)?;
+    text.extend_from_slice(&marked)?;
+    text.push(b'\n')?;
+    Ok(text)
+}

@@ -1,0 +1,166 @@
+-- What a write leaves of a connection that holds the table, and what it may commit.
+use Rattle.std.proofs.Common.{◌≡◌, inl, inr, ℕ, ◌+◌, pos, List, [], ◌∷◌, ◌++◌, length, Some, None, Option, Ok, IsTrue, slice_get, slice_set}
+use Rattle.std.proofs.Common.{refl, sym, ap, subst, ◌∙◌, is_ok, false}
+use Rattle.sqlite.specs.declared.types.Value.TheVariants.{Null, Int, Text as Words}
+use Rattle.sqlite.specs.Order.{Row, column}
+use Rattle.sqlite.specs.Tree.{Trees}
+use Rattle.sqlite.specs.Term.{Term}
+use Rattle.sqlite.specs.Source.TheVariants.{Values}
+use Rattle.sqlite.specs.Query.{output}
+use Rattle.sqlite.specs.Command.{Command}
+use Rattle.sqlite.specs.Command.TheVariants.{Insert, CreateTable}
+use Rattle.sqlite.specs.Effect.{Database}
+use Rattle.sqlite.specs.Does.{Tally, lacks_sequence}
+use Rattle.sqlite.specs.Listing.{understood}
+use Rattle.sqlite.specs.State.{State, Executes, ExecutesIn, Writes, CommitsBy}
+use Rattle.sqlite.specs.Change.{created, next_tree}
+use Rattle.sqlite.proofs.Callers.{IsPlain, command_of, statement_of, runs_as}
+use Rattle.std.proofs.lemmas.List.Sorted.{IsPermutation-refl}
+use Rattle.sok_sql.specs.Leaves.{Leaf, HasLeaves, level, level_schema, no_schema, seen, shown, new_leaf, with_best, with_verdict}
+use Rattle.sok_sql.specs.Connections.{Shows, Holds}
+use Rattle.sok_sql.proofs.Texts.{create_text, create_is, create_plain, create_statement, created_is, create_again_fails, create_defines}
+use Rattle.sok_sql.proofs.Texts.{insert_text, insert_is, insert_plain, insert_terms, pick_query, update_with}
+use Rattle.sok_sql.proofs.Texts.{best_text, best_is, best_plain, best_terms, verdict_text, verdict_is, verdict_plain, verdict_terms}
+use Rattle.sok_sql.proofs.Writes.{DoesOn, went, same_value, new_params, inserted, rewritten, updated}
+use Rattle.sok_sql.proofs.Calls.{ran_up, commits_as}
+
+module _ (old new : State) (leaves : List Leaf) (holds : Holds old leaves) where
+  wrote : (command : Command) (text : List ℕ) (params : Row) (count : ℕ) (after : List Leaf) → Writes old new None command text params count
+      → (new.now.schema ≡ level_schema) × HasLeaves new.now.trees after → Holds new after
+  wrote command text params count after w made up =
+      let was = holds w.shown.was_open in
+      record {
+        schema = made.0;
+        rows = made.1;
+        settled = rw was.autocommit at w.shown.committed_is;
+        autocommit = w.shown.mode ∙ was.autocommit;
+      }
+
+  pub insert_holds : (id : ℕ) (text : List ℕ) (title : Option (List ℕ)) (count : ℕ) → id ≡ 1 + length leaves
+      → Executes insert_text (new_params id text title) old new (Ok count) → Holds new (leaves ++ new_leaf text title ∷ [])
+  insert_holds id text title count is h up =
+      let params = new_params id text title in
+      let command = Insert 0 (Values insert_terms 8) in
+      let sql = statement_of insert_text (understood level_schema insert_text) in
+      let was = holds (ran_up old new insert_text params count h up) in
+      let w = runs_as insert_text params old new level_schema was.schema command insert_is insert_plain count h in
+      let does = subst (DoesOn old.now.trees old.step_limit params sql command w.tally new.now) was.schema w.changed in
+      wrote command sql params count (leaves ++ new_leaf text title ∷ []) w
+      (inserted old.step_limit old.now.trees sql id text title leaves w.tally new.now was.rows is does) up
+
+  module _ (sql : List ℕ) (project : List Term) (more : Row) (out : Row → Row) (id : ℕ)
+      (is : command_of (understood level_schema sql) ≡ update_with project) (plain : IsPlain (understood level_schema sql))
+      (puts : (r : Row) → output (pick_query project) ((Int (pos id) ∷ more) ∷ r ∷ []) ≡ ([], out (seen r))) where
+    update_holds : (place : ℕ) (it after : Leaf) (count : ℕ) → id ≡ 1 + place → slice_get leaves place ≡ Some it → out (shown id it) ≡ rewritten id after
+        → Executes sql (Int (pos id) ∷ more) old new (Ok count) → Holds new (slice_set leaves place after)
+    update_holds place it after count at found becomes h up =
+        let params = Int (pos id) ∷ more in
+        let text = statement_of sql (understood level_schema sql) in
+        let was = holds (ran_up old new sql params count h up) in
+        let w = runs_as sql params old new level_schema was.schema (update_with project) is plain count h in
+        let does = subst (DoesOn old.now.trees old.step_limit params text (update_with project) w.tally new.now) was.schema w.changed in
+        wrote (update_with project) text params count (slice_set leaves place after) w
+        (updated project more out id puts old.step_limit old.now.trees text after it place leaves w.tally new.now was.rows at found becomes does) up
+
+-- ---- what a stop in the middle may leave
+
+module _ (s : State) (leaves : List Leaf) (was : Shows s leaves) (db : Trees) where
+  pub insert_commits : (id : ℕ) (text : List ℕ) (title : Option (List ℕ)) → id ≡ 1 + length leaves → CommitsBy insert_text (new_params id text title) s db
+      → HasLeaves db (leaves ++ new_leaf text title ∷ [])
+  insert_commits id text title is h =
+      let params = new_params id text title in
+      let command = Insert 0 (Values insert_terms 8) in
+      let sql = statement_of insert_text (understood level_schema insert_text) in
+      elim (commits_as insert_text params s level_schema was.schema command insert_is insert_plain db h) [
+        | inl ends ↦ elim ends.0 [ inl commit ↦ absurd cc | inr release ↦ absurd (let e = release.2 in cc) ]
+        | inr w ↦
+            let does = subst (DoesOn s.now.trees s.step_limit params sql command w.1 w.2) was.schema w.3 in
+            rw w.5 (inserted s.step_limit s.now.trees sql id text title leaves w.1 w.2 was.rows is does).1
+      ]
+
+  module _ (sql : List ℕ) (project : List Term) (more : Row) (out : Row → Row) (id : ℕ)
+      (is : command_of (understood level_schema sql) ≡ update_with project) (plain : IsPlain (understood level_schema sql))
+      (puts : (r : Row) → output (pick_query project) ((Int (pos id) ∷ more) ∷ r ∷ []) ≡ ([], out (seen r))) where
+    update_commits : (place : ℕ) (it after : Leaf) → id ≡ 1 + place → slice_get leaves place ≡ Some it → out (shown id it) ≡ rewritten id after
+        → CommitsBy sql (Int (pos id) ∷ more) s db → HasLeaves db (slice_set leaves place after)
+    update_commits place it after at found becomes h =
+        let params = Int (pos id) ∷ more in
+        let text = statement_of sql (understood level_schema sql) in
+        elim (commits_as sql params s level_schema was.schema (update_with project) is plain db h) [
+          | inl ends ↦ elim ends.0 [ inl commit ↦ absurd cc | inr release ↦ absurd (let e = release.2 in cc) ]
+          | inr w ↦
+              let does = subst (DoesOn s.now.trees s.step_limit params text (update_with project) w.1 w.2) was.schema w.3 in
+              rw w.5 (updated project more out id puts s.step_limit s.now.trees text after it place leaves w.1 w.2 was.rows at found becomes does).1
+        ]
+
+-- ---- the two updates
+
+abbrev pub best_params : List ℕ → ℕ → ℕ → Row
+best_params lurd pushes moves = Words lurd ∷ Int (pos pushes) ∷ Int (pos moves) ∷ []
+
+abbrev best_out : List ℕ → ℕ → ℕ → Row → Row
+best_out lurd pushes moves row =
+    column row 0 ∷ column row 0 ∷ Null ∷ column row 1 ∷ column row 2 ∷ Words lurd ∷ Int (pos pushes) ∷ Int (pos moves) ∷ Int (pos 0) ∷ []
+
+abbrev verdict_out : ℕ → Row → Row
+verdict_out verdict row =
+    column row 0 ∷ column row 0 ∷ Null ∷ column row 1 ∷ column row 2 ∷ column row 3 ∷ column row 4 ∷ column row 5 ∷ Int (pos verdict) ∷ []
+
+module _ (id place : ℕ) (it : Leaf) (leaves : List Leaf) (at : id ≡ 1 + place) (found : slice_get leaves place ≡ Some it) where
+  pub best_holds : (old new : State) → Holds old leaves → (lurd : List ℕ) (pushes moves count : ℕ)
+      → Executes best_text (Int (pos id) ∷ best_params lurd pushes moves) old new (Ok count)
+      → Holds new (slice_set leaves place (with_best lurd pushes moves it))
+  best_holds old new holds lurd pushes moves count h =
+      update_holds old new leaves holds best_text best_terms (best_params lurd pushes moves) (best_out lurd pushes moves) id best_is best_plain
+      (λ r. refl) place it (with_best lurd pushes moves it) count at found refl h
+
+  pub best_commits : (s : State) → Shows s leaves → (db : Trees) (lurd : List ℕ) (pushes moves : ℕ)
+      → CommitsBy best_text (Int (pos id) ∷ best_params lurd pushes moves) s db → HasLeaves db (slice_set leaves place (with_best lurd pushes moves it))
+  best_commits s was db lurd pushes moves h =
+      update_commits s leaves was db best_text best_terms (best_params lurd pushes moves) (best_out lurd pushes moves) id best_is best_plain
+      (λ r. refl) place it (with_best lurd pushes moves it) at found refl h
+
+  pub verdict_holds : (old new : State) → Holds old leaves → (verdict count : ℕ)
+      → Executes verdict_text (Int (pos id) ∷ Int (pos verdict) ∷ []) old new (Ok count) → Holds new (slice_set leaves place (with_verdict verdict it))
+  verdict_holds old new holds verdict count h =
+      update_holds old new leaves holds verdict_text verdict_terms (Int (pos verdict) ∷ []) (verdict_out verdict) id verdict_is verdict_plain
+      (λ r. refl) place it (with_verdict verdict it) count at found refl h
+
+  pub verdict_commits : (s : State) → Shows s leaves → (db : Trees) (verdict : ℕ)
+      → CommitsBy verdict_text (Int (pos id) ∷ Int (pos verdict) ∷ []) s db → HasLeaves db (slice_set leaves place (with_verdict verdict it))
+  verdict_commits s was db verdict h =
+      update_commits s leaves was db verdict_text verdict_terms (Int (pos verdict) ∷ []) (verdict_out verdict) id verdict_is verdict_plain (λ r. refl) place it
+      (with_verdict verdict it) at found refl h
+
+-- ---- the table is made
+
+module _ (old new : State) (count : ℕ) (h : Executes create_text [] old new (Ok count)) where
+  pub create_holds : (IsTrue old.is_open → (old.now.schema ≡ no_schema) × (old.in_transaction ≡ false)) → Holds new []
+  create_holds was up =
+      let now_was = was (ran_up old new create_text [] count h up) in
+      let has = now_was.0 in
+      let auto = now_was.1 in
+      let ran = runs_as create_text [] old new no_schema has CreateTable create_is create_plain count h in
+      let w = subst (λ t. Writes old new None CreateTable t [] count) create_statement ran in
+      let all = went w.changed in
+      let first = went all.1 in
+      let made = first.1 in
+      let both : Ok made.table ≡ Ok level = sym made.defined ∙ create_defines in
+      let same : made.table ≡ level = cc in
+      let schema : first.0.schema ≡ level_schema = made.is ∙ ap (λ s. created s made.table) has ∙ ap (created no_schema) same ∙ created_is in
+      let plain : lacks_sequence first.0.schema ≡ false = ap lacks_sequence schema in
+      let now : new.now ≡ first.0 = ap (λ (p : Tally × Database). p.1) (same_value all.2) ∙ same_value (rw plain at first.2) in
+      let empty : first.0.trees 0 ≡ [] = subst (λ s. first.0.trees (next_tree s) ≡ []) has made.empty in
+      record {
+        schema = ap (λ (d : Database). d.schema) now ∙ schema;
+        rows = subst (λ (d : Database). HasLeaves d.trees []) (sym now) (rw empty (IsPermutation-refl []));
+        settled = rw auto at w.shown.committed_is;
+        autocommit = w.shown.mode ∙ auto;
+      }
+
+  -- and not where it is there
+  pub create_refuses : (IsTrue old.is_open → old.now.schema ≡ level_schema) → IsTrue new.is_open → ⊥
+  unfolding ExecutesIn
+  create_refuses was up =
+      let has = was (ran_up old new create_text [] count h up) in
+      absurd (let e = sym (ap is_ok h.1.is) ∙ ap (λ s. is_ok (understood s create_text)) has ∙ create_again_fails in cc)

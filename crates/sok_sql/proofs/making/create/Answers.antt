@@ -1,0 +1,16 @@
+use Rattle.sqlite.specs.Held.{state}
+use Rattle.sok_sql.proofs.Calls.{refused_same}
+use Rattle.sok_sql.proofs.Changing.{create_holds, create_refuses}
+use Rattle.sok_sql.proofs.making.create.Goals as goal
+
+pub returns-in-Ok-clause-made : goal.returns-in-Ok-clause-made
+returns-in-Ok-clause-made g c clean was =
+    create_holds (state g.S.Store c.args.conn.now) (state g.S.Store c.execute.new.self) c.in-Ok.field-0 (c.in-Ok.ensures.runs clean) was
+
+pub returns-in-Ok-clause-there : goal.returns-in-Ok-clause-there
+returns-in-Ok-clause-there g c clean was up =
+    create_refuses (state g.S.Store c.args.conn.now) (state g.S.Store c.execute.new.self) c.in-Ok.field-0 (c.in-Ok.ensures.runs clean) was up
+
+pub returns-in-Err-clause-same : goal.returns-in-Err-clause-same
+returns-in-Err-clause-same g c clean settled =
+    refused_same (state g.S.Store c.args.conn.now) (state g.S.Store c.execute.new.self) settled _ _ c.in-Err.error (c.in-Err.ensures.runs clean)

@@ -1,0 +1,33 @@
+-- A connection that holds the table of levels.
+use Rattle.std.specs.Prelude.{◌≡◌, ◌⊎◌, false, List, IsTrue}
+use Rattle.sqlite.specs.State.{State, HasCleanDisk, Survives}
+use Rattle.sok_sql.specs.Leaves.{Leaf, HasLeaves, level_schema, no_schema}
+
+-- the table has exactly these rows, and so has it after the last commit
+pub record Shows (s : State) (leaves : List Leaf) : Type 0 where
+  pub schema : s.now.schema ≡ level_schema
+  pub rows : HasLeaves s.now.trees leaves
+  pub settled : s.committed ≡ s.now
+  pub autocommit : s.in_transaction ≡ false
+
+-- so it is, unless a failure of the disk has shut the connection
+abbrev pub Holds : State → List Leaf → Type 0
+Holds s leaves = IsTrue s.is_open → Shows s leaves
+
+-- nothing has changed, unless a failure of the disk has shut the connection
+abbrev pub IsSame : State → State → Type 0
+IsSame old new =
+    IsTrue new.is_open → IsTrue old.is_open × (new.now ≡ old.now) × (new.committed ≡ old.committed) × (new.in_transaction ≡ false)
+
+-- the last commit is what is seen
+abbrev pub IsSettled : State → Type 0
+IsSettled s = IsTrue s.is_open → (s.now ≡ s.committed) × (s.in_transaction ≡ false)
+
+-- there is nothing, or this table alone
+abbrev pub IsKnown : State → Type 0
+IsKnown s = (s.now.schema ≡ no_schema) ⊎ (s.now.schema ≡ level_schema)
+
+-- a call that only reads: the rows stay, and a stop in its middle leaves them too
+pub record Rests (old new : State) : Type 0 where
+  pub kept : HasCleanDisk new → (leaves : List Leaf) → Holds old leaves → Holds new leaves
+  pub stop : Survives old new (λ db. (leaves : List Leaf) → Shows old leaves → ⊥)

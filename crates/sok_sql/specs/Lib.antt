@@ -1,0 +1,3 @@
+-- Each file holds words of public contracts.
+pub mod Leaves
+pub mod Connections

@@ -1,0 +1,146 @@
+//! Statements that read rows.
+
+ghost use Rattle.std.specs.Prelude.{◌≡◌, ◌+◌, ℕ, List, length, map, option_map, slice_get};
+ghost use Rattle.std.specs.Prelude.{IfOk, OnOk, OnErr};
+ghost use Rattle.sqlite.specs.Held.{state};
+ghost use Rattle.sqlite.specs.State.{HasCleanDisk};
+ghost use Rattle.sok_sql.specs.Connections.{Holds, IsSame, IsSettled, Rests, Shows};
+ghost use Rattle.sok_sql.specs.Leaves.{Leaf, ListsTable, level_schema, no_schema, shown_from};
+ghost use Rattle.sok_sql.specs.Leaves.{id_row, ids_with, last_ids, row_at, shown};
+
+use sqlite::{Alter, Connection, Error, Row, params};
+
+/// All rows, in order of their ids.
+pub fn all_rows<S: Alter>(conn: &mut Connection<S>) -> Result<Vec<Row>, Error>
+    ensures rests { Rests (state S.Store conn.old) (state S.Store conn.new) }
+    ensures rows { HasCleanDisk (state S.Store conn.new)
+        → (leaves : List Leaf) → Holds (state S.Store conn.old) leaves
+        → IfOk result
+        (λ rows. Shows (state S.Store conn.new) leaves × (rows.items ≡ shown_from 1 leaves)) }
+    ensures found { HasCleanDisk (state S.Store conn.new) → IsSettled (state S.Store conn.old)
+        → (state S.Store conn.old).now.schema ≡ level_schema
+        → IfOk result (λ rows. ListsTable ((state S.Store conn.old).now.trees 0) rows.items
+        × IsSame (state S.Store conn.old) (state S.Store conn.new)) }
+    ensures none { HasCleanDisk (state S.Store conn.new)
+        → (state S.Store conn.old).now.schema ≡ no_schema → OnOk result ⊥ }
+    ensures same { HasCleanDisk (state S.Store conn.new) → IsSettled (state S.Store conn.old)
+        → OnErr result (IsSame (state S.Store conn.old) (state S.Store conn.new)) }
+{
+    match conn.query_all(
+        "SELECT id, text, title, lurd, pushes, moves, verdict FROM level ORDER BY id",
+        &[],
+    ) {
+        Ok(rows) => Ok(rows),
+        Err(error) => Err(error),
+    }
+}
+
+/// The row with an id, counted from 1, if there is one.
+pub fn row_at<S: Alter>(conn: &mut Connection<S>, id: u32) -> Result<Option<Row>, Error>
+    ensures rests { Rests (state S.Store conn.old) (state S.Store conn.new) }
+    ensures row { HasCleanDisk (state S.Store conn.new)
+        → (leaves : List Leaf) (place : _) → Holds (state S.Store conn.old) leaves
+        → id ≡ 1 + place
+        → IfOk result (λ row. Shows (state S.Store conn.new) leaves
+        × (row ≡ option_map (shown id) (slice_get leaves place))) }
+{
+    match rows_at(conn, id) {
+        Ok(mut rows) => Ok(rows.pop()),
+        Err(error) => Err(error),
+    }
+}
+
+/// The least id of a row with a text, if there is one.
+pub fn find<S: Alter>(conn: &mut Connection<S>, text: &str) -> Result<Option<u32>, Error>
+    ensures rests { Rests (state S.Store conn.old) (state S.Store conn.new) }
+    ensures found { HasCleanDisk (state S.Store conn.new)
+        → (leaves : List Leaf) → Holds (state S.Store conn.old) leaves
+        → IfOk result (λ id. Shows (state S.Store conn.new) leaves
+        × (id ≡ slice_get (ids_with text.now 1 leaves) 0)) }
+{
+    match ids_of(conn, text) {
+        Ok(rows) => first_id(&rows),
+        Err(error) => Err(error),
+    }
+}
+
+/// How many rows there are. It is the id of the last one.
+pub fn count<S: Alter>(conn: &mut Connection<S>) -> Result<u32, Error>
+    ensures rests { Rests (state S.Store conn.old) (state S.Store conn.new) }
+    ensures count { HasCleanDisk (state S.Store conn.new)
+        → (leaves : List Leaf) → Holds (state S.Store conn.old) leaves
+        → IfOk result (λ count. Shows (state S.Store conn.new) leaves
+        × (count ≡ length leaves)) }
+{
+    match last_rows(conn) {
+        Ok(rows) => match first_id(&rows) {
+            Ok(Some(id)) => Ok(id),
+            Ok(None) => Ok(0),
+            Err(error) => Err(error),
+        },
+        Err(error) => Err(error),
+    }
+}
+
+/// The id in the first row, if there is one.
+fn first_id(rows: &[Row]) -> Result<Option<u32>, Error>
+    ensures { (ids : List ℕ) → rows.now ≡ map id_row ids
+        → IfOk result (λ id. id ≡ slice_get ids 0) }
+{
+    match rows.first() {
+        Some(row) => match row.get(0) {
+            Ok(id) => Ok(Some(id)),
+            Err(error) => Err(error),
+        },
+        None => Ok(None),
+    }
+}
+
+/// The row with an id, counted from 1, if there is one.
+fn rows_at<S: Alter>(conn: &mut Connection<S>, id: u32) -> Result<Vec<Row>, Error>
+    ensures rests { Rests (state S.Store conn.old) (state S.Store conn.new) }
+    ensures rows { HasCleanDisk (state S.Store conn.new)
+        → (leaves : List Leaf) (place : _) → Holds (state S.Store conn.old) leaves
+        → id ≡ 1 + place
+        → IfOk result (λ rows. Shows (state S.Store conn.new) leaves
+        × (rows.items ≡ row_at id (slice_get leaves place))) }
+{
+    match conn.query_all(
+        "SELECT id, text, title, lurd, pushes, moves, verdict FROM level WHERE id = ?1",
+        params![id],
+    ) {
+        Ok(rows) => Ok(rows),
+        Err(error) => Err(error),
+    }
+}
+
+/// The ids of the rows with a text, in order.
+fn ids_of<S: Alter>(conn: &mut Connection<S>, text: &str) -> Result<Vec<Row>, Error>
+    ensures rests { Rests (state S.Store conn.old) (state S.Store conn.new) }
+    ensures rows { HasCleanDisk (state S.Store conn.new)
+        → (leaves : List Leaf) → Holds (state S.Store conn.old) leaves
+        → IfOk result (λ rows. Shows (state S.Store conn.new) leaves
+        × (rows.items ≡ map id_row (ids_with text.now 1 leaves))) }
+{
+    match conn.query_all(
+        "SELECT id FROM level WHERE text = ?1 ORDER BY id",
+        params![text],
+    ) {
+        Ok(rows) => Ok(rows),
+        Err(error) => Err(error),
+    }
+}
+
+/// The id of the last row, if there is one.
+fn last_rows<S: Alter>(conn: &mut Connection<S>) -> Result<Vec<Row>, Error>
+    ensures rests { Rests (state S.Store conn.old) (state S.Store conn.new) }
+    ensures rows { HasCleanDisk (state S.Store conn.new)
+        → (leaves : List Leaf) → Holds (state S.Store conn.old) leaves
+        → IfOk result (λ rows. Shows (state S.Store conn.new) leaves
+        × (rows.items ≡ map id_row (last_ids leaves))) }
+{
+    match conn.query_all("SELECT id FROM level ORDER BY id DESC LIMIT 1", &[]) {
+        Ok(rows) => Ok(rows),
+        Err(error) => Err(error),
+    }
+}

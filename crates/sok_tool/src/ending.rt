@@ -1,0 +1,58 @@
+//! How a run ends, and what it tells on the error stream.
+
+ghost use Rattle.std.specs.Prelude.{◌≡◌, ◌≢◌, Ok, string_bytes};
+ghost use Rattle.std.specs.Io.KnownBytes.{Keeps};
+ghost use Rattle.sok_tool.specs.Endings.{Ends, Runs};
+
+use sok_engine::answer::Answer;
+use sok_engine::fault::ToolFault;
+use sok_engine::output::write_whole;
+use sok_words::job::JobRefused;
+use std::fmt::InlineText;
+use std::io::Write;
+
+/// The exit status for an outcome. A fault is told as one line, as far as the error stream takes
+/// it.
+pub fn ended<E: Write>(outcome: Result<u8, ToolFault>, err: &mut E) -> u8
+    ensures { Ends outcome (E.contents err.old) (E.contents err.new) result }
+{
+    match outcome {
+        Ok(status) => status,
+        Err(fault) => {
+            let line = InlineText::<64>::of(fault).and_str("\n", 1);
+            let _ = write_whole(err, line.as_str().as_bytes());
+            fault.status()
+        }
+    }
+}
+
+/// The exit status for words that ask for nothing. Help that was asked for is written to the
+/// output, and what is wrong with the words to the error stream, as far as that takes it.
+pub(crate) fn refused<W: Write, E: Write>(none: JobRefused, out: &mut W, err: &mut E) -> u8
+    ensures help { none.status ≡ 0
+        → Runs (λ answer. answer ≡ Ok (record { text = string_bytes none.text; status = 0 }))
+        (W.contents out.old) (W.contents out.new) (E.contents err.old) (E.contents err.new) result }
+    ensures status { none.status ≢ 0 → result ≡ none.status }
+    ensures silent { none.status ≢ 0 → Keeps (W.contents out.old) (W.contents out.new) }
+{
+    let JobRefused { text, status } = none;
+    if status == 0 {
+        return ended(Answer::new(text.into_bytes(), 0).write(out), err);
+    }
+    if status == 6 {
+        return ended(Err(ToolFault::Memory), err);
+    }
+    let _ = write_whole(err, text.as_bytes());
+    status
+}
+
+/// The exit status for a command that is not built yet, which is said on the error stream.
+pub(crate) fn unbuilt<E: Write>(err: &mut E) -> u8
+    ensures { result ≡ 2 }
+{
+    let _ = write_whole(err, UNBUILT.as_bytes());
+    2
+}
+
+const UNBUILT: &str =
+    "sok: the book of levels is not built yet, so add, offer, prove, show and export do nothing\n";
