@@ -1,14 +1,13 @@
 -- A jam is never undone: the first of its boxes that moved would get stuck, and one of them is off a goal.
-use Rattle.std.proofs.Common.{ℕ, ◌≡◌, ◌<◌, inl, inr, refl, sym, ap, ◌∙◌, List, [], ◌∷◌, true, false, true≢false, Some, None, length, subst}
+use Rattle.std.proofs.Common.{ℕ, ◌≡◌, ◌<◌, inl, inr, sym, ap, ◌∙◌, List, [], ◌∷◌, true, false, true≢false, length, subst}
 use Rattle.std.specs.Option.{option_map_or, IsSomeAnd}
-use Rattle.sok_rules.specs.declared.cell.Cell.{Cell}
-use Rattle.sok_rules.specs.declared.cell.Cell.TheVariants.{Wall, Floor, Goal, BoxOff, BoxOn, ManOff, ManOn}
 use Rattle.sok_rules.specs.declared.cell.Dir.{Dir}
 use Rattle.sok_rules.specs.declared.cell.Dir.TheVariants.{Left, Up, Right, Down}
-use Rattle.sok_rules.specs.declared.cell.Spot.{Spot}
-use Rattle.sok_rules.specs.Squares.{Rows, cell_at, holds, is_open, is_wall, next, opposite}
+use Rattle.sok_rules.specs.Squares.{holds, is_wall, next, opposite}
 use Rattle.sok_rules.specs.Play.{Position, After, SolvesFrom, NeverFrom}
 use Rattle.sok_rules.specs.States.{Same}
+use Rattle.sok_rules.proofs.Grid.{wall_or_open}
+use Rattle.sok_rules.proofs.Runs.{solves_on}
 use Rattle.sok_rules.proofs.Spots.{next-opposite, opposite-twice}
 use Rattle.sok_rules.proofs.Steps.{IsStanding, IsStanding-step}
 use Rattle.sok_rules.proofs.Walking.{boxes-Same, IsStanding-Same}
@@ -24,25 +23,8 @@ use Rattle.sok_bar.specs.declared.rest.Rest.{Rest}
 use Rattle.sok_bar.specs.declared.rest.Rest.TheVariants.{AtLeast, Never}
 use Rattle.sok_bar.specs.Rests.{IsBarred}
 use Rattle.sok_bar.specs.Jam.{IsWallBeside, Held, IsHeld, IsGoalSquare, IsJam}
-use Rattle.sok_bar.proofs.Kept.{MovesBox, InArea-step, box-moved, box_kept, solves_on, never_stuck}
+use Rattle.sok_bar.proofs.Kept.{MovesBox, InArea-step, box-moved, box_kept, never_stuck}
 use Rattle.sok_bar.proofs.Rising.{Contains-member}
-
-open_wall : (cell : Cell) → is_wall cell ≡ true → is_open cell ≡ false
-open_wall Wall e = refl
-open_wall Floor e = absurd (true≢false (sym e))
-open_wall Goal e = absurd (true≢false (sym e))
-open_wall BoxOff e = absurd (true≢false (sym e))
-open_wall BoxOn e = absurd (true≢false (sym e))
-open_wall ManOff e = absurd (true≢false (sym e))
-open_wall ManOn e = absurd (true≢false (sym e))
-
--- no square is a wall and open
-wall_or_open : (rows : Rows) (s : Spot) → holds is_wall rows s ≡ true → holds is_open rows s ≡ true → ⊥
-unfolding holds
-wall_or_open rows s = elim (cell_at rows s) as (λ o. option_map_or is_wall o false ≡ true → option_map_or is_open o false ≡ true → ⊥) [
-  | None ↦ λ wall _. true≢false (sym wall)
-  | Some cell ↦ λ wall opened. true≢false (sym opened ∙ open_wall cell wall)
-]
 
 -- a box that is held along an axis is held in both of its directions
 Held-opposite : (b : Numbered) (IsOne : ℕ → Type 0) (s : ℕ) (d : Dir) → Held b IsOne s d → Held b IsOne s (opposite d)

@@ -1,13 +1,14 @@
 -- A box on a known square stays there or is the one that is pushed; on a stuck square it never comes to a goal.
-use Rattle.std.proofs.Common.{ℕ, ◌≡◌, ◌<◌, ◌+◌, ◌⊎◌, inl, inr, refl, sym, ap, ◌∙◌, List, [], ◌∷◌, Bool, true, false, Some, None, arith, length}
-use Rattle.std.proofs.Common.{if◌then◌else◌, subst}
-use Rattle.std.specs.Option.{option_and_then, IsSomeAnd}
+use Rattle.std.proofs.Common.{ℕ, ◌≡◌, ◌<◌, ◌+◌, ◌⊎◌, inl, inr, refl, sym, ap, ◌∙◌, List, [], ◌∷◌, true, false, Some, arith, length}
+use Rattle.std.proofs.Common.{subst}
+use Rattle.std.specs.Option.{option_and_then}
 use Rattle.std.proofs.lemmas.Bool.{cases_Bool, cases_eq}
 use Rattle.std.proofs.lemmas.Option.{same_Some}
 use Rattle.sok_rules.specs.declared.cell.Dir.{Dir}
-use Rattle.sok_rules.specs.declared.cell.Spot.{Spot}
 use Rattle.sok_rules.specs.Squares.{Rows, same_spot}
-use Rattle.sok_rules.specs.Play.{Position, After, step, moved, run, AllOnGoals, SolvesFrom}
+use Rattle.sok_rules.specs.Play.{Position, After, step, moved, SolvesFrom}
+use Rattle.sok_rules.proofs.Moved.{moved-kept}
+use Rattle.sok_rules.proofs.Runs.{solves_on}
 use Rattle.sok_rules.proofs.Spots.{same_spot-is}
 use Rattle.sok_rules.proofs.Steps.{IsPush, step_cases}
 use Rattle.sok_rules.proofs.Backs.{moved-to}
@@ -28,13 +29,6 @@ pub InArea-step : (rows : Rows) (d : Dir) (x : Position) (a : After) → InArea 
 InArea-step rows d x a inside stepped = elim (step_cases rows d x a stepped) [
   | inl walk ↦ subst (λ (y : After). InArea rows y.position.man) (sym walk.leads) (InArea-next rows d x.man walk.to inside walk.ahead walk.to_open)
   | inr push ↦ subst (λ (y : After). InArea rows y.position.man) (sym push.leads) (InArea-next rows d x.man push.from inside push.ahead push.from_open)
-]
-
-moved-kept : (boxes : Spot → Bool) (from to s : Spot) → same_spot s from ≡ false → boxes s ≡ true → moved boxes from to s ≡ true
-unfolding moved
-moved-kept boxes from to s apart there = elim (cases_Bool (same_spot s to)) [
-  | inl on ↦ ap (λ t. if t then true else if same_spot s from then false else boxes s) on
-  | inr off ↦ ap (λ t. if t then true else if same_spot s from then false else boxes s) off ∙ ap (λ t. if t then false else boxes s) apart ∙ there
 ]
 
 -- where a push leaves its box
@@ -62,15 +56,6 @@ box_kept b area d x a inside stepped s within there = elim (step_cases b.rows d 
             inl (ap (λ (y : After). y.position.boxes (spot_of b s)) push.leads ∙ moved-kept x.boxes push.from push.to (spot_of b s) apart there)
       ]
 ]
-
--- a list that solves and is not empty begins with a letter that is legal, and goes on to solve
-pub solves_on : {C : Type 0} (rows : Rows) (d : Dir) (w : List Dir) (x : Position) → SolvesFrom rows x (d ∷ w)
-    → ((a : After) → step rows d x ≡ Some a → SolvesFrom rows a.position w → C) → C
-solves_on {C} rows d w x = elim (step rows d x) as (λ o. IsSomeAnd (option_and_then (λ (after : After). run rows after.position w) o) (AllOnGoals rows) →
-    ((a : After) → o ≡ Some a → SolvesFrom rows a.position w → C) → C) [
-      | None ↦ λ none _. absurd none
-      | Some a ↦ λ solves on. on a refl solves
-    ]
 
 -- where a lone push from a stuck square leads is stuck
 IsStuck-pushed : (b : Numbered) (d : Dir) (from to : ℕ) → lone_push b d from ≡ Some to → IsStuck b from → IsStuck b to

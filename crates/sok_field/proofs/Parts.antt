@@ -103,32 +103,29 @@ join-exact bits row word within s =
           )
     ]
 
--- a word that lies in one word
+-- a word whose bits all lie in one word
+put-alone : (old new : List ℕ) (piece base : ℕ) → ((n : ℕ) → IsPut piece base n → base / 64 ≡ n / 64)
+    → ((s : Spot) → (has new s ≡ true) ↔ ((has old s ≡ true) ⊎ StandsIn (base / 64) (piece * 2 ^ (base % 64) % 2 ^ 64) s))
+    → (n : ℕ) → (has new (bit_of_number n) ≡ true) ↔ ((has old (bit_of_number n) ≡ true) ⊎ IsPut piece base n)
+put-alone old new piece base alone joined n = (
+  λ e. elim ((joined (bit_of_number n)).0 e) [
+    | inl before ↦ inl before
+    | inr (row, on) ↦ inr ((put-in-word piece base n (sym row)).1 on)
+  ],
+  λ one. (joined (bit_of_number n)).1 (elim one [
+    | inl before ↦ inl before
+    | inr put ↦ let same = alone n put in inr (sym same, (put-in-word piece base n same).0 put)
+  ]),
+)
+
+-- a word that begins with a word
 pub put-whole : (old new : List ℕ) (piece base : ℕ) → piece < 2 ^ 64 → base % 64 ≡ 0
     → ((s : Spot) → (has new s ≡ true) ↔ ((has old s ≡ true) ⊎ StandsIn (base / 64) (piece * 2 ^ (base % 64) % 2 ^ 64) s))
     → (n : ℕ) → (has new (bit_of_number n) ≡ true) ↔ ((has old (bit_of_number n) ≡ true) ⊎ IsPut piece base n)
-put-whole old new piece base fits whole joined n = elim (cases_eq (base / 64) (n / 64)) [
-  | inl same ↦ (
-    λ e. elim ((joined (bit_of_number n)).0 e) [
-      | inl before ↦ inl before
-      | inr (_, on) ↦ inr ((put-in-word piece base n same).1 on)
-    ],
-    λ one. (joined (bit_of_number n)).1 (elim one [
-      | inl before ↦ inl before
-      | inr put ↦ inr (sym same, (put-in-word piece base n same).0 put)
-    ]),
-  )
-  | inr apart ↦ (
-    λ e. elim ((joined (bit_of_number n)).0 e) [
-      | inl before ↦ inl before
-      | inr (row, _) ↦ absurd (apart (sym row))
-    ],
-    λ one. (joined (bit_of_number n)).1 (elim one [
-      | inl before ↦ inl before
-      | inr put ↦ absurd (put-elsewhere piece base n fits apart (inr whole) put)
-    ]),
-  )
-]
+put-whole old new piece base fits whole = put-alone old new piece base (λ n put. elim (cases_eq (base / 64) (n / 64)) [
+  | inl same ↦ same
+  | inr apart ↦ absurd (put-elsewhere piece base n fits apart (inr whole) put)
+])
 
 -- a word that lies in two words
 pub put-parted : (old mid new : List ℕ) (piece base : ℕ) → piece < 2 ^ 64 → 0 < base % 64
@@ -159,31 +156,10 @@ put-parted old mid new piece base fits some first second n = (
 pub put-last : (old new : List ℕ) (piece base : ℕ) → base / 64 + 1 ≡ length old → ((n : ℕ) → IsPut piece base n → n < 64 * length old)
     → ((s : Spot) → (has new s ≡ true) ↔ ((has old s ≡ true) ⊎ StandsIn (base / 64) (piece * 2 ^ (base % 64) % 2 ^ 64) s))
     → (n : ℕ) → (has new (bit_of_number n) ≡ true) ↔ ((has old (bit_of_number n) ≡ true) ⊎ IsPut piece base n)
-put-last old new piece base last fits joined n = elim (cases_eq (base / 64) (n / 64)) [
-  | inl same ↦ (
-    λ e. elim ((joined (bit_of_number n)).0 e) [
-      | inl before ↦ inl before
-      | inr (_, on) ↦ inr ((put-in-word piece base n same).1 on)
-    ],
-    λ one. (joined (bit_of_number n)).1 (elim one [
-      | inl before ↦ inl before
-      | inr put ↦ inr (sym same, (put-in-word piece base n same).0 put)
-    ]),
-  )
-  | inr apart ↦ (
-    λ e. elim ((joined (bit_of_number n)).0 e) [
-      | inl before ↦ inl before
-      | inr (row, _) ↦ absurd (apart (sym row))
-    ],
-    λ one. (joined (bit_of_number n)).1 (elim one [
-      | inl before ↦ inl before
-      | inr put ↦
-          let from = put.0 in
-          let below = fits n put in
-          absurd (apart (omega (arith, from, below, last)))
-    ]),
-  )
-]
+put-last old new piece base last fits = put-alone old new piece base (λ n put.
+    let from = put.0 in
+    let below = fits n put in
+    omega (arith, from, below, last))
 
 -- the lowest bits of a full word
 pub ones-exact : (length k : ℕ) → 0 < length → length ≤ 64 → (bit_at ((2 ^ 64 - 1) / 2 ^ (64 - length)) k ≡ 1) ↔ (k < length)

@@ -1,5 +1,5 @@
 -- Boxes after a push, by their numbers.
-use Rattle.std.proofs.Common.{ℕ, ◌≡◌, ◌<◌, inl, inr, refl, sym, ap, ◌∙◌, subst, List, Bool, true, false, true≢false, All, length, get_or, if◌then◌else◌}
+use Rattle.std.proofs.Common.{ℕ, ◌≡◌, ◌<◌, inl, inr, refl, sym, ap, ◌∙◌, subst, List, Bool, true, true≢false, All, length, get_or}
 use Rattle.std.specs.Cmp.{both_ways}
 use Rattle.std.proofs.lemmas.Bool.{cases_Bool}
 use Rattle.std.proofs.lemmas.List.Elements.{All-contains, Contains-get_or}
@@ -7,34 +7,19 @@ use Rattle.std.specs.List.Sorted.{IsStrictlyIncreasing}
 use Rattle.sok_rules.specs.declared.cell.Spot.{Spot}
 use Rattle.sok_rules.specs.Squares.{same_spot}
 use Rattle.sok_rules.specs.Play.{moved}
-use Rattle.sok_rules.proofs.Spots.{same_spot-is, same_spot-refl}
+use Rattle.sok_rules.proofs.Moved.{moved-come, moved-kept, moved-left, moved-other}
+use Rattle.sok_rules.proofs.Spots.{same_spot-apart, same_spot-is, same_spot-refl}
 use Rattle.sok_board.specs.Area.{Numbered, IsArea, InArea, spot_of, position_of, is_decoration}
 use Rattle.sok_board.proofs.Accepted.{decoration-outside}
 use Rattle.sok_board.proofs.AreaLaws.{InArea-spot_of, same_number}
 use Rattle.sok_board.proofs.Positions.{listed_box}
-use Rattle.sok_board.proofs.Confined.{moved-other}
 use Rattle.sok_region.specs.BoxSets.{IsMoved}
 use Rattle.sok_region.specs.Regions.{IsPlaced}
 use Rattle.sok_state.proofs.Placed.{box_cases, decoration_there}
 
-moved-to : (boxes : Spot → Bool) (from to s : Spot) → same_spot s to ≡ true → moved boxes from to s ≡ true
-unfolding moved
-moved-to boxes from to s there = ap (λ b. if b then true else if same_spot s from then false else boxes s) there
-
-moved-from : (boxes : Spot → Bool) (from to s : Spot) → same_spot s to ≡ false → same_spot s from ≡ true → moved boxes from to s ≡ false
-unfolding moved
-moved-from boxes from to s elsewhere left =
-    ap (λ b. if b then true else if same_spot s from then false else boxes s) elsewhere ∙ ap (λ b. if b then false else boxes s) left
-
--- where a box stands that was there, or has come
+-- a box that stands elsewhere than on the square that one has left
 moved-there : (boxes : Spot → Bool) (from to s : Spot) → boxes s ≡ true → (s ≡ from → ⊥) → moved boxes from to s ≡ true
-moved-there boxes from to s there other = elim (cases_Bool (same_spot s to)) [
-  | inl come ↦ moved-to boxes from to s come
-  | inr elsewhere ↦ elim (cases_Bool (same_spot s from)) [
-    | inl left ↦ absurd (other (same_spot-is s from left))
-    | inr stays ↦ moved-other boxes from to s elsewhere stays ∙ there
-  ]
-]
+moved-there boxes from to s there other = moved-kept boxes from to s (same_spot-apart s from other) there
 
 module _ (b : Numbered) (area : IsArea b.rows b.area) (player other : ℕ) (boxes after : List ℕ) (from to : ℕ) (exist : All (λ n. n < length b.area) boxes)
     (from_exists : from < length b.area) (to_exists : to < length b.area) (moves : IsMoved boxes from to after) where
@@ -43,7 +28,7 @@ module _ (b : Numbered) (area : IsArea b.rows b.area) (player other : ℕ) (boxe
     | inl come ↦ subst (λ t. (position_of b other after).boxes t ≡ true) (sym (same_spot-is s (spot_of b to) come))
         (listed_box b other after to ((moves to).1 (inl refl)))
     | inr elsewhere ↦ elim (cases_Bool (same_spot s (spot_of b from))) [
-      | inl left ↦ absurd (true≢false (sym there ∙ moved-from (position_of b player boxes).boxes (spot_of b from) (spot_of b to) s elsewhere left))
+      | inl left ↦ absurd (true≢false (sym there ∙ moved-left (position_of b player boxes).boxes (spot_of b from) (spot_of b to) s elsewhere left))
       | inr stays ↦ elim (box_cases b player boxes s (sym
           (moved-other (position_of b player boxes).boxes (spot_of b from) (spot_of b to) s elsewhere stays) ∙ there)) [
             | inr decoration ↦ decoration_there b other after s decoration
@@ -62,7 +47,7 @@ module _ (b : Numbered) (area : IsArea b.rows b.area) (player other : ℕ) (boxe
     | inr decoration ↦ moved-there (position_of b player boxes).boxes (spot_of b from) (spot_of b to) s (decoration_there b player boxes s decoration)
         (outside s from from_exists decoration)
     | inl (n, among, is) ↦ elim ((moves n).0 among) [
-      | inl come ↦ moved-to (position_of b player boxes).boxes (spot_of b from) (spot_of b to) s
+      | inl come ↦ moved-come (position_of b player boxes).boxes (spot_of b from) (spot_of b to) s
           (ap (same_spot s) (sym (is ∙ ap (spot_of b) come)) ∙ same_spot-refl s)
       | inr (was, differs) ↦
           let within = All-contains (λ n. n < length b.area) boxes n exist was in

@@ -1,13 +1,14 @@
 -- A table of packed keys as the table of the keys that they stand for.
-use Rattle.std.proofs.Common.{ℕ, ◌≡◌, ◌<◌, ◌+◌, ◌*◌, ◌^◌, inl, inr, refl, sym, ap, ◌∙◌, subst, List, [], ◌∷◌, ◌++◌, true, zero, suc, Some}
+use Rattle.std.proofs.Common.{ℕ, ◌≡◌, ◌<◌, ◌+◌, ◌*◌, ◌^◌, inl, inr, refl, sym, ap, ◌∙◌, subst, List, [], ◌∷◌, ◌++◌, true, suc, Some}
 use Rattle.std.proofs.Common.{Contains, arith, length, get_or, map}
-use Rattle.std.proofs.Common.{Bool, false, true≢false, slice_get, slice_set, length-append, ◌&&◌, ◌||◌, ◌==◌, ◌≤◌}
+use Rattle.std.proofs.Common.{Bool, false, true≢false, slice_get, slice_set, length-append, ◌&&◌, ◌==◌, ◌≤◌}
 use Rattle.std.specs.Bool.{Decides}
 use Rattle.std.specs.List.{IsDistinct, list_any, position_or_len}
-use Rattle.std.proofs.lemmas.Bool.{cases_Bool}
+use Rattle.std.proofs.lemmas.Bool.{false_from_ne_true}
 use Rattle.std.proofs.lemmas.Bool.Decides.{nat_tests}
 use Rattle.std.proofs.lemmas.List.{get_or-map, length-map}
 use Rattle.std.proofs.lemmas.List.Elements.{Contains-push_cases}
+use Rattle.std.proofs.lemmas.List.Folds.{list_any_at}
 use Rattle.std.proofs.lemmas.List.Sums.{position_or_len_is}
 use Rattle.std.proofs.Math.ListN.{length-set}
 use Rattle.std.proofs.lemmas.Map.Made.{AllPairs-from_IsDistinct}
@@ -100,15 +101,16 @@ packed_decides a b = (same_packed_is a b, λ e. subst (λ k. packed_eq a k ≡ t
 
 -- a test that no element passes fails at each
 none_at : {X : Type 0} (p : X → Bool) (xs : List X) → list_any p xs ≡ false → (k : ℕ) (d : X) → k < length xs → p (get_or xs k d) ≡ false
-none_at p [] none k d within = absurd (omega (arith, within))
-none_at p (x ∷ xs) none zero d within = elim (cases_Bool (p x)) [
-  | inl passes ↦ absurd (true≢false (sym (ap (λ b. b || list_any p xs) passes) ∙ none))
-  | inr fails ↦ fails
-]
-none_at p (x ∷ xs) none (suc k) d within = elim (cases_Bool (p x)) [
-  | inl passes ↦ absurd (true≢false (sym (ap (λ b. b || list_any p xs) passes) ∙ none))
-  | inr fails ↦ none_at p xs (sym (ap (λ b. b || list_any p xs) fails) ∙ none) k d (omega (arith, within))
-]
+none_at p xs none k d within = false_from_ne_true (p (get_or xs k d)) (λ passes. true≢false (sym (list_any_at p xs k d within passes) ∙ none))
+
+-- an index of the list as which a table is seen is one of its depths
+pub depth-within : {N : ℕ} (keys : List (PackedKey N)) (depths : List ℕ) (seen : Entries) (index : ℕ) → ArePacked N keys depths → entries_of keys depths ≡ seen
+    → index < length seen → index < length depths
+depth-within keys depths seen index packed is within =
+    let long = packed.a_depth_each in
+    let all = length-entries_of keys depths long in
+    let same = ap (λ (es : Entries). length es) is in
+    omega (arith, all, same, within, long)
 
 module _ {N : ℕ} (keys : List (PackedKey N)) (depths : List ℕ) (packed : ArePacked N keys depths) where
   fit_at : (i : ℕ) (d : PackedKey N) → i < length keys → IsOfWords N (get_or keys i d)

@@ -1,17 +1,11 @@
-use Rattle.std.proofs.Common.{ℕ, ◌≡◌, ◌++◌, ◌∷◌, [], inl, inr, true, false, true≢false, not, ap, sym, ◌∙◌, subst, arith, List, Bool, slice_get, if◌then◌else◌}
+use Rattle.std.proofs.Common.{ℕ, ◌≡◌, ◌++◌, ◌∷◌, [], true, false, ap, sym, ◌∙◌, subst, arith, List, slice_get, if◌then◌else◌}
 use Rattle.std.specs.List.{list_any}
-use Rattle.std.proofs.lemmas.Bool.{cases_Bool}
+use Rattle.std.proofs.lemmas.Bool.{not-false, not-true}
 use Rattle.sok_state.specs.declared.packed.PackedKey.{PackedKey}
 use Rattle.sok_state.specs.PackedKeys.{ArePacked, entries_of, state_of}
 use Rattle.sok_state.specs.Tables.{Enters, Entries, GoesLast, Stays}
 use Rattle.sok_state.proofs.PackedTables.{packed_eq, ArePacked-more, GoesLast-packed, Stays-packed}
 use Rattle.sok_state.proofs.packed_table.PackedTable.insert.Goals as goal
-
-not_true : (t : Bool) → not t ≡ true → t ≡ false
-not_true t e = elim (cases_Bool t) [ inl on ↦ absurd (true≢false (sym e ∙ ap not on)) | inr off ↦ off ]
-
-not_false : (t : Bool) → not t ≡ false → t ≡ true
-not_false t e = elim (cases_Bool t) [ inl on ↦ on | inr off ↦ absurd (true≢false (sym (ap not off) ∙ e)) ]
 
 pub invariant_of-self-then-new : goal.invariant_of-self-then-new
 invariant_of-self-then-new g c =
@@ -19,7 +13,7 @@ invariant_of-self-then-new g c =
     let keys : List (PackedKey N) = c.self.inside.keys.keys in
     let depths : List ℕ = c.self.inside.depths.items in
     let key = c.args.key in
-    let none : list_any (packed_eq key) keys ≡ false = not_true (list_any (packed_eq key) keys) (sym c.in_ok-index.ensures.added ∙ c.if-new.true) in
+    let none : list_any (packed_eq key) keys ≡ false = not-true (list_any (packed_eq key) keys) (sym c.in_ok-index.ensures.added ∙ c.if-new.true) in
     let new_keys : c.insert_full.new.self.keys ≡ keys ++ key ∷ [] = c.in_ok-index.ensures.keys ∙ ap (λ t. if t then keys else keys ++ key ∷ []) none in
     let new_depths : c.push_reserved.new.self.items ≡ depths ++ c.args.depth ∷ [] = ◌∙◌ {A = List ℕ} c.push_reserved.ensures.items
     (ap (λ (ds : List ℕ). ds ++ c.args.depth ∷ []) c.reserve.ensures.items) in
@@ -34,7 +28,7 @@ returns-then-new-clause-inserted g c =
     let key = c.args.key in
     let depth = c.args.depth in
     let index = c.in_ok-index.index in
-    let none : list_any (packed_eq key) keys ≡ false = not_true (list_any (packed_eq key) keys) (sym c.in_ok-index.ensures.added ∙ c.if-new.true) in
+    let none : list_any (packed_eq key) keys ≡ false = not-true (list_any (packed_eq key) keys) (sym c.in_ok-index.ensures.added ∙ c.if-new.true) in
     let new_keys : c.insert_full.new.self.keys ≡ keys ++ key ∷ [] = c.in_ok-index.ensures.keys ∙ ap (λ t. if t then keys else keys ++ key ∷ []) none in
     let new_depths : c.push_reserved.new.self.items ≡ depths ++ c.args.depth ∷ [] = ◌∙◌ {A = List ℕ} c.push_reserved.ensures.items
     (ap (λ (ds : List ℕ). ds ++ depth ∷ []) c.reserve.ensures.items) in
@@ -54,13 +48,13 @@ returns-else-new-clause-inserted g c =
     let depths : List ℕ = c.self.inside.depths.items in
     let key = c.args.key in
     let index = c.in_ok-index.index in
-    let some : list_any (packed_eq key) keys ≡ true = not_false (list_any (packed_eq key) keys) (sym c.in_ok-index.ensures.added ∙ c.if-new.false) in
+    let some : list_any (packed_eq key) keys ≡ true = not-false (list_any (packed_eq key) keys) (sym c.in_ok-index.ensures.added ∙ c.if-new.false) in
     let same_keys : c.insert_full.new.self.keys ≡ keys = c.in_ok-index.ensures.keys ∙ ap (λ t. if t then keys else keys ++ key ∷ []) some in
     let (stored, there, equal) = c.in_ok-index.ensures.stored in
     let stays = Stays-packed keys depths c.self.invariant key stored index (ap (λ ks. slice_get ks index) (sym same_keys) ∙ there) equal in
     let seen : Stays c.args.self.now (state_of key) index (entries_of c.insert_full.new.self.keys c.reserve.new.self.items) =
     subst (λ ks. Stays c.args.self.now (state_of key) index (entries_of ks c.reserve.new.self.items)) (sym same_keys)
-    (subst (λ ds. Stays c.args.self.now (state_of key) index (entries_of keys ds)) (sym c.reserve.ensures.items)
+    (subst (λ ds. Stays c.args.self.now (state_of key) index (entries_of keys ds)) (sym {A = List ℕ} c.reserve.ensures.items)
     (subst (λ (es : Entries). Stays es (state_of key) index (entries_of keys depths)) c.self.view_is stays)) in
     subst (λ t. Enters c.args.self.now (state_of key) c.args.depth index t (entries_of c.insert_full.new.self.keys c.reserve.new.self.items))
     (sym c.if-new.false) seen

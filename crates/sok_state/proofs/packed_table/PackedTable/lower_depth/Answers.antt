@@ -1,27 +1,19 @@
-use Rattle.std.proofs.Common.{◌<◌, true, false, ap, ◌∙◌, subst, arith, length, slice_set}
+use Rattle.std.proofs.Common.{true, false, ◌∙◌, subst, arith, slice_set}
 use Rattle.std.proofs.lemmas.List.{get_or_default}
 use Rattle.sok_state.specs.PackedKeys.{entries_of}
 use Rattle.sok_state.specs.Tables.{Entries, Lowers}
-use Rattle.sok_state.proofs.PackedTables.{length-entries_of, Lowers-packed, Lowers-kept}
+use Rattle.sok_state.proofs.PackedTables.{depth-within, Lowers-packed, Lowers-kept}
 use Rattle.sok_state.proofs.packed_table.PackedTable.lower_depth.Goals as goal
 
 pub index-requires : goal.index-requires
 index-requires g c =
-    let inside = c.self.inside in
-    let long = c.self.invariant.a_depth_each in
-    let all = length-entries_of inside.keys.keys inside.depths.items long in
-    let seen = ap (λ (es : Entries). length es) c.self.view_is in
-    let within = c.requires.exists in
-    omega (arith, all, seen, within, long)
+    let within = depth-within c.self.inside.keys.keys c.self.inside.depths.items _ c.args.index c.self.invariant c.self.view_is c.requires.exists in
+    omega (arith, within)
 
 pub index_mut-requires : goal.index_mut-requires
 index_mut-requires g c =
-    let inside = c.self.inside in
-    let long = c.self.invariant.a_depth_each in
-    let all = length-entries_of inside.keys.keys inside.depths.items long in
-    let seen = ap (λ (es : Entries). length es) c.self.view_is in
-    let within = c.requires.exists in
-    omega (arith, all, seen, within, long)
+    let within = depth-within c.self.inside.keys.keys c.self.inside.depths.items _ c.args.index c.self.invariant c.self.view_is c.requires.exists in
+    omega (arith, within)
 
 pub returns-then-depth-index : goal.returns-then-depth-index
 returns-then-depth-index g c =
@@ -29,25 +21,19 @@ returns-then-depth-index g c =
     let depths = c.self.inside.depths.items in
     let index = c.args.index in
     let long = c.self.invariant.a_depth_each in
-    let all = length-entries_of keys depths long in
-    let seen = ap (λ (es : Entries). length es) c.self.view_is in
-    let exists = c.requires.exists in
-    let within : index < length keys = omega (arith, all, seen, exists) in
-    let deep = c.index.ensures ∙ get_or_default depths index c.index.result.now 0 (omega (arith, within, long)) in
+    let within = depth-within keys depths _ index c.self.invariant c.self.view_is c.requires.exists in
+    let deep = c.index.ensures ∙ get_or_default depths index c.index.result.now 0 within in
     let below = c.if-depth-index.true in
     subst (λ (es : Entries). Lowers es index c.args.depth true (entries_of keys (slice_set depths index c.args.depth))) c.self.view_is
-    (Lowers-packed keys depths c.self.invariant index c.args.depth within (omega (arith, deep, below)))
+    (Lowers-packed keys depths c.self.invariant index c.args.depth (omega (arith, within, long)) (omega (arith, deep, below)))
 
 pub returns : goal.returns
 returns g c =
     let keys = c.self.inside.keys.keys in
     let depths = c.self.inside.depths.items in
     let index = c.args.index in
-    let long = c.self.invariant.a_depth_each in
-    let all = length-entries_of keys depths long in
-    let seen = ap (λ (es : Entries). length es) c.self.view_is in
-    let exists = c.requires.exists in
-    let deep = c.index.ensures ∙ get_or_default depths index c.index.result.now 0 (omega (arith, all, seen, exists, long)) in
+    let within = depth-within keys depths _ index c.self.invariant c.self.view_is c.requires.exists in
+    let deep = c.index.ensures ∙ get_or_default depths index c.index.result.now 0 within in
     let above = c.if-depth-index.false in
     subst (λ (es : Entries). Lowers es index c.args.depth false es) c.self.view_is
     (Lowers-kept keys depths c.self.invariant index c.args.depth (omega (arith, deep, above)))
