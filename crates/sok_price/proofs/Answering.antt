@@ -1,41 +1,9 @@
 -- What a search for all boxes answers, in the words of the board.
-use Rattle.std.proofs.Common.{
-  ℕ,
-  ◌≡◌,
-  ◌<◌,
-  ◌≤◌,
-  ◌+◌,
-  ◌++◌,
-  ◌∙◌,
-  inl,
-  inr,
-  refl,
-  sym,
-  ap,
-  subst,
-  List,
-  [],
-  ◌∷◌,
-  Option,
-  Some,
-  None,
-  Bool,
-  true,
-  false,
-  true≢false,
-  All,
-  Contains,
-  arith,
-  length,
-  get_or,
-  sum,
-  cond,
-  zero,
-  suc,
-}
-use Rattle.std.proofs.lemmas.Bool.{cases_Bool, cases_eq}
+use Rattle.std.proofs.Common.{ℕ, ◌≡◌, ◌≢◌, ◌<◌, ◌≤◌, ◌+◌, ◌∙◌, inl, inr, refl, sym, ap, subst, List, [], ◌∷◌, Option, Some, None, Bool, true, false}
+use Rattle.std.proofs.Common.{true≢false, All, AllPairs, Contains, arith, length, get_or, sum, cond, zero, suc}
+use Rattle.std.proofs.lemmas.Bool.{cases_Bool}
 use Rattle.std.proofs.lemmas.Option.{slice_get_within, get_or_from_slice_get}
-use Rattle.std.proofs.lemmas.List.{get_or_default, get_or_append_left, get_or_push, length_push, take_all}
+use Rattle.std.proofs.lemmas.List.{get_or_default, take_all}
 use Rattle.std.proofs.lemmas.List.Elements.{All-contains, All-weaker}
 use Rattle.std.proofs.lemmas.List.Sums.{sum_by-cons, sum_by-le}
 use Rattle.sok_board.specs.Area.{Numbered, goals_of}
@@ -48,30 +16,16 @@ use Rattle.sok_price.specs.declared.assign.Match.{Match}
 use Rattle.sok_price.specs.declared.assign.Match.TheVariants.{Prices, Crowd}
 use Rattle.sok_price.specs.declared.search.Search.{Search}
 use Rattle.sok_price.specs.Matches.{ArePrices, HasPrices, IsMatch}
-use Rattle.sok_price.specs.Matchings.{Costing, low}
+use Rattle.sok_price.specs.Matchings.{AreFair, Costing, low}
 use Rattle.sok_price.specs.Prices.{IsAssignment, IsCrowd, Priced}
 use Rattle.sok_price.specs.Searches.{Growth, IsReady, IsSeen, ReachesNoOther}
 use Rattle.sok_price.specs.Trees.{count_of, is_marked}
 use Rattle.sok_price.proofs.CostRows.{short-some}
+use Rattle.sok_price.proofs.AssignmentLaws.{IsCarrying-IsAssignment}
 use Rattle.sok_price.proofs.CrowdLaws.{Excludes-IsCrowd}
 use Rattle.sok_price.proofs.Marks.{count_of-le, price-at}
+use Rattle.sok_price.proofs.Places.{listed}
 use Rattle.sok_price.proofs.Sums.{prices_of-all, sum-along}
-
--- a number for each place, listed
-pub listed : (n : ℕ) (P : ℕ → ℕ → Type 0) → ((i : ℕ) → i < n → (d : ℕ) × P i d) → (ds : List ℕ) × (length ds ≡ n) × ((i : ℕ) → i < n → P i (get_or ds i 0))
-listed zero P each = ([], refl, λ i within. absurd (omega (arith, within)))
-listed (suc n) P each =
-    let (ds, long, told) = listed n P (λ i within. each i (omega (arith, within))) in
-    let (d, last) = each n (omega arith) in (
-      ds ++ d ∷ [],
-      let more = length_push ds d in omega (arith, more, long),
-      λ i within. elim (cases_eq i n) [
-        | inl same ↦ subst (λ k. P k (get_or (ds ++ d ∷ []) k 0)) (sym same) (subst (P n) (sym (get_or_push ds d 0 n long)) last)
-        | inr other ↦
-            let inside : i < n = omega (arith, within, other) in
-            subst (P i) (sym (get_or_append_left ds (d ∷ []) 0 i (omega (arith, inside, long)))) (told i inside)
-      ],
-    )
 
 -- the cost of the way of a box to its goal, and that its price is exact
 abbrev Exact : Costing → List ℕ → List ℕ → List ℕ → ℕ → ℕ → Type 0
@@ -113,23 +67,36 @@ fair-told b goal square d price goal_price None tells fair chain = absurd (tells
 fair-told b goal square d price goal_price (Some pushes) tells fair chain = let least = tells.1 d chain in let bound = fair pushes refl in
     omega (arith, least, bound)
 
-priced-ready : (b : Numbered) (boxes : List ℕ) (goals : ℕ) (cost : Costing) (g : Growth) (total : ℕ) → TellCosts b boxes goals cost
-    → goals ≡ length (goals_of b) → IsReady cost (length boxes) goals g
-    → total + sum g.v ≡ sum g.u → Priced b boxes g.u g.v total
-priced-ready b boxes goals cost g total told goals_are ready equal = record {
-  a_price_a_box = ready.matched.a_price_a_box;
-  a_price_a_goal = ready.matched.a_price_a_goal ∙ goals_are;
+-- prices that are fair where costs are told bound the pushes
+pub Priced-told : (b : Numbered) (boxes : List ℕ) (goals : ℕ) (cost : Costing) (u v : List ℕ) (n : ℕ) → TellCosts b boxes goals cost
+    → goals ≡ length (goals_of b) → length u ≡ length boxes → length v ≡ goals → AreFair cost u v → n + sum v ≤ sum u → Priced b boxes u v n
+Priced-told b boxes goals cost u v n told goals_are u_long v_long fair enough = record {
+  a_price_a_box = u_long;
+  a_price_a_goal = v_long ∙ goals_are;
   fair = λ i j x goal d at at_goal chain.
       let i_within = slice_get_within boxes i x at in
       let j_within = slice_get_within (goals_of b) j goal at_goal in
-      let u_long = ready.matched.a_price_a_box in
-      let v_long = ready.matched.a_price_a_goal in
+      let inside : j < goals = omega (arith, j_within, goals_are) in
       let x_is : x ≡ get_or boxes i 0 = sym (get_or_from_slice_get boxes i x 0 at) in
       let goal_is : goal ≡ goal_at b j = sym (get_or_from_slice_get (goals_of b) j goal 0 at_goal) in
-      fair-told b (goal_at b j) (get_or boxes i 0) d (get_or g.u i 0) (get_or g.v j 0) (cost i j) (told i j i_within (omega (arith, j_within, goals_are))).exact
-      (λ pushes way. ready.matched.fair i j pushes (omega (arith, i_within, u_long)) (omega (arith, j_within, goals_are, v_long)) way)
+      fair-told b (goal_at b j) (get_or boxes i 0) d (get_or u i 0) (get_or v j 0) (cost i j) (told i j i_within inside).exact
+      (λ pushes way. fair i j pushes (omega (arith, i_within, u_long)) (omega (arith, inside, v_long)) way)
       (subst (λ k. Chain b k (goal_at b j) d) x_is (subst (λ k. Chain b x k d) goal_is chain));
-  enough = omega (arith, equal);
+  enough = enough;
+}
+
+-- goals of their own at costs that are told are an assignment
+pub IsAssignment-told : (b : Numbered) (boxes : List ℕ) (goals : ℕ) (cost : Costing) (goal_of distances : List ℕ) → TellCosts b boxes goals cost
+    → goals ≡ length (goals_of b) → length goal_of ≡ length boxes → length distances ≡ length boxes → All (λ goal. goal < goals) goal_of
+    → AllPairs ◌≢◌ goal_of → ((i : ℕ) → i < length boxes → cost i (get_or goal_of i 0) ≡ Some (get_or distances i 0)) → IsAssignment b boxes goal_of distances
+IsAssignment-told b boxes goals cost goal_of distances told goals_are goals_long distances_long exist apart way = record {
+  a_goal_a_box = goals_long;
+  a_distance_a_box = distances_long;
+  exist = λ k d within. let exists = exist k d within in omega (arith, exists, goals_are);
+  apart = apart;
+  exact = λ i within.
+      let goal = get_or goal_of i 0 in
+      subst (TellsDistance b (goal_at b goal) (get_or boxes i 0)) (way i within) (told i goal within (exist i 0 (omega (arith, within, goals_long)))).exact;
 }
 
 small : (limit : ℕ) (prices : List ℕ) → limit ≤ 1000000 → All (λ price. price ≤ limit) prices → All (λ price. price ≤ 1000000) prices
@@ -143,26 +110,19 @@ ArePrices-ready b boxes goals cost g total told goals_are ready none few all equ
     let has = HasSums-ready cost (length boxes) goals g ready all (idle-floor cost (length boxes) goals g ready none) in
     let limit : low (length boxes) g.floor ≤ 1000000 = omega (arith, none, few) in
     let sums = has.sums in
-    let assignment : IsAssignment b boxes g.goal_of has.distances = record {
-      a_goal_a_box = all;
-      a_distance_a_box = has.whole ∙ all;
-      exist = λ k d within. let exists = ready.matched.exist k d within in omega (arith, exists, goals_are);
-      apart = ready.matched.apart;
-      exact = λ member within.
-          let inside : member < length g.goal_of = omega (arith, within, all) in
-          let goal = get_or g.goal_of member 0 in
-          subst (TellsDistance b (goal_at b goal) (get_or boxes member 0)) (has.exact member inside).0
-          (told member goal within (ready.matched.exist member 0 inside)).exact;
-    } in
+    let assignment = IsAssignment-told b boxes goals cost g.goal_of has.distances told goals_are all (has.whole ∙ all) ready.matched.exist ready.matched.apart
+    (λ i within. (has.exact i (omega (arith, within, all))).0) in
     record {
-      priced = priced-ready b boxes goals cost g total told goals_are ready equal;
+      priced = Priced-told b boxes goals cost g.u g.v total told goals_are ready.matched.a_price_a_box ready.matched.a_price_a_goal ready.matched.fair
+          (omega (arith, equal));
       equal = equal;
       small_boxes = small (low (length boxes) g.floor) g.u limit ready.low.boxes;
       small_goals = small (low (length boxes) g.floor) g.v limit ready.low.goals;
       distances = has.distances;
       assignment = assignment;
       cost = omega (arith, sums, equal);
-      no_crowd = λ members crowd. Excludes-IsCrowd b boxes g.goal_of has.distances members assignment crowd;
+      no_crowd = λ members crowd. Excludes-IsCrowd b boxes g.goal_of has.distances members
+          (IsCarrying-IsAssignment b boxes g.goal_of has.distances assignment) crowd;
     }
 
 -- the sums fit, and that of the goals is the smaller
@@ -222,35 +182,40 @@ taken-closed cost members goals g growing closed member goal pushes met inside w
       absurd (omega (arith, bound, far, above, price, counted, count, met_long, few, bounded, within, short))
 ]
 
--- the boxes of a tree that reaches no other goal are a crowd
-pub IsCrowd-closed : (b : Numbered) (boxes : List ℕ) (goals : ℕ) (cost : Costing) (g : Growth) (members : List ℕ) → TellCosts b boxes goals cost
-    → goals ≡ length (goals_of b)
-    → IsSeen cost (length boxes) goals g → ReachesNoOther g → ListsMarked g.met (length g.met) members → IsCrowd b boxes members
-IsCrowd-closed b boxes goals cost g members told goals_are growing closed lists = record {
-  listed = record {
-    rising = lists.rising;
-    within = λ k d inside. let within = lists.within k d inside in let long = growing.roomy.met in
-        omega (arith, within, long);
-  };
-  goals = picked g.taken (goals_of b);
+-- marked boxes that reach marked goals alone, and fewer of them, are a crowd
+pub IsCrowd-told : (b : Numbered) (boxes : List ℕ) (goals : ℕ) (cost : Costing) (marks taken : List Bool) (members : List ℕ) → TellCosts b boxes goals cost
+    → goals ≡ length (goals_of b) → length marks ≡ length boxes → ListsMarked marks (length marks) members
+    → ((i goal pushes : ℕ) → is_marked marks i ≡ true → i < length boxes → goal < goals → cost i goal ≡ Some pushes → pushes ≤ 1024
+    → is_marked taken goal ≡ true) → count_of taken < count_of marks → IsCrowd b boxes members
+IsCrowd-told b boxes goals cost marks taken members told goals_are long lists closed fewer = record {
+  listed = record { rising = lists.rising; within = λ k d inside. let within = lists.within k d inside in omega (arith, within, long) };
+  goals = picked taken (goals_of b);
   all_reached = λ x goal n (i, member, at) (j, j_within, j_is) chain.
       let i_within = slice_get_within boxes i x at in
-      let met = All-contains (λ place. is_marked g.met place ≡ true) members i lists.set member in
+      let marked = All-contains (λ place. is_marked marks place ≡ true) members i lists.set member in
       let x_is : x ≡ get_or boxes i 0 = sym (get_or_from_slice_get boxes i x 0 at) in
       let goal_is : goal ≡ goal_at b j = sym j_is ∙ get_or_default (goals_of b) j goal 0 j_within in
       let inside : j < goals = omega (arith, j_within, goals_are) in
       let (pushes, way) = chain-some b (goal_at b j) (get_or boxes i 0) n (cost i j) (told i j i_within inside).exact
       (subst (λ k. Chain b k (goal_at b j) n) x_is (subst (λ k. Chain b x k n) goal_is chain)) in
       let short = short-some (cost i j) pushes (told i j i_within inside).short way in
-      let taken = taken-closed cost (length boxes) goals g growing closed i j pushes met inside way short in
-      subst (Contains (picked g.taken (goals_of b))) (sym goal_is) (Contains-picked g.taken (goals_of b) j 0 taken j_within);
+      subst (Contains (picked taken (goals_of b))) (sym goal_is) (Contains-picked taken (goals_of b) j 0 (closed i j pushes marked i_within inside way short)
+      j_within);
   fewer =
-      let few = length-picked g.taken (goals_of b) in
-      let count = growing.marked.count in
+      let few = length-picked taken (goals_of b) in
       let whole = lists.whole in
-      let all = ap count_of (take_all (length g.met) g.met (omega arith)) in
-      omega (arith, few, count, whole, all);
+      let all = ap count_of (take_all (length marks) marks (omega arith)) in
+      omega (arith, few, whole, all, fewer);
 }
+
+-- the boxes of a tree that reaches no other goal are a crowd
+pub IsCrowd-closed : (b : Numbered) (boxes : List ℕ) (goals : ℕ) (cost : Costing) (g : Growth) (members : List ℕ) → TellCosts b boxes goals cost
+    → goals ≡ length (goals_of b)
+    → IsSeen cost (length boxes) goals g → ReachesNoOther g → ListsMarked g.met (length g.met) members → IsCrowd b boxes members
+IsCrowd-closed b boxes goals cost g members told goals_are growing closed lists =
+    IsCrowd-told b boxes goals cost g.met g.taken members told goals_are growing.roomy.met lists
+    (λ i goal pushes met _ inside way short. taken-closed cost (length boxes) goals g growing closed i goal pushes met inside way short)
+    (let count = growing.marked.count in omega (arith, count))
 
 -- what holds of the lists of a search holds of the prices and goals that are answered
 pub IsMatch-prices : (b : Numbered) (boxes : List ℕ) (search : Search) (answer : Match) → HasPrices search answer

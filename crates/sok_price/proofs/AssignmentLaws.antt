@@ -33,12 +33,17 @@ AtLeast-IsCarrying b boxes u v goal_of lengths n priced carrying =
     let enough = priced.enough in
     omega (arith, along, all, enough)
 
-pub AtLeast-IsAssignment : (b : Numbered) (boxes u v goal_of distances : List ℕ) (n : ℕ) → Priced b boxes u v n → IsAssignment b boxes goal_of distances
-    → n ≤ sum distances
-AtLeast-IsAssignment b boxes u v goal_of distances n priced assignment = AtLeast-IsCarrying b boxes u v goal_of distances n priced (record {
+-- an assignment carries, by its distances
+pub IsCarrying-IsAssignment : (b : Numbered) (boxes goal_of distances : List ℕ) → IsAssignment b boxes goal_of distances → IsCarrying b boxes goal_of distances
+IsCarrying-IsAssignment b boxes goal_of distances assignment = record {
   a_goal_a_box = assignment.a_goal_a_box;
   a_length_a_box = assignment.a_distance_a_box;
   exist = assignment.exist;
   apart = assignment.apart;
   chain = λ i within. (assignment.exact i within).0;
-})
+}
+
+pub AtLeast-IsAssignment : (b : Numbered) (boxes u v goal_of distances : List ℕ) (n : ℕ) → Priced b boxes u v n → IsAssignment b boxes goal_of distances
+    → n ≤ sum distances
+AtLeast-IsAssignment b boxes u v goal_of distances n priced assignment =
+    AtLeast-IsCarrying b boxes u v goal_of distances n priced (IsCarrying-IsAssignment b boxes goal_of distances assignment)

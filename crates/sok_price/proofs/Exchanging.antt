@@ -1,31 +1,6 @@
 -- A row that is exchanged for another: it becomes the last, its price is 0, and its goal is free.
-use Rattle.std.proofs.Common.{
-  ℕ,
-  ◌≡◌,
-  ◌≢◌,
-  ◌<◌,
-  ◌≤◌,
-  ◌+◌,
-  ◌*◌,
-  ◌∙◌,
-  inl,
-  inr,
-  sym,
-  ap,
-  subst,
-  List,
-  All,
-  AllPairs,
-  true,
-  false,
-  arith,
-  length,
-  get_or,
-  set,
-  take,
-  ◌==◌,
-  if◌then◌else◌,
-}
+use Rattle.std.proofs.Common.{ℕ, ◌≡◌, ◌≢◌, ◌<◌, ◌≤◌, ◌+◌, ◌*◌, ◌∙◌, inl, inr, sym, ap, subst, List, All, AllPairs, true, false, arith, length, get_or, set}
+use Rattle.std.proofs.Common.{take, ◌==◌, if◌then◌else◌}
 use Rattle.std.specs.List.{SwappedAt}
 use Rattle.std.proofs.lemmas.Bool.{cases_eq}
 use Rattle.std.proofs.lemmas.Bool.Decides.{nat_tests}

@@ -1,5 +1,5 @@
 -- One round of a search: the goal that is next, and what is told of it.
-use Rattle.std.proofs.Common.{ℕ, ◌≡◌, ◌<◌, ◌≤◌, ◌-◌, ◌∙◌, refl, sym, ap, subst, List, Option, Some, None, Bool, true, arith, length, get_or, set}
+use Rattle.std.proofs.Common.{ℕ, ◌≡◌, ◌<◌, ◌-◌, ◌∙◌, refl, sym, ap, subst, List, Option, Some, None, Bool, true, arith, length, get_or, set}
 use Rattle.std.proofs.lemmas.List.{get_or_default}
 use Rattle.sok_price.specs.declared.slacks.Slack.{Slack}
 use Rattle.sok_price.specs.declared.slacks.Near.{Near}

@@ -1,34 +1,7 @@
 -- A goal that is reached joins the tree, with the box that has it.
-use Rattle.std.proofs.Common.{
-  ℕ,
-  ◌≡◌,
-  ◌≢◌,
-  ◌<◌,
-  ◌≤◌,
-  ◌+◌,
-  ◌*◌,
-  ◌-◌,
-  ◌∙◌,
-  ◌++◌,
-  inl,
-  inr,
-  refl,
-  sym,
-  ap,
-  subst,
-  List,
-  [],
-  ◌∷◌,
-  Some,
-  true,
-  false,
-  true≢false,
-  arith,
-  length,
-  get_or,
-  set,
-}
-use Rattle.std.proofs.lemmas.Bool.{cases_eq, cases_lt}
+use Rattle.std.proofs.Common.{ℕ, ◌≡◌, ◌≢◌, ◌<◌, ◌≤◌, ◌+◌, ◌*◌, ◌-◌, ◌∙◌, ◌++◌, inl, inr, refl, sym, ap, subst, List, [], ◌∷◌, Some, true, false, true≢false}
+use Rattle.std.proofs.Common.{arith, length, get_or, set}
+use Rattle.std.proofs.lemmas.Bool.{cases_eq}
 use Rattle.std.proofs.lemmas.List.{get_or_default, get_or_append_left, get_or_push, length_push, length-set}
 use Rattle.sok_price.specs.declared.search.Branch.{Branch}
 use Rattle.sok_price.specs.declared.slacks.Slack.{Slack}
@@ -37,15 +10,8 @@ use Rattle.sok_price.specs.Matchings.{Costing}
 use Rattle.sok_price.specs.Searches.{Growth, IsAhead, IsNext, IsSeen, joined}
 use Rattle.sok_price.specs.Slacks.{slack_at}
 use Rattle.sok_price.specs.Trees.{count_of, is_marked, branch_at, AreMarked, AreRises, IsBound, IsMet, IsSlack, IsTree}
-use Rattle.sok_price.proofs.Marks.{
-  count_of-lt,
-  count_of-set,
-  marked-set_same,
-  marked-set_other,
-  marked-set_kept,
-  marked-set_cases,
-  marked-set_clear,
-}
+use Rattle.sok_price.proofs.Places.{same_place}
+use Rattle.sok_price.proofs.Marks.{count_of-lt, count_of-set, marked-set_same, marked-set_other, marked-set_kept, marked-set_cases, marked-set_clear}
 
 -- the costs are those of distances on a board
 abbrev pub AreShort : Costing → Type 0
@@ -103,11 +69,7 @@ taken-room cost members goals g near member is = let within = is.within in let l
 other-goal : (cost : Costing) (members goals : ℕ) (g : Growth) (near : Near) (member : ℕ) → IsJoining cost members goals g near member → (other : ℕ)
     → other < length g.goal_of → other ≢ member → get_or g.goal_of other 0 ≢ near.goal
 other-goal cost members goals g near member is other within apart same =
-    let both = same ∙ sym is.has in
-    elim (cases_lt other member) [
-      | inl before ↦ is.growing.matched.apart other member 0 before is.earlier both
-      | inr after ↦ is.growing.matched.apart member other 0 (omega (arith, after, apart)) within (sym both)
-    ]
+    apart (same_place g.goal_of is.growing.matched.apart other member within is.earlier (same ∙ sym is.has))
 
 marked-joined : (cost : Costing) (members goals : ℕ) (g : Growth) (near : Near) (member : ℕ) → IsJoining cost members goals g near member
     → AreMarked g.goal_of (set g.met member true) (set g.taken near.goal true)

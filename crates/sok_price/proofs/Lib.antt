@@ -11,12 +11,11 @@ pub mod Growing
 pub mod Joining
 pub mod Keeping
 pub mod Listing
-pub mod Looked
 pub mod Looking
 pub mod Marks
 pub mod Moving
+pub mod Places
 pub mod Raising
-pub mod Reaching
 pub mod Rematching
 pub mod Setting
 pub mod Sparing

@@ -40,7 +40,7 @@ from-apart row last i j before within = elim (cases_eq i row) [
 ]
 
 -- rows at different places differ, where one of them is a box's
-rows-apart : (end : ℕ) (rows : List ℕ) → AreRows end rows → (i j : ℕ) → i ≢ j → i < length rows → j < length rows → get_or rows i 0 < end
+pub rows-apart : (end : ℕ) (rows : List ℕ) → AreRows end rows → (i j : ℕ) → i ≢ j → i < length rows → j < length rows → get_or rows i 0 < end
     → get_or rows i 0 ≢ get_or rows j 0
 rows-apart end rows are i j other i_within j_within below same = elim (cases_lt i j) [
   | inl before ↦ are.apart i j before j_within below same

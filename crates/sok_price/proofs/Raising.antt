@@ -1,7 +1,7 @@
 -- Prices of a tree, raised until its next goal is reached, stay fair and exact.
-use Rattle.std.proofs.Common.{ℕ, ◌≡◌, ◌≢◌, ◌<◌, ◌≤◌, ◌+◌, ◌*◌, ◌-◌, ◌∙◌, inl, inr, sym, ap, subst, List, true, false, true≢false, arith}
+use Rattle.std.proofs.Common.{ℕ, ◌≡◌, ◌≢◌, ◌<◌, ◌≤◌, ◌∙◌, inl, inr, sym, ap, true, false, true≢false, arith}
 use Rattle.std.proofs.Common.{length, get_or}
-use Rattle.std.proofs.lemmas.Bool.{cases_Bool, cases_eq, cases_lt}
+use Rattle.std.proofs.lemmas.Bool.{cases_Bool, cases_eq}
 use Rattle.std.proofs.lemmas.List.{get_or_default}
 use Rattle.sok_price.specs.declared.slacks.Near.{Near}
 use Rattle.sok_price.specs.Matchings.{AreFair, AreTight, Costing, IsMatched, IsTight, low}
@@ -9,6 +9,7 @@ use Rattle.sok_price.specs.Searches.{Growth, IsNext, IsRaised, IsSeen}
 use Rattle.sok_price.specs.Trees.{branch_at, is_marked, GoesTight}
 use Rattle.sok_price.proofs.Joining.{AreShort, rises-next}
 use Rattle.sok_price.proofs.Marks.{count_of-le, price-at}
+use Rattle.sok_price.proofs.Places.{same_place}
 
 -- a search before and after the prices of its tree are raised to its next goal
 pub record AreLifted (cost : Costing) (members goals : ℕ) (g : Growth) (near : Near) (after : Growth) : Type 0 where
@@ -54,12 +55,8 @@ goals-apart cost members goals g growing at to later before within same =
     let first = tree.earlier at later (omega (arith, before, within)) in
     let second = tree.earlier to (omega (arith, later, before)) within in
     let equal = tree.has at later (omega (arith, before, within)) ∙ same ∙ sym (tree.has to (omega (arith, later, before)) within) in
-    elim (cases_lt (branch_at g.branches at).member (branch_at g.branches to).member) [
-      | inl less ↦ growing.matched.apart (branch_at g.branches at).member (branch_at g.branches to).member 0 less second equal
-      | inr more ↦
-          let other = tree.apart at to before within in
-          growing.matched.apart (branch_at g.branches to).member (branch_at g.branches at).member 0 (omega (arith, more, other)) first (sym equal)
-    ]
+    tree.apart at to before within (same_place g.goal_of growing.matched.apart (branch_at g.branches at).member (branch_at g.branches to).member first second
+    equal)
 
 u-unmet : (cost : Costing) (members goals : ℕ) (g : Growth) (near : Near) (after : Growth) → AreLifted cost members goals g near after → (member : ℕ)
     → is_marked g.met member ≡ false → get_or after.u member 0 ≡ get_or g.u member 0

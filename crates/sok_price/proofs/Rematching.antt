@@ -1,33 +1,9 @@
 -- Goals that move up a path of a tree, each to the box before, so that the next box has one too.
-use Rattle.std.proofs.Common.{
-  ℕ,
-  ◌≡◌,
-  ◌≢◌,
-  ◌<◌,
-  ◌≤◌,
-  ◌+◌,
-  ◌∙◌,
-  ◌++◌,
-  ◌⊎◌,
-  inl,
-  inr,
-  refl,
-  sym,
-  ap,
-  subst,
-  List,
-  [],
-  ◌∷◌,
-  All,
-  AllPairs,
-  Contains,
-  arith,
-  length,
-  get_or,
-}
+use Rattle.std.proofs.Common.{ℕ, ◌≡◌, ◌≢◌, ◌<◌, ◌≤◌, ◌+◌, ◌∙◌, ◌++◌, ◌⊎◌, inl, inr, refl, sym, ap, subst, List, [], ◌∷◌, All, AllPairs, Contains, arith, length}
+use Rattle.std.proofs.Common.{get_or}
 use Rattle.std.specs.List.{SwappedAt}
 use Rattle.std.specs.List.Sorted.{IsPermutation}
-use Rattle.std.proofs.lemmas.Bool.{cases_eq, cases_lt}
+use Rattle.std.proofs.lemmas.Bool.{cases_eq}
 use Rattle.std.proofs.lemmas.List.{get_or_append_left, get_or_push, get_or_default, length_push}
 use Rattle.std.proofs.lemmas.List.Elements.{All-push, Contains-append_left}
 use Rattle.std.proofs.lemmas.List.Quantifiers.{all_pairs_push}
@@ -36,6 +12,7 @@ use Rattle.sok_price.specs.declared.slacks.Near.{Near}
 use Rattle.sok_price.specs.Matchings.{Costing, IsTight, IsMatched}
 use Rattle.sok_price.specs.Searches.{Growth, IsReached, IsRematched}
 use Rattle.sok_price.specs.Trees.{branch_at, GoesTight, IsTree}
+use Rattle.sok_price.proofs.Places.{apart_from, same_place}
 
 -- where an element stood before an exchange
 abbrev Stood : ℕ → ℕ → ℕ → ℕ → Type 0
@@ -64,17 +41,10 @@ stood xs ys a b d a_within b_within swapped k within = elim (cases_eq k a) [
 
 -- elements that are apart stay so when two are exchanged
 pub swapped-apart : (xs ys : List ℕ) (a b : ℕ) → length ys ≡ length xs → a < length xs → b < length xs → SwappedAt xs ys a b → AllPairs ◌≢◌ xs → AllPairs ◌≢◌ ys
-swapped-apart xs ys a b long a_within b_within swapped apart i j d before within same =
-    let (i', i_within, i_is, i_stood) = stood xs ys a b d a_within b_within swapped i (omega (arith, before, within, long)) in
-    let (j', j_within, j_is, j_stood) = stood xs ys a b d a_within b_within swapped j (omega (arith, within, long)) in
-    let equal = sym i_is ∙ same ∙ j_is in
-    elim (cases_eq i' j') [
-      | inl twice ↦ let one = stood_apart a b i j i' j' i_stood j_stood twice in omega (arith, one, before)
-      | inr other ↦ elim (cases_lt i' j') [
-        | inl first ↦ apart i' j' d first j_within equal
-        | inr second ↦ apart j' i' d (omega (arith, second, other)) i_within (sym equal)
-      ]
-    ]
+swapped-apart xs ys a b long a_within b_within swapped apart = apart_from ys (λ i j i_within j_within same.
+    let (i', i_in, i_is, i_stood) = stood xs ys a b 0 a_within b_within swapped i (omega (arith, i_within, long)) in
+    let (j', j_in, j_is, j_stood) = stood xs ys a b 0 a_within b_within swapped j (omega (arith, j_within, long)) in
+    stood_apart a b i j i' j' i_stood j_stood (same_place xs apart i' j' i_in j_in (sym i_is ∙ same ∙ j_is)))
 
 -- goals of all boxes and the next, where only the next box's goal is not yet exact: it is for the box at a branch
 pub record IsPath (cost : Costing) (g : Growth) (at : ℕ) (goal_of : List ℕ) : Type 0 where

@@ -1,6 +1,7 @@
 -- What it costs to bring each box to each goal, both by their indices from 0.
 use Rattle.std.specs.Prelude.{ℕ, ◌≡◌, ◌≤◌, ◌<◌, ◌+◌, ◌*◌, ◌++◌, List, Option, Some, None, IfSome, All, length, slice_index, slice_index_or}
 use Rattle.sok_board.specs.Area.{Numbered, goals_of}
+use Rattle.sok_board.specs.Limits.{square_limit}
 use Rattle.sok_push.specs.Distances.{goal_at}
 use Rattle.sok_push.specs.Pushing.{TellsDistance}
 use Rattle.sok_price.specs.declared.costs.Costs.{Costs}
@@ -18,14 +19,14 @@ cost_of costs member goal = cost_in costs.goals costs.entries.items (slice_index
 pub record AreCosts (costs : Costs) : Type 0 where
   pub a_row_a_box : length costs.rows.items ≡ costs.members
   pub exist : All (λ row. (row + 1) * costs.goals ≤ length costs.entries.items) costs.rows.items
-  pub few : costs.members ≤ 1024
-  pub short : (member goal pushes : ℕ) → cost_of costs member goal ≡ Some pushes → pushes ≤ 1024
-  pub entries_short : (k pushes : ℕ) → slice_index_or costs.entries.items k None ≡ Some pushes → pushes ≤ 1024
+  pub few : costs.members ≤ square_limit
+  pub short : (member goal pushes : ℕ) → cost_of costs member goal ≡ Some pushes → pushes ≤ square_limit
+  pub entries_short : (k pushes : ℕ) → slice_index_or costs.entries.items k None ≡ Some pushes → pushes ≤ square_limit
 
 -- the distance of a square to a goal, by the goal's index, which is not large
 pub record TellsCost (b : Numbered) (goal square : ℕ) (cost : Option ℕ) : Type 0 where
   pub exact : TellsDistance b (goal_at b goal) square cost
-  pub short : IfSome cost (λ pushes. pushes ≤ 1024)
+  pub short : IfSome cost (λ pushes. pushes ≤ square_limit)
 
 -- the costs of boxes are the distances of their squares
 abbrev pub TellCosts : Numbered → List ℕ → ℕ → Costing → Type 0
@@ -48,4 +49,4 @@ pub record IsRow (b : Numbered) (goals square : ℕ) (before after : List (Optio
 pub record AreTold (b : Numbered) (boxes : List ℕ) (goals members : ℕ) (entries : List (Option ℕ)) : Type 0 where
   pub whole : length entries ≡ members * goals
   pub told : (member goal : ℕ) → member < members → goal < goals → TellsCost b goal (slice_index boxes member) (cost_in goals entries member goal)
-  pub short : (k pushes : ℕ) → slice_index_or entries k None ≡ Some pushes → pushes ≤ 1024
+  pub short : (k pushes : ℕ) → slice_index_or entries k None ≡ Some pushes → pushes ≤ square_limit

@@ -7,6 +7,7 @@ use Rattle.sok_price.specs.declared.search.Search.{Search}
 use Rattle.sok_price.specs.Costs.{cost_in, TellsCost}
 use Rattle.sok_price.specs.Exchanges.{IsWhole}
 use Rattle.sok_price.specs.Searches.{growth_of, HasRoom, IsRoomy}
+use Rattle.sok_price.specs.Limits.{kept_floor_limit}
 use Rattle.sok_region.specs.BoxSets.{IsMoved}
 use Rattle.sok_price.specs.Prices.{Priced, IsAssignment, IsCrowd}
 
@@ -64,17 +65,8 @@ pub record IsShaped (members goals : ℕ) (search : Search) : Type 0 where
 -- a matching of the boxes of a list, whose prices are low enough for one more exchange
 pub record IsSettled (end : ℕ) (boxes : List ℕ) (costs : Costs) (search : Search) : Type 0 where
   pub whole : IsWhole costs search
-  pub low : search.floor ≤ 268435456
+  pub low : search.floor ≤ kept_floor_limit
   pub exactly : AreExactly end costs.rows.items boxes
-
--- some prices prove a number of all boxes whose list has those of the rows
-abbrev pub IsProved : Numbered → List ℕ → ℕ → Type 0
-IsProved b rows n = (boxes : List ℕ) → All (λ square. square < length b.area) boxes → AreOf (length b.area) rows boxes → (u v : List ℕ) × Priced b boxes u v n
-
--- all boxes whose list has those of the rows have a crowd
-abbrev pub IsCrowded : Numbered → List ℕ → Type 0
-IsCrowded b rows = (boxes : List ℕ) → All (λ square. square < length b.area) boxes → AreOf (length b.area) rows boxes
-    → (members : List ℕ) × IsCrowd b boxes members
 
 -- what is told of boxes: a number that some prices prove, and None where there is a crowd
 abbrev pub IsBounded : Numbered → List ℕ → Option ℕ → Type 0

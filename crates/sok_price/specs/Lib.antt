@@ -1,5 +1,6 @@
 -- Words of public contracts
 pub mod Laws
+pub mod Limits
 pub mod Matched
 pub mod Matches
 pub mod Prices

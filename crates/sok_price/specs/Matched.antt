@@ -1,11 +1,13 @@
 -- A matching that is kept, as it is seen from outside.
 use Rattle.std.specs.Prelude.{ℕ, ◌≡◌, ◌≤◌, ◌<◌, ◌+◌, ◌*◌, List, Option, Some, None, Bool, true, Contains, length, sum, ◌^◌}
 use Rattle.sok_board.specs.Area.{Numbered}
+use Rattle.sok_board.specs.Limits.{square_limit}
 use Rattle.sok_price.specs.declared.costs.Costs.{Costs}
 use Rattle.sok_price.specs.declared.search.Search.{Search}
 use Rattle.sok_price.specs.Costs.{AreCosts}
 use Rattle.sok_price.specs.Exchanges.{IsWhole}
 use Rattle.sok_price.specs.Kept.{AreExactly, AreKept, IsBounded, IsCost, IsShaped}
+use Rattle.sok_price.specs.Limits.{kept_floor_limit}
 use Rattle.sok_price.specs.Searches.{KeepsRoom, growth_of}
 
 -- what is seen of a matching: its costs, its prices and goals, and whether they are those of boxes
@@ -19,14 +21,14 @@ pub record KeptMatching : Type 0 where
 pub record IsSound (squares : ℕ) (costs : Costs) (search : Search) (matched : Bool) (trial : Search) (rows : List ℕ) (marks : List Bool) : Type 0 where
   pub shaped : AreCosts costs
   pub square : costs.members ≡ costs.goals
-  pub small : squares ≤ 1024
+  pub small : squares ≤ square_limit
   pub entries : (squares + 1) * costs.goals ≤ length costs.entries.items
   pub search_shaped : IsShaped costs.members costs.goals search
   pub trial_shaped : IsShaped costs.members costs.goals trial
   pub as_many : length rows ≡ costs.members
   pub a_mark_a_square : length marks ≡ squares
   pub whole : matched ≡ true → IsWhole costs search
-  pub low : matched ≡ true → search.floor ≤ 268435456
+  pub low : matched ≡ true → search.floor ≤ kept_floor_limit
 
 -- a matching is for the boxes of a board
 pub record Serves (b : Numbered) (kept : KeptMatching) : Type 0 where

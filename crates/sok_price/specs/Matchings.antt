@@ -1,5 +1,6 @@
 -- Prices of boxes and goals, and a goal of its own for each of the first boxes.
 use Rattle.std.specs.Prelude.{ℕ, ◌≡◌, ◌≢◌, ◌≤◌, ◌<◌, ◌+◌, ◌*◌, List, Option, Some, None, All, AllPairs, Contains, length, slice_index, slice_index_or}
+use Rattle.sok_price.specs.Limits.{spread}
 
 -- what each box, by its index, costs at each goal, by its index
 abbrev pub Costing : Type 0
@@ -32,7 +33,7 @@ pub record IsMatched (cost : Costing) (members goals floor : ℕ) (u v goal_of :
 
 -- prices between two searches: those of a tree are at most 1,024 apart for each of its goals, and the goal at the end costs no more than the floor
 abbrev pub low : ℕ → ℕ → ℕ
-low members floor = floor + 2048 * members
+low members floor = floor + spread * members
 
 -- no price is above a limit
 pub record AreWithin (limit : ℕ) (u v : List ℕ) : Type 0 where

@@ -1,36 +1,12 @@
 -- A search for a goal for one more box: a tree of boxes and goals that grows from the box, while prices rise.
-use Rattle.std.specs.Prelude.{
-  vec_capacity,
-  ℕ,
-  ◌≡◌,
-  ◌≢◌,
-  ◌≤◌,
-  ◌<◌,
-  ◌+◌,
-  ◌-◌,
-  List,
-  [],
-  ◌∷◌,
-  ◌++◌,
-  Option,
-  Some,
-  None,
-  Bool,
-  true,
-  false,
-  All,
-  AllPairs,
-  Contains,
-  length,
-  replicate,
-  slice_index,
-  slice_set,
-  if◌then◌else◌,
-}
+use Rattle.std.specs.Prelude.{vec_capacity, ℕ, ◌≡◌, ◌≢◌, ◌≤◌, ◌<◌, ◌+◌, ◌-◌, List, [], ◌∷◌, ◌++◌, Option, Some, None, Bool, true, false, All, AllPairs}
+use Rattle.std.specs.Prelude.{Contains, length, replicate, slice_index, slice_set}
+use Rattle.sok_board.specs.Limits.{square_limit}
 use Rattle.sok_price.specs.declared.search.Branch.{Branch}
 use Rattle.sok_price.specs.declared.search.Search.{Search}
 use Rattle.sok_price.specs.declared.slacks.Slack.{Slack}
 use Rattle.sok_price.specs.declared.slacks.Near.{Near}
+use Rattle.sok_price.specs.Limits.{floor_limit}
 use Rattle.sok_price.specs.Matchings.{Costing, IsTight, AreTight, IsMatched, low, AreWithin, TellTakers}
 use Rattle.sok_price.specs.Slacks.{slack_at, unreached}
 use Rattle.sok_price.specs.Trees.{branch_at, count_of, is_marked, AreMarked, AreRaised, AreRises, IsBound, IsMet, IsSlack, IsTree}
@@ -80,8 +56,8 @@ pub record IsRoomy (members goals : ℕ) (g : Growth) : Type 0 where
 pub record IsGrowing (cost : Costing) (members goals seen : ℕ) (g : Growth) : Type 0 where
   pub matched : IsMatched cost members goals g.floor g.u g.v g.goal_of
   pub roomy : IsRoomy members goals g
-  pub few : members ≤ 1024
-  pub bounded : g.floor ≤ 536870912
+  pub few : members ≤ square_limit
+  pub bounded : g.floor ≤ floor_limit
   pub low : AreWithin (low members g.floor) g.u g.v
   pub more : length g.goal_of < members
   pub tells : TellTakers g.goal_of g.takers
@@ -168,7 +144,7 @@ pub record IsRematched (cost : Costing) (g : Growth) (goal_of : List ℕ) : Type
 -- prices and goals of the first boxes, with room for a search for the next
 pub record IsReady (cost : Costing) (members goals : ℕ) (g : Growth) : Type 0 where
   pub matched : IsMatched cost members goals g.floor g.u g.v g.goal_of
-  pub bounded : g.floor ≤ 536870912
+  pub bounded : g.floor ≤ floor_limit
   pub low : AreWithin (low members g.floor) g.u g.v
   pub roomy : IsRoomy members goals g
 

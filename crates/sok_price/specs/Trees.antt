@@ -1,24 +1,6 @@
 -- A tree of boxes and goals that begins at a box without a goal, and goes from a box to a goal at an exact price and on to the box that has it.
-use Rattle.std.specs.Prelude.{
-  ℕ,
-  ◌≡◌,
-  ◌≢◌,
-  ◌≤◌,
-  ◌<◌,
-  ◌+◌,
-  ◌-◌,
-  ◌*◌,
-  List,
-  Some,
-  Bool,
-  true,
-  false,
-  Contains,
-  count_by,
-  length,
-  slice_index,
-  slice_index_or,
-}
+use Rattle.std.specs.Prelude.{ℕ, ◌≡◌, ◌≢◌, ◌≤◌, ◌<◌, ◌+◌, ◌-◌, ◌*◌, List, Some, Bool, true, false, Contains, count_by, length, slice_index, slice_index_or}
+use Rattle.sok_board.specs.Limits.{square_limit}
 use Rattle.sok_price.specs.declared.search.Branch.{Branch}
 use Rattle.sok_price.specs.declared.slacks.Slack.{Slack}
 use Rattle.sok_price.specs.Matchings.{Costing, IsTight}
@@ -66,9 +48,9 @@ pub record AreRises (cost : Costing) (u v : List ℕ) (branches : List Branch) :
       → IsBound cost u v branches (branch_at branches to).rise at (branch_at branches to).goal
   pub last : (at : ℕ) → at < length branches → (branch_at branches at).rise ≤ (branch_at branches (length branches - 1)).rise
   pub above : (at : ℕ) → at < length branches
-      → slice_index u (branch_at branches 0).member + (branch_at branches at).rise ≤ slice_index u (branch_at branches at).member + 1024 * at
+      → slice_index u (branch_at branches 0).member + (branch_at branches at).rise ≤ slice_index u (branch_at branches at).member + square_limit * at
   pub below : (at : ℕ) → at < length branches
-      → slice_index u (branch_at branches at).member ≤ slice_index u (branch_at branches 0).member + (branch_at branches at).rise + 1024 * at
+      → slice_index u (branch_at branches at).member ≤ slice_index u (branch_at branches 0).member + (branch_at branches at).rise + square_limit * at
 
 -- prices of boxes or goals of some branches are raised by what is left of a rise behind each, and the others stay
 pub record AreRaised (place : Branch → ℕ) (total : ℕ) (branches : List Branch) (first end : ℕ) (before after : List ℕ) : Type 0 where

@@ -2,6 +2,7 @@
 
 ghost use Rattle.std.specs.Prelude.{ℕ, List, ◌≡◌, ◌<◌, ◌≤◌, ◌+◌, ◌^◌, All, IfOk, length, sum};
 ghost use Rattle.sok_board.specs.Area.{IsAccepted, Numbered, goals_of};
+ghost use Rattle.sok_board.specs.Limits.{box_limit, square_limit};
 ghost use Rattle.sok_price.specs.Costs.{AreCosts, AreOfBoxes};
 ghost use Rattle.sok_price.specs.Matches.{IsMatch, HasPrices};
 ghost use Rattle.sok_price.specs.Marked.{ListsMarked};
@@ -57,7 +58,7 @@ fn total(u: &[u32], v: &[u32]) -> u32
 
 /// The indices of the marks that are set, rising.
 fn marked(alloc: Global, marks: &[bool]) -> Result<Vec<u32>, Memory>
-    requires { length marks.now ≤ 1024 }
+    requires { length marks.now ≤ square_limit }
     ensures { IfOk result (λ members. ListsMarked marks.now (length marks.now) members.items) }
 {
     let mut members = Vec::new(alloc);
@@ -74,7 +75,7 @@ fn assign_to(alloc: Global, tables: &Tables, goals: usize, boxes: &[Sq]) -> Resu
     requires accepted { IsAccepted tables.now.board }
     requires goals { goals ≡ length (goals_of tables.now.board) }
     requires exist { All (λ square. square < length tables.now.board.area) boxes.now }
-    requires few { length boxes.now ≤ 128 }
+    requires few { length boxes.now ≤ box_limit }
     ensures { IfOk result (IsMatch tables.now.board boxes.now) }
 {
     let costs = Costs::of(alloc, tables, goals, boxes)?;
@@ -84,7 +85,7 @@ fn assign_to(alloc: Global, tables: &Tables, goals: usize, boxes: &[Sq]) -> Resu
 /// The least assignment of goals to the boxes that some costs are of, or a crowd of them.
 pub(crate) fn assign_rows(alloc: Global, costs: &Costs) -> Result<Match, Memory>
     requires costs { AreCosts costs.now }
-    requires few { costs.now.members ≤ 128 }
+    requires few { costs.now.members ≤ box_limit }
     ensures { (b : Numbered) (boxes : List ℕ) → AreOfBoxes b boxes costs.now
         → IfOk result (IsMatch b boxes) }
 {

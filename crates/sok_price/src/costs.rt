@@ -18,6 +18,7 @@ ghost use Rattle.std.specs.Prelude.{
   None,
 };
 ghost use Rattle.sok_board.specs.Area.{IsAccepted, goals_of};
+ghost use Rattle.sok_board.specs.Limits.{box_limit, square_limit};
 ghost use Rattle.sok_price.specs.Kept.{AreKept};
 ghost use Rattle.sok_price.specs.Costs.{cost_of, AreCosts, TellCosts, IsRow};
 
@@ -47,7 +48,7 @@ impl Costs {
         requires accepted { IsAccepted tables.now.board }
         requires goals { goals ≡ length (goals_of tables.now.board) }
         requires exist { All (λ square. square < length tables.now.board.area) boxes.now }
-        requires few { length boxes.now ≤ 128 }
+        requires few { length boxes.now ≤ box_limit }
         ensures members { IfOk result (λ costs. costs.members ≡ length boxes.now) }
         ensures goals { IfOk result (λ costs. costs.goals ≡ goals) }
         ensures costs { IfOk result AreCosts }
@@ -76,7 +77,7 @@ impl Costs {
     ) -> Result<Costs, Memory>
         requires accepted { IsAccepted tables.now.board }
         requires goals { goals ≡ length (goals_of tables.now.board) }
-        requires few { goals ≤ 1024 }
+        requires few { goals ≤ square_limit }
         requires squares { squares ≡ length tables.now.board.area }
         ensures costs { IfOk result AreCosts }
         ensures kept { IfOk result (AreKept tables.now.board) }

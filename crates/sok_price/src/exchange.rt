@@ -16,6 +16,7 @@ ghost use Rattle.std.specs.Prelude.{
 };
 ghost use Rattle.sok_price.specs.Costs.{cost_of, AreCosts};
 ghost use Rattle.sok_price.specs.Exchanges.{moved_from, AreMoved, AreExchanged, IsWhole, Tells};
+ghost use Rattle.sok_price.specs.Limits.{kept_floor_limit};
 ghost use Rattle.sok_price.specs.Searches.{growth_of, HasRoom, IsReady, KeepsRoom};
 
 use crate::costs::Costs;
@@ -78,7 +79,7 @@ fn open_row(row: usize, entry: usize, costs: &mut Costs, search: &mut Search)
     requires whole { IsWhole costs.old search.old }
     requires row { row < costs.old.members }
     requires entry { (entry + 1) * costs.old.goals ≤ length costs.old.entries.items }
-    requires low { search.old.floor ≤ 268435456 }
+    requires low { search.old.floor ≤ kept_floor_limit }
     ensures costs { AreCosts costs.new }
     ensures exchanged { AreExchanged row entry costs.old costs.new }
     ensures ready { IsReady (cost_of costs.new) costs.new.members costs.new.goals
@@ -99,7 +100,7 @@ pub(crate) fn exchange(row: usize, entry: usize, costs: &mut Costs, search: &mut
     requires room { HasRoom costs.old.members search.old }
     requires row { row < costs.old.members }
     requires entry { (entry + 1) * costs.old.goals ≤ length costs.old.entries.items }
-    requires low { search.old.floor ≤ 268435456 }
+    requires low { search.old.floor ≤ kept_floor_limit }
     ensures costs { AreCosts costs.new }
     ensures exchanged { AreExchanged row entry costs.old costs.new }
     ensures tells { Tells costs.new search.new result }

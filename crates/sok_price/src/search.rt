@@ -21,6 +21,7 @@ ghost use Rattle.std.specs.Prelude.{
   replicate,
 };
 ghost use Rattle.sok_price.specs.Costs.{cost_of, AreCosts};
+ghost use Rattle.sok_price.specs.Limits.{rise_limit, search_price_limit};
 ghost use Rattle.sok_price.specs.Matchings.{Costing, IsMatched, TellTakers};
 ghost use Rattle.sok_price.specs.Searches.{
   growth_of,
@@ -112,8 +113,8 @@ impl Search {
 
 /// Raises the prices of the boxes of some branches by what is left of a rise behind each.
 fn raise_boxes(total: u32, branches: &[Branch], prices: &mut [u32])
-    requires small { total ≤ 2147483648 }
-    requires low { All (λ price. price ≤ 1073741824) prices.old }
+    requires small { total ≤ rise_limit }
+    requires low { All (λ price. price ≤ search_price_limit) prices.old }
     requires exist { (at : ℕ) → at < length branches.now
         → (branch_at branches.now at).member < length prices.old }
     requires apart { (at to : ℕ) → at < to → to < length branches.now
@@ -130,8 +131,8 @@ fn raise_boxes(total: u32, branches: &[Branch], prices: &mut [u32])
 
 /// Raises the prices of the goals of some branches by what is left of a rise behind each.
 fn raise_goals(total: u32, branches: &[Branch], prices: &mut [u32])
-    requires small { total ≤ 2147483648 }
-    requires low { All (λ price. price ≤ 1073741824) prices.old }
+    requires small { total ≤ rise_limit }
+    requires low { All (λ price. price ≤ search_price_limit) prices.old }
     requires exist { (at : ℕ) → 0 < at → at < length branches.now
         → (branch_at branches.now at).goal < length prices.old }
     requires apart { (at to : ℕ) → 0 < at → at < to → to < length branches.now

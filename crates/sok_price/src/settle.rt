@@ -38,6 +38,9 @@ use crate::exchange::exchange;
 use crate::search::{Search, match_all};
 use sok_board::area::Sq;
 
+/// The highest floor from which a row is exchanged.
+const FLOOR_LIMIT: u32 = 268_435_456;
+
 /// Marks the squares of some boxes, and no others.
 fn mark_boxes(boxes: &[Sq], marks: &mut [bool])
     requires { All (λ square. square < length marks.old) boxes.now }
@@ -202,7 +205,7 @@ fn settle(
         return false;
     }
     'setting: for _ in 0..costs.members + 1 {
-        if search.floor > 268435456 {
+        if search.floor > FLOOR_LIMIT {
             return false;
         }
         match change(&costs.rows, boxes, squares, marks) {

@@ -17,6 +17,7 @@ ghost use Rattle.std.specs.Prelude.{
   slice_index,
   slice_index_or,
 };
+ghost use Rattle.sok_price.specs.Limits.{rise_limit};
 ghost use Rattle.sok_price.specs.Slacks.{closer, smaller, slack_at, TellsNearest};
 
 /// How far the price of a tree's root may rise before a box of the tree reaches a goal at an exact
@@ -60,7 +61,7 @@ fn closer(
     from: usize,
     slack: Slack,
 ) -> Slack
-    requires small { rise + goal_price ≤ 2147483648 }
+    requires small { rise + goal_price ≤ rise_limit }
     requires fair { IfSome cost (λ pushes. price ≤ goal_price + pushes) }
     ensures { result ≡ closer cost price goal_price rise from slack }
 {
@@ -84,7 +85,7 @@ pub(crate) fn look(
     requires row { length row.now ≡ length prices.now }
     requires taken { length taken.now ≡ length prices.now }
     requires slacks { length slacks.old ≡ length prices.now }
-    requires small { All (λ goal_price. rise + goal_price ≤ 2147483648) prices.now }
+    requires small { All (λ goal_price. rise + goal_price ≤ rise_limit) prices.now }
     requires fair { (goal pushes : ℕ) → goal < length prices.now
         → slice_index_or row.now goal None ≡ Some pushes
         → price ≤ slice_index prices.now goal + pushes }

@@ -1,4 +1,4 @@
-use Rattle.std.proofs.Common.{ℕ, ◌≡◌, ◌≢◌, ◌<◌, ap, sym, subst, List, length}
+use Rattle.std.proofs.Common.{ℕ, ◌≢◌, ◌<◌, sym, subst, List, length}
 use Rattle.sok_price.specs.declared.search.Branch.{Branch}
 use Rattle.sok_price.specs.Costs.{cost_of}
 use Rattle.sok_price.specs.Searches.{growth_of}

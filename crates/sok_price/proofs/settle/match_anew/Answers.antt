@@ -4,7 +4,7 @@ use Rattle.sok_price.specs.Costs.{cost_of}
 use Rattle.sok_price.specs.Kept.{AreListed}
 use Rattle.sok_price.specs.Searches.{Growth, growth_of, TellsFound}
 use Rattle.sok_price.proofs.Setting.{AreCosts-listed, AreExactly-listed, AreKept-listed}
-use Rattle.sok_price.proofs.Sparing.{IsCrowded-closed}
+use Rattle.sok_price.proofs.Sparing.{IsBounded-closed}
 use Rattle.sok_price.proofs.settle.match_anew.Goals as goal
 
 pub match_all-requires-clause-costs : goal.match_all-requires-clause-costs
@@ -63,5 +63,5 @@ returns-clause-crowd c = λ no b area kept.
     let exist = subst (λ n. All (λ square. square < n) boxes) (sym area) c.requires.exist in
     let (growing, closed) = subst (TellsFound (cost_of after) after.members after.goals c.clear.new.search.floor search) no c.match_all.ensures.tells in
     let exactly = AreExactly-listed (length b.area) before.members boxes after.rows.items here c.requires.enough exist in
-    IsCrowded-closed b after (growth_of search)
-    (AreKept-listed b boxes before after kept exist c.requires.rising refl here) shaped growing closed boxes exist exactly.of
+    IsBounded-closed b after (growth_of search) boxes (AreKept-listed b boxes before after kept exist c.requires.rising refl here) shaped growing closed
+    exactly exist c.requires.rising

@@ -5,8 +5,7 @@ use Rattle.sok_price.specs.Costs.{cost_of}
 use Rattle.sok_price.specs.Matched.{CanMove, Holds, KeptMatching}
 use Rattle.sok_price.specs.Searches.{growth_of, TellsFound}
 use Rattle.sok_price.proofs.Keeping.{AreKept-tried, HasWorth-whole, IsSound-tried, IsWhole-copied}
-use Rattle.sok_price.proofs.Reaching.{IsCost-ready}
-use Rattle.sok_price.proofs.Sparing.{IsCrowded-closed, IsProved-ready}
+use Rattle.sok_price.proofs.Sparing.{IsBounded-closed, TellsLeast-ready}
 use Rattle.sok_price.proofs.matching.Matching.bound_after.Goals as goal
 
 pub row_of-row-requires : goal.row_of-row-requires
@@ -84,11 +83,7 @@ returns-clause-least c = λ b boxes after holds moved exist rising.
     (ap (λ (rows : List ℕ). get_or rows c.row_of-row.result 0) (sym rows_are) ∙ row_is) tried.ensures.exchanged moved exist in
     let (floor, tells) = tried.ensures.tells in
     let (ready, all, _) = subst (TellsFound (cost_of changed) changed.members changed.goals floor tried.new.search) c.if-not-matched.false tells in
-    let g = growth_of tried.new.search in (
-      IsProved-ready b changed g c.worth.result kept_after tried.ensures.costs ready c.worth.ensures after exist exactly.of,
-      IsCost-ready b changed g
-          c.worth.result after kept_after tried.ensures.costs ready all c.worth.ensures exactly exist rising,
-    )
+    TellsLeast-ready b changed (growth_of tried.new.search) c.worth.result after kept_after tried.ensures.costs ready all c.worth.ensures exactly exist rising
 
 pub returns-then-not-matched-clause-least : goal.returns-then-not-matched-clause-least
 returns-then-not-matched-clause-least c = λ b boxes after holds moved exist rising.
@@ -109,4 +104,4 @@ returns-then-not-matched-clause-least c = λ b boxes after holds moved exist ris
     (ap (λ (rows : List ℕ). get_or rows c.row_of-row.result 0) (sym rows_are) ∙ row_is) tried.ensures.exchanged moved exist in
     let (floor, tells) = tried.ensures.tells in
     let (growing, closed) = subst (TellsFound (cost_of changed) changed.members changed.goals floor tried.new.search) c.if-not-matched.true tells in
-    IsCrowded-closed b changed (growth_of tried.new.search) kept_after tried.ensures.costs growing closed after exist exactly.of
+    IsBounded-closed b changed (growth_of tried.new.search) after kept_after tried.ensures.costs growing closed exactly exist rising

@@ -5,8 +5,7 @@ use Rattle.sok_price.specs.Kept.{AreExactly}
 use Rattle.sok_price.specs.Matched.{Serves}
 use Rattle.sok_price.specs.Searches.{growth_of}
 use Rattle.sok_price.proofs.Keeping.{HasWorth-whole, IsCrowd-many}
-use Rattle.sok_price.proofs.Reaching.{IsCost-ready}
-use Rattle.sok_price.proofs.Sparing.{IsProved-ready}
+use Rattle.sok_price.proofs.Sparing.{TellsLeast-ready}
 use Rattle.sok_price.proofs.matching.Matching.set.Goals as goal
 
 pub worth-requires : goal.worth-requires
@@ -29,11 +28,7 @@ returns-clause-least c = λ b serves.
     let exactly = subst (AreExactly (length b.area) costs.rows.items) c.list-boxes.ensures.list
     (subst (λ n. AreExactly n costs.rows.items c.list-boxes.result.now) before.squares settled.exactly) in
     let exist = subst (λ n. All (λ square. square < n) boxes) serves.squares c.requires.exist in
-    let total = c.worth.result in (
-      IsProved-ready b costs g total kept whole.shaped whole.ready c.worth.ensures boxes exist exactly.of,
-      IsCost-ready b costs g total boxes kept
-          whole.shaped whole.ready whole.whole c.worth.ensures exactly exist c.list-boxes.ensures.rising,
-    )
+    TellsLeast-ready b costs g c.worth.result boxes kept whole.shaped whole.ready whole.whole c.worth.ensures exactly exist c.list-boxes.ensures.rising
 
 pub returns-clause-holds : goal.returns-clause-holds
 returns-clause-holds c = λ b serves.

@@ -1,0 +1,26 @@
+-- How high prices may be, and how far apart.
+use Rattle.std.specs.Prelude.{ℕ}
+
+-- the highest price that is answered
+abbrev pub price_limit : ℕ
+price_limit = 1000000
+
+-- the highest floor from which a row of a matching that is kept is exchanged: above it the matching is made anew
+abbrev pub kept_floor_limit : ℕ
+kept_floor_limit = 268435456
+
+-- the highest floor of a search
+abbrev pub floor_limit : ℕ
+floor_limit = 536870912
+
+-- the highest price between two searches
+abbrev pub search_price_limit : ℕ
+search_price_limit = 1073741824
+
+-- how far the price of a tree's root may rise
+abbrev pub rise_limit : ℕ
+rise_limit = 2147483648
+
+-- how far apart prices may be for each goal of a tree: two of the longest ways
+abbrev pub spread : ℕ
+spread = 2048

@@ -1,0 +1,219 @@
+//! A matching that is kept from one set of boxes to the next, beside one found from nothing.
+
+ghost use Rattle.std.specs.Prelude.{◌≡◌, ◌<◌, All, Contains, IfOk, length};
+ghost use Rattle.sok_price.specs.Matched.{Serves};
+
+use crate::setting::boxes_on;
+use sok_board::area::Sq;
+use sok_board::board::Board;
+use sok_price::assign::{Match, assign};
+use sok_price::matching::Matching;
+use sok_push::tables::Tables;
+use sok_region::box_set::BoxSet;
+use sok_sketch::{rooms, sketch};
+use std::alloc::Global;
+use std::process::Abort;
+use std::test::Fail;
+
+/// The least total of some boxes, found with no matching before it. None for a crowd.
+fn least(alloc: Global, tables: &Tables, boxes: &BoxSet) -> Result<Option<u32>, Fail>
+    requires { All (λ square. square < length tables.now.board.area) boxes.now }
+{
+    let found = assign(alloc, tables, boxes)?;
+    match &found {
+        Match::Prices {
+            u: _,
+            v: _,
+            total,
+            goal_of: _,
+        } => Ok(Some(*total)),
+        Match::Crowd { members: _ } => Ok(None),
+    }
+}
+
+/// What a matching tells of some boxes, which is what is found with no matching before it.
+fn set(
+    rt: &impl Abort,
+    alloc: Global,
+    tables: &Tables,
+    matching: &mut Matching,
+    boxes: &BoxSet,
+) -> Result<Option<u32>, Fail>
+    requires boxes { All (λ square. square < length tables.now.board.area) boxes.now }
+    requires serves { Serves tables.now.board matching.old }
+    ensures { IfOk result (λ _. Serves tables.now.board matching.new) }
+{
+    let total = matching.set(boxes);
+    assert_eq!(rt; total, least(alloc, tables, boxes)?);
+    Ok(total)
+}
+
+/// The next of some numbers (the linear congruential generator of Knuth's MMIX), below an end.
+fn next(state: &mut u64, end: usize) -> usize
+    requires { 0 < end }
+    ensures { result < end }
+{
+    *state = state
+        .wrapping_mul(6_364_136_223_846_793_005)
+        .wrapping_add(1_442_695_040_888_963_407);
+    (*state >> 33) as usize % end
+}
+
+/// What a matching tells of some boxes with one of them moved, once it is set to them. None where
+/// they are a crowd themselves.
+fn moved_total(
+    board: &Board,
+    matching: &mut Matching,
+    boxes: &BoxSet,
+    from: Sq,
+    to: Sq,
+) -> Option<Option<u32>>
+    requires boxes { All (λ square. square < length board.now.area) boxes.now }
+    requires serves { Serves board.now matching.old }
+    requires there { Contains boxes.now from }
+    requires free { Contains boxes.now to → ⊥ }
+    requires within { to < length board.now.area }
+    ensures { Serves board.now matching.new }
+{
+    match matching.set(boxes) {
+        Some(_) => Some(matching.bound_after(from, to)),
+        None => None,
+    }
+}
+
+/// Moves a box to a square without one, and asserts that a matching tells of the move alone, and of
+/// the boxes after it, what is found from nothing. The boxes after it, or those before it where
+/// they are a crowd.
+fn step(
+    rt: &impl Abort,
+    alloc: Global,
+    board: &Board,
+    tables: &Tables,
+    matching: &mut Matching,
+    boxes: BoxSet,
+    from: Sq,
+    to: Sq,
+) -> Result<BoxSet, Fail>
+    requires tables { tables.now.board ≡ board.now }
+    requires boxes { All (λ square. square < length board.now.area) boxes }
+    requires serves { Serves board.now matching.old }
+    ensures boxes { IfOk result (All (λ square. square < length board.now.area)) }
+    ensures serves { IfOk result (λ _. Serves board.now matching.new) }
+{
+    if !boxes.has(from) || boxes.has(to) || to as usize >= board.squares() {
+        return Ok(boxes);
+    }
+    let moved = boxes.moved(alloc, from, to)?;
+    let after = boxes_on(rt, alloc, board, moved.list())?;
+    let total = least(alloc, tables, &after)?;
+    if let Some(told) = moved_total(board, matching, &boxes, from, to) {
+        assert_eq!(rt; told, total);
+    }
+    match set(rt, alloc, tables, matching, &after)? {
+        Some(_) => Ok(after),
+        None => Ok(boxes),
+    }
+}
+
+/// Moves boxes of a board at random, so often.
+fn walk_on(
+    rt: &impl Abort,
+    alloc: Global,
+    board: &Board,
+    tables: &Tables,
+    matching: &mut Matching,
+    mut boxes: BoxSet,
+    moves: usize,
+) -> Result<(), Fail>
+    requires tables { tables.now.board ≡ board.now }
+    requires boxes { All (λ square. square < length board.now.area) boxes }
+    requires serves { Serves board.now matching.old }
+{
+    let mut state = 1;
+    for _ in 0..moves {
+        let place = next(&mut state, boxes.list().len() + 1);
+        let to = next(&mut state, board.squares() + 1) as Sq;
+        if let Some(from) = boxes.list().get(place).copied() {
+            boxes = step(rt, alloc, board, tables, matching, boxes, from, to)?;
+        }
+    }
+    Ok(())
+}
+
+/// Moves boxes of a level at random, so often.
+fn walk(rt: &impl Abort, alloc: Global, text: &str, moves: usize) -> Result<(), Fail> {
+    let board = Board::new(alloc, &sketch::level(alloc, text)?)?;
+    let tables = Tables::new(alloc, &board)?;
+    let mut matching = Matching::new(alloc, &board, &tables)?;
+    let (_, start) = board.start();
+    let boxes = boxes_on(rt, alloc, &board, start)?;
+    set(rt, alloc, &tables, &mut matching, &boxes)?;
+    walk_on(rt, alloc, &board, &tables, &mut matching, boxes, moves)
+}
+
+/// Corridors and rooms: as many goals as boxes, more of them, and boxes that reach none.
+#[test]
+fn boxes_moved_at_random(rt: HostRuntime) -> Result<(), Fail> {
+    walk(&rt, rt.alloc(), sketch::TWO_BOXES_AND_THREE_GOALS, 1000)?;
+    walk(
+        &rt,
+        rt.alloc(),
+        sketch::NEAREST_GOAL_NEEDED_BY_ANOTHER,
+        1000,
+    )?;
+    let room = rooms::ROOM_OF_17_BOXES.text(rt.alloc())?;
+    walk(&rt, rt.alloc(), room.as_str(), 1000)
+}
+
+#[test]
+fn room_of_128_boxes_moved(rt: HostRuntime) -> Result<(), Fail> {
+    let room = rooms::ROOM_OF_128_BOXES_BELOW_GOALS.text(rt.alloc())?;
+    walk(&rt, rt.alloc(), room.as_str(), 10)
+}
+
+/// Squares of boxes, and the least total of their distances to goals of their own.
+type Set<'a> = (&'a [Sq], Option<u32>);
+
+const SETS: [Set<'_>; 10] = [
+    (&[8, 10], Some(2)),
+    (&[9, 10], Some(1)),
+    (&[7, 10], Some(2)),
+    (&[6, 9, 11], Some(0)),
+    (&[7, 8, 10], Some(3)),
+    // a box in the corner, which reaches no goal
+    (&[0, 8], None),
+    (&[8], Some(1)),
+    // more boxes than goals
+    (&[7, 8, 9, 10], None),
+    (&[], Some(0)),
+    (&[8, 10], Some(2)),
+];
+
+/// Sets a matching to one list of boxes after another.
+fn set_in_turn(
+    rt: &impl Abort,
+    alloc: Global,
+    board: &Board,
+    tables: &Tables,
+    matching: &mut Matching,
+) -> Result<(), Fail>
+    requires tables { tables.now.board ≡ board.now }
+    requires serves { Serves board.now matching.old }
+{
+    for (squares, total) in SETS {
+        let boxes = boxes_on(rt, alloc, board, squares)?;
+        let found = set(rt, alloc, tables, matching, &boxes)?;
+        assert_eq!(rt; found, total, "{squares:?}");
+    }
+    Ok(())
+}
+
+/// Boxes that stay, move, come and go; on goals, in a crowd, and more of them than goals.
+#[test]
+fn totals_of_one_set_after_another(rt: HostRuntime) -> Result<(), Fail> {
+    let text = sketch::TWO_BOXES_AND_THREE_GOALS;
+    let board = Board::new(rt.alloc(), &sketch::level(rt.alloc(), text)?)?;
+    let tables = Tables::new(rt.alloc(), &board)?;
+    let mut matching = Matching::new(rt.alloc(), &board, &tables)?;
+    set_in_turn(&rt, rt.alloc(), &board, &tables, &mut matching)
+}
