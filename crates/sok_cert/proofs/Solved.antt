@@ -7,10 +7,9 @@ use Rattle.sok_rules.specs.declared.cell.Spot.{Spot}
 use Rattle.sok_rules.specs.Squares.{holds, is_goal, same_spot}
 use Rattle.sok_rules.specs.Play.{AllOnGoals}
 use Rattle.sok_rules.proofs.Spots.{same_spot-is}
-use Rattle.sok_board.specs.Area.{Numbered, IsAccepted, spot_of, is_among, is_decoration, position_of}
+use Rattle.sok_board.specs.Area.{AreGoals, Numbered, IsAccepted, spot_of, is_among, is_decoration, position_of}
 use Rattle.sok_board.proofs.Accepted.{decoration-outside}
 use Rattle.sok_board.proofs.Positions.{among_numbers}
-use Rattle.sok_cert.specs.Judging.{AreGoals}
 
 other : (p q : Bool) → (p || q) ≡ true → p ≡ false → q ≡ true
 other true q e fails = absurd (true≢false fails)

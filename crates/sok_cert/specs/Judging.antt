@@ -1,8 +1,7 @@
 -- What is found of one entry: that it is a position, and whether it may stand.
-use Rattle.std.specs.Prelude.{ℕ, ◌≡◌, ◌<◌, List, false, IsTrue, length, slice_index}
-use Rattle.sok_rules.specs.Squares.{holds, is_goal}
+use Rattle.std.specs.Prelude.{◌≡◌, false, IsTrue}
 use Rattle.sok_rules.specs.Play.{AllOnGoals}
-use Rattle.sok_board.specs.Area.{Numbered, spot_of}
+use Rattle.sok_board.specs.Area.{Numbered}
 use Rattle.sok_entry.specs.declared.claim.Claim.{Claim}
 use Rattle.sok_entry.specs.declared.entry.Entry.{Entry}
 use Rattle.sok_state.specs.Keys.{IsKeyOf}
@@ -22,7 +21,3 @@ abbrev pub IsFinding : Numbered → Claim → Entry → Finding → Type 0
 IsFinding b claim e Fine = IsReasoned b claim e
 IsFinding b claim e Solved = IsTrue (is_expanded e.reason) × AllOnGoals b.rows (entry_position b e)
 IsFinding b claim e Unreasoned = (is_expanded e.reason ≡ false) × (IsBarredBy b claim e → ⊥)
-
--- squares that are goals
-abbrev pub AreGoals : Numbered → List ℕ → Type 0
-AreGoals b squares = (k : ℕ) → k < length squares → IsTrue (holds is_goal b.rows (spot_of b (slice_index squares k)))

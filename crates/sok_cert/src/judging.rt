@@ -4,7 +4,7 @@ ghost use Rattle.std.specs.Prelude.{ℕ, ◌≡◌, ◌<◌, ◌↔◌, IsTrue, 
 ghost use Rattle.sok_rules.specs.Play.{AllOnGoals};
 ghost use Rattle.sok_board.specs.Area.{IsAccepted, position_of};
 ghost use Rattle.sok_cert.specs.Closed.{IsPosition};
-ghost use Rattle.sok_cert.specs.Judging.{IsFinding, AreGoals};
+ghost use Rattle.sok_cert.specs.Judging.{IsFinding};
 
 use crate::reason::{is_expanded, reason_holds, rest_of};
 use sok_board::area::Sq;
@@ -63,18 +63,5 @@ pub(crate) fn is_solved(board: &Board, boxes: &BoxSet) -> bool
     ensures { (player : ℕ) → IsTrue result
         ↔ AllOnGoals board.now.rows (position_of board.now player boxes.now) }
 {
-    are_goals(board, boxes.list())
-}
-
-/// Whether squares of the area are goals.
-fn are_goals(board: &Board, squares: &[Sq]) -> bool
-    requires exist { All (λ square. square < length board.now.area) squares.now }
-    ensures { IsTrue result ↔ AreGoals board.now squares.now }
-{
-    for square in squares {
-        if !board.is_goal(*square) {
-            return false;
-        }
-    }
-    true
+    board.are_goals(boxes.list())
 }

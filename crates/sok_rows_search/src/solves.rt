@@ -75,6 +75,17 @@ const ZERKALO: &str = "\
  #####
 ";
 
+/// The fewest pushes pass a state that is first found with two pushes more: if depths were not
+/// lowered, the answer would have nine.
+const LOWERED: &str = "\
+#######
+###--.#
+##----#
+#--$#-#
+#@-$.-#
+#######
+";
+
 #[test]
 fn fewest_pushes(rt: HostRuntime) -> Result<(), Fail> {
     for (board, limit, pushes) in [
@@ -90,6 +101,7 @@ fn fewest_pushes(rt: HostRuntime) -> Result<(), Fail> {
         (sketch::TWO_BOXES_AND_THREE_GOALS, 1_000, Some(2)),
         (sketch::NO_BOX_INSIDE, 1, Some(0)),
         (ZERKALO, 1_000_000, Some(20)),
+        (LOWERED, 1_000, Some(7)),
     ] {
         assert_eq!(rt; pushes_of(&rt, rt.alloc(), board, limit)?, pushes);
     }

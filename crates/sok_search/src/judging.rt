@@ -3,7 +3,6 @@
 ghost use Rattle.std.specs.Prelude.{ℕ, ◌≡◌, ◌<◌, ◌↔◌, IfOk, IsTrue, All, length};
 ghost use Rattle.sok_rules.specs.Play.{AllOnGoals};
 ghost use Rattle.sok_board.specs.Area.{position_of};
-ghost use Rattle.sok_cert.specs.Judging.{AreGoals};
 ghost use Rattle.sok_search.specs.Steps.{IsJudged};
 
 use crate::barring::find_jam;
@@ -43,20 +42,5 @@ pub(crate) fn is_solved(board: &Board, boxes: &BoxSet) -> bool
     ensures { (player : ℕ)
         → IsTrue result ↔ AllOnGoals board.now.rows (position_of board.now player boxes.now) }
 {
-    // The level is accepted, so each box outside the area stands on a goal.
-    let _level = board.level();
-    are_goals(board, boxes.list())
-}
-
-/// Whether squares of the area are goals.
-fn are_goals(board: &Board, squares: &[Sq]) -> bool
-    requires { All (λ square. square < length board.now.area) squares.now }
-    ensures { IsTrue result ↔ AreGoals board.now squares.now }
-{
-    for square in squares {
-        if !board.is_goal(*square) {
-            return false;
-        }
-    }
-    true
+    board.are_goals(boxes.list())
 }

@@ -11,6 +11,7 @@ use Rattle.sok_text.specs.Collections.{Part, Parts, blocks_from, blocks_of, part
 use Rattle.sok_text.specs.Lines.{AreOf, is_newline}
 use Rattle.sok_text.specs.Titles.{first_text, is_space, some_text, title_after, title_before, trimmed_back, trimmed_front, trimmed_text}
 use Rattle.sok_text.specs.Xsb.{is_board_line}
+use Rattle.sok_text.proofs.Canonical.{boards, cells-rows, lines-level_text, some_rows, strip-kept}
 use Rattle.sok_text.proofs.Cutting.{parts_of-front, parts_of-notes}
 use Rattle.sok_text.proofs.Lines.{lines-newline}
 use Rattle.sok_book.specs.Books.{Book, Page}
@@ -19,7 +20,6 @@ use Rattle.sok_page.specs.Texts.{page_text}
 use Rattle.sok_page.specs.Titles.{IsTitle}
 use Rattle.sok_page.proofs.Titles.{trimmed-front, whole-without}
 use Rattle.sok_shelf.specs.Exported.{ExportsReadBack, export_text, title_note, titled_block, titled_page}
-use Rattle.sok_shelf.proofs.Lines.{boards-level, lines-level, read-level, some-level, strip-kept}
 
 -- ---- lines
 
@@ -64,7 +64,7 @@ lines-export (page ∷ book) kept =
     ap lines (append_assoc note (level_text page.level ++ codes "\n") rest)
     ∙ lines-note page.title ((level_text page.level ++ codes "\n") ++ rest) is.title
     ∙ ap (λ ls. notes_of page.title ++ ls) (
-    ap lines (append_assoc (level_text page.level) (codes "\n") rest) ∙ lines-level page.level (10 ∷ rest)
+    ap lines (append_assoc (level_text page.level) (codes "\n") rest) ∙ lines-level_text page.level (10 ∷ rest)
     ∙ ap (λ ls. map row_text page.level ++ ls) (lines-newline [] rest (All-nil (λ c. is_newline c ≡ false))
     ∙ ap (λ ls. [] ∷ ls) (lines-export book (All-tail IsKeptPage page book kept)))
     )
@@ -91,7 +91,7 @@ parts-export (page ∷ book) kept =
     parts_of-notes ([] ∷ []) (lines_in book) (All-cons (λ line. is_board_line line ≡ false) [] [] refl (All-nil (λ line. is_board_line line ≡ false)))
     ∙ ap (λ (parts : Parts). record { notes = [] ∷ parts.notes; boards = parts.boards }) later in
     let front : parts_of (board ++ rest) ≡ record { notes = []; boards = record { board = board; after = [] ∷ first_notes book } ∷ boards_in book } =
-    parts_of-front board rest (some-level page.level is.level.proper.one_man) (boards-level page.level is.level.proper.walls) refl
+    parts_of-front board rest (some_rows page.level is.level.proper.one_man) (boards page.level is.level.proper.walls) refl
     ∙ ap (λ (parts : Parts). record { notes = []; boards = record { board = board; after = parts.notes } ∷ parts.boards }) blank in
     parts_of-notes (notes_of page.title) (board ++ rest) (notes-of page.title)
     ∙ ap (λ (parts : Parts). record { notes = notes_of page.title ++ parts.notes; boards = parts.boards }) front
@@ -143,7 +143,7 @@ titled : (later : Bool) (page : Page) (book : Book) → IsKeptPage page → titl
   after = [] ∷ first_notes book;
 }) ≡ titled_page page
 titled later page book is =
-    let level = ap level_of (read-level page.level) ∙ level_of-IsLevel page.level is.level in
+    let level = ap level_of (cells-rows page.level) ∙ level_of-IsLevel page.level is.level in
     let title = (λ i. first_text (none_after-first book i ∷ title-before later page.title is.title i ∷ [])) ∙ first-some page.title in
     λ i. record { level = level i; title = title i } where
       first-some : (title : Option (List ℕ)) → first_text (None ∷ title ∷ []) ≡ title

@@ -125,33 +125,38 @@ all_hold test (c ∷ text) e =
 plain : (text : List ℕ) → list_all is_xsb text ≡ true → All (λ c. is_newline c ≡ false) text
 plain text xsb = λ k d within. no_newline (get_or text k d) (all_hold is_xsb text xsb k d within)
 
+-- a line whose last byte is no CR is kept whole
+pub strip-kept : (text : List ℕ) → (get_or text (length text - 1) 0 == 13) ≡ false → strip_carriage_return text ≡ text
+strip-kept text last = ap (λ b. if b then take (length text - 1) text else text) last
+
 unstripped : (text : List ℕ) → list_all is_xsb text ≡ true → strip_carriage_return text ≡ text
 unstripped [] xsb = refl
 unstripped (c ∷ text) xsb =
     let last = length (c ∷ text) - 1 in
-    let kept : (get_or (c ∷ text) last 0 == 13) ≡ false = no_return (get_or (c ∷ text) last 0) (all_hold is_xsb (c ∷ text) xsb last 0 (omega arith)) in
-    ap (λ b. if b then take last (c ∷ text) else c ∷ text) kept
+    strip-kept (c ∷ text) (no_return (get_or (c ∷ text) last 0) (all_hold is_xsb (c ∷ text) xsb last 0 (omega arith)))
 
-lines-level_text : (rows : Rows) → lines (level_text rows) ≡ map row_text rows
-lines-level_text [] = refl
-lines-level_text (row ∷ rows) =
-    lines-newline (row_text row) (level_text rows) (plain (row_text row) (xsb-row_text row))
-    ∙ (λ i. unstripped (row_text row) (xsb-row_text row) i ∷ lines-level_text rows i)
+-- the lines of a level, and of what follows
+pub lines-level_text : (rows : Rows) (more : List ℕ) → lines (level_text rows ++ more) ≡ map row_text rows ++ lines more
+lines-level_text [] more = refl
+lines-level_text (row ∷ rows) more =
+    ap lines (append_assoc (row_text row) (10 ∷ level_text rows) more)
+    ∙ lines-newline (row_text row) (level_text rows ++ more) (plain (row_text row) (xsb-row_text row))
+    ∙ (λ i. unstripped (row_text row) (xsb-row_text row) i ∷ lines-level_text rows more i)
 
 board-row_text : (row : List Cell) → list_any is_wall row ≡ true → is_board_line (row_text row) ≡ true
 board-row_text row wall = λ i. xsb-row_text row i && (walls-row_text row ∙ wall) i
 
-boards : (rows : Rows) → All (λ row. list_any is_wall row ≡ true) rows → AreOf true (map row_text rows)
+pub boards : (rows : Rows) → All (λ row. list_any is_wall row ≡ true) rows → AreOf true (map row_text rows)
 boards [] walls = All-nil (λ line. is_board_line line ≡ true)
 boards (row ∷ rows) walls =
     All-cons (λ line. is_board_line line ≡ true) (row_text row) (map row_text rows)
     (board-row_text row (All-head (λ r. list_any is_wall r ≡ true) row rows walls)) (boards rows (All-tail (λ r. list_any is_wall r ≡ true) row rows walls))
 
-cells-rows : (rows : Rows) → map (filter_map cell_of) (map row_text rows) ≡ rows
+pub cells-rows : (rows : Rows) → map (filter_map cell_of) (map row_text rows) ≡ rows
 cells-rows [] = refl
 cells-rows (row ∷ rows) = λ i. cells-row_text row i ∷ cells-rows rows i
 
-some_rows : (rows : Rows) → count_in is_man rows ≡ 1 → 0 < length rows
+pub some_rows : (rows : Rows) → count_in is_man rows ≡ 1 → 0 < length (map row_text rows)
 some_rows [] e = absurd (omega (arith, e))
 some_rows (row ∷ rows) e = omega arith
 
@@ -170,9 +175,10 @@ block_alone text board is = ap (λ (parts : Parts). blocks_from parts.notes part
 pub texts-are-one-level : TextsAreOneLevel
 texts-are-one-level rows level = record {
   block = record { before = []; board = map row_text rows; after = [] };
-  one = block_alone (level_text rows) (map row_text rows) (ap parts_of (lines-level_text rows)
-      ∙ parts-alone (map row_text rows) (let some = some_rows rows level.proper.one_man in
-      omega (arith, some, length-map rows row_text)) (boards rows level.proper.walls));
+  one = block_alone (level_text rows) (map row_text rows) (
+      ap (λ text. parts_of (lines text)) (sym (append-nil (level_text rows)))
+      ∙ ap parts_of (lines-level_text rows [] ∙ append-nil (map row_text rows))
+      ∙ parts-alone (map row_text rows) (some_rows rows level.proper.one_man) (boards rows level.proper.walls));
   level = ap level_of (cells-rows rows) ∙ level_of-IsLevel rows level;
   untitled = refl;
 }
