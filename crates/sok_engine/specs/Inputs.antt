@@ -1,5 +1,5 @@
--- What is answered to an input that is too long, and to a level that is faulty, and to others by what is asked of them.
-use Rattle.std.specs.Prelude.{ℕ, ◌≡◌, List, Result, Ok, Err, Bool, true, false, length, nat_lt}
+-- What is answered to a reader, to an input that is too long, and to a level that is faulty, and to others by what is asked of them.
+use Rattle.std.specs.Prelude.{ℕ, ◌≡◌, List, Option, Result, Ok, Err, Bool, true, false, IfSome, length, nat_lt}
 use Rattle.sok_rules.specs.declared.fault.LevelFault.{LevelFault}
 use Rattle.sok_rules.specs.Squares.{Rows}
 use Rattle.sok_engine.specs.declared.fault.ToolFault.TheVariants as tool
@@ -13,6 +13,10 @@ UnlessMuch false P answer = P answer
 
 abbrev pub Within : {A : Type 0} → ℕ → (List ℕ → AnswersOf A) → List ℕ → AnswersOf A
 Within limit P bytes = UnlessMuch (nat_lt limit (length bytes)) (P bytes)
+
+-- the answers to the bytes that a reader has left; where it does not tell them, to some bytes
+abbrev pub OfReader : {A : Type 0} → Option (List ℕ) → (List ℕ → AnswersOf A) → AnswersOf A
+OfReader known P answer = (bytes : List ℕ) × IfSome known (λ all. bytes ≡ all) × P bytes answer
 
 -- a level's fault, or the answers to its rows
 abbrev pub OnLevel : {A : Type 0} → (Rows → AnswersOf A) → Result Rows LevelFault → AnswersOf A

@@ -1,7 +1,6 @@
 -- A certificate for a level of a collection is judged on its board, if it has one.
-use Rattle.std.proofs.Common.{ℕ, ◌≡◌, ◌≢◌, ◌≤◌, ◌⊎◌, ◌∙◌, inl, inr, List, Option, Some, None, Result, Ok, Err, IfSome, Bool, true, false, true≢false, is_ok}
+use Rattle.std.proofs.Common.{ℕ, ◌≡◌, ◌≢◌, ◌≤◌, ◌⊎◌, ◌∙◌, inl, inr, List, [], Option, Some, None, Result, Ok, Err, IfSome, Bool, true, false, true≢false, is_ok}
 use Rattle.std.proofs.Common.{ap, length, refl, subst, sym}
-use Rattle.std.proofs.KnownBytes.{Keeps-refl}
 use Rattle.sok_text.specs.Collections.{blocks_of, level_at}
 use Rattle.sok_rules.specs.declared.fault.LevelFault.{LevelFault}
 use Rattle.sok_rules.specs.Squares.{Rows}
@@ -16,11 +15,11 @@ use Rattle.sok_cert.specs.CertFault.TheVariants as cert
 use Rattle.sok_cert.specs.Reading.{GoesWrong}
 use Rattle.sok_engine.specs.declared.fault.ToolFault.{ToolFault}
 use Rattle.sok_engine.specs.Faults.{of_board, of_level}
-use Rattle.sok_engine.specs.Inputs.{Within, OnLevel}
+use Rattle.sok_engine.specs.Inputs.{OfReader, OnLevel, Within}
 use Rattle.sok_engine.specs.Written.{Answer, Answers, IsFaultOf, Writes}
-use Rattle.sok_engine.proofs.Answering.{EndsBy-fault, IsFaultOf-weaker, Within-few, Writes-weaker}
+use Rattle.sok_engine.proofs.Answering.{IsFaultOf-weaker, Within-few, Writes-none, Writes-weaker}
 use Rattle.sok_judge.specs.Boards.{OnBoard, IsBoardOf, LacksBoard, accepted, faulty, memory, refused, unaccepted}
-use Rattle.sok_judge.specs.Checks.{IsCheck, TellsVerdictWithin}
+use Rattle.sok_judge.specs.Checks.{IsCheck, IsCheckOf, TellsVerdict, TellsVerdictWithin}
 use Rattle.sok_cert.specs.Verdicts.{IsVerdict}
 
 -- why a text is no certificate, unless memory was refused
@@ -85,29 +84,32 @@ LacksBoard-answers P found fault (unaccepted rows f is cause same) =
     subst (λ l. IsFaultOf (OnLevel (OnBoard P) l) fault) (sym is) (subst (IsFaultOf (OnBoard P rows)) (sym same) (board_answers P rows f cause))
 LacksBoard-answers P found fault (memory same) = subst (IsFaultOf (OnLevel (OnBoard P) found)) (sym same) tt
 
--- a level without a board
+-- a reader has some text left
+pub some_text : (known : Option (List ℕ)) → (text : List ℕ) × IfSome known (λ all. text ≡ all)
+some_text None = ([], tt)
+some_text (Some text) = (text, refl)
+
+-- a level without a board, whatever the certificate is
 pub Writes-no_board : (limit most n : ℕ) (input cert held : Option (List ℕ)) (read : List ℕ) (fault : ToolFault)
     → IfSome input (λ bytes. read ≡ bytes) → length read ≤ limit → LacksBoard (level_at (blocks_of read) n) fault
-    → IfSome input (λ bytes. IfSome cert (λ text. Writes (Within limit (IsCheck most n text) bytes) held held (Err fault)))
-Writes-no_board limit most n None cert held read fault all few none = tt
-Writes-no_board limit most n (Some bytes) None held read fault all few none = tt
-Writes-no_board limit most n (Some bytes) (Some text) held read fault all few none =
+    → Writes (OfReader input (Within limit (IsCheckOf most n cert))) held held (Err fault)
+Writes-no_board limit most n input cert held read fault all few none =
+    let (text, told) = some_text cert in
     let answers = LacksBoard-answers (TellsVerdictWithin most text) (level_at (blocks_of read) n) fault none in
-    let whole = IsFaultOf-weaker (IsCheck most n text read) (Within limit (IsCheck most n text) read)
-    (λ f is. Within-few limit (IsCheck most n text) read (Err f) few is) fault answers in
-    subst (λ known. Writes (Within limit (IsCheck most n text) known) held held (Err fault)) all
-    (EndsBy-fault (Within limit (IsCheck most n text) read) held held fault whole (Keeps-refl held))
+    Writes-none limit (IsCheckOf most n cert) input held read fault all few
+    (IsFaultOf-weaker (IsCheck most n text read) (IsCheckOf most n cert read) (λ f is. (text, told, is)) fault answers)
 
 -- a level with a board, on which the certificate was judged
 pub Writes-judged : (limit most n : ℕ) (input cert old new : Option (List ℕ)) (read : List ℕ) (b : Numbered) (result : Result ℕ ToolFault)
     → IfSome input (λ bytes. read ≡ bytes) → length read ≤ limit → IsBoardOf (level_at (blocks_of read) n) b
-    → IfSome cert (λ text. Writes (TellsVerdictWithin most text b) old new result)
-    → IfSome input (λ bytes. IfSome cert (λ text. Writes (Within limit (IsCheck most n text) bytes) old new result))
-Writes-judged limit most n None cert old new read b result all few board judged = tt
-Writes-judged limit most n (Some bytes) None old new read b result all few board judged = tt
-Writes-judged limit most n (Some bytes) (Some text) old new read b result all few board judged =
-    let on_board : (answer : Result Answer ToolFault) → TellsVerdictWithin most text b answer → Within limit (IsCheck most n text) read answer =
-    λ answer said. Within-few limit (IsCheck most n text) read answer few
-    (subst (λ l. OnLevel (OnBoard (TellsVerdictWithin most text)) l answer) (sym board.rows) (accepted b refl board.accepted said)) in
-    subst (λ known. Writes (Within limit (IsCheck most n text) known) old new result) all
-    (Writes-weaker (TellsVerdictWithin most text b) (Within limit (IsCheck most n text) read) on_board old new result judged)
+    → Writes (OfReader cert (Within most (TellsVerdict b))) old new result
+    → Writes (OfReader input (Within limit (IsCheckOf most n cert))) old new result
+Writes-judged limit most n input cert old new read b result all few board =
+    let told : Answers = OfReader cert (Within most (TellsVerdict b)) in
+    let on_board : (answer : Result Answer ToolFault) → told answer → OfReader input (Within limit (IsCheckOf most n cert)) answer =
+    λ answer is.
+    let (text, known, said) = is in
+    let judged : IsCheck most n text read answer =
+    subst (λ l. OnLevel (OnBoard (TellsVerdictWithin most text)) l answer) (sym board.rows) (accepted b refl board.accepted said) in
+    (read, all, Within-few limit (IsCheckOf most n cert) read answer few (text, known, judged)) in
+    Writes-weaker told (OfReader input (Within limit (IsCheckOf most n cert))) on_board old new result

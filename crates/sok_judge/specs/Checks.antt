@@ -1,10 +1,10 @@
 -- What is answered to a certificate for a level of a collection.
-use Rattle.std.specs.Prelude.{ℕ, ◌≡◌, List, Result, Ok}
+use Rattle.std.specs.Prelude.{ℕ, ◌≡◌, List, Option, Result, Ok}
 use Rattle.sok_text.specs.Collections.{blocks_of, level_at}
 use Rattle.sok_board.specs.Area.{Numbered}
 use Rattle.sok_cert.specs.Claim.{Claim}
 use Rattle.sok_cert.specs.CertFault.{CertFault}
-use Rattle.sok_engine.specs.Inputs.{Within, OnLevel}
+use Rattle.sok_engine.specs.Inputs.{OfReader, OnLevel, Within}
 use Rattle.sok_engine.specs.Written.{Answers}
 use Rattle.sok_judge.specs.Boards.{OnBoard}
 use Rattle.sok_cert.specs.Verdicts.{IsVerdict}
@@ -21,3 +21,7 @@ TellsVerdictWithin limit text b = Within limit (TellsVerdict b) text
 -- the same for the n-th level of a collection, if that is accepted
 abbrev pub IsCheck : ℕ → ℕ → List ℕ → List ℕ → Answers
 IsCheck limit n text bytes = OnLevel (OnBoard (TellsVerdictWithin limit text)) (level_at (blocks_of bytes) n)
+
+-- the same for the text that a reader has left
+abbrev pub IsCheckOf : ℕ → ℕ → Option (List ℕ) → List ℕ → Answers
+IsCheckOf limit n cert bytes = OfReader cert (λ text. IsCheck limit n text bytes)

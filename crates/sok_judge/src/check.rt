@@ -4,12 +4,12 @@ ghost use Rattle.std.specs.Prelude.{◌≡◌, ◌⊎◌, ℕ, List, IfSome, Mat
 ghost use Rattle.sok_text.specs.Collections.{blocks_of, level_at};
 ghost use Rattle.sok_board.specs.Area.{Numbered};
 ghost use Rattle.sok_cert.specs.CertFault.TheVariants as cert;
-ghost use Rattle.sok_engine.specs.Inputs.{Within};
+ghost use Rattle.sok_engine.specs.Inputs.{OfReader, Within};
 ghost use Rattle.sok_engine.specs.Limits.{cert_limit, input_limit};
 ghost use Rattle.sok_engine.specs.Written.{HasOne, Writes};
 ghost use Rattle.sok_engine.specs.declared.fault.ToolFault.TheVariants as tool;
 ghost use Rattle.sok_judge.specs.Boards.{IsBoardOf, LacksBoard};
-ghost use Rattle.sok_judge.specs.Checks.{IsCheck, TellsVerdict, TellsVerdictWithin};
+ghost use Rattle.sok_judge.specs.Checks.{IsCheck, IsCheckOf, TellsVerdict};
 ghost use Rattle.sok_cert.specs.Verdicts.{IsVerdict};
 
 use crate::verdict::{accepted_answer, refused_answer};
@@ -33,7 +33,8 @@ use std::io::{Read, Write};
 /// Where there is no such answer nothing is written, and the fault is the first of these:
 /// `ReadFailed` or `TooMuch` of the collection; a fault of the level; one of its board;
 /// `ReadFailed` or `TooMuch` of the certificate. A write that fails is `WriteFailed` at once, after
-/// a front of the line. Of readers that do not tell which bytes they hold nothing is promised.
+/// a front of the line. Of readers that do not tell which bytes they hold, this is promised of some
+/// bytes.
 pub fn check_bytes<R: Read, C: Read, W: Write>(
     alloc: Global,
     input: &mut R,
@@ -41,10 +42,9 @@ pub fn check_bytes<R: Read, C: Read, W: Write>(
     cert_input: &mut C,
     out: &mut W,
 ) -> Result<u8, ToolFault>
-    ensures writes { IfSome (R.remaining input.old) (λ bytes.
-        IfSome (C.remaining cert_input.old) (λ text.
-        Writes (Within input_limit (IsCheck cert_limit n text) bytes)
-        (W.contents out.old) (W.contents out.new) result)) }
+    ensures writes { Writes (OfReader (R.remaining input.old)
+        (Within input_limit (IsCheckOf cert_limit n (C.remaining cert_input.old))))
+        (W.contents out.old) (W.contents out.new) result }
 
     // The certificate is left alone, unless the level has a board.
     ensures in_turn { IfSome (R.remaining input.old) (λ bytes. (cert_input.new ≡ cert_input.old)
@@ -71,9 +71,8 @@ fn judge_input<C: Read, W: Write>(
     input: &mut C,
     out: &mut W,
 ) -> Result<u8, ToolFault>
-    ensures { IfSome (C.remaining input.old) (λ text.
-        Writes (TellsVerdictWithin cert_limit text board.now)
-        (W.contents out.old) (W.contents out.new) result) }
+    ensures { Writes (OfReader (C.remaining input.old) (Within cert_limit (TellsVerdict board.now)))
+        (W.contents out.old) (W.contents out.new) result }
 {
     let text = read_certificate(alloc, input)?;
     let answer = judged(alloc, board, text.as_slice())?;

@@ -1,7 +1,10 @@
 -- The lines of a collection's levels, one after another.
-use Rattle.std.proofs.Common.{ℕ, ◌≡◌, ◌∙◌, ◌+◌, ◌<◌, List, [], ◌∷◌, ◌++◌, suc, zero, drop, length, refl, sym, ap, arith, append_assoc}
-use Rattle.std.proofs.Common.{append-nil}
+use Rattle.std.proofs.Common.{ℕ, ◌≡◌, ◌≢◌, ◌⊎◌, ◌∙◌, ◌+◌, ◌<◌, inl, inr, List, [], ◌∷◌, ◌++◌, suc, zero, drop, length, refl, sym, ap, arith, append_assoc}
+use Rattle.std.proofs.Common.{append-nil, subst, Result, Err}
 use Rattle.std.proofs.lemmas.List.{drop_all}
+use Rattle.sok_rules.specs.declared.fault.LevelFault.{LevelFault}
+use Rattle.sok_rules.specs.declared.fault.LevelFault.TheVariants as level
+use Rattle.sok_rules.specs.Squares.{Rows}
 use Rattle.sok_text.specs.Collections.{Block, level_at}
 use Rattle.sok_engine.specs.Written.{HasOne}
 use Rattle.sok_play.specs.Listing.{IsListing, level_line, lines_from, title_at}
@@ -41,3 +44,12 @@ IsPartOf-whole blocks i text end part =
 
 pub IsListing-one : (bytes : List ℕ) → HasOne (IsListing bytes)
 IsListing-one bytes a b is_a is_b = is_a ∙ sym is_b
+
+abbrev no_level : LevelFault → Result Rows LevelFault
+no_level fault = Err fault
+
+-- what holds of the fault of a level that was not made, want of memory aside, holds of the level that was found
+pub found-fault : (found : Result Rows LevelFault) (fault : LevelFault) (holds : Result Rows LevelFault → Type 0)
+    → (no_level fault ≡ no_level level.Memory) ⊎ (no_level fault ≡ found) → (fault ≢ level.Memory) × holds (no_level fault) → holds found
+found-fault found fault holds (inl memory) is = let none : fault ≡ level.Memory = cc in absurd (is.0 none)
+found-fault found fault holds (inr same) is = subst holds same is.1

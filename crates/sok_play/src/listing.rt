@@ -1,11 +1,11 @@
 //! The list of a collection's levels.
 
-ghost use Rattle.std.specs.Prelude.{◌≡◌, ◌≢◌, ◌++◌, ℕ, List, Option, Ok, Err, IfOk, IfSome};
+ghost use Rattle.std.specs.Prelude.{◌≡◌, ◌≢◌, ◌++◌, ℕ, List, Option, Ok, Err, IfOk};
 ghost use Rattle.std.specs.Prelude.{MatchResult, OnOk, codes, option_map, string_bytes};
 ghost use Rattle.std.specs.Fmt.{decimal};
 ghost use Rattle.sok_rules.specs.declared.fault.LevelFault.TheVariants as level;
 ghost use Rattle.sok_text.specs.Collections.{level_at};
-ghost use Rattle.sok_engine.specs.Inputs.{Within};
+ghost use Rattle.sok_engine.specs.Inputs.{OfReader, Within};
 ghost use Rattle.sok_engine.specs.Limits.{input_limit};
 ghost use Rattle.sok_engine.specs.Written.{HasOne, Writes};
 ghost use Rattle.sok_engine.specs.declared.fault.ToolFault.TheVariants as tool;
@@ -29,14 +29,15 @@ use std::io::{Read, Write};
 ///
 /// The status is 0, also where levels are faulty. Where there is no answer nothing is written, and
 /// the fault is `ReadFailed` or `TooMuch`. A write that fails is `WriteFailed` at once, after a
-/// front of the lines. A reader that does not tell which bytes it holds is promised nothing.
+/// front of the lines. Of a reader that does not tell which bytes it holds, this is promised of
+/// some bytes.
 pub fn list_bytes<R: Read, W: Write>(
     alloc: Global,
     input: &mut R,
     out: &mut W,
 ) -> Result<u8, ToolFault>
-    ensures { IfSome (R.remaining input.old) (λ bytes. Writes
-        (Within input_limit IsListing bytes) (W.contents out.old) (W.contents out.new) result) }
+    ensures { Writes (OfReader (R.remaining input.old) (Within input_limit IsListing))
+        (W.contents out.old) (W.contents out.new) result }
 {
     let bytes = read_input(alloc, input)?;
     let answer = listed(alloc, bytes.as_slice())?;

@@ -1,7 +1,7 @@
 //! The replay of a text of letters on a level of a collection.
 
-ghost use Rattle.std.specs.Prelude.{◌≡◌, ℕ, List, IfOk, IfSome, string_bytes};
-ghost use Rattle.sok_engine.specs.Inputs.{Within};
+ghost use Rattle.std.specs.Prelude.{◌≡◌, ℕ, List, IfOk, string_bytes};
+ghost use Rattle.sok_engine.specs.Inputs.{OfReader, Within};
 ghost use Rattle.sok_engine.specs.Limits.{input_limit};
 ghost use Rattle.sok_engine.specs.Written.{Gives, HasOne, Writes};
 ghost use Rattle.sok_play.specs.Plays.{IsPlay, IsReplay, outcome_status, outcome_word, tally_line};
@@ -24,8 +24,8 @@ pub fn play_bytes<R: Read, W: Write>(
     input: &mut R,
     out: &mut W,
 ) -> Result<u8, ToolFault>
-    ensures { IfSome (R.remaining input.old) (λ bytes.
-        Writes (Within input_limit IsPlay bytes) (W.contents out.old) (W.contents out.new) result) }
+    ensures { Writes (OfReader (R.remaining input.old) (Within input_limit IsPlay))
+        (W.contents out.old) (W.contents out.new) result }
 {
     let bytes = read_input(alloc, input)?;
     let answer = played(alloc, bytes.as_slice())?;
@@ -37,8 +37,8 @@ pub fn play_bytes<R: Read, W: Write>(
 ///
 /// Where there is no such answer nothing is written, and the fault is the first of these:
 /// `ReadFailed` or `TooMuch`; `NoSuchLevel` or another fault of the level; `BadLetter` or
-/// `TooLong`; `Blocked`. A write that fails is `WriteFailed` at once, after a front of the line. A
-/// reader that does not tell which bytes it holds is promised nothing.
+/// `TooLong`; `Blocked`. A write that fails is `WriteFailed` at once, after a front of the line. Of
+/// a reader that does not tell which bytes it holds, this is promised of some bytes.
 pub fn replay_bytes<R: Read, W: Write>(
     alloc: Global,
     input: &mut R,
@@ -46,9 +46,8 @@ pub fn replay_bytes<R: Read, W: Write>(
     text: &[u8],
     out: &mut W,
 ) -> Result<u8, ToolFault>
-    ensures { IfSome (R.remaining input.old) (λ bytes.
-        Writes (Within input_limit (IsReplay n text.now) bytes)
-        (W.contents out.old) (W.contents out.new) result) }
+    ensures { Writes (OfReader (R.remaining input.old) (Within input_limit (IsReplay n text.now)))
+        (W.contents out.old) (W.contents out.new) result }
 {
     let bytes = read_input(alloc, input)?;
     let answer = replayed(alloc, bytes.as_slice(), n, text)?;

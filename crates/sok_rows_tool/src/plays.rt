@@ -1,19 +1,12 @@
 //! The replay of a text, its words and its streams.
 
 use crate::devices::{Failure, Sink, Source};
+use crate::rows::Ended;
 use sok_sketch::sketch;
 use sok_tool::program::run;
 use std::alloc::{AllocError, Global};
 use std::io::{Read, Write};
 use std::test::Fail;
-
-/// What the program leaves behind.
-#[derive(Drop)]
-struct Ended {
-    status: u8,
-    out: Vec<u8>,
-    err: Vec<u8>,
-}
 
 /// Runs the program without words.
 fn played<R: Read>(rt: &HostRuntime, input: &mut R) -> Result<Ended, AllocError> {

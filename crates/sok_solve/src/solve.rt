@@ -1,8 +1,8 @@
 //! A solution with the fewest pushes, with its certificate.
 
-ghost use Rattle.std.specs.Prelude.{◌≡◌, IfOk, IfSome, MatchResult, string_bytes};
+ghost use Rattle.std.specs.Prelude.{◌≡◌, IfOk, MatchResult, string_bytes};
 ghost use Rattle.sok_engine.specs.Certified.{WritesBoth};
-ghost use Rattle.sok_engine.specs.Inputs.{Within};
+ghost use Rattle.sok_engine.specs.Inputs.{OfReader, Within};
 ghost use Rattle.sok_engine.specs.Limits.{input_limit};
 ghost use Rattle.sok_engine.specs.Written.{Gives};
 ghost use Rattle.sok_engine.specs.declared.fault.ToolFault.TheVariants as tool;
@@ -38,8 +38,8 @@ use std::marker::Model;
 /// Where there is no such answer nothing is written, and the fault is the first of these:
 /// `ReadFailed` or `TooMuch`; `NoSuchLevel` or another fault of the level; `BadLimit`; one of its
 /// board. A write that fails is `WriteFailed` at once: after a front of the certificate, with
-/// nothing of the answer; or after the certificate and a front of the answer. A reader that does
-/// not tell which bytes it holds is promised nothing.
+/// nothing of the answer; or after the certificate and a front of the answer. Of a reader that does
+/// not tell which bytes it holds, this is promised of some bytes.
 pub fn solve_bytes<R: Read, W: Write, C: Write>(
     alloc: Global,
     input: &mut R,
@@ -48,10 +48,10 @@ pub fn solve_bytes<R: Read, W: Write, C: Write>(
     out: &mut W,
     cert_out: &mut C,
 ) -> Result<u8, ToolFault>
-    ensures { IfSome (R.remaining input.old) (λ bytes.
-        WritesBoth (Within input_limit (IsSolve n limit) bytes)
+    ensures { WritesBoth
+        (OfReader (R.remaining input.old) (Within input_limit (IsSolve n limit)))
         (record { old = C.contents cert_out.old; new = C.contents cert_out.new })
-        (record { old = W.contents out.old; new = W.contents out.new }) result) }
+        (record { old = W.contents out.old; new = W.contents out.new }) result }
 {
     let bytes = read_input(alloc, input)?;
     let told = solved(alloc, bytes.as_slice(), n, limit)?;

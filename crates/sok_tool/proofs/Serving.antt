@@ -1,77 +1,101 @@
--- What is answered to the bytes of a file.
-use Rattle.std.proofs.Common.{ℕ, ◌≡◌, ◌<◌, ◌∷◌, inl, inr, Global, String, List, [], Option, None, Result, Ok, Err, arith, length, subst, suc, sym, zero}
-use Rattle.std.specs.Io.KnownBytes.{Keeps}
+-- What is answered to the bytes of files.
+use Rattle.std.proofs.Common.{ℕ, ◌≡◌, ◌∙◌, inl, inr, Global, String, List, Option, Result, Err, IfSome, Bool, true, false, length, nat_lt, refl}
+use Rattle.std.proofs.Common.{option_map, string_bytes, subst, sym}
 use Rattle.std.specs.Str.Parse.{digits_value}
 use Rattle.std.proofs.KnownBytes.{Keeps-refl}
 use Rattle.sok_engine.specs.declared.fault.ToolFault.{ToolFault}
 use Rattle.sok_engine.specs.declared.fault.ToolFault.TheVariants as tool
-use Rattle.sok_engine.specs.Certified.{Bytes, CertifiedAnswers, EndsBothBy, WritesBoth}
-use Rattle.sok_engine.specs.Inputs.{Within}
-use Rattle.sok_engine.specs.Limits.{input_limit}
-use Rattle.sok_engine.specs.Written.{Answers, EndsBy, Writes}
-use Rattle.sok_engine.proofs.Answering.{Within-much, Writes-weaker}
+use Rattle.sok_engine.specs.Certified.{Bytes, CertifiedAnswers, Stays, WritesBoth}
+use Rattle.sok_engine.specs.Inputs.{OfReader, UnlessMuch, Within}
+use Rattle.sok_engine.specs.Limits.{cert_limit, input_limit}
+use Rattle.sok_engine.specs.Written.{Answer, Answers, EndsBy, Writes}
+use Rattle.sok_engine.proofs.Answering.{Writes-weaker}
 use Rattle.sok_engine.proofs.Certifying.{WritesBoth-weaker}
+use Rattle.sok_judge.specs.Checks.{IsCheck}
+use Rattle.sok_judge.proofs.Checking.{some_text}
 use Rattle.sok_solve.specs.Solves.{IsSolve}
 use Rattle.sok_words.specs.declared.job.Job.TheVariants as job
-use Rattle.sok_words.specs.Forms.{Form, Means, limit_of, list, replay, solve}
-use Rattle.sok_tool.specs.Commands.{IsNoInput, OfSome, RunsBoth, Serves}
+use Rattle.sok_words.specs.Forms.{Form, Means, check, limit_of, list, replay, solve}
+use Rattle.sok_tool.specs.Commands.{RunsBoth, Serves}
+use Rattle.sok_tool.specs.Endings.{Runs}
+use Rattle.sok_tool.specs.Files.{Files, OfFile, OfFiles}
+use Rattle.sok_tool.specs.Solving.{SolvesTo}
 
-some_longer : (n : ℕ) → (xs : List ℕ) × (n < length xs)
-some_longer zero = (0 ∷ [], omega arith)
-some_longer (suc n) = let (xs, longer) = some_longer n in (0 ∷ xs, omega (arith, longer))
+-- where a file can't be opened, nothing is written
+pub Writes-unopened : (P : Answers) (held : Option (List ℕ)) (fault : ToolFault) → fault ≡ tool.ReadFailed → Writes P held held (Err fault)
+Writes-unopened P held fault same = subst (EndsBy P held held) (sym same) (Keeps-refl held)
 
--- the answers to these bytes are answers to some
-pub Writes-some : (P : List ℕ → Answers) (bytes : List ℕ) (old new : Option (List ℕ)) (result : Result ℕ ToolFault) → Writes (P bytes) old new result
-    → Writes (OfSome P) old new result
-Writes-some P bytes = Writes-weaker (P bytes) (OfSome P) (λ answer answered. (bytes, answered))
+-- the answers to what an opened file has left are those to the file
+pub Writes-file : (reads : Option (List ℕ) → Type 0) (P : List ℕ → Answers) (known old new : Option (List ℕ)) (result : Result ℕ ToolFault)
+    → reads known → Writes (OfReader known P) old new result → Writes (OfFile reads P) old new result
+Writes-file reads P known old new result may = Writes-weaker (OfReader known P) (OfFile reads P) (λ answer is. (known, may, is)) old new result
 
--- where a file is not read, nothing is written
-pub Writes-no_input : (limit : ℕ) (P : List ℕ → Answers) (old : Option (List ℕ)) (fault : ToolFault) → IsNoInput fault
-    → Writes (OfSome (Within limit P)) old old (Err fault)
-Writes-no_input limit P old fault (inl memory) = subst (EndsBy (OfSome (Within limit P)) old old) (sym memory) (Keeps-refl old)
-Writes-no_input limit P old fault (inr (inl failed)) = subst (EndsBy (OfSome (Within limit P)) old old) (sym failed) (Keeps-refl old)
-Writes-no_input limit P old fault (inr (inr much)) =
-    let (bytes, longer) = some_longer limit in
-    subst (EndsBy (OfSome (Within limit P)) old old) (sym much) ((bytes, Within-much limit P bytes longer), Keeps-refl old)
+UnlessMuch-text : (cert : Option (List ℕ)) (P : List ℕ → Answers) (much : Bool) (answer : Result Answer ToolFault) → UnlessMuch much (OfReader cert P) answer
+    → OfReader cert (λ text. UnlessMuch much (P text)) answer
+UnlessMuch-text cert P true answer much = let (text, told) = some_text cert in (text, told, much)
+UnlessMuch-text cert P false answer is = is
 
--- where it is not read, nothing is written to either of two writers
-pub WritesBoth-no_input : (limit : ℕ) (P : List ℕ → CertifiedAnswers) (cert out : Option (List ℕ)) (fault : ToolFault) → IsNoInput fault
-    → WritesBoth (OfSome (Within limit P)) (record { old = cert; new = cert }) (record { old = out; new = out }) (Err fault)
-WritesBoth-no_input limit P cert out fault is =
-    let cert_bytes : Bytes = record { old = cert; new = cert } in
-    let out_bytes : Bytes = record { old = out; new = out } in
-    let cert_stays = Keeps-refl cert in
-    let out_stays = Keeps-refl out in
-    let ends : ToolFault → Type 0 = EndsBothBy (OfSome (Within limit P)) cert_bytes out_bytes in
-    elim is [
-      | inl memory ↦ subst ends (sym memory) (cert_stays, out_stays)
-      | inr (inl failed) ↦ subst ends (sym failed) (cert_stays, out_stays)
-      | inr (inr much) ↦
-          let (bytes, longer) = some_longer limit in
-          subst ends (sym much) ((bytes, Within-much limit P bytes longer), cert_stays, out_stays)
-    ]
+-- the same of two files
+pub Writes-files : (reads reads_text : Option (List ℕ) → Type 0) (limit : ℕ) (P : List ℕ → List ℕ → Answers) (known cert old new : Option (List ℕ))
+    (result : Result ℕ ToolFault) → reads known → reads_text cert
+    → Writes (OfReader known (Within limit (λ bytes. OfReader cert (λ text. P text bytes)))) old new result
+    → Writes (OfFiles reads reads_text (λ text. Within limit (P text))) old new result
+Writes-files reads reads_text limit P known cert old new result may may_text =
+    let read : Answers = OfReader known (Within limit (λ bytes. OfReader cert (λ text. P text bytes))) in
+    let of_both : (answer : Result Answer ToolFault) → read answer → OfFiles reads reads_text (λ text. Within limit (P text)) answer =
+    λ answer is.
+    let (bytes, told, said) = is in
+    let (text, told_text, within) = UnlessMuch-text cert (λ t. P t bytes) (nat_lt limit (length bytes)) answer said in
+    (cert, may_text, text, told_text, (known, may, (bytes, told, within))) in
+    Writes-weaker read (OfFiles reads reads_text (λ text. Within limit (P text))) of_both old new result
 
-pub WritesBoth-some : (P : List ℕ → CertifiedAnswers) (bytes : List ℕ) (cert out : Bytes) (result : Result ℕ ToolFault) → WritesBoth (P bytes) cert out result
-    → WritesBoth (OfSome P) cert out result
-WritesBoth-some P bytes = WritesBoth-weaker (P bytes) (OfSome P) (λ answer answered. (bytes, answered))
+-- the solver's answers to what an opened file has left are those to the file
+pub SolvesTo-file : (reads : Option (List ℕ) → Type 0) (P : List ℕ → CertifiedAnswers) (IsPlace : Bytes → Type 0) (known : Option (List ℕ)) (cert out : Bytes)
+    (result : Result ℕ ToolFault) → reads known → IsPlace cert → WritesBoth (OfReader known P) cert out result → SolvesTo (OfFile reads P) IsPlace out result
+SolvesTo-file reads P IsPlace known cert out result may goes written =
+    inr (cert, goes, WritesBoth-weaker (OfReader known P) (OfFile reads P) (λ answer is. (known, may, is)) cert out result written)
 
 -- where memory was refused, nothing is written
-pub Serves-memory : (form : Form) (old new err_old err_new : Option (List ℕ)) (exit : ℕ) → exit ≡ 6 → Keeps old new
-    → Serves form old new err_old err_new exit
-Serves-memory (list file) old new err_old err_new exit six kept = (Err tool.Memory, kept, six)
-Serves-memory (replay file number text) old new err_old err_new exit six kept = (Err tool.Memory, kept, six)
-Serves-memory (solve file number limit cert) old new err_old err_new exit six kept =
-    (Err tool.Memory, six, inr (record { old = None; new = None }, (tt, kept)))
-Serves-memory _ old new err_old err_new exit six kept = tt
+pub Serves-memory : (files : Files) (form : Form) (out err : Bytes) (exit : ℕ) → exit ≡ 6 → Stays out → Serves files form out err exit
+Serves-memory files (list file) out err exit six kept = (Err tool.Memory, kept, six)
+Serves-memory files (replay file number text) out err exit six kept = (Err tool.Memory, kept, six)
+Serves-memory files (check file number cert) out err exit six kept = (Err tool.Memory, kept, six)
+Serves-memory files (solve file number limit cert) out err exit six kept = (Err tool.Memory, inl (inl refl, kept), six)
+Serves-memory files _ out err exit six kept = (inr six, kept)
+
+-- what is answered to a job of judging
+abbrev pub RunsCheck : Files → List ℕ → ℕ → List ℕ → Bytes → Bytes → ℕ → Type 0
+RunsCheck files file n cert out err exit =
+    Runs (OfFiles (files.reads file) (files.reads cert) (λ text. Within input_limit (IsCheck cert_limit n text))) out.old out.new err.old err.new exit
+
+-- a job of judging serves its form
+pub Serves-check : (files : Files) (form : Form) (file : String Global) (n : ℕ) (cert : String Global) (name cert_name : List ℕ) (out err : Bytes) (exit : ℕ)
+    → Means form (job.Check file n cert) → name ≡ string_bytes file → cert_name ≡ string_bytes cert
+    → RunsCheck files name n cert_name out err exit → Serves files form out err exit
+Serves-check files (check of number place) file n cert name cert_name out err exit means named cert_named runs =
+    let (file_is, number_is, cert_is) = means in
+    subst (λ p. RunsCheck files of (digits_value 10 number) p out err exit) (cert_named ∙ cert_is)
+    (subst (λ k. RunsCheck files of k cert_name out err exit) number_is
+    (subst (λ f. RunsCheck files f n cert_name out err exit) (named ∙ file_is) runs))
+Serves-check files _ file n cert name cert_name out err exit means named cert_named runs = absurd means
+
+-- where a certificate may go
+abbrev pub goes_to : Files → Option (List ℕ) → Bytes → Type 0
+goes_to files path cert = IfSome path (λ place. files.makes place cert)
+
+-- what is answered to a job of solving
+abbrev pub RunsSolve : Files → List ℕ → ℕ → ℕ → Option (List ℕ) → Bytes → Bytes → ℕ → Type 0
+RunsSolve files file n most path out err exit =
+    RunsBoth (OfFile (files.reads file) (Within input_limit (IsSolve n most))) (goes_to files path) out err exit
 
 -- a job of solving serves its form
-pub Serves-solve : (form : Form) (file : String Global) (n most : ℕ) (path : Option (String Global)) (old new err_old err_new : Option (List ℕ)) (exit : ℕ)
-    → Means form (job.Solve file n most path) → RunsBoth (OfSome (Within input_limit (IsSolve n most))) old new err_old err_new exit
-    → Serves form old new err_old err_new exit
-Serves-solve (list _) file n most path old new err_old err_new exit means runs = absurd means
-Serves-solve (replay _ _ _) file n most path old new err_old err_new exit means runs = absurd means
-Serves-solve (solve _ number limit cert) file n most path old new err_old err_new exit means runs =
+pub Serves-solve : (files : Files) (form : Form) (file : String Global) (name : List ℕ) (n most : ℕ) (path : Option (String Global)) (out err : Bytes) (exit : ℕ)
+    → Means form (job.Solve file n most path) → name ≡ string_bytes file
+    → RunsSolve files name n most (option_map (λ s. string_bytes s) path) out err exit → Serves files form out err exit
+Serves-solve files (solve of number limit cert) file name n most path out err exit means named runs =
     let (file_is, number_is, limit_is, path_is) = means in
-    subst (λ m. RunsBoth (OfSome (Within input_limit (IsSolve (digits_value 10 number) m))) old new err_old err_new exit) limit_is
-    (subst (λ k. RunsBoth (OfSome (Within input_limit (IsSolve k most))) old new err_old err_new exit) number_is runs)
-Serves-solve _ file n most path old new err_old err_new exit means runs = tt
+    subst (λ p. RunsSolve files of (digits_value 10 number) (limit_of limit) p out err exit) path_is
+    (subst (λ m. RunsSolve files of (digits_value 10 number) m (option_map (λ s. string_bytes s) path) out err exit) limit_is
+    (subst (λ k. RunsSolve files of k most (option_map (λ s. string_bytes s) path) out err exit) number_is
+    (subst (λ f. RunsSolve files f n most (option_map (λ s. string_bytes s) path) out err exit) (named ∙ file_is) runs)))
+Serves-solve files _ file name n most path out err exit means named runs = absurd means

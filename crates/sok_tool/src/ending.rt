@@ -28,14 +28,14 @@ pub fn ended<E: Write>(outcome: Result<u8, ToolFault>, err: &mut E) -> u8
 
 /// The exit status for words that ask for nothing. Help that was asked for is written to the
 /// output, and what is wrong with the words to the error stream, as far as that takes it.
-pub(crate) fn refused<W: Write, E: Write>(none: JobRefused, out: &mut W, err: &mut E) -> u8
-    ensures help { none.status ≡ 0
-        → Runs (λ answer. answer ≡ Ok (record { text = string_bytes none.text; status = 0 }))
+pub(crate) fn refused<W: Write, E: Write>(refusal: JobRefused, out: &mut W, err: &mut E) -> u8
+    ensures help { refusal.status ≡ 0
+        → Runs (λ answer. answer ≡ Ok (record { text = string_bytes refusal.text; status = 0 }))
         (W.contents out.old) (W.contents out.new) (E.contents err.old) (E.contents err.new) result }
-    ensures status { none.status ≢ 0 → result ≡ none.status }
-    ensures silent { none.status ≢ 0 → Keeps (W.contents out.old) (W.contents out.new) }
+    ensures status { refusal.status ≢ 0 → result ≡ refusal.status }
+    ensures silent { refusal.status ≢ 0 → Keeps (W.contents out.old) (W.contents out.new) }
 {
-    let JobRefused { text, status } = none;
+    let JobRefused { text, status } = refusal;
     if status == 0 {
         return ended(Answer::new(text.into_bytes(), 0).write(out), err);
     }

@@ -6,12 +6,14 @@
 //! | `program` | the program: its words, its streams and its exit status |
 //! | `command` | each command on its files (private) |
 //! | `ending` | how a run ends, and what it tells on the error stream |
-//! | `file` | opening, making and reading files (private) |
+//! | `file` | opening and making the files that a command names (private) |
+//! | `folder` | files by their paths |
 #![tactic(auto)]
 
 mod command;
 pub mod ending;
 mod file;
+pub mod folder;
 pub mod program;
 
 pub use sok_engine::{fault, input};

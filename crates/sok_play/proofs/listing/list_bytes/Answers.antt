@@ -1,6 +1,7 @@
-use Rattle.std.proofs.Common.{Ok, subst}
+use Rattle.std.proofs.Common.{Ok, Err, ap, subst}
+use Rattle.std.proofs.lemmas.Result.{err_from_is_err_and}
 use Rattle.sok_engine.specs.Limits.{input_limit}
-use Rattle.sok_engine.proofs.Answering.{Writes-answer}
+use Rattle.sok_engine.proofs.Answering.{Writes-read, Writes-unread}
 use Rattle.sok_play.specs.Listing.{IsListing}
 use Rattle.sok_play.proofs.listing.list_bytes.Goals as goal
 
@@ -10,4 +11,10 @@ returns g c =
     let answered : IsListing c.in_ok-bytes.bytes.items (Ok answer) =
     subst (λ read. IsListing read (Ok answer)) c.as_slice.ensures.value c.in_ok-answer.ensures in
     let read = c.in_ok-bytes in
-    Writes-answer input_limit IsListing _ _ _ read.bytes.items answer c.write.result read.ensures.all read.ensures.within answered c.write.ensures
+    Writes-read input_limit IsListing _ _ _ read.bytes.items answer c.write.result read.ensures.all read.ensures.within answered c.write.ensures
+
+pub returns-in_err-bytes : goal.returns-in_err-bytes
+returns-in_err-bytes g c =
+    let p = err_from_is_err_and c.from_residual.result c.from_residual.ensures.1 in
+    rw (p.1, p.2) (Writes-unread input_limit IsListing _ _ c.in_err-bytes.field-0.0
+    (λ same. c.in_err-bytes.ensures.much (ap Err same)))

@@ -1,7 +1,16 @@
+use Rattle.std.proofs.lemmas.Result.{err_from_is_err_and}
+use Rattle.sok_engine.specs.Inputs.{Within}
 use Rattle.sok_engine.specs.Limits.{input_limit}
 use Rattle.sok_play.specs.Listing.{IsListing}
-use Rattle.sok_tool.proofs.Serving.{Writes-no_input}
+use Rattle.sok_tool.specs.Files.{OfFile}
+use Rattle.sok_tool.proofs.Serving.{Writes-file, Writes-unopened}
 use Rattle.sok_tool.proofs.command.list.Goals as goal
 
-pub returns-in-Err : goal.returns-in-Err
-returns-in-Err g c = Writes-no_input input_limit IsListing _ c.in-Err.fault c.in-Err.ensures
+pub returns-in_err-input : goal.returns-in_err-input
+returns-in_err-input g c =
+    let p = err_from_is_err_and c.from_residual.result c.from_residual.ensures.1 in
+    rw (p.1, p.2) (Writes-unopened (OfFile (g.F.Folder.reads c.args.rt.now c.args.path.now) (Within input_limit IsListing)) _ _ c.in_err-input.ensures)
+
+pub returns : goal.returns
+returns g c =
+    Writes-file (g.F.Folder.reads c.args.rt.now c.args.path.now) (Within input_limit IsListing) _ _ _ c.list_bytes.result c.in_ok-input.ensures c.list_bytes.ensures

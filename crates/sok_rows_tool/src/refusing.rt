@@ -1,0 +1,65 @@
+//! Help, and words that ask for nothing.
+
+use crate::devices::{Failure, Sink};
+use crate::rows::{ran, words};
+use sok_tool::program::run;
+use std::test::Fail;
+
+/// A line, a part of what is written to the output, or where the status is 2 to the error stream,
+/// and the status.
+const REFUSALS: [(&str, &str, u8); 14] = [
+    ("sok --help", "Exit status:", 0),
+    ("sok help solve", "limit S", 0),
+    ("sok solve --help", "[default: 100000]", 0),
+    ("sok sovle F 1", "unrecognized subcommand 'sovle'", 2),
+    ("sok list", "<FILE>", 2),
+    ("sok list F G", "unexpected argument 'G'", 2),
+    ("sok replay F one R", "invalid value 'one'", 2),
+    ("sok replay F 1", "<TEXT>", 2),
+    ("sok solve F 4294967296", "4294967296", 2),
+    ("sok solve F 1 --limit x", "invalid value 'x'", 2),
+    (
+        "sok solve F 1 --cert P --cert P",
+        "cannot be used multiple times",
+        2,
+    ),
+    ("sok check F 1", "<CERT>", 2),
+    (
+        "sok offer B 9223372036854775808 R",
+        "9223372036854775808",
+        2,
+    ),
+    ("sok prove B 1", "<CERT>", 2),
+];
+
+#[test]
+fn help_and_words_that_ask_for_nothing(rt: HostRuntime) -> Result<(), Fail> {
+    for (line, part, status) in REFUSALS {
+        let told = is_told(&rt, line, part, status)?;
+        assert!(rt; told, "{line}");
+    }
+    Ok(())
+}
+
+fn is_told(rt: &HostRuntime, line: &str, part: &str, status: u8) -> Result<bool, Fail> {
+    let ended = ran(rt, line)?;
+    let (told, silent) = if status == 0 {
+        (ended.out, ended.err)
+    } else {
+        (ended.err, ended.out)
+    };
+    let text = String::from_utf8(told)?;
+    Ok(ended.status == status && silent.is_empty() && text.as_str().contains(part))
+}
+
+/// Help that can't be written is a fault.
+#[test]
+fn help_to_an_output_that_fails(rt: HostRuntime) -> Result<(), Fail> {
+    let words = words(rt.alloc(), "sok --help")?;
+    let mut out = Sink::new(rt.alloc(), 1, Failure::Error);
+    let mut err = Vec::new(rt.alloc());
+    let status = run(&rt, &words, &mut b"".as_slice(), &mut out, &mut err);
+    assert_eq!(rt; status, 5);
+    assert_eq!(rt; err.as_slice(), b"fault 51 WriteFailed\n".as_slice());
+    Ok(())
+}

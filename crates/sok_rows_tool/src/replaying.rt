@@ -1,0 +1,51 @@
+//! `replay` on files.
+
+use crate::rows::{OPEN_FAILED, Row, first_other, prepare};
+use std::fs;
+use std::test::Fail;
+
+const REPLAYS: [Row; 9] = [
+    ("sok replay plays/levels 1 R", "solved 1 1\n", "", 0),
+    ("sok replay plays/levels 4 ulldRR", "solved 2 6\n", "", 0),
+    ("sok replay plays/levels 4 ul", "open 0 2\n", "", 1),
+    (
+        "sok replay plays/levels 4 uu",
+        "",
+        "fault 12 Blocked 1\n",
+        3,
+    ),
+    (
+        "sok replay plays/levels 1 x",
+        "",
+        "fault 11 BadLetter 0\n",
+        3,
+    ),
+    (
+        "sok replay plays/levels 2 R",
+        "",
+        "fault 4 ManyPlayers\n",
+        3,
+    ),
+    (
+        "sok replay plays/levels 0 R",
+        "",
+        "fault 15 NoSuchLevel\n",
+        3,
+    ),
+    (
+        "sok replay plays/levels 5 R",
+        "",
+        "fault 15 NoSuchLevel\n",
+        3,
+    ),
+    ("sok replay plays/none 1 R", "", OPEN_FAILED, 5),
+];
+
+#[test]
+fn replays_on_files(rt: HostRuntime) -> Result<(), Fail> {
+    prepare(&rt, "plays")?;
+    let other = first_other(&rt, &REPLAYS)?;
+    assert_eq!(rt; other, None);
+    fs::remove_dir_all(&rt, "plays")?;
+    Ok(())
+}

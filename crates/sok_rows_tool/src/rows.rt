@@ -1,0 +1,101 @@
+//! Command lines on the files of a folder, and what the program tells of each.
+
+use sok_tool::program::run;
+use std::alloc::{AllocError, Global};
+use std::fs;
+use std::test::Fail;
+
+/// A line, what is written to the output, and to the error stream, and the status.
+pub(crate) type Row = (&'static str, &'static str, &'static str, u8);
+
+/// What is told of a file that can't be opened.
+pub(crate) const OPEN_FAILED: &str = "fault 50 ReadFailed\n";
+
+/// Four levels: one of one push, a faulty one, one with fewer goals than boxes, and a room.
+const LEVELS: &str = "\
+; First
+#####
+#@$.#
+#####
+
+######
+#@$@.#
+######
+
+#####
+#@$ #
+#####
+
+; The room
+######
+#    #
+# $@.#
+######
+";
+
+/// A certificate for the first.
+const CERT: &str = "sokoban-certificate 1\npushes 1\nb 0 0 1 1 1 0\nend\n";
+
+/// Makes a folder with the levels and the certificate.
+pub(crate) fn prepare(rt: &HostRuntime, folder: &str) -> Result<(), Fail> {
+    let _ = fs::remove_dir_all(rt, folder);
+    fs::create_dir(rt, folder)?;
+    put(rt, folder, "levels", LEVELS)?;
+    put(rt, folder, "cert", CERT)
+}
+
+fn put(rt: &HostRuntime, folder: &str, name: &str, text: &str) -> Result<(), Fail> {
+    let path = format!(in rt.alloc(); "{folder}/{name}")?;
+    fs::write(rt, path.as_str(), text)?;
+    Ok(())
+}
+
+/// The words of a line, which blanks separate.
+pub(crate) fn words(alloc: Global, line: &str) -> Result<Vec<String>, AllocError> {
+    let mut words = Vec::new(alloc);
+    for word in line.split(' ') {
+        words.push(String::from_str(alloc, word)?)?;
+    }
+    Ok(words)
+}
+
+/// What the program leaves behind.
+#[derive(Drop)]
+pub(crate) struct Ended {
+    pub(crate) status: u8,
+    pub(crate) out: Vec<u8>,
+    pub(crate) err: Vec<u8>,
+}
+
+/// Runs the program with the words of a line.
+pub(crate) fn ran(rt: &HostRuntime, line: &str) -> Result<Ended, AllocError> {
+    let words = words(rt.alloc(), line)?;
+    let mut out = Vec::new(rt.alloc());
+    let mut err = Vec::new(rt.alloc());
+    let mut input = b"".as_slice();
+    let status = run(rt, words.as_slice(), &mut input, &mut out, &mut err);
+    Ok(Ended { status, out, err })
+}
+
+/// The first line of which the program tells something else.
+pub(crate) fn first_other(
+    rt: &HostRuntime,
+    rows: &[Row],
+) -> Result<Option<&'static str>, AllocError> {
+    for row in rows {
+        if !is_told(rt, *row)? {
+            return Ok(Some(row.0));
+        }
+    }
+    Ok(None)
+}
+
+fn is_told(rt: &HostRuntime, row: Row) -> Result<bool, AllocError> {
+    let (line, out, err, status) = row;
+    let ended = ran(rt, line)?;
+    Ok(
+        ended.status == status
+            && ended.out.as_slice() == out.as_bytes()
+            && ended.err.as_slice() == err.as_bytes(),
+    )
+}

@@ -1,0 +1,64 @@
+//! `solve` on files.
+
+use crate::rows::{OPEN_FAILED, Row, first_other, prepare};
+use std::fs;
+use std::test::Fail;
+
+/// A certificate that is written is accepted. Where there is none, its file is emptied.
+const SOLVES: [Row; 11] = [
+    ("sok solve solves/levels 1", "solved 1 1\nR\n", "", 0),
+    (
+        "sok solve solves/levels 4 --limit 0",
+        "",
+        "fault 16 BadLimit\n",
+        3,
+    ),
+    ("sok solve solves/levels 3", "", "fault 8 TooFewGoals\n", 3),
+    ("sok solve solves/levels 9", "", "fault 15 NoSuchLevel\n", 3),
+    ("sok solve solves/none 1", "", OPEN_FAILED, 5),
+    (
+        "sok solve solves/levels 1 --cert solves/none/cert",
+        "",
+        "fault 51 WriteFailed\n",
+        5,
+    ),
+    (
+        "sok check solves/levels 1 solves/cert",
+        "accepted at least 1 pushes\n",
+        "",
+        0,
+    ),
+    (
+        "sok solve solves/levels 4 --limit 1 --cert solves/cert",
+        "limit 1\n",
+        "",
+        4,
+    ),
+    (
+        "sok check solves/levels 4 solves/cert",
+        "refused 20 Header\n",
+        "",
+        1,
+    ),
+    (
+        "sok solve solves/levels 4 --cert solves/cert",
+        "solved 2 6\nulldRR\n",
+        "",
+        0,
+    ),
+    (
+        "sok check solves/levels 4 solves/cert",
+        "accepted at least 2 pushes\n",
+        "",
+        0,
+    ),
+];
+
+#[test]
+fn solutions_of_files(rt: HostRuntime) -> Result<(), Fail> {
+    prepare(&rt, "solves")?;
+    let other = first_other(&rt, &SOLVES)?;
+    assert_eq!(rt; other, None);
+    fs::remove_dir_all(&rt, "solves")?;
+    Ok(())
+}

@@ -1,0 +1,25 @@
+use Rattle.std.proofs.Common.{inl, inr, Err, ap, refl}
+use Rattle.std.proofs.KnownBytes.{Keeps-refl}
+use Rattle.std.proofs.lemmas.Result.{err_from_is_err_and}
+use Rattle.sok_engine.specs.Inputs.{Within}
+use Rattle.sok_engine.specs.Limits.{input_limit}
+use Rattle.sok_solve.specs.Solves.{IsSolve}
+use Rattle.sok_tool.specs.Files.{IsMade}
+use Rattle.sok_tool.proofs.Serving.{SolvesTo-file}
+use Rattle.sok_tool.proofs.command.solve_with_file.Goals as goal
+
+pub returns-in_err-input : goal.returns-in_err-input
+returns-in_err-input g c =
+    let p = err_from_is_err_and c.from_residual.result c.from_residual.ensures.1 in
+    rw (p.1, p.2) (inl (inr (inl (ap Err c.in_err-input.ensures)), Keeps-refl _))
+
+pub returns-in_err-cert_out : goal.returns-in_err-cert_out
+returns-in_err-cert_out g c =
+    let p = err_from_is_err_and c.from_residual-in_err-cert_out.result c.from_residual-in_err-cert_out.ensures.1 in
+    rw (p.1, p.2) (inl (inr (inr (ap Err c.in_err-cert_out.ensures)), Keeps-refl _))
+
+pub returns : goal.returns
+returns g c =
+    SolvesTo-file (g.F.Folder.reads c.args.rt.now c.args.path.now) (Within input_limit (IsSolve c.args.n c.args.limit))
+    (IsMade g.F.Output.Write.contents (g.F.Folder.makes c.args.rt.now c.args.cert_path.now)) _ _ _ c.solve_bytes.result c.in_ok-input.ensures
+    (c.in_ok-cert_out.cert_out, c.solve_bytes.new.cert_out, c.in_ok-cert_out.ensures, refl) c.solve_bytes.ensures

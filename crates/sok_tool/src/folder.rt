@@ -1,0 +1,46 @@
+//! Files by their paths.
+
+ghost use Rattle.std.specs.Prelude.{ℕ, List, Option, IfOk, ⊤};
+
+use std::fs::{self, File};
+use std::io::{self, Read, Write};
+
+/// Files by their paths, as those of the machine.
+pub trait Folder {
+    type Input: Read + Drop;
+
+    type Output: Write + Drop;
+
+    // A file that is opened at this path may have these bytes left, as far as they are known.
+    ghost reads: { Self → List ℕ → Option (List ℕ) → Type 0 };
+
+    // This file may be the one that is made at this path.
+    ghost makes: { Self → List ℕ → Self.Output → Type 0 };
+
+    /// Opens a file that is there.
+    fn open(&self, path: &str) -> io::Result<Self::Input>
+        ensures { IfOk result (λ file. reads self.now path.now (Self.Input.remaining file)) };
+
+    /// Makes a file, or empties it.
+    fn create(&self, path: &str) -> io::Result<Self::Output>
+        ensures { IfOk result (λ file. makes self.now path.now file) };
+}
+
+/// No contract knows what the machine's files hold.
+impl Folder for HostRuntime {
+    type Input = File;
+
+    type Output = File;
+
+    ghost reads = { λ _ _ _. ⊤ };
+
+    ghost makes = { λ _ _ _. ⊤ };
+
+    fn open(&self, path: &str) -> io::Result<File> {
+        fs::open(self, path)
+    }
+
+    fn create(&self, path: &str) -> io::Result<File> {
+        fs::create(self, path)
+    }
+}
