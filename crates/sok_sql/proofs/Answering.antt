@@ -6,24 +6,26 @@ use Rattle.sqlite.specs.Tree.{Trees}
 use Rattle.sqlite.specs.Listing.{understood, reads_listing}
 use Rattle.sqlite.specs.Query.{Query, IsAnswer}
 use Rattle.sqlite.specs.Program.{overlay}
-use Rattle.sqlite.specs.State.{State, Shown, CommitsShowing}
+use Rattle.sqlite.specs.State.{State, CommitsShowing, FailsToQuery, HasCleanDisk, Shown, Survives}
+use Rattle.sqlite.proofs.StateLemmas.{survives_weaker}
+use Rattle.sqlite.specs.declared.error.Error.{Error}
 use Rattle.sqlite.proofs.Callers.{IsPlain, never_commits, command_of, reads_as}
 use Rattle.sok_sql.specs.Leaves.{Leaf, HasLeaves, ListsTable, level_schema, no_schema, shown_from, row_at, id_row, ids_with, last_ids}
-use Rattle.sok_sql.specs.Connections.{Shows, Holds, IsSame, IsSettled}
+use Rattle.sok_sql.specs.Connections.{Shows, Holds, IsSame, IsSettled, Rests}
 use Rattle.sok_sql.proofs.Texts.{select_of, names, pick_query, whole, all_query, find_query, last_query, one_text, one_is, one_plain, one_unlisted}
 use Rattle.sok_sql.proofs.Texts.{all_text, all_is, all_plain, all_unlisted, missing_is, find_text, find_is, find_plain, find_unlisted}
 use Rattle.sok_sql.proofs.Texts.{last_text, last_is, last_plain, last_unlisted}
 use Rattle.sok_sql.proofs.Choosing.{reads_one}
 use Rattle.sok_sql.proofs.Listing.{lists, lists_table, finds, lasts}
-use Rattle.sok_sql.proofs.Calls.{shown_up, shown_same, unchanged_holds, unchanged_same}
+use Rattle.sok_sql.proofs.Calls.{shown_up, shown_same, unchanged_holds, unchanged_same, unread_holds}
 
 -- a stop in the middle of a query leaves what was there
-pub query_commits : (s : State) (leaves : List Leaf) (sql : List ℕ) (params : Row) (db : Trees) → IsPlain (understood level_schema sql) → Shows s leaves
+query_commits : (s : State) (leaves : List Leaf) (sql : List ℕ) (params : Row) (db : Trees) → IsPlain (understood level_schema sql) → Shows s leaves
     → ¬ CommitsShowing sql params s db
 query_commits s leaves sql params db plain was = never_commits sql params s db (subst (λ x. IsPlain (understood x sql)) (sym was.schema) plain)
 
 module _ (old new : State) (leaves : List Leaf) (holds : Holds old leaves) where
-  pub query_holds : (sql : List ℕ) (params : Row) → IsPlain (understood level_schema sql) → (rows : List Row) → Shown sql params old new rows → Holds new leaves
+  query_holds : (sql : List ℕ) (params : Row) → IsPlain (understood level_schema sql) → (rows : List Row) → Shown sql params old new rows → Holds new leaves
   query_holds sql params plain rows h =
       let was = holds (shown_up old new sql params rows h) in
       unchanged_holds old new leaves holds (shown_same old new sql params rows (subst (λ s. IsPlain (understood s sql)) (sym was.schema) plain) h)
@@ -59,6 +61,18 @@ module _ (old new : State) (leaves : List Leaf) (holds : Holds old leaves) where
   last_answers rows h =
       let a = answers last_text [] last_query _ last_is last_plain last_unlisted rows h in
       (a.0, lasts old.now.trees leaves rows a.1 a.2)
+
+-- a query leaves the rows, whether it is answered or not
+module _ (old new : State) (sql : List ℕ) (params : Row) (plain : IsPlain (understood level_schema sql)) where
+  stopped : Survives old new (CommitsShowing sql params old) → Survives old new (λ db. (leaves : List Leaf) → Shows old leaves → ⊥)
+  stopped stops = survives_weaker old new _ _ (λ _ db h leaves was. query_commits old leaves sql params db plain was h) stops
+
+  pub answered_rests : Survives old new (CommitsShowing sql params old) → (rows : List Row) → (HasCleanDisk new → Shown sql params old new rows) → Rests old new
+  answered_rests stops rows shown =
+      record { kept = λ clean leaves holds. query_holds old new leaves holds sql params plain rows (shown clean); stop = stopped stops }
+
+  pub refused_rests : Survives old new (CommitsShowing sql params old) → (e : Error) → (HasCleanDisk new → FailsToQuery sql params old new e) → Rests old new
+  refused_rests stops e fails = record { kept = λ clean leaves holds. unread_holds old new leaves holds sql params e (fails clean); stop = stopped stops }
 
 -- the rows that are found, of whatever the table has
 pub found_rows : (old new : State) → IsSettled old → (rows : List Row) → old.now.schema ≡ level_schema → Shown all_text [] old new rows

@@ -1,27 +1,18 @@
 use Rattle.sqlite.specs.Held.{state}
-use Rattle.sqlite.proofs.StateLemmas.{survives_weaker}
 use Rattle.sok_sql.proofs.Texts.{all_plain}
-use Rattle.sok_sql.proofs.Calls.{unread_holds, unread_same}
-use Rattle.sok_sql.proofs.Answering.{all_answers, query_holds, query_commits, found_rows, none_found}
+use Rattle.sok_sql.proofs.Calls.{unread_same}
+use Rattle.sok_sql.proofs.Answering.{all_answers, answered_rests, refused_rests, found_rows, none_found}
 use Rattle.sok_sql.proofs.reading.all_rows.Goals as goal
 
 pub returns-in-Ok-clause-rests : goal.returns-in-Ok-clause-rests
 returns-in-Ok-clause-rests g c =
-    let old = state g.S.Store c.args.conn.now in
-    let new = state g.S.Store c.query_all.new.self in
-    record {
-      kept = λ clean leaves holds. query_holds old new leaves holds _ _ all_plain c.in-Ok.rows.items (c.in-Ok.ensures.ok clean);
-      stop = survives_weaker old new _ _ (λ _ db h leaves was. query_commits old leaves _ _ db all_plain was h) c.query_all.ensures.survives;
-    }
+    answered_rests (state g.S.Store c.args.conn.now) (state g.S.Store c.query_all.new.self) _ _ all_plain c.query_all.ensures.survives
+    c.in-Ok.rows.items c.in-Ok.ensures.ok
 
 pub returns-in-Err-clause-rests : goal.returns-in-Err-clause-rests
 returns-in-Err-clause-rests g c =
-    let old = state g.S.Store c.args.conn.now in
-    let new = state g.S.Store c.query_all.new.self in
-    record {
-      kept = λ clean leaves holds. unread_holds old new leaves holds _ _ c.in-Err.error (c.in-Err.ensures.err clean);
-      stop = survives_weaker old new _ _ (λ _ db h leaves was. query_commits old leaves _ _ db all_plain was h) c.query_all.ensures.survives;
-    }
+    refused_rests (state g.S.Store c.args.conn.now) (state g.S.Store c.query_all.new.self) _ _ all_plain c.query_all.ensures.survives
+    c.in-Err.error c.in-Err.ensures.err
 
 pub returns-in-Ok-clause-rows : goal.returns-in-Ok-clause-rows
 returns-in-Ok-clause-rows g c clean leaves holds =

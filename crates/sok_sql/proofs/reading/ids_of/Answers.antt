@@ -1,27 +1,17 @@
 use Rattle.sqlite.specs.Held.{state}
-use Rattle.sqlite.proofs.StateLemmas.{survives_weaker}
 use Rattle.sok_sql.proofs.Texts.{find_plain}
-use Rattle.sok_sql.proofs.Calls.{unread_holds}
-use Rattle.sok_sql.proofs.Answering.{find_answers, query_holds, query_commits}
+use Rattle.sok_sql.proofs.Answering.{find_answers, answered_rests, refused_rests}
 use Rattle.sok_sql.proofs.reading.ids_of.Goals as goal
 
 pub returns-in-Ok-clause-rests : goal.returns-in-Ok-clause-rests
 returns-in-Ok-clause-rests g c =
-    let old = state g.S.Store c.args.conn.now in
-    let new = state g.S.Store c.query_all.new.self in
-    record {
-      kept = λ clean leaves holds. query_holds old new leaves holds _ _ find_plain c.in-Ok.rows.items (c.in-Ok.ensures.ok clean);
-      stop = survives_weaker old new _ _ (λ _ db h leaves was. query_commits old leaves _ _ db find_plain was h) c.query_all.ensures.survives;
-    }
+    answered_rests (state g.S.Store c.args.conn.now) (state g.S.Store c.query_all.new.self) _ _ find_plain c.query_all.ensures.survives
+    c.in-Ok.rows.items c.in-Ok.ensures.ok
 
 pub returns-in-Err-clause-rests : goal.returns-in-Err-clause-rests
 returns-in-Err-clause-rests g c =
-    let old = state g.S.Store c.args.conn.now in
-    let new = state g.S.Store c.query_all.new.self in
-    record {
-      kept = λ clean leaves holds. unread_holds old new leaves holds _ _ c.in-Err.error (c.in-Err.ensures.err clean);
-      stop = survives_weaker old new _ _ (λ _ db h leaves was. query_commits old leaves _ _ db find_plain was h) c.query_all.ensures.survives;
-    }
+    refused_rests (state g.S.Store c.args.conn.now) (state g.S.Store c.query_all.new.self) _ _ find_plain c.query_all.ensures.survives
+    c.in-Err.error c.in-Err.ensures.err
 
 pub returns-in-Ok-clause-rows : goal.returns-in-Ok-clause-rows
 returns-in-Ok-clause-rows g c clean leaves holds =

@@ -1,0 +1,172 @@
+-- A page more at the end of a book.
+use Rattle.std.proofs.Common.{◌≡◌, ◌⊎◌, inl, inr, refl, sym, ap, subst, ◌∙◌, ℕ, ℤ, pos, ◌+◌, ◌<◌, ◌≤◌, List, [], ◌∷◌, ◌++◌, Option, Some, None, arith}
+use Rattle.std.proofs.Common.{Result, Ok, Err, IfErr, IfOk, IfSome, length, slice_get}
+use Rattle.sqlite.specs.State.{State, HasCleanDisk, Survives}
+use Rattle.sqlite.proofs.StateLemmas.{survives_then, survives_weaker}
+use Rattle.sok_rules.specs.Squares.{Rows}
+use Rattle.sok_rules.specs.Levels.{IsLevel}
+use Rattle.sok_board.specs.declared.fault.BoardFault.{BoardFault}
+use Rattle.sok_board.specs.declared.fault.BoardFault.TheVariants as board
+use Rattle.sok_board.specs.Area.{IsAccepted, Numbered}
+use Rattle.sok_board.specs.Refusals.{IsAcceptable, IsRefused}
+use Rattle.sok_text.specs.Canonical.{level_text}
+use Rattle.sok_book.specs.declared.fault.BookFault.{BookFault}
+use Rattle.sok_book.specs.declared.fault.BookFault.TheVariants.{BookFull}
+use Rattle.sok_book.specs.Books.{Book, Page}
+use Rattle.sok_book.specs.Commands.{Adds, IsUnknown, is_known, is_new, level_limit, new_page}
+use Rattle.sok_book.specs.Faults.{of_board}
+use Rattle.sok_book.specs.Refusals.{IsNotAdded}
+use Rattle.sok_page.specs.Titles.{IsTitle}
+use Rattle.sok_page.proofs.Titles.{kept-are-titles}
+use Rattle.sok_sql.specs.Connections.{Holds, Rests, Shows}
+use Rattle.sok_sql.specs.Leaves.{Leaf, HasLeaves, ids_with, new_leaf}
+use Rattle.sok_row.specs.Faults.{IsOutside}
+use Rattle.sok_row.specs.Kept.{HoldsBook, IsKeptBook, ShowsBook, leaves_of}
+use Rattle.sok_row.proofs.Finding.{stands_found, unknown_unfound}
+use Rattle.sok_row.proofs.Changes.{IsKeptPage-new}
+use Rattle.sok_row.proofs.Books.{IsKeptBook-push, leaves_of-push, length-leaves_of}
+use Rattle.sok_store.specs.Calls.{Keeps, MakesNone, Stops, Turns, id_number, title_kept}
+use Rattle.sok_store.specs.Entries.{AddsPage, IsFull, IsNewPage, StopsAdding}
+use Rattle.sok_store.proofs.Calls.{held, rests_stops, stops_later}
+
+title_is : (title : Option (List ℕ)) → IfSome (title_kept title) IsTitle
+title_is None = tt
+title_is (Some title) = kept-are-titles title
+
+pub new_page_is : (book : Book) (rows : Rows) (text : List ℕ) (title : Option (List ℕ)) → text ≡ level_text rows → IsLevel rows → IsAcceptable rows
+    → IsUnknown book rows → IsNewPage book text (title_kept title) (new_page rows (title_kept title))
+new_page_is book rows text title is level accepted unknown = record {
+  leaf = ap (λ t. new_leaf t (title_kept title)) (sym is);
+  kept = IsKeptPage-new rows (title_kept title) level accepted (title_is title);
+  unknown = unknown;
+}
+
+-- the book with the page, and its leaves
+module _ (book : Book) (text : List ℕ) (title : Option (List ℕ)) (page : Page) (new : IsNewPage book text title page) (kept : IsKeptBook book)
+    (room : length book < level_limit) where
+  pub pushed_kept : IsKeptBook (book ++ page ∷ [])
+  pushed_kept = IsKeptBook-push book page kept new.kept new.unknown room
+
+  pub pushed_leaves : leaves_of book ++ new_leaf text title ∷ [] ≡ leaves_of (book ++ page ∷ [])
+  pushed_leaves = ap (λ leaf. leaves_of book ++ leaf ∷ []) (sym new.leaf) ∙ sym (leaves_of-push book page)
+
+-- a level of which a board can be made, or cannot
+pub acceptable : (rows : Rows) (b : Numbered) → b.rows ≡ rows → IsAccepted b → IsAcceptable rows
+acceptable rows b same is = subst IsAcceptable same (b.area, is)
+
+pub board_refused : (book : Book) (rows : Rows) (fault : BoardFault) → IsRefused rows fault → IsOutside (of_board fault) ⊎ IsNotAdded book rows (of_board fault)
+board_refused book rows board.Memory is = inl (inl refl)
+board_refused book rows fault is = inr ((λ e. cc), is)
+
+-- ---- of the connection
+
+module _ (old mid : State) (text : List ℕ) (count : ℕ)
+    (counted : HasCleanDisk mid → (leaves : List Leaf) → Holds old leaves → Shows mid leaves × (count ≡ length leaves)) where
+  pub counted_pages : HasCleanDisk mid → (book : Book) → HoldsBook old book → ShowsBook mid book × (count ≡ length book)
+  counted_pages clean book holds =
+      let (shows, is) = counted clean (leaves_of book) holds.1 in ((holds.0, shows), is ∙ length-leaves_of book)
+
+  pub book_full : level_limit ≤ count → Keeps old mid (λ book. IsOutside BookFull ⊎ IsFull book BookFull)
+  book_full full clean book holds =
+      let (shows, is) = counted_pages clean book holds in (inr (refl, omega (arith, full, is)), held mid book shows)
+
+  module _ (new : State) (early : HasCleanDisk new → HasCleanDisk mid) (title : Option (List ℕ)) (room : count < level_limit) where
+    -- the leaves with that of a new page
+    abbrev pub with_leaf : List Leaf → List Leaf
+    with_leaf leaves = leaves ++ new_leaf text title ∷ []
+
+    pub page_added : (HasCleanDisk new → (leaves : List Leaf) → Holds mid leaves → count + 1 ≡ 1 + length leaves → Holds new (with_leaf leaves))
+        → AddsPage old new text title (pos (count + 1))
+    page_added done clean book page holds new_is =
+        let (shows, is) = counted_pages (early clean) book holds in
+        let space : length book < level_limit = omega (arith, room, is) in
+        let place = length-leaves_of book in
+        let after = done clean (leaves_of book) (λ _. shows.1) (omega (arith, is, place)) in (
+          ap (λ n. pos (n + 1)) is,
+          space,
+          (pushed_kept book text title page new_is holds.0 space, subst (Holds new) (pushed_leaves book text title page new_is holds.0 space) after),
+        )
+
+    pub page_failed : (fault : BookFault) → IsOutside fault → (HasCleanDisk new → (leaves : List Leaf) → Holds mid leaves → Holds new leaves)
+        → Keeps old new (λ book. IsOutside fault ⊎ IsFull book fault)
+    page_failed fault outside kept clean book holds =
+        let (shows, is) = counted_pages (early clean) book holds in (inl outside, (holds.0, kept clean (leaves_of book) (λ _. shows.1)))
+
+    pub page_stops : Rests old mid
+        → Survives mid new (λ db. (leaves : List Leaf) → Shows mid leaves → count + 1 ≡ 1 + length leaves → HasLeaves db (with_leaf leaves))
+        → StopsAdding old new text title
+    page_stops rests two = survives_then old mid new _ _ _
+        (λ _ db none book page shows new_is. absurd (none (leaves_of book) shows.1))
+        (λ clean db has book page shows_old new_is.
+        let (shows, is) = counted_pages (early clean) book (held old book shows_old) in
+        let space : length book < level_limit = omega (arith, room, is) in
+        let place = length-leaves_of book in
+        let after = has (leaves_of book) shows.1 (omega (arith, is, place)) in (
+          space,
+          (
+            pushed_kept book text title page new_is shows_old.0 space,
+            subst (HasLeaves db) (pushed_leaves book text title page new_is shows_old.0 space) after,
+          ),
+        ))
+        rests.stop two
+
+-- no page is added
+pub page_rests : (old new : State) (text : List ℕ) (title : Option (List ℕ)) → Rests old new → StopsAdding old new text title
+page_rests old new text title rests =
+    survives_weaker old new _ _ (λ _ db none book page shows new_is. absurd (none (leaves_of book) shows.1)) rests.stop
+
+-- ---- a level that may be there
+
+module _ (old mid : State) (rows : Rows) (text : List ℕ) (text_is : text ≡ level_text rows) (level : IsLevel rows) where
+  pub is_there : (id : ℕ) (title : Option (List ℕ))
+      → (HasCleanDisk mid → (leaves : List Leaf) → Holds old leaves → Shows mid leaves × (Some id ≡ slice_get (ids_with text 1 leaves) 0))
+      → Turns old mid (λ book after. Adds book rows title id after)
+  is_there id title found clean book holds =
+      let (shows, is) = found clean (leaves_of book) holds.1 in
+      let at = subst (λ t. slice_get (ids_with t 1 (leaves_of book)) 0 ≡ Some id) text_is (sym is) in
+      (book, is_known (stands_found book rows id holds.0 level at) refl, (holds.0, λ _. shows))
+
+  module _ (title : Option (List ℕ)) (accepted : IsAcceptable rows)
+      (found : HasCleanDisk mid → (leaves : List Leaf) → Holds old leaves → Shows mid leaves × (None ≡ slice_get (ids_with text 1 leaves) 0)) where
+    not_there : HasCleanDisk mid → (book : Book) → HoldsBook old book → ShowsBook mid book × IsUnknown book rows
+    not_there clean book holds =
+        let (shows, is) = found clean (leaves_of book) holds.1 in
+        let none = subst (λ t. slice_get (ids_with t 1 (leaves_of book)) 0 ≡ None) text_is (sym is) in
+        ((holds.0, shows), unknown_unfound book rows none)
+
+    abbrev pub added_page : Page
+    added_page = new_page rows (title_kept title)
+
+    page_is : (book : Book) → IsUnknown book rows → IsNewPage book text (title_kept title) added_page
+    page_is book unknown = new_page_is book rows text title text_is level accepted unknown
+
+    module _ (new : State) (early : HasCleanDisk new → HasCleanDisk mid) where
+      pub level_added : (result : Result ℤ BookFault) → IfOk result (AddsPage mid new text (title_kept title))
+          → IfOk result (λ id. Turns old new (λ book after. Adds book rows (title_kept title) (id_number id) after))
+      level_added (Ok id) added = λ clean book holds.
+          let (shows, unknown) = not_there (early clean) book holds in
+          let (id_is, room, after) = added clean book added_page (held mid book shows) (page_is book unknown) in
+          (book ++ added_page ∷ [], is_new unknown room (ap id_number id_is) refl, after)
+      level_added (Err fault) added = tt
+
+      pub level_refused : (result : Result ℤ BookFault) → IfErr result (λ fault. Keeps mid new (λ book. IsOutside fault ⊎ IsFull book fault))
+          → IfErr result (λ fault. Keeps old new (λ book. IsOutside fault ⊎ IsNotAdded book rows fault))
+      level_refused (Ok id) refused = tt
+      level_refused (Err fault) refused = λ clean book holds.
+          let (shows, unknown) = not_there (early clean) book holds in
+          let (why, after) = refused clean book (held mid book shows) in
+          let cause : IsOutside fault ⊎ IsNotAdded book rows fault = elim why [
+            | inl outside ↦ inl outside
+            | inr full ↦ inr (subst (IsNotAdded book rows) (sym full.0) (accepted, unknown, full.1))
+          ] in
+          (cause, after)
+
+      pub level_stops : Rests old mid → StopsAdding mid new text (title_kept title)
+          → Stops old new (λ book after. (id : ℕ) × Adds book rows (title_kept title) id after)
+      level_stops rests two =
+          stops_later old mid new (λ book after. (id : ℕ) × Adds book rows (title_kept title) id after) (rests_stops old mid rests MakesNone) _
+          (λ clean db has book shows_old.
+          let (shows, unknown) = not_there (early clean) book (held old book shows_old) in
+          let (room, after) = has book added_page shows (page_is book unknown) in
+          (book ++ added_page ∷ [], (length book + 1, is_new unknown room refl refl), after))
+          two

@@ -1,0 +1,58 @@
+-- Calls that leave a book as it was, and calls one after another.
+use Rattle.std.proofs.Common.{◌⊎◌, refl, inl, arith}
+use Rattle.std.specs.Prelude.{⊤}
+use Rattle.sqlite.specs.Tree.{Trees}
+use Rattle.sqlite.specs.State.{State, HasCleanDisk, Survives}
+use Rattle.sqlite.proofs.StateLemmas.{survives_weaker, survives_then}
+use Rattle.sok_book.specs.Books.{Book}
+use Rattle.sok_sql.specs.Connections.{Rests}
+use Rattle.sok_book.specs.declared.fault.BookFault.{BookFault}
+use Rattle.sok_row.specs.Faults.{IsOutside}
+use Rattle.sok_row.specs.Kept.{HasBook, HoldsBook, ShowsBook, leaves_of}
+use Rattle.sok_store.specs.Calls.{Keeps, MakesNone, Stops}
+use Rattle.sok_store.specs.Entries.{Finds}
+
+-- what is shown is held
+pub held : (s : State) (book : Book) → ShowsBook s book → HoldsBook s book
+held s book shows = (shows.0, λ _. shows.1)
+
+pub finds_keeps : (old new : State) (P : Book → Type 0) → Finds old new P → Keeps old new P
+finds_keeps old new P finds clean book holds = let (is, shows) = finds clean book holds in (is, held new book shows)
+
+-- nothing is done
+pub stops_same : (s : State) (Makes : Book → Book → Type 0) → Stops s s Makes
+stops_same s Makes = record {
+  clean = omega arith;
+  shield = λ h. h;
+  counts = omega arith;
+  limit = refl;
+  closes = λ _ up. inl up;
+  crash = λ _ _ left. inl left;
+}
+
+-- rows are read
+module _ (old new : State) (rests : Rests old new) where
+  pub rests_holds : HasCleanDisk new → (book : Book) → HoldsBook old book → HoldsBook new book
+  rests_holds clean book holds = (holds.0, rests.kept clean (leaves_of book) holds.1)
+
+  pub rests_stops : (Makes : Book → Book → Type 0) → Stops old new Makes
+  rests_stops Makes = survives_weaker old new _ _ (λ _ db none book shows. absurd (none (leaves_of book) shows.1)) rests.stop
+
+-- a call that makes no other book
+pub stops_none : (old new : State) (Makes : Book → Book → Type 0) → Stops old new MakesNone → Stops old new Makes
+stops_none old new Makes one =
+    survives_weaker old new _ _ (λ _ db made book shows. let (after, none, has) = made book shows in absurd none) one
+
+-- and then one that may
+pub stops_later : (a b c : State) (Makes : Book → Book → Type 0) → Stops a b MakesNone → (Commits : Trees → Type 0)
+    → (HasCleanDisk c → (db : Trees) → Commits db → (book : Book) → ShowsBook a book → (after : Book) × Makes book after × HasBook db after)
+    → Survives b c Commits → Stops a c Makes
+stops_later a b c Makes one Commits two_makes two =
+    survives_then a b c _ _ _ (λ _ db made book shows. let (after, none, has) = made book shows in absurd none) two_makes one two
+
+-- what fails after a page was found leaves the book
+pub fails_later : (old mid new : State) (Is P : Book → Type 0) (fault : BookFault) → Finds old mid Is → (HasCleanDisk new → HasCleanDisk mid)
+    → Keeps mid new (λ _. ⊤) → IsOutside fault → Keeps old new (λ book. IsOutside fault ⊎ P book)
+fails_later old mid new Is P fault finds early kept outside clean book holds =
+    let (is, shows) = finds (early clean) book holds in
+    (inl outside, (kept clean book (held mid book shows)).1)

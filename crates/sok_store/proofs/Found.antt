@@ -1,0 +1,134 @@
+-- The row with an id in the table of a book is that of the page with this id.
+use Rattle.std.proofs.Common.{◌≡◌, ◌≢◌, ◌⊎◌, inl, inr, refl, sym, ap, subst, ◌∙◌, ℕ, zero, suc, ◌+◌, ◌-◌, ◌<◌, Option, Some, None, arith}
+use Rattle.std.proofs.Common.{List, Result, Ok, Err, IfErr, IfOk, IsNone, IsSomeAnd, option_map, slice_get}
+use Rattle.std.proofs.lemmas.Option.{none-some, same_Some}
+use Rattle.sqlite.specs.Order.{Row, column}
+use Rattle.sqlite.specs.State.{State, HasCleanDisk}
+use Rattle.sok_book.specs.declared.fault.BookFault.{BookFault}
+use Rattle.sok_book.specs.declared.fault.BookFault.TheVariants.{BadBook, Memory, NoLevel}
+use Rattle.sok_book.specs.Books.{Book, Page, page_at}
+use Rattle.sok_page.specs.declared.record.Record.{Record}
+use Rattle.sok_page.specs.Kept.{IsKeptPage}
+use Rattle.sok_sql.specs.Connections.{Holds, Shows}
+use Rattle.sok_sql.specs.Leaves.{Leaf, shown}
+use Rattle.sok_row.specs.Faults.{IsOutside}
+use Rattle.sok_row.specs.Kept.{HoldsBook, IsKeptBook, ShowsBook, leaf_of, leaves_of}
+use Rattle.sok_row.specs.Opening.{id_or_place}
+use Rattle.sok_row.specs.Told.{IsRecordOf}
+use Rattle.sok_row.proofs.Books.{slice_get-leaves_of}
+use Rattle.sok_row.proofs.Pages.{one_page}
+use Rattle.sok_store.specs.Calls.{Keeps}
+use Rattle.sok_store.specs.Entries.{Finds}
+use Rattle.sok_store.proofs.Calls.{finds_keeps, held}
+
+-- ---- pages by their ids
+
+pub one_less : (n : ℕ) → suc n - 1 ≡ n
+one_less n = omega arith
+
+-- a page that is there, with what is true of it
+pub some_of : (o : Option Page) (P : Page → Type 0) → IsSomeAnd o P → (page : Page) × (o ≡ Some page) × P page
+some_of None P is = absurd is
+some_of (Some page) P is = (page, refl, is)
+
+pub some_and : (o : Option Page) (P : Page → Type 0) (page : Page) → o ≡ Some page → P page → IsSomeAnd o P
+some_and o P page at is = subst (λ (x : Option Page). IsSomeAnd x P) (sym at) is
+
+pub kept_at : (book : Book) (id : ℕ) (page : Page) → IsKeptBook book → page_at book id ≡ Some page → IsKeptPage page
+kept_at book zero page kept at = absurd (none-some page at)
+kept_at book (suc n) page kept at = kept.pages n page at
+
+-- ---- the row with an id
+
+-- the row is that of the page with this id
+pub record IsRowAt (book : Book) (id : ℕ) (row : Row) : Type 0 where
+  pub page : Page
+  pub at : page_at book id ≡ Some page
+  pub kept : IsKeptPage page
+  pub row_is : row ≡ shown id (leaf_of page)
+
+shown_of : (id : ℕ) (row : Row) (o : Option Page) → Some row ≡ option_map (shown id) (option_map leaf_of o)
+    → (page : Page) × (o ≡ Some page) × (row ≡ shown id (leaf_of page))
+shown_of id row None is = absurd (none-some row (sym is))
+shown_of id row (Some page) is = (page, refl, same_Some row (shown id (leaf_of page)) is)
+
+none_of : (id : ℕ) (o : Option Page) → None ≡ option_map (shown id) (option_map leaf_of o) → o ≡ None
+none_of id None is = refl
+none_of id (Some page) is = absurd (none-some (shown id (leaf_of page)) is)
+
+pub row_found : (book : Book) (id : ℕ) (row : Row) → IsKeptBook book → 0 < id
+    → ((n : ℕ) → id ≡ 1 + n → Some row ≡ option_map (shown id) (slice_get (leaves_of book) n)) → IsRowAt book id row
+row_found book zero row kept low is = absurd (omega (arith, low))
+row_found book (suc n) row kept low is =
+    let here = is n (omega arith) ∙ ap (option_map (shown (suc n))) (slice_get-leaves_of book n) in
+    let (page, at, row_is) = shown_of (suc n) row (slice_get book n) here in
+    record { page = page; at = at; kept = kept.pages n page at; row_is = row_is }
+
+pub row_missing : (book : Book) (id : ℕ) → ((n : ℕ) → id ≡ 1 + n → None ≡ option_map (shown id) (slice_get (leaves_of book) n))
+    → IsNone (page_at book id)
+row_missing book zero is = refl
+row_missing book (suc n) is =
+    let here = is n (omega arith) ∙ ap (option_map (shown (suc n))) (slice_get-leaves_of book n) in
+    subst (λ (o : Option Page). IsNone o) (sym (none_of (suc n) (slice_get book n) here)) refl
+
+-- a page of the row is the page with the id
+pub same_page : (book : Book) (id : ℕ) (row : Row) (at : IsRowAt book id row) (page : Page) → IsKeptPage page → row ≡ shown id (leaf_of page) → page ≡ at.page
+same_page book id row at page kept is = one_page id id page at.page kept at.kept (sym is ∙ at.row_is)
+
+pub record_read : (book : Book) (id : ℕ) (row : Row) → IsRowAt book id row → (kept : Record)
+    → (page : Page) × IsKeptPage page × (row ≡ shown id (leaf_of page)) × IsRecordOf id page kept
+    → IsSomeAnd (page_at book id) (λ page. IsRecordOf id page kept)
+record_read book id row at kept (page, of, is, told) =
+    some_and (page_at book id) (λ p. IsRecordOf id p kept) at.page at.at (subst (λ p. IsRecordOf id p kept) (same_page book id row at page of is) told)
+
+-- and so no row of a book is a bad one
+pub record_refused : (book : Book) (id : ℕ) (row : Row) → IsRowAt book id row → (fault : BookFault)
+    → (fault ≡ Memory) ⊎ ((fault ≡ BadBook (id_or_place id (column row 0))) × ((page : Page) → IsKeptPage page → row ≢ shown id (leaf_of page)))
+    → IsOutside fault
+record_refused book id row at fault (inl memory) = inl memory
+record_refused book id row at fault (inr bad) = absurd (bad.1 at.page at.kept at.row_is)
+
+-- ---- what is answered of it
+
+module _ (old new : State) (id : ℕ) (low : 0 < id) where
+  before : id ≡ 1 + (id - 1)
+  before = omega (arith, low)
+
+  module _ (row : Row) (shows : HasCleanDisk new → (leaves : List Leaf) (place : ℕ) → Holds old leaves → id ≡ 1 + place
+      → Shows new leaves × (Some row ≡ option_map (shown id) (slice_get leaves place))) where
+    row_in : HasCleanDisk new → (book : Book) → HoldsBook old book → IsRowAt book id row × ShowsBook new book
+    row_in clean book holds = (
+      row_found book id row holds.0 low (λ n is. (shows clean (leaves_of book) n holds.1 is).1),
+      (holds.0, (shows clean (leaves_of book) (id - 1) holds.1 before).0),
+    )
+
+    pub record_found : (result : Result Record BookFault)
+        → IfOk result (λ kept. (page : Page) × IsKeptPage page × (row ≡ shown id (leaf_of page)) × IsRecordOf id page kept)
+        → IfOk result (λ kept. Finds old new (λ book. IsSomeAnd (page_at book id) (λ page. IsRecordOf id page kept)))
+    record_found (Ok kept) read = λ clean book holds.
+        let (at, shows_book) = row_in clean book holds in (record_read book id row at kept read, shows_book)
+    record_found (Err fault) read = tt
+
+    pub record_unfound : (result : Result Record BookFault)
+        → IfErr result (λ fault. (fault ≡ Memory)
+        ⊎ ((fault ≡ BadBook (id_or_place id (column row 0))) × ((page : Page) → IsKeptPage page → row ≢ shown id (leaf_of page))))
+        → IfErr result (λ fault. Keeps old new (λ book. IsOutside fault ⊎ ((fault ≡ NoLevel) × IsNone (page_at book id))))
+    record_unfound (Ok kept) broken = tt
+    record_unfound (Err fault) broken = λ clean book holds.
+        let (at, shows_book) = row_in clean book holds in (inl (record_refused book id row at fault broken), held new book shows_book)
+
+  pub record_missing : (HasCleanDisk new → (leaves : List Leaf) (place : ℕ) → Holds old leaves → id ≡ 1 + place
+      → Shows new leaves × (None ≡ option_map (shown id) (slice_get leaves place)))
+      → Keeps old new (λ book. IsOutside NoLevel ⊎ ((NoLevel ≡ NoLevel) × IsNone (page_at book id)))
+  record_missing shows clean book holds = (
+    inr (refl, row_missing book id (λ n is. (shows clean (leaves_of book) n holds.1 is).1)),
+    (holds.0, λ _. (shows clean (leaves_of book) (id - 1) holds.1 before).0),
+  )
+
+-- the same under an id that is another number
+pub record_found_at : (old new : State) (n id : ℕ) → n ≡ id → (result : Result Record BookFault)
+    → IfOk result (λ kept. Finds old new (λ book. IsSomeAnd (page_at book n) (λ page. IsRecordOf n page kept)))
+    → IfOk result (λ kept. Keeps old new (λ book. IsSomeAnd (page_at book id) (λ page. IsRecordOf id page kept)))
+record_found_at old new n id same (Ok kept) found =
+    subst (λ k. Keeps old new (λ book. IsSomeAnd (page_at book k) (λ page. IsRecordOf k page kept))) same (finds_keeps old new _ found)
+record_found_at old new n id same (Err fault) found = tt

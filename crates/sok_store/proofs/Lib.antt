@@ -1,0 +1,10 @@
+pub mod Added
+pub mod Calls
+pub mod Found
+pub mod Known
+pub mod Offered
+pub mod Opened
+pub mod Proved
+pub mod Refusing
+pub mod Setting
+pub mod Wide

@@ -1,0 +1,43 @@
+-- Why a solution is not kept, or a verdict is not proved, on the page with an id.
+use Rattle.std.proofs.Common.{◌≡◌, ◌⊎◌, inl, inr, sym, subst, ℕ, List, Option, Some, IsNone}
+use Rattle.sok_rules.specs.declared.cell.Dir.{Dir}
+use Rattle.sok_cert.specs.Claim.{Claim}
+use Rattle.sok_cert.specs.Claim.TheVariants as claim
+use Rattle.sok_book.specs.declared.fault.BookFault.{BookFault}
+use Rattle.sok_book.specs.declared.fault.BookFault.TheVariants.{Blocked, NotSolved, TooLong, NoLevel}
+use Rattle.sok_book.specs.Books.{Book, Page, page_at}
+use Rattle.sok_book.specs.Commands.{best_pushes}
+use Rattle.sok_book.specs.Refusals.{Differs, IsNoSolution, IsNotOffered, IsNotProved, IsUnproved}
+use Rattle.sok_row.specs.Faults.{IsOutside}
+use Rattle.sok_store.proofs.Found.{some_and}
+
+pub not_offered : (book : Book) (id : ℕ) (page : Page) (letters : List Dir) (fault : BookFault) → page_at book id ≡ Some page
+    → IsNoSolution page.level letters fault → IsNotOffered book id letters fault
+not_offered book id page letters TooLong at is = some_and (page_at book id) (λ p. IsNoSolution p.level letters TooLong) page at is
+not_offered book id page letters (Blocked n) at is = some_and (page_at book id) (λ p. IsNoSolution p.level letters (Blocked n)) page at is
+not_offered book id page letters NotSolved at is = some_and (page_at book id) (λ p. IsNoSolution p.level letters NotSolved) page at is
+not_offered book id page letters fault at is = absurd is
+
+never : (shown : Claim) (best : Option ℕ) → Differs shown best NoLevel → ⊥
+never (claim.Pushes k) best differs = differs
+never claim.Unsolvable best differs = differs
+
+no_level : (page : Page) (bytes : List ℕ) → IsUnproved page bytes NoLevel → ⊥
+no_level page bytes (b, rows, accepted, none) = let (shown, entries, spells, differs) = none in never shown (best_pushes page) differs
+
+pub not_proved : (book : Book) (id : ℕ) (page : Page) (bytes : List ℕ) (fault : BookFault) → page_at book id ≡ Some page
+    → IsUnproved page bytes fault → IsNotProved book id bytes fault
+not_proved book id page bytes NoLevel at is = absurd (no_level page bytes is)
+not_proved book id page bytes fault at is = some_and (page_at book id) (λ p. IsUnproved p bytes fault) page at is
+
+-- ---- there is no page with the id
+
+pub none_offered : (book : Book) (id : ℕ) (letters : List Dir) (fault : BookFault) → IsOutside fault ⊎ ((fault ≡ NoLevel) × IsNone (page_at book id))
+    → IsOutside fault ⊎ IsNotOffered book id letters fault
+none_offered book id letters fault (inl outside) = inl outside
+none_offered book id letters fault (inr missing) = inr (subst (IsNotOffered book id letters) (sym missing.0) missing.1)
+
+pub none_proved : (book : Book) (id : ℕ) (bytes : List ℕ) (fault : BookFault) → IsOutside fault ⊎ ((fault ≡ NoLevel) × IsNone (page_at book id))
+    → IsOutside fault ⊎ IsNotProved book id bytes fault
+none_proved book id bytes fault (inl outside) = inl outside
+none_proved book id bytes fault (inr missing) = inr (subst (IsNotProved book id bytes) (sym missing.0) missing.1)

@@ -1,0 +1,103 @@
+-- Another page of the same level in the place of one.
+use Rattle.std.proofs.Common.{◌≡◌, refl, sym, ap, subst, ◌∙◌, ℕ, zero, suc, ◌+◌, ◌-◌, List, [], ◌∷◌, Some, arith}
+use Rattle.std.proofs.Common.{option_map, slice_get}
+use Rattle.std.specs.List.{slice_set}
+use Rattle.std.proofs.lemmas.Option.{none-some, same_Some}
+use Rattle.sqlite.specs.State.{State, HasCleanDisk, Survives}
+use Rattle.sqlite.proofs.StateLemmas.{survives_weaker}
+use Rattle.sok_book.specs.declared.record.Verdict.{Verdict}
+use Rattle.sok_book.specs.Books.{Book, Page, page_at}
+use Rattle.sok_book.specs.Commands.{with_page}
+use Rattle.sok_page.specs.declared.record.Best.{Best}
+use Rattle.sok_page.specs.Kept.{IsKeptPage}
+use Rattle.sok_page.specs.Rows.{verdict_number}
+use Rattle.sok_page.specs.Texts.{SolutionText, best_text}
+use Rattle.sok_sql.specs.Connections.{Holds, Shows}
+use Rattle.sok_sql.specs.Leaves.{Leaf, HasLeaves, with_best, with_verdict}
+use Rattle.sok_row.specs.Kept.{IsKeptBook, leaf_of, leaves_of}
+use Rattle.sok_row.proofs.Changes.{IsKeptPage-solved, solved}
+use Rattle.sok_row.proofs.Books.{IsKeptBook-set, leaves_of-set, slice_get-leaves_of}
+use Rattle.sok_store.specs.Entries.{HasBest, HasVerdict, Sets, StopsSetting}
+use Rattle.sok_store.proofs.Found.{kept_at, one_less}
+
+-- a page of the same level that may be kept, whose leaf is made of the leaf of the one before
+pub record IsChanged (change : Leaf → Leaf) (page after : Page) : Type 0 where
+  pub level : after.level ≡ page.level
+  pub kept : IsKeptPage after
+  pub leaf : leaf_of after ≡ change (leaf_of page)
+
+-- ---- a solution, or a verdict
+
+pub best_changed : (best : Best) (page after : Page) → IsKeptPage page → HasBest best page after
+    → IsChanged (with_best (best_text best).lurd best.pushes best.moves) page after
+best_changed best page after kept has =
+    let change = with_best (best_text best).lurd best.pushes best.moves in
+    let leaf = ap (λ (t : SolutionText). with_best t.lurd t.pushes t.moves (leaf_of page)) (sym has.text) in
+    let changed : IsChanged change page (solved page has.solution) =
+    record { level = refl; kept = IsKeptPage-solved page has.solution kept has.kept; leaf = leaf } in
+    subst (IsChanged change page) (sym has.after_is) changed
+
+pub verdict_changed : (verdict : Verdict) (page after : Page) → HasVerdict verdict page after
+    → IsChanged (with_verdict (verdict_number verdict)) page after
+verdict_changed verdict page after has = record {
+  level = ap (λ (p : Page). p.level) has.after_is;
+  kept = has.kept;
+  leaf = ap leaf_of has.after_is;
+}
+
+-- ---- in the table
+
+-- the place of a page among the leaves, and what the change makes of them
+pub record IsAt (id : ℕ) (change : Leaf → Leaf) (book : Book) (page after : Page) (n : ℕ) : Type 0 where
+  pub id_is : id ≡ 1 + n
+  pub leaf_at : slice_get (leaves_of book) n ≡ Some (leaf_of page)
+  pub leaves : slice_set (leaves_of book) n (change (leaf_of page)) ≡ leaves_of (with_page book id after)
+  pub keeps : IsKeptBook (with_page book id after)
+
+is_at : (id : ℕ) (change : Leaf → Leaf) (book : Book) (page after : Page) → IsKeptBook book → page_at book id ≡ Some page → IsChanged change page after
+    → (n : ℕ) × IsAt id change book page after n
+is_at zero change book page after kept at changed = absurd (none-some page at)
+is_at (suc n) change book page after kept at changed =
+    let place : n ≡ suc n - 1 = sym (one_less n) in
+    let leaves = ap (slice_set (leaves_of book) n) (sym changed.leaf) ∙ sym (leaves_of-set book n after) in (
+      n,
+      record {
+        id_is = omega arith;
+        leaf_at = slice_get-leaves_of book n ∙ ap (option_map leaf_of) at;
+        leaves = leaves ∙ ap (λ m. leaves_of (slice_set book m after)) place;
+        keeps = subst (λ m. IsKeptBook (slice_set book m after)) place (IsKeptBook-set book n page after kept at changed.level changed.kept);
+      },
+    )
+
+-- what a statement makes of the leaf with an id
+abbrev pub SetsLeaf : (List Leaf → Type 0) → (List Leaf → Type 0) → ℕ → (Leaf → Leaf) → Type 0
+SetsLeaf Before After id change =
+    (leaves : List Leaf) (place : ℕ) (leaf : Leaf) → Before leaves → id ≡ 1 + place → slice_get leaves place ≡ Some leaf
+    → After (slice_set leaves place (change leaf))
+
+module _ (old new : State) (id : ℕ) (change : Leaf → Leaf) (Makes : Page → Page → Type 0)
+    (makes : (page after : Page) → IsKeptPage page → Makes page after → IsChanged change page after) where
+  place_of : (book : Book) (page after : Page) → IsKeptBook book → page_at book id ≡ Some page → Makes page after
+      → (n : ℕ) × IsAt id change book page after n
+  place_of book page after kept at made = is_at id change book page after kept at (makes page after (kept_at book id page kept at) made)
+
+  pub sets : (HasCleanDisk new → SetsLeaf (Holds old) (Holds new) id change) → Sets old new id Makes
+  sets done clean book page after holds at made =
+      let (n, place) = place_of book page after holds.0 at made in
+      (place.keeps, subst (Holds new) place.leaves (done clean (leaves_of book) n (leaf_of page) holds.1 place.id_is place.leaf_at))
+
+  pub stops_setting : Survives old new (λ db. SetsLeaf (Shows old) (HasLeaves db) id change) → StopsSetting old new id Makes
+  stops_setting one = survives_weaker old new _ _ (λ _ db done book page after shows at made.
+      let (n, place) = place_of book page after shows.0 at made in
+      (place.keeps, subst (HasLeaves db) place.leaves (done (leaves_of book) n (leaf_of page) shows.1 place.id_is place.leaf_at))) one
+
+-- ---- the same page
+
+set_same : {X : Type 0} (xs : List X) (n : ℕ) (x : X) → slice_get xs n ≡ Some x → slice_set xs n x ≡ xs
+set_same [] n x at = refl
+set_same (y ∷ ys) zero x at = ap (λ z. z ∷ ys) (sym (same_Some y x at))
+set_same (y ∷ ys) (suc n) x at = ap (λ l. y ∷ l) (set_same ys n x at)
+
+pub with_same_page : (book : Book) (id : ℕ) (page : Page) → page_at book id ≡ Some page → with_page book id page ≡ book
+with_same_page book zero page at = absurd (none-some page at)
+with_same_page book (suc n) page at = ap (λ m. slice_set book m page) (one_less n) ∙ set_same book n page at

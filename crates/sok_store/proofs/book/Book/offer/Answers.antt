@@ -1,0 +1,12 @@
+use Rattle.std.proofs.Common.{w64}
+use Rattle.std.proofs.lemmas.Int.{to_z-of_z}
+use Rattle.sok_store.proofs.book.Book.offer.Goals as goal
+
+pub returns-clause-offered : goal.returns-clause-offered
+returns-clause-offered g c = rw (← c.self.view_is) (rw (to_z-of_z w64 c.args.id c.ranges.id) at c.offer_to.ensures.offered)
+
+pub returns-clause-refused : goal.returns-clause-refused
+returns-clause-refused g c = rw (← c.self.view_is) (rw (to_z-of_z w64 c.args.id c.ranges.id) at c.offer_to.ensures.refused)
+
+pub returns-clause-stop : goal.returns-clause-stop
+returns-clause-stop g c = rw (← c.self.view_is) (rw (to_z-of_z w64 c.args.id c.ranges.id) at c.offer_to.ensures.stop)

@@ -1,0 +1,23 @@
+use Rattle.std.proofs.Common.{sym, ◌∙◌, subst, inl, inr}
+use Rattle.sok_row.specs.Faults.{IsOutside}
+use Rattle.sok_row.specs.Told.{AreRecordsOf}
+use Rattle.sok_row.specs.Kept.{leaves_of}
+use Rattle.sok_row.proofs.Laws.{bad-rows-have-no-book, rows-have-one-book}
+use Rattle.sok_store.proofs.listing.records_in.Goals as goal
+
+pub returns-in-Ok-records_of-clause-listed : goal.returns-in-Ok-records_of-clause-listed
+returns-in-Ok-records_of-clause-listed g c clean book holds =
+    let (shows, rows) = c.in-Ok.ensures.rows clean (leaves_of book) holds.1 in
+    let (other, kept, are, records) = c.in-Ok-records_of.ensures.read in
+    let same = rows-have-one-book c.in-Ok.rows.items other book (record { kept = kept; rows_are = sym c.deref.ensures.value ∙ are })
+    (record { kept = holds.0; rows_are = rows }) in
+    (subst (λ b. AreRecordsOf b c.in-Ok-records_of.records.items) same records, (holds.0, λ _. shows))
+
+pub returns-in-Ok-clause-refused : goal.returns-in-Ok-clause-refused
+returns-in-Ok-clause-refused g c clean book holds =
+    let (shows, rows) = c.in-Ok.ensures.rows clean (leaves_of book) holds.1 in
+    let outside : IsOutside c.in-Err-records_of.fault = elim c.in-Err-records_of.ensures.broken [
+      | inl memory ↦ inl memory
+      | inr (id, named, first) ↦ absurd (bad-rows-have-no-book _ id book first (record { kept = holds.0; rows_are = c.deref.ensures.value ∙ rows }))
+    ] in
+    (outside, (holds.0, λ _. shows))

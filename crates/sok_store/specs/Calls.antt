@@ -1,0 +1,32 @@
+-- What a call makes of the book that a connection holds.
+use Rattle.std.specs.Prelude.{ℕ, ℤ, pos, negsuc, List, Option, Some, None}
+use Rattle.sqlite.specs.State.{State, HasCleanDisk, Survives}
+use Rattle.sok_book.specs.Books.{Book}
+use Rattle.sok_page.specs.Titles.{kept_title}
+use Rattle.sok_row.specs.Kept.{HasBook, HoldsBook, ShowsBook}
+
+-- an id as a number: 0, which is the id of no page, where it is negative
+abbrev pub id_number : ℤ → ℕ
+id_number (pos n) = n
+id_number (negsuc n) = 0
+
+-- the title that is kept, if one is given
+abbrev pub title_kept : Option (List ℕ) → Option (List ℕ)
+title_kept None = None
+title_kept (Some title) = kept_title title
+
+-- the connection holds the book that it held before, and of it this is true
+abbrev pub Keeps : State → State → (Book → Type 0) → Type 0
+Keeps old new P = HasCleanDisk new → (book : Book) → HoldsBook old book → P book × HoldsBook new book
+
+-- the connection holds a book that is made so of the one that it held before
+abbrev pub Turns : State → State → (Book → Book → Type 0) → Type 0
+Turns old new Makes = HasCleanDisk new → (book : Book) → HoldsBook old book → (after : Book) × Makes book after × HoldsBook new after
+
+-- a stop in the middle of the call leaves the book before it, or one that is made so of it
+abbrev pub Stops : State → State → (Book → Book → Type 0) → Type 0
+Stops old new Makes = Survives old new (λ db. (book : Book) → ShowsBook old book → (after : Book) × Makes book after × HasBook db after)
+
+-- no other book is made
+abbrev pub MakesNone : Book → Book → Type 0
+MakesNone book after = ⊥

@@ -1,0 +1,68 @@
+-- What is read of a page for a command, and what a command writes of it.
+use Rattle.std.specs.Prelude.{ℕ, ℤ, pos, ◌≡◌, ◌+◌, ◌<◌, ◌≤◌, List, [], ◌∷◌, ◌++◌, Option, Some, length}
+use Rattle.sqlite.specs.State.{State, HasCleanDisk, Survives}
+use Rattle.sok_book.specs.declared.fault.BookFault.{BookFault}
+use Rattle.sok_book.specs.declared.fault.BookFault.TheVariants.{BookFull}
+use Rattle.sok_book.specs.declared.record.Verdict.{Verdict}
+use Rattle.sok_book.specs.declared.record.Verdict.TheVariants.{Untested}
+use Rattle.sok_book.specs.Books.{Book, Page, Solution, page_at}
+use Rattle.sok_book.specs.Commands.{IsUnknown, best_pushes, level_limit, with_page}
+use Rattle.sok_page.specs.declared.record.Best.{Best}
+use Rattle.sok_page.specs.Kept.{IsKeptPage, IsKeptSolution}
+use Rattle.sok_page.specs.Texts.{best_text, solution_text}
+use Rattle.sok_sql.specs.Leaves.{new_leaf}
+use Rattle.sok_row.specs.Kept.{HasBook, HoldsBook, ShowsBook, leaf_of}
+use Rattle.sok_store.specs.declared.entry.Entry.{Entry}
+
+-- the level of a page, and the pushes of its best solution
+pub record IsEntryOf (page : Page) (entry : Entry) : Type 0 where
+  pub level : entry.level ≡ page.level
+  pub best : entry.best ≡ best_pushes page
+
+-- the page with this solution, and no verdict
+pub record HasBest (best : Best) (page after : Page) : Type 0 where
+  pub solution : Solution
+  pub kept : IsKeptSolution page.level solution
+  pub text : best_text best ≡ solution_text page.level solution
+  pub after_is : after ≡ record page { best = Some solution; verdict = Untested }
+
+-- the page with this verdict
+pub record HasVerdict (verdict : Verdict) (page after : Page) : Type 0 where
+  pub kept : IsKeptPage after
+  pub after_is : after ≡ record page { verdict = verdict }
+
+-- the page at an id is replaced by one that is made so of it
+abbrev pub Sets : State → State → ℕ → (Page → Page → Type 0) → Type 0
+Sets old new id Makes =
+    HasCleanDisk new → (book : Book) (page after : Page) → HoldsBook old book → page_at book id ≡ Some page → Makes page after
+    → HoldsBook new (with_page book id after)
+
+-- a stop leaves the page, or puts the other one in its place
+abbrev pub StopsSetting : State → State → ℕ → (Page → Page → Type 0) → Type 0
+StopsSetting old new id Makes = Survives old new (λ db.
+    (book : Book) (page after : Page) → ShowsBook old book → page_at book id ≡ Some page → Makes page after → HasBook db (with_page book id after))
+
+-- a page that may be added with this text and this title
+pub record IsNewPage (book : Book) (text : List ℕ) (title : Option (List ℕ)) (page : Page) : Type 0 where
+  pub leaf : leaf_of page ≡ new_leaf text title
+  pub kept : IsKeptPage page
+  pub unknown : IsUnknown book page.level
+
+-- the connection is open and shows the book that it held before, and of it this is true
+abbrev pub Finds : State → State → (Book → Type 0) → Type 0
+Finds old new P = HasCleanDisk new → (book : Book) → HoldsBook old book → P book × ShowsBook new book
+
+-- the page is added, and its id is answered
+abbrev pub AddsPage : State → State → List ℕ → Option (List ℕ) → ℤ → Type 0
+AddsPage old new text title id =
+    HasCleanDisk new → (book : Book) (page : Page) → HoldsBook old book → IsNewPage book text title page
+    → (id ≡ pos (length book + 1)) × (length book < level_limit) × HoldsBook new (book ++ page ∷ [])
+
+-- a stop adds the page, or nothing
+abbrev pub StopsAdding : State → State → List ℕ → Option (List ℕ) → Type 0
+StopsAdding old new text title = Survives old new (λ db.
+    (book : Book) (page : Page) → ShowsBook old book → IsNewPage book text title page
+    → (length book < level_limit) × HasBook db (book ++ page ∷ []))
+
+abbrev pub IsFull : Book → BookFault → Type 0
+IsFull book fault = (fault ≡ BookFull) × (level_limit ≤ length book)

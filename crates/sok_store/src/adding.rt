@@ -1,0 +1,131 @@
+//! A level is added.
+
+ghost use Rattle.std.specs.Prelude.{◌≡◌, ◌⊎◌, IfErr, IfOk, OnOk, option_map};
+ghost use Rattle.sqlite.specs.Held.{state};
+ghost use Rattle.sok_board.specs.Refusals.{IsAcceptable};
+ghost use Rattle.sok_book.specs.Books.{Book};
+ghost use Rattle.sok_book.specs.Commands.{Adds};
+ghost use Rattle.sok_book.specs.Refusals.{IsNotAdded};
+ghost use Rattle.sok_row.specs.Faults.{IsOutside};
+ghost use Rattle.sok_store.specs.Calls.{Keeps, Stops, Turns, id_number, title_kept};
+
+use sok_board::board::Board;
+use sok_book::fault::BookFault;
+use sok_page::title::kept_title;
+use sok_page::writing::text_of;
+use sok_row::book::LEVEL_LIMIT;
+use sok_row::fault::fault_of;
+use sok_rules::level::Level;
+use sok_sql::reading::{count, find};
+use sok_sql::writing::insert;
+use sqlite::{Alter, Connection};
+use std::alloc::Global;
+
+/// Adds a level, or finds it, and answers its id.
+pub(crate) fn add_to<S: Alter>(
+    conn: &mut Connection<S>,
+    alloc: Global,
+    level: &Level,
+    title: Option<&[u8]>,
+) -> Result<i64, BookFault>
+    ensures accepted { OnOk result (IsAcceptable level.now) }
+    ensures added { IfOk result (λ id. Turns (state S.Store conn.old) (state S.Store conn.new)
+        (λ book after. Adds book level.now
+        (title_kept (option_map (λ bytes. bytes.now) title.entry)) (id_number id) after)) }
+    ensures refused { IfErr result (λ fault.
+        Keeps (state S.Store conn.old) (state S.Store conn.new)
+        (λ book. IsOutside fault ⊎ IsNotAdded book level.now fault)) }
+    ensures stop { Stops (state S.Store conn.old) (state S.Store conn.new)
+        (λ book after. (id : _) × Adds book level.now
+        (title_kept (option_map (λ bytes. bytes.now) title.entry)) id after) }
+{
+    match judge_level(alloc, level) {
+        Ok(()) => add_accepted(conn, alloc, level, title),
+        Err(fault) => Err(fault),
+    }
+}
+
+/// Whether a board can be made of a level.
+fn judge_level(alloc: Global, level: &Level) -> Result<(), BookFault>
+    ensures accepted { OnOk result (IsAcceptable level.now) }
+    ensures refused { IfErr result
+        (λ fault. (book : Book) → IsOutside fault ⊎ IsNotAdded book level.now fault) }
+{
+    match Board::new(alloc, level) {
+        Ok(_board) => Ok(()),
+        Err(fault) => Err(BookFault::from(fault)),
+    }
+}
+
+/// Adds a level of which a board can be made, or finds it, and answers its id.
+fn add_accepted<S: Alter>(
+    conn: &mut Connection<S>,
+    alloc: Global,
+    level: &Level,
+    title: Option<&[u8]>,
+) -> Result<i64, BookFault>
+    requires { IsAcceptable level.now }
+    ensures added { IfOk result (λ id. Turns (state S.Store conn.old) (state S.Store conn.new)
+        (λ book after. Adds book level.now
+        (title_kept (option_map (λ bytes. bytes.now) title.entry)) (id_number id) after)) }
+    ensures refused { IfErr result (λ fault.
+        Keeps (state S.Store conn.old) (state S.Store conn.new)
+        (λ book. IsOutside fault ⊎ IsNotAdded book level.now fault)) }
+    ensures stop { Stops (state S.Store conn.old) (state S.Store conn.new)
+        (λ book after. (id : _) × Adds book level.now
+        (title_kept (option_map (λ bytes. bytes.now) title.entry)) id after) }
+{
+    // A level tells with its rows that it is one.
+    let _rows = level.rows();
+    let printed = match text_of(alloc, level) {
+        Ok(printed) => printed,
+        Err(_) => return Err(BookFault::Memory),
+    };
+    let text = printed.as_str();
+    match find(conn, text) {
+        Ok(Some(id)) => Ok(i64::from(id)),
+        Ok(None) => add_new(conn, text, kept(title)),
+        Err(error) => Err(fault_of(error)),
+    }
+}
+
+ghost use Rattle.sok_store.specs.Entries.{AddsPage, IsFull, StopsAdding};
+
+/// Adds the page of a level that is not in the book.
+fn add_new<S: Alter>(
+    conn: &mut Connection<S>,
+    text: &str,
+    title: Option<&[u8]>,
+) -> Result<i64, BookFault>
+    ensures added { IfOk result (AddsPage (state S.Store conn.old) (state S.Store conn.new)
+        text.now (option_map (λ bytes. bytes.now) title.entry)) }
+    ensures refused { IfErr result (λ fault.
+        Keeps (state S.Store conn.old) (state S.Store conn.new)
+        (λ book. IsOutside fault ⊎ IsFull book fault)) }
+    ensures stop { StopsAdding (state S.Store conn.old) (state S.Store conn.new)
+        text.now (option_map (λ bytes. bytes.now) title.entry) }
+{
+    let count = match count(conn) {
+        Ok(count) => count,
+        Err(error) => return Err(fault_of(error)),
+    };
+    if count >= LEVEL_LIMIT {
+        return Err(BookFault::BookFull);
+    }
+    let id = count + 1;
+    match insert(conn, id, text, title) {
+        Ok(()) => Ok(i64::from(id)),
+        Err(error) => Err(fault_of(error)),
+    }
+}
+
+/// The title that is kept, if one is given.
+fn kept(title: Option<&[u8]>) -> Option<&[u8]>
+    ensures { option_map (λ bytes. bytes.now) result
+        ≡ title_kept (option_map (λ bytes. bytes.now) title.entry) }
+{
+    match title {
+        Some(title) => kept_title(title),
+        None => None,
+    }
+}

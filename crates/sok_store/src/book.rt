@@ -1,0 +1,182 @@
+//! A book over a connection to a database.
+
+ghost use Rattle.std.specs.Prelude.{◌≡◌, ◌⊎◌, false, IfErr, IfOk, IsNone, IsSomeAnd};
+ghost use Rattle.std.specs.Prelude.{OnOk, option_map};
+ghost use Rattle.sqlite.specs.Held.{state};
+ghost use Rattle.sqlite.specs.State.{HasCleanDisk};
+ghost use Rattle.sok_sql.specs.Connections.{IsKnown, IsSame};
+ghost use Rattle.sok_board.specs.Refusals.{IsAcceptable};
+ghost use Rattle.sok_book.specs.Books.{page_at};
+ghost use Rattle.sok_book.specs.Commands.{Adds, Offers, Proves};
+ghost use Rattle.sok_book.specs.Refusals.{IsNotAdded, IsNotOffered, IsNotProved};
+ghost use Rattle.sok_book.specs.declared.record.Offer.{Offer};
+ghost use Rattle.sok_cert.specs.Claim.{Claim};
+ghost use Rattle.sok_row.specs.Faults.{IsOutside};
+ghost use Rattle.sok_row.specs.Told.{AreRecordsOf, IsRecordOf};
+ghost use Rattle.sok_store.specs.Calls.{Keeps, MakesNone, Stops, Turns, id_number, title_kept};
+ghost use Rattle.sok_store.specs.Opening.{IsUnopened, Opens};
+
+use crate::adding::add_to;
+use crate::listing::records_in;
+use crate::offering::offer_to;
+use crate::opening::prepare;
+use crate::proving::prove_to;
+use crate::reading::record_at;
+use sok_book::fault::BookFault;
+use sok_book::record::Offer;
+use sok_cert::claim::Claim;
+use sok_page::record::Record;
+use sok_rules::cell::Dir;
+use sok_rules::level::Level;
+use sqlite::{Alter, Connection};
+use std::alloc::Global;
+use std::marker::Model;
+
+/// A book in one table of a database. It is seen as its connection.
+///
+/// What a call says of the book is said under the premises that the disk has returned what was
+/// written and that the connection held a book before. In memory the first is always so, and after
+/// `open` the second. A refused call leaves the book as it was. A stop in the middle of a call
+/// leaves the book before the call, or the book after it.
+///
+/// Each call may also refuse as `Database`, where the database refused, or as `Memory`, in place of
+/// any later cause. Each makes one change of the database at most.
+#[derive(Drop)]
+pub struct Book<S: Alter> {
+    connection: Connection<S>,
+    alloc: Global,
+}
+
+impl<S: Alter> Model for Book<S> {
+    ghost use Rattle.sqlite.specs.Held.{Held, held_code};
+
+    ghost Value = { Held S };
+
+    ghost coded = { held_code S.code };
+
+    ghost view = { λ b. b.connection };
+}
+
+/// A connection that was not opened as a book, and why.
+#[derive(Drop)]
+pub struct OpenRefused<S: Alter> {
+    pub connection: Connection<S>,
+    pub fault: BookFault,
+}
+
+impl<S: Alter> Book<S> {
+    /// Opens a database as a book, and makes its table where there is nothing. Every row of a table
+    /// is read. The first that breaks a rule of books is `BadBook`, and the connection comes back.
+    pub fn open(alloc: Global, connection: Connection<S>) -> Result<Book<S>, OpenRefused<S>>
+        requires { (state S.Store connection).in_transaction ≡ false }
+        ensures opens { IfOk result (λ book. HasCleanDisk (state S.Store book)
+            → Opens (state S.Store connection) (state S.Store book)) }
+        ensures unopened { IfErr result (λ refused.
+            IsUnopened (state S.Store connection) (state S.Store refused.connection)
+            refused.fault) }
+        ensures same { IfErr result (λ refused. HasCleanDisk (state S.Store refused.connection)
+            → IsKnown (state S.Store connection)
+            → IsSame (state S.Store connection) (state S.Store refused.connection)) }
+    {
+        let mut connection = connection;
+        let _autocommit = connection.is_autocommit();
+        match prepare(&mut connection, alloc) {
+            Ok(()) => Ok(Book { connection, alloc }),
+            Err(fault) => Err(OpenRefused { connection, fault }),
+        }
+    }
+
+    /// The connection, in the state in which the calls left it.
+    pub fn into_connection(self) -> Connection<S>
+        ensures { result ≡ self }
+    {
+        let Book {
+            connection,
+            alloc: _,
+        } = self;
+        connection
+    }
+
+    /// The level with an id, counted from 1. Another id, a negative one among them, is `NoLevel`.
+    pub fn get(&mut self, id: i64) -> Result<Record, BookFault>
+        ensures found { IfOk result (λ kept. Keeps (state S.Store self.old) (state S.Store self.new)
+            (λ book. IsSomeAnd (page_at book (id_number id))
+            (λ page. IsRecordOf (id_number id) page kept))) }
+        ensures refused { IfErr result (λ fault.
+            Keeps (state S.Store self.old) (state S.Store self.new)
+            (λ book. IsOutside fault
+            ⊎ ((fault ≡ BookFault.NoLevel) × IsNone (page_at book (id_number id))))) }
+        ensures stop { Stops (state S.Store self.old) (state S.Store self.new) MakesNone }
+    {
+        record_at(&mut self.connection, self.alloc, id)
+    }
+
+    /// All levels, in order of their ids.
+    pub fn list(&mut self) -> Result<Vec<Record>, BookFault>
+        ensures listed { IfOk result (λ records.
+            Keeps (state S.Store self.old) (state S.Store self.new)
+            (λ book. AreRecordsOf book records.items)) }
+        ensures refused { IfErr result (λ fault.
+            Keeps (state S.Store self.old) (state S.Store self.new) (λ _. IsOutside fault)) }
+        ensures stop { Stops (state S.Store self.old) (state S.Store self.new) MakesNone }
+    {
+        records_in(&mut self.connection, self.alloc)
+    }
+
+    /// Adds a level and answers its id. A level that is there keeps its id and its title. Of a
+    /// title its first line is kept, without spaces and tabs at its front, and without spaces, tabs
+    /// and CRs at its back; where nothing is left there is none. Refused are, in this order, a
+    /// level of which no board can be made, and a new level where there are 10,000.
+    pub fn add(&mut self, level: &Level, title: Option<&[u8]>) -> Result<i64, BookFault>
+        ensures accepted { OnOk result (IsAcceptable level.now) }
+        ensures added { IfOk result (λ id. Turns (state S.Store self.old) (state S.Store self.new)
+            (λ book after. Adds book level.now
+            (title_kept (option_map (λ bytes. bytes.now) title.entry)) (id_number id) after)) }
+        ensures refused { IfErr result (λ fault.
+            Keeps (state S.Store self.old) (state S.Store self.new)
+            (λ book. IsOutside fault ⊎ IsNotAdded book level.now fault)) }
+        ensures stop { Stops (state S.Store self.old) (state S.Store self.new)
+            (λ book after. (id : _) × Adds book level.now
+            (title_kept (option_map (λ bytes. bytes.now) title.entry)) id after) }
+    {
+        add_to(&mut self.connection, self.alloc, level, title)
+    }
+
+    /// Offers letters as a solution of the level with an id. They are `Stored` as its best where
+    /// there is none or it has more pushes, and its verdict is then untested; else the best is
+    /// `Kept`. Refused are, in this order, an id without a level, more than 1,000,000 letters, a
+    /// letter that is not legal, and letters that leave a box off a goal.
+    pub fn offer(&mut self, id: i64, letters: &[Dir]) -> Result<Offer, BookFault>
+        ensures offered { IfOk result (λ answer.
+            Turns (state S.Store self.old) (state S.Store self.new)
+            (λ book after. Offers book (id_number id) letters.now answer after)) }
+        ensures refused { IfErr result (λ fault.
+            Keeps (state S.Store self.old) (state S.Store self.new)
+            (λ book. IsOutside fault ⊎ IsNotOffered book (id_number id) letters.now fault)) }
+        ensures stop { Stops (state S.Store self.old) (state S.Store self.new)
+            (λ book after. (answer : Offer)
+            × Offers book (id_number id) letters.now answer after) }
+    {
+        offer_to(&mut self.connection, self.alloc, id, letters)
+    }
+
+    /// Proves the verdict of the level with an id by the bytes of a certificate, and answers what
+    /// they show: that its best has the fewest pushes, or that there is no solution. Refused are,
+    /// in this order, an id without a level, bytes that are no certificate, a claim of pushes where
+    /// there is no best (`NoBest`), a claim that is not about the best (`ClaimDiffers`), and a list
+    /// that is not closed.
+    pub fn prove(&mut self, id: i64, certificate: &[u8]) -> Result<Claim, BookFault>
+        ensures proved { IfOk result (λ shown.
+            Turns (state S.Store self.old) (state S.Store self.new)
+            (λ book after. Proves book (id_number id) certificate.now shown after)) }
+        ensures refused { IfErr result (λ fault.
+            Keeps (state S.Store self.old) (state S.Store self.new)
+            (λ book. IsOutside fault
+            ⊎ IsNotProved book (id_number id) certificate.now fault)) }
+        ensures stop { Stops (state S.Store self.old) (state S.Store self.new)
+            (λ book after. (shown : Claim)
+            × Proves book (id_number id) certificate.now shown after) }
+    {
+        prove_to(&mut self.connection, self.alloc, id, certificate)
+    }
+}

@@ -1,0 +1,16 @@
+//! The book, kept in one table of a database.
+//!
+//! | Module | What it holds |
+//! |---|---|
+//! | `book` | a book over a connection, and its calls |
+#![tactic(auto)]
+
+mod adding;
+pub mod book;
+mod entry;
+mod listing;
+mod offering;
+mod opening;
+mod proving;
+mod reading;
+mod writing;

@@ -1,0 +1,36 @@
+//! All levels of the book, as their rows stand in the table.
+
+ghost use Rattle.std.specs.Prelude.{IfErr, IfOk};
+ghost use Rattle.sqlite.specs.Held.{state};
+ghost use Rattle.sok_row.specs.Faults.{IsOutside};
+ghost use Rattle.sok_row.specs.Told.{AreRecordsOf};
+ghost use Rattle.sok_store.specs.Calls.{Keeps, MakesNone, Stops};
+
+use sok_book::fault::BookFault;
+use sok_page::record::Record;
+use sok_row::book::records_of;
+use sok_row::fault::fault_of;
+use sok_sql::reading::all_rows;
+use sqlite::{Alter, Connection};
+use std::alloc::Global;
+
+/// All levels, in order of their ids.
+pub(crate) fn records_in<S: Alter>(
+    conn: &mut Connection<S>,
+    alloc: Global,
+) -> Result<Vec<Record>, BookFault>
+    ensures listed { IfOk result (λ records.
+        Keeps (state S.Store conn.old) (state S.Store conn.new)
+        (λ book. AreRecordsOf book records.items)) }
+    ensures refused { IfErr result (λ fault.
+        Keeps (state S.Store conn.old) (state S.Store conn.new) (λ _. IsOutside fault)) }
+    ensures stop { Stops (state S.Store conn.old) (state S.Store conn.new) MakesNone }
+{
+    match all_rows(conn) {
+        Ok(rows) => match records_of(alloc, &rows) {
+            Ok(records) => Ok(records),
+            Err(fault) => Err(fault),
+        },
+        Err(error) => Err(fault_of(error)),
+    }
+}

@@ -1,0 +1,104 @@
+//! A verdict is proved.
+
+ghost use Rattle.std.specs.Prelude.{◌≡◌, ◌⊎◌, ◌<◌, IfErr, IfOk};
+ghost use Rattle.sqlite.specs.Held.{state};
+ghost use Rattle.sok_book.specs.Commands.{IsCertificate, Meets, Proves, verdict_of};
+ghost use Rattle.sok_book.specs.Refusals.{IsNotProved};
+ghost use Rattle.sok_cert.specs.Claim.{Claim};
+ghost use Rattle.sok_row.specs.Faults.{IsOutside};
+ghost use Rattle.sok_store.specs.Calls.{Keeps, Stops, Turns, id_number};
+
+use crate::entry::{Entry, entry_at};
+use crate::reading::place_of;
+use crate::writing::store_verdict;
+use sok_board::board::Board;
+use sok_book::fault::BookFault;
+use sok_book::proving::judge_proof;
+use sok_book::record::Verdict;
+use sok_cert::claim::Claim;
+use sqlite::{Alter, Connection};
+use std::alloc::Global;
+
+/// Proves the verdict of the level with an id.
+pub(crate) fn prove_to<S: Alter>(
+    conn: &mut Connection<S>,
+    alloc: Global,
+    id: i64,
+    bytes: &[u8],
+) -> Result<Claim, BookFault>
+    ensures proved { IfOk result (λ shown.
+        Turns (state S.Store conn.old) (state S.Store conn.new)
+        (λ book after. Proves book (id_number id) bytes.now shown after)) }
+    ensures refused { IfErr result (λ fault.
+        Keeps (state S.Store conn.old) (state S.Store conn.new)
+        (λ book. IsOutside fault ⊎ IsNotProved book (id_number id) bytes.now fault)) }
+    ensures stop { Stops (state S.Store conn.old) (state S.Store conn.new)
+        (λ book after. (shown : Claim) × Proves book (id_number id) bytes.now shown after) }
+{
+    match place_of(id) {
+        Some(place) => prove_at(conn, alloc, place, bytes),
+        None => Err(BookFault::NoLevel),
+    }
+}
+
+/// Proves the verdict of the level with an id.
+fn prove_at<S: Alter>(
+    conn: &mut Connection<S>,
+    alloc: Global,
+    id: u32,
+    bytes: &[u8],
+) -> Result<Claim, BookFault>
+    requires { 0 < id }
+    ensures proved { IfOk result (λ shown.
+        Turns (state S.Store conn.old) (state S.Store conn.new)
+        (λ book after. Proves book id bytes.now shown after)) }
+    ensures refused { IfErr result (λ fault.
+        Keeps (state S.Store conn.old) (state S.Store conn.new)
+        (λ book. IsOutside fault ⊎ IsNotProved book id bytes.now fault)) }
+    ensures stop { Stops (state S.Store conn.old) (state S.Store conn.new)
+        (λ book after. (shown : Claim) × Proves book id bytes.now shown after) }
+{
+    let entry = match entry_at(conn, alloc, id) {
+        Ok(entry) => entry,
+        Err(fault) => return Err(fault),
+    };
+    let claim = match judge_entry(alloc, &entry, bytes) {
+        Ok(claim) => claim,
+        Err(fault) => return Err(fault),
+    };
+    match store_verdict(conn, id, verdict_of(claim)) {
+        Ok(()) => Ok(claim),
+        Err(fault) => Err(fault),
+    }
+}
+
+ghost use Rattle.sok_book.specs.Books.{Page};
+ghost use Rattle.sok_book.specs.Commands.{best_pushes};
+ghost use Rattle.sok_book.specs.Refusals.{IsUnproved};
+ghost use Rattle.sok_page.specs.Kept.{IsKeptPage};
+ghost use Rattle.sok_store.specs.Entries.{IsEntryOf};
+
+/// The claim that bytes show of a level and its best solution.
+fn judge_entry(alloc: Global, entry: &Entry, bytes: &[u8]) -> Result<Claim, BookFault>
+    ensures certificate { IfOk result (IsCertificate entry.now.level bytes.now) }
+    ensures meets { IfOk result (λ claim. Meets claim entry.now.best) }
+    ensures refused { IfErr result (λ fault. (page : Page)
+        → IsKeptPage page → IsEntryOf page entry.now
+        → (fault ≡ BookFault.Memory) ⊎ IsUnproved page bytes.now fault) }
+{
+    let board = match Board::new(alloc, &entry.level) {
+        Ok(board) => board,
+        Err(fault) => return Err(BookFault::from(fault)),
+    };
+    judge_proof(alloc, &board, entry.best, bytes)
+}
+
+/// The verdict that a claim is.
+fn verdict_of(claim: Claim) -> Verdict
+    ensures { result ≡ verdict_of claim }
+{
+    match claim {
+        Claim::Pushes(_) => Verdict::Optimal,
+        Claim::Unsolvable => Verdict::Unsolvable,
+    }
+}

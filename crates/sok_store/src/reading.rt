@@ -1,0 +1,72 @@
+//! One level of the book, as its row stands in the table.
+
+ghost use Rattle.std.specs.Prelude.{◌≡◌, ◌+◌, ◌<◌, ◌≤◌, ◌⊎◌, IfErr, IfOk, IsNone, IsSomeAnd};
+ghost use Rattle.std.specs.Prelude.{MatchOption, length};
+ghost use Rattle.sqlite.specs.Held.{state};
+ghost use Rattle.sok_book.specs.Books.{Book, page_at};
+ghost use Rattle.sok_book.specs.Commands.{level_limit};
+ghost use Rattle.sok_row.specs.Faults.{IsOutside};
+ghost use Rattle.sok_row.specs.Told.{IsRecordOf};
+ghost use Rattle.sok_store.specs.Calls.{Keeps, MakesNone, Stops, id_number};
+ghost use Rattle.sok_store.specs.Entries.{Finds};
+
+use sok_book::fault::BookFault;
+use sok_page::record::Record;
+use sok_row::fault::fault_of;
+use sok_row::page::record_in;
+use sok_sql::reading::row_at;
+use sqlite::{Alter, Connection};
+use std::alloc::Global;
+
+/// The level with an id.
+pub(crate) fn record_at<S: Alter>(
+    conn: &mut Connection<S>,
+    alloc: Global,
+    id: i64,
+) -> Result<Record, BookFault>
+    ensures found { IfOk result (λ kept. Keeps (state S.Store conn.old) (state S.Store conn.new)
+        (λ book. IsSomeAnd (page_at book (id_number id))
+        (λ page. IsRecordOf (id_number id) page kept))) }
+    ensures refused { IfErr result (λ fault.
+        Keeps (state S.Store conn.old) (state S.Store conn.new) (λ book. IsOutside fault
+        ⊎ ((fault ≡ BookFault.NoLevel) × IsNone (page_at book (id_number id))))) }
+    ensures stop { Stops (state S.Store conn.old) (state S.Store conn.new) MakesNone }
+{
+    match place_of(id) {
+        Some(place) => record_of(conn, alloc, place),
+        None => Err(BookFault::NoLevel),
+    }
+}
+
+/// A number that may be the id of a level.
+pub(crate) fn place_of(id: i64) -> Option<u32>
+    ensures { MatchOption result
+        ((book : Book) → length book ≤ level_limit → IsNone (page_at book (id_number id)))
+        (λ place. (place ≡ id_number id) × (0 < place)) }
+{
+    match u32::try_from(id) {
+        Ok(place) => { if place == 0 { None } else { Some(place) } }
+        Err(_) => None,
+    }
+}
+
+/// The level with an id.
+pub(crate) fn record_of<S: Alter>(
+    conn: &mut Connection<S>,
+    alloc: Global,
+    id: u32,
+) -> Result<Record, BookFault>
+    requires { 0 < id }
+    ensures found { IfOk result (λ kept. Finds (state S.Store conn.old) (state S.Store conn.new)
+        (λ book. IsSomeAnd (page_at book id) (λ page. IsRecordOf id page kept))) }
+    ensures refused { IfErr result (λ fault.
+        Keeps (state S.Store conn.old) (state S.Store conn.new) (λ book. IsOutside fault
+        ⊎ ((fault ≡ BookFault.NoLevel) × IsNone (page_at book id)))) }
+    ensures stop { Stops (state S.Store conn.old) (state S.Store conn.new) MakesNone }
+{
+    match row_at(conn, id) {
+        Ok(Some(row)) => record_in(alloc, id, &row),
+        Ok(None) => Err(BookFault::NoLevel),
+        Err(error) => Err(fault_of(error)),
+    }
+}
