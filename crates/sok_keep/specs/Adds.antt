@@ -1,0 +1,72 @@
+-- What is told of the levels of a collection as they are added to a book, one after another, and what becomes of the book.
+use Rattle.std.specs.Prelude.{ℕ, ℤ, ◌≡◌, ◌<◌, ◌≤◌, ◌+◌, List, [], ◌++◌, Option, Result, Ok, Err, codes, length}
+use Rattle.std.specs.Fmt.{decimal, signed_decimal}
+use Rattle.std.specs.Io.KnownBytes.{Appends, Keeps}
+use Rattle.std.specs.Option.{option_and_then}
+use Rattle.sok_rules.specs.declared.fault.LevelFault.{LevelFault}
+use Rattle.sok_rules.specs.Squares.{Rows}
+use Rattle.sok_text.specs.Collections.{Block, block_at, blocks_of, level_at}
+use Rattle.sok_text.specs.Titles.{title_of}
+use Rattle.sok_board.specs.declared.fault.BoardFault.{BoardFault}
+use Rattle.sok_board.specs.Refusals.{IsAcceptable}
+use Rattle.sok_book.specs.declared.fault.BookFault.TheVariants.{BookFull, Level}
+use Rattle.sok_book.specs.Books.{Book}
+use Rattle.sok_book.specs.Commands.{Adds}
+use Rattle.sok_book.specs.Refusals.{IsNotAdded}
+use Rattle.sok_engine.specs.declared.fault.ToolFault.{ToolFault}
+use Rattle.sok_engine.specs.declared.fault.ToolFault.TheVariants as tool
+use Rattle.sok_engine.specs.FaultLines.{fault_words}
+use Rattle.sok_engine.specs.Faults.{of_board, of_level}
+use Rattle.sok_engine.specs.Limits.{input_limit}
+use Rattle.sok_engine.specs.Written.{AppendsFront}
+use Rattle.sok_store.specs.Calls.{id_number, title_kept}
+
+-- the number of a level in its collection, and its id in the book
+abbrev pub id_line : ℕ → ℤ → List ℕ
+id_line n id = decimal n ++ (codes " id " ++ (signed_decimal id ++ codes "\n"))
+
+-- its number, and its fault
+abbrev pub fault_line : ℕ → ToolFault → List ℕ
+fault_line n fault = decimal n ++ (codes " " ++ (fault_words fault ++ codes "\n"))
+
+-- A level of a collection, with its number, is added to a book, and this is its line. One that has a fault, or no board, changes nothing.
+pub data AddsLevel (n : ℕ) (level : Result Rows LevelFault) (title : Option (List ℕ)) (book : Book) (line : List ℕ) (after : Book) : Type 0 where
+  faulty : (fault : LevelFault) → level ≡ Err fault → line ≡ fault_line n (of_level fault) → after ≡ book → AddsLevel n level title book line after
+  unaccepted : (rows : Rows) (fault : BoardFault) → level ≡ Ok rows → IsNotAdded book rows (Level fault) → line ≡ fault_line n (of_board fault) → after ≡ book
+      → AddsLevel n level title book line after
+  added : (rows : Rows) (id : ℤ) → level ≡ Ok rows → IsAcceptable rows → Adds book rows (title_kept title) (id_number id) after → line ≡ id_line n id
+      → AddsLevel n level title book line after
+
+-- the title of the n-th level, counted from 1
+abbrev pub title_at : List Block → ℕ → Option (List ℕ)
+title_at blocks n = option_and_then title_of (block_at blocks n)
+
+-- the first levels of a collection have been added one after another, and these are their lines
+pub data AddsFirst (blocks : List Block) (book : Book) : ℕ → List ℕ → Book → Type 0 where
+  none : AddsFirst blocks book 0 [] book
+  more : (n : ℕ) (text line : List ℕ) (before after : Book) → AddsFirst blocks book n text before → n < length blocks
+      → AddsLevel (n + 1) (level_at blocks (n + 1)) (title_at blocks (n + 1)) before line after → AddsFirst blocks book (n + 1) (text ++ line) after
+
+-- the n-th level is not there yet, and the book is full
+abbrev pub IsFullAt : List Block → ℕ → Book → Type 0
+IsFullAt blocks n book = (rows : Rows) × (level_at blocks n ≡ Ok rows) × IsNotAdded book rows BookFull
+
+-- How the addition ends after so many levels, with these lines. All were added, and the lines were written, or a front of them. Else nothing was
+-- written: no level was read; or the next level has no room in the book; or the database or memory was refused.
+abbrev pub EndsAdding : List ℕ → ℕ → List ℕ → Book → Option (List ℕ) → Option (List ℕ) → Result ℕ ToolFault → Type 0
+EndsAdding bytes n text after old new (Ok status) = (length bytes ≤ input_limit) × (n ≡ length (blocks_of bytes)) × (status ≡ 0) × Appends old new text
+EndsAdding bytes n text after old new (Err tool.WriteFailed) =
+    (length bytes ≤ input_limit) × (n ≡ length (blocks_of bytes)) × AppendsFront old new text
+EndsAdding bytes n text after old new (Err tool.ReadFailed) = (n ≡ 0) × Keeps old new
+EndsAdding bytes n text after old new (Err tool.TooMuch) = (n ≡ 0) × (input_limit < length bytes) × Keeps old new
+EndsAdding bytes n text after old new (Err tool.BookFull) = (length bytes ≤ input_limit) × IsFullAt (blocks_of bytes) (n + 1) after × Keeps old new
+EndsAdding bytes n text after old new (Err tool.Database) = Keeps old new
+EndsAdding bytes n text after old new (Err tool.Memory) = Keeps old new
+EndsAdding bytes n text after old new (Err fault) = ⊥
+
+-- the first n levels of a collection were added to the book, and how it ended then
+pub record WritesAdding (book : Book) (bytes : List ℕ) (after : Book) (old new : Option (List ℕ)) (result : Result ℕ ToolFault) : Type 0 where
+  pub count : ℕ
+  pub text : List ℕ
+  pub added : AddsFirst (blocks_of bytes) book count text after
+  pub ended : EndsAdding bytes count text after old new result

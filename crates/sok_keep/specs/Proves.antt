@@ -1,0 +1,55 @@
+-- What is answered to a certificate for a level of a book, and what becomes of the book.
+use Rattle.std.specs.Prelude.{ℕ, ℤ, ◌≡◌, ◌⊎◌, List, ◌++◌, Option, Some, None, Result, Ok, Err, codes}
+use Rattle.std.specs.Fmt.{decimal}
+use Rattle.sok_cert.specs.Claim.{Claim}
+use Rattle.sok_cert.specs.Claim.TheVariants.{Pushes, Unsolvable}
+use Rattle.sok_cert.specs.CertFault.{CertFault}
+use Rattle.sok_book.specs.declared.fault.BookFault.{BookFault}
+use Rattle.sok_book.specs.declared.fault.BookFault.TheVariants.{Certificate}
+use Rattle.sok_book.specs.Books.{Book}
+use Rattle.sok_book.specs.Commands.{Proves}
+use Rattle.sok_book.specs.Refusals.{IsNotProved}
+use Rattle.sok_engine.specs.declared.fault.ToolFault.{ToolFault}
+use Rattle.sok_engine.specs.declared.fault.ToolFault.TheVariants as tool
+use Rattle.sok_engine.specs.Inputs.{Within}
+use Rattle.sok_engine.specs.Limits.{cert_limit}
+use Rattle.sok_engine.specs.Written.{Answer, Answers, Writes}
+use Rattle.sok_judge.specs.Verdicts.{verdict_answer}
+use Rattle.sok_store.specs.Calls.{id_number}
+use Rattle.sok_keep.specs.Faults.{of_book}
+use Rattle.sok_keep.specs.Offers.{StaysOnFault}
+
+abbrev pub proved_line : Claim → List ℕ
+proved_line (Pushes k) = codes "proved optimal " ++ (decimal k ++ codes "\n")
+proved_line Unsolvable = codes "proved unsolvable\n"
+
+abbrev pub proved_answer : Claim → Answer
+proved_answer claim = record { text = proved_line claim; status = 0 }
+
+-- the command was done; or the certificate is refused, which is an answer; or the command is refused for another cause
+pub data TellsProof (book : Book) (id : ℕ) (bytes : List ℕ) (after : Book) (answer : Result Answer ToolFault) : Type 0 where
+  proved : (claim : Claim) → Proves book id bytes claim after → answer ≡ Ok (proved_answer claim) → TellsProof book id bytes after answer
+  refused : (fault : CertFault) → IsNotProved book id bytes (Certificate fault) → after ≡ book → answer ≡ Ok (verdict_answer (Err fault))
+      → TellsProof book id bytes after answer
+  unproved : (cause : BookFault) → IsNotProved book id bytes cause → after ≡ book → answer ≡ Err (of_book cause) → TellsProof book id bytes after answer
+  failed : after ≡ book → answer ≡ Err tool.Database → TellsProof book id bytes after answer
+
+-- the answer to the bytes of a certificate for the level with an id, where this is the book after it
+abbrev pub IsProof : Book → ℤ → Book → List ℕ → Answers
+IsProof book id after bytes = TellsProof book (id_number id) bytes after
+
+-- the answer was written, and this is the book after the command
+abbrev pub WritesProof : Book → ℤ → List ℕ → Book → Option (List ℕ) → Option (List ℕ) → Result ℕ ToolFault → Type 0
+WritesProof book id bytes after old new result = Writes (Within cert_limit (IsProof book id after) bytes) old new result × StaysOnFault book after result
+
+-- the claim that is proved of a level with so many pushes as its best, if it has one
+abbrev pub claim_about : Option ℕ → Claim
+claim_about (Some pushes) = Pushes pushes
+claim_about None = Unsolvable
+
+-- ---- before it is written
+
+-- the answer is told of the book after the command; or the book is as it was, and the fault is told, memory aside
+abbrev pub GivesProof : Book → ℕ → List ℕ → Book → Result Answer ToolFault → Type 0
+GivesProof book id bytes after (Ok answer) = TellsProof book id bytes after (Ok answer)
+GivesProof book id bytes after (Err fault) = (after ≡ book) × ((fault ≡ tool.Memory) ⊎ TellsProof book id bytes after (Err fault))

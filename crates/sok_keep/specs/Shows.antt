@@ -1,0 +1,30 @@
+-- What is shown of a book.
+use Rattle.std.specs.Prelude.{ℤ, ◌≡◌, ◌⊎◌, Option, Some, None, Result, Ok, Err, map}
+use Rattle.sok_book.specs.Books.{Book, Page, page_at}
+use Rattle.sok_page.specs.Texts.{page_text}
+use Rattle.sok_shelf.specs.Exported.{export_text}
+use Rattle.sok_shelf.specs.Shown.{shown_text}
+use Rattle.sok_engine.specs.declared.fault.ToolFault.{ToolFault}
+use Rattle.sok_engine.specs.declared.fault.ToolFault.TheVariants as tool
+use Rattle.sok_engine.specs.Written.{Answer, Answers}
+use Rattle.sok_store.specs.Calls.{id_number}
+
+-- the database may refuse in place of any answer
+abbrev pub UnlessRefused : Answers → Answers
+UnlessRefused P answer = (answer ≡ Err tool.Database) ⊎ P answer
+
+-- the page as it is shown, or that there is none
+abbrev pub show_answer : Option Page → Result Answer ToolFault
+show_answer None = Err tool.NoLevel
+show_answer (Some page) = Ok (record { text = shown_text (page_text page); status = 0 })
+
+-- the answer that shows the page with an id
+abbrev pub IsShow : Book → ℤ → Answers
+IsShow book id = UnlessRefused (λ answer. answer ≡ show_answer (page_at book (id_number id)))
+
+abbrev pub export_answer : Book → Answer
+export_answer book = record { text = export_text (map page_text book); status = 0 }
+
+-- the answer that has all levels
+abbrev pub IsExport : Book → Answers
+IsExport book = UnlessRefused (λ answer. answer ≡ Ok (export_answer book))

@@ -1,0 +1,17 @@
+//! The engines on a book: levels are added, solutions offered and proved optimal, and what is known
+//! is shown.
+//!
+//! | Module | What it holds |
+//! |---|---|
+//! | `add` | the levels of a collection are added |
+//! | `fault` | why a command on a book has no answer |
+//! | `offer` | a solution is offered |
+//! | `prove` | a verdict is proved |
+//! | `show` | one level is shown, or all are exported |
+#![tactic(auto)]
+
+pub mod add;
+pub mod fault;
+pub mod offer;
+pub mod prove;
+pub mod show;

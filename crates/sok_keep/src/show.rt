@@ -1,0 +1,74 @@
+//! One level of a book is shown, or all are exported.
+
+ghost use Rattle.sqlite.specs.Held.{state};
+ghost use Rattle.sok_engine.specs.Written.{Gives, Writes};
+ghost use Rattle.sok_store.specs.Calls.{Keeps};
+ghost use Rattle.sok_keep.specs.Shows.{IsExport, IsShow};
+
+use crate::fault::tool_fault;
+use sok_engine::answer::Answer;
+use sok_engine::fault::ToolFault;
+use sok_shelf::export::export_text;
+use sok_shelf::show::shown_text;
+use sok_store::book::Book;
+use sqlite::Alter;
+use std::alloc::Global;
+use std::io::Write;
+
+/// Shows the level with an id: its canonical rows; then `title TITLE`, if it has one; `best PUSHES
+/// MOVES LURD` or `best none`; and `verdict untested`, `verdict optimal` or `verdict unsolvable`,
+/// each on a line, at status 0. The book stays as it is.
+///
+/// Where there is no such level nothing is written, and the fault is `NoLevel`. A write that fails
+/// is `WriteFailed` at once, after a front of the lines.
+pub fn show_bytes<S: Alter, W: Write>(
+    alloc: Global,
+    book: &mut Book<S>,
+    id: i64,
+    out: &mut W,
+) -> Result<u8, ToolFault>
+    ensures { Keeps (state S.Store book.old) (state S.Store book.new) (λ pages.
+        Writes (IsShow pages id) (W.contents out.old) (W.contents out.new) result) }
+{
+    let answer = shown(alloc, book, id)?;
+    answer.write(out)
+}
+
+/// The answer that shows a level.
+fn shown<S: Alter>(alloc: Global, book: &mut Book<S>, id: i64) -> Result<Answer, ToolFault>
+    ensures { Keeps (state S.Store book.old) (state S.Store book.new)
+        (λ pages. Gives (IsShow pages id) result) }
+{
+    match book.get(id) {
+        Ok(kept) => Ok(Answer::new(shown_text(alloc, &kept)?, 0)),
+        Err(fault) => Err(tool_fault(fault)),
+    }
+}
+
+/// Writes the levels of a book as a collection, in order of their ids, at status 0: for each `;
+/// TITLE`, if it has one, its canonical rows, and an empty line. So the collection is read back as
+/// the same levels with the same titles. The book stays as it is.
+///
+/// A write that fails is `WriteFailed` at once, after a front of the collection.
+pub fn export_bytes<S: Alter, W: Write>(
+    alloc: Global,
+    book: &mut Book<S>,
+    out: &mut W,
+) -> Result<u8, ToolFault>
+    ensures { Keeps (state S.Store book.old) (state S.Store book.new) (λ pages.
+        Writes (IsExport pages) (W.contents out.old) (W.contents out.new) result) }
+{
+    let answer = exported(alloc, book)?;
+    answer.write(out)
+}
+
+/// The answer that has all levels.
+fn exported<S: Alter>(alloc: Global, book: &mut Book<S>) -> Result<Answer, ToolFault>
+    ensures { Keeps (state S.Store book.old) (state S.Store book.new)
+        (λ pages. Gives (IsExport pages) result) }
+{
+    match book.list() {
+        Ok(records) => Ok(Answer::new(export_text(alloc, &records)?, 0)),
+        Err(fault) => Err(tool_fault(fault)),
+    }
+}
