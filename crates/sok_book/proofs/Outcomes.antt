@@ -1,5 +1,5 @@
 -- A command is done or refused, and never both.
-use Rattle.std.proofs.Common.{ℕ, ◌≡◌, ◌≢◌, ◌<◌, ◌≤◌, ◌⊎◌, inl, inr, refl, sym, ap, subst, ◌∙◌, List, Option, Some, None, Ok, Err}
+use Rattle.std.proofs.Common.{ℕ, ◌≡◌, ◌≢◌, ◌≤◌, inl, inr, refl, sym, subst, ◌∙◌, List, Option, Some, None, Ok, Err}
 use Rattle.std.proofs.Common.{IsNone, IsSome, IsSomeAnd, length, arith}
 use Rattle.std.proofs.lemmas.Option.{none-some, same_Some}
 use Rattle.sok_rules.specs.declared.cell.Dir.{Dir}
@@ -19,9 +19,9 @@ use Rattle.sok_cert.proofs.Verdicts.{IsVerdict-one}
 use Rattle.sok_book.specs.declared.fault.BookFault.{BookFault}
 use Rattle.sok_book.specs.declared.fault.BookFault.TheVariants as book
 use Rattle.sok_book.specs.Books.{Book, Page, page_at}
-use Rattle.sok_book.specs.Commands.{Adds, is_known, is_new, IsCertificate, Meets, best_pushes}
+use Rattle.sok_book.specs.Commands.{is_known, is_new, IsCertificate, Meets, best_pushes}
 use Rattle.sok_book.specs.Outcomes.{AddsAreNotRefused, OffersAreNotRefused, ProofsAreNotRefused, SolutionsAreNotRefused}
-use Rattle.sok_book.specs.Refusals.{Differs, IsNoProof, IsNoSolution, IsNotAdded, IsUnproved}
+use Rattle.sok_book.specs.Refusals.{Differs, IsNoProof, IsNoSolution, IsUnproved}
 
 -- ---- solutions
 

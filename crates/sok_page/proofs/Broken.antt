@@ -1,6 +1,6 @@
 -- Why a row is no page, part by part.
 use Rattle.std.proofs.Common.{ℕ, ℤ, FitsSigned, to_z, of_z, w64, ◌≡◌, ◌≢◌, ◌≤◌, ◌⊎◌, inl, inr, List, Option, Some, None, Result, Ok, Err, IfErr}
-use Rattle.std.proofs.Common.{IfSome, IsTrue, is_some, option_map, map, sym, ap, ◌∙◌, refl, subst, length, arith}
+use Rattle.std.proofs.Common.{IfSome, IsTrue, is_some, option_map, map, sym, ap, ◌∙◌, refl, subst, length}
 use Rattle.std.proofs.lemmas.Option.{none-some, same_Some}
 use Rattle.std.proofs.lemmas.Int.{to_z-of_z}
 use Rattle.std.specs.Option.{option_map_or}
@@ -9,6 +9,7 @@ use Rattle.sok_rules.specs.declared.fault.LevelFault.{LevelFault}
 use Rattle.sok_rules.specs.declared.fault.LevelFault.TheVariants as level
 use Rattle.sok_rules.specs.declared.fault.PlayFault.{PlayFault}
 use Rattle.sok_rules.specs.declared.fault.PlayFault.TheVariants as play
+use Rattle.sok_rules.specs.Limits.{letter_limit}
 use Rattle.sok_rules.specs.Squares.{Rows}
 use Rattle.sok_rules.specs.Levels.{IsLevel, fault_of, level_of, trimmed}
 use Rattle.sok_rules.specs.Play.{start, Solves}
@@ -31,13 +32,14 @@ use Rattle.sok_book.specs.declared.fault.BookFault.{BookFault}
 use Rattle.sok_book.specs.declared.fault.BookFault.TheVariants as book
 use Rattle.sok_book.specs.Books.{Page, Solution, solution_of}
 use Rattle.sok_book.specs.Refusals.{IsNoSolution}
+use Rattle.sok_book.proofs.Outcomes.{legal-from_Solves, solutions-are-not-refused}
 use Rattle.sok_page.specs.Rows.{IsRowOf, SolutionValues, Values, solution_columns, solution_values, verdict_number}
 use Rattle.sok_page.specs.Texts.{SolutionText, page_text, solution_text}
 use Rattle.sok_page.specs.Titles.{IsTitle}
 use Rattle.sok_page.specs.Kept.{may_stand}
 use Rattle.sok_book.specs.declared.record.Verdict.{Verdict}
 use Rattle.sok_page.specs.Refused.{AreOf, IsBroken, IsLurdOf, IsTextOf}
-use Rattle.sok_page.proofs.Rows.{Spells-kept, legal-from_Solves, level_at-level_text, one_level, one_solution, same_rows}
+use Rattle.sok_page.proofs.Rows.{Spells-kept, level_at-level_text, one_level, one_solution, same_rows}
 
 -- what is broken for one reason is broken for another that it follows from
 pub IsBroken-from : {X Y : Type 0} (id : ℤ) (P : X → Type 0) (Q : Y → Type 0) (fault : BookFault) → ((y : Y) → Q y → (x : X) × P x)
@@ -87,22 +89,6 @@ not_accepted rows level fault same other refused accepted =
 
 -- ---- solutions
 
--- letters that solve, and are not too many, are not refused
-pub IsNoSolution-kept : (rows : Rows) (letters : List Dir) (fault : BookFault) → Solves rows letters → length letters ≤ 1000000
-    → IsNoSolution rows letters fault → ⊥
-IsNoSolution-kept rows letters book.TooLong solves few refused = omega (arith, few, refused)
-IsNoSolution-kept rows letters (book.Blocked at) solves few refused = blocked_not_legal rows letters at refused.1 (legal-from_Solves rows letters solves)
-IsNoSolution-kept rows letters book.NotSolved solves few refused = refused.2 solves
-IsNoSolution-kept rows letters (book.Level f) solves few refused = refused
-IsNoSolution-kept rows letters (book.Certificate f) solves few refused = refused
-IsNoSolution-kept rows letters book.NoLevel solves few refused = refused
-IsNoSolution-kept rows letters book.NoBest solves few refused = refused
-IsNoSolution-kept rows letters book.Database solves few refused = refused
-IsNoSolution-kept rows letters book.ClaimDiffers solves few refused = refused
-IsNoSolution-kept rows letters (book.BadBook id) solves few refused = refused
-IsNoSolution-kept rows letters book.BookFull solves few refused = refused
-IsNoSolution-kept rows letters book.Memory solves few refused = refused
-
 -- the text of a solution spells its letters
 Spells-lurd : (rows : Rows) (lurd : List ℕ) (best : Solution) → IsLurdOf rows lurd best → Spells lurd best.letters
 Spells-lurd rows lurd best is = subst (λ text. Spells text best.letters) (sym is.lurd_is) (Spells-kept rows best is.kept)
@@ -117,7 +103,7 @@ not_refused : (rows : Rows) (lurd : List ℕ) (letters : List Dir) (fault : Book
     → IsLurdOf rows lurd best → ⊥
 not_refused rows lurd letters fault spelled refused best is =
     let same = letters_are rows lurd letters spelled best is in
-    IsNoSolution-kept rows letters fault (subst (Solves rows) same is.kept.solution.solves) (subst (λ w. length w ≤ 1000000) same is.kept.few) refused
+    solutions-are-not-refused rows letters fault (subst (Solves rows) same is.kept.solution.solves) (subst (λ w. length w ≤ letter_limit) same is.kept.few) refused
 
 not_marked : (rows : Rows) (lurd marked : List ℕ) (letters : List Dir) → Spells lurd letters → marked ≡ marked_text rows (start rows) letters → marked ≢ lurd
     → (best : Solution) → IsLurdOf rows lurd best → ⊥

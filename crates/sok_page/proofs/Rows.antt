@@ -1,11 +1,10 @@
 -- A row is of one page: the texts of a page tell what they are of.
-use Rattle.std.proofs.Common.{◌≡◌, List, [], ◌∷◌, Option, Some, None, Result, Ok, Err, IfSome, IsSome, IsSomeAnd, option_map, sym, ap, ◌∙◌, refl, subst}
+use Rattle.std.proofs.Common.{◌≡◌, List, [], ◌∷◌, Option, Some, None, Result, Ok, Err, IfSome, option_map, sym, ap, ◌∙◌, refl, subst}
 use Rattle.std.proofs.lemmas.Option.{none-some, same_Some}
-use Rattle.sok_rules.specs.declared.cell.Dir.{Dir}
 use Rattle.sok_rules.specs.declared.fault.LevelFault.{LevelFault}
 use Rattle.sok_rules.specs.Squares.{Rows}
 use Rattle.sok_rules.specs.Levels.{IsLevel, level_of}
-use Rattle.sok_rules.specs.Play.{AllOnGoals, Position, Solves, run, start}
+use Rattle.sok_rules.specs.Play.{start}
 use Rattle.sok_text.specs.Canonical.{level_text}
 use Rattle.sok_text.specs.Collections.{Block, blocks_of, level_at, rows_of}
 use Rattle.sok_text.specs.Lurd.{Spells}
@@ -16,6 +15,7 @@ use Rattle.sok_text.proofs.Marked.{marked-texts-spell}
 use Rattle.sok_book.specs.declared.record.Verdict.{Verdict}
 use Rattle.sok_book.specs.declared.record.Verdict.TheVariants.{Untested, Optimal, Unsolvable}
 use Rattle.sok_book.specs.Books.{Solution, solution_of}
+use Rattle.sok_book.proofs.Outcomes.{legal-from_Solves}
 use Rattle.sok_page.specs.Kept.{IsKeptSolution}
 use Rattle.sok_page.specs.Rows.{RowsHaveOnePage, SolutionValues, Values, solution_values, verdict_number}
 use Rattle.sok_page.specs.Texts.{solution_text}
@@ -40,15 +40,7 @@ one_level rows other level of_other same =
     same_rows rows other (level_at (blocks_of (level_text rows)) 1) (level_at-level_text rows level)
     (ap (λ text. level_at (blocks_of text) 1) same ∙ level_at-level_text other of_other)
 
-there : (o : Option Position) (P : Position → Type 0) → IsSomeAnd o P → IsSome o
-there None P is = absurd is
-there (Some x) P is = refl
-
--- letters that solve are legal
-pub legal-from_Solves : (rows : Rows) (letters : List Dir) → Solves rows letters → IsSome (run rows (start rows) letters)
-legal-from_Solves rows letters solves = there (run rows (start rows) letters) (AllOnGoals rows) solves
-
--- its marked text spells its letters
+-- the marked text of a solution that may be kept spells its letters
 pub Spells-kept : (rows : Rows) (best : Solution) → IsKeptSolution rows best → Spells (marked_text rows (start rows) best.letters) best.letters
 Spells-kept rows best kept = marked-texts-spell rows best.letters (marked_text rows (start rows) best.letters)
     (record { legal = legal-from_Solves rows best.letters kept.solution.solves; is = refl }) kept.few

@@ -10,5 +10,3 @@
 pub mod listing;
 mod measure;
 pub mod play;
-#[cfg(test)]
-mod tests;

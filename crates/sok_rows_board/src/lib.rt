@@ -5,7 +5,10 @@
 //! |---|---|
 //! | `boards` | which levels a solver accepts, and their square numbers |
 //! | `distances` | how far a box is from each goal, and where it is stuck |
+//! | `layouts` | a layout after pushes and back, and jams over it |
 //! | `mazes` | regions of spirals, combs and wide rooms |
+//! | `packed` | packed keys of few and of many words, and a table of them |
+//! | `pushes` | the pushes of a state whose region is at hand, and the state behind one |
 //! | `regions` | where the player comes without a push, and by which letters |
 //! | `rounds` | rounds of squares, in rows of words |
 //! | `sets` | sets of boxes |
@@ -18,7 +21,13 @@ mod boards;
 #[cfg(test)]
 mod distances;
 #[cfg(test)]
+mod layouts;
+#[cfg(test)]
 mod mazes;
+#[cfg(test)]
+mod packed;
+#[cfg(test)]
+mod pushes;
 #[cfg(test)]
 mod regions;
 #[cfg(test)]

@@ -1,6 +1,6 @@
 //! The board of a worked level, and sets of boxes on it.
 
-ghost use Rattle.std.specs.Prelude.{◌≡◌, IfOk};
+ghost use Rattle.std.specs.Prelude.{◌≡◌, ◌<◌, ◌↔◌, All, IfOk, IsTrue};
 
 use sok_board::area::Sq;
 use sok_board::board::Board;
@@ -13,6 +13,13 @@ use std::test::Fail;
 /// The board of a text.
 pub fn board(alloc: Global, text: &str) -> Result<Board, Fail> {
     Ok(Board::new(alloc, &sketch::level(alloc, text)?)?)
+}
+
+/// Whether squares have numbers below the end.
+pub fn are_below(squares: &[Sq], end: usize) -> bool
+    ensures { IsTrue result ↔ All (λ square. square < end) squares.now }
+{
+    squares.iter().all(|square| (*square as usize) < end)
 }
 
 /// The set of some boxes, which rise.

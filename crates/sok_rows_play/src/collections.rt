@@ -29,11 +29,26 @@ fn drawn(alloc: Global, level: &Level) -> Result<String, AllocError> {
     Ok(text)
 }
 
+/// Three levels, of which the second has two players.
+const NOTES: &str = "\
+; First
+#####
+#@$.#
+#####
+
+######
+#@$@.#
+######
+
+#####
+#@$.#
+#####
+Title: Third";
+
 /// Levels of a text by their numbers, or why there are none.
 #[test]
 fn levels_by_their_numbers(rt: HostRuntime) -> Result<(), Fail> {
-    let notes: &[u8] =
-        b"; First\n#####\n#@$.#\n#####\n\n######\n#@$@.#\n######\n\n#####\n#@$.#\n#####\nTitle: Third";
+    let notes = NOTES.as_bytes();
     let returns: &[u8] = b"-#####\r\n-#@$.#\r\n-#####\r\n";
     for (text, n, told) in [
         (notes, 0, Err(LevelFault::NoSuchLevel)),
@@ -71,9 +86,7 @@ fn levels_by_their_numbers(rt: HostRuntime) -> Result<(), Fail> {
 /// A title stands behind `Title:` after a board, or else in the last note before it.
 #[test]
 fn titles_by_their_numbers(rt: HostRuntime) -> Result<(), Fail> {
-    let text: &[u8] =
-        b"; First\n#####\n#@$.#\n#####\n\n######\n#@$@.#\n######\n\n#####\n#@$.#\n#####\nTitle: Third";
-    let collection = Collection::read(rt.alloc(), text)?;
+    let collection = Collection::read(rt.alloc(), NOTES.as_bytes())?;
     for (n, title) in [
         (0, None),
         (1, Some(b"First".as_slice())),
@@ -147,11 +160,24 @@ fn board_lines_and_notes(rt: HostRuntime) -> Result<(), Fail> {
     Ok(())
 }
 
+/// A small level with notes.
+const SMALL: &str = "\
+; A level of the microscopic kind, number one
+####
+# .#
+#  ###
+#*@  #
+#  $ #
+#  ###
+####
+Author: nobody in particular, and nothing else is known of it, nor of it
+
+";
+
 /// Some 100,000 small levels in 16 MiB.
 #[test]
 fn sixteen_mebibytes_of_small_levels(rt: HostRuntime) -> Result<(), Fail> {
-    let small =
-        b"; A level of the microscopic kind, number one\n####\n# .#\n#  ###\n#*@  #\n#  $ #\n#  ###\n####\nAuthor: nobody in particular, and nothing else is known of it, nor of it\n\n";
+    let small = SMALL.as_bytes();
     let times = 16 * 1024 * 1024 / small.len();
     let text = small.repeat(rt.alloc(), times)?;
     let collection = Collection::read(rt.alloc(), &text)?;

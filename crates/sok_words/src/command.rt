@@ -8,6 +8,7 @@ ghost use Rattle.sok_words.specs.Shapes.{check_app, add_app, offer_app, prove_ap
 ghost use Rattle.sok_words.specs.Shapes.{export_app};
 
 use crate::arg::{cert_arg, id_arg, limit_arg, number_arg, required_arg};
+use crate::help::{adds, checks, ends, exports, lists, offers, proves, replays, shows, solves};
 use clap::Command;
 use std::alloc::{AllocError, Global};
 
@@ -23,48 +24,6 @@ const CERT: &str = "A certificate, as solve writes it, at most 268,435,456 bytes
 const DB: &str = "The database file of a book of levels, made where there is none";
 
 const ID: &str = "The id of a level in the book, from 1";
-
-const ENDS: &str = "\
-Without a command it reads a line of letters from standard input, and behind it a collection, and
-plays the letters on the first level.
-
-Exit status:
-  0  done
-  1  no: not solved, certificate refused, offer not better
-  2  these words ask for nothing that is known, or for what is not built yet
-  3  an input is refused: the fault says why
-  4  the solver needs more states than it may keep
-  5  a file, a stream or the book's database failed
-  6  memory was refused
-A fault is one line on the error stream: fault NUMBER NAME, and what it names. Rows, columns,
-letters, bytes and entries are counted from 0 there, and lines from 1.";
-
-const LISTS: &str = "\
-Writes a line for each level:
-  N ROWS COLS BOXES GOALS TITLE  floor at row ends is not counted, boxes and goals outside are
-  N fault NUMBER NAME ..         the level's fault; the levels behind it are told all the same";
-
-const REPLAYS: &str = "\
-Writes one line:
-  solved PUSHES MOVES  all boxes stand on goals after the last letter (status 0)
-  open PUSHES MOVES    some box does not (status 1)
-MOVES counts all letters. A letter that is not legal is fault 12 Blocked (status 3).";
-
-const SOLVES: &str = "\
-Writes one of these:
-  solved PUSHES MOVES  and the letters on the next line, in upper case where a box is pushed:
-                       no letters solve the level with fewer pushes (status 0)
-  unsolvable           no letters solve the level (status 0)
-  limit S              it needs more than S states, and nothing is known (status 4)
-The certificate shows the first two to whoever checks it. With limit it stays empty.";
-
-const CHECKS: &str = "\
-Writes one line:
-  accepted at least K pushes  no letters solve the level with fewer than K pushes (status 0)
-  accepted unsolvable         no letters solve the level (status 0)
-  refused NUMBER NAME ..      the first fault of the certificate, which shows nothing (status 1)";
-
-const UNBUILT: &str = "Not built yet: it does nothing, says so, and ends with status 2.";
 
 /// A command without places and options: what it does, and what it writes.
 fn described<'a>(alloc: Global, name: &'a str, about: &'a str, writes: &'a str) -> Command<'a>
@@ -82,7 +41,7 @@ fn list_command<'a>(alloc: Global) -> Result<Command<'a>, AllocError>
         alloc,
         "list",
         "Tells the size, the boxes, the goals and the title of each level",
-        LISTS,
+        lists(),
     )
     .arg(required_arg(alloc, "FILE", FILE))?;
     Ok(command)
@@ -96,7 +55,7 @@ fn replay_command<'a>(alloc: Global) -> Result<Command<'a>, AllocError>
         alloc,
         "replay",
         "Plays a text of letters on a level, and tells whether it solves it",
-        REPLAYS,
+        replays(),
     )
     .arg(required_arg(alloc, "FILE", FILE))?
     .arg(number_arg(alloc, "N", N))?
@@ -112,7 +71,7 @@ fn solve_command<'a>(alloc: Global) -> Result<Command<'a>, AllocError>
         alloc,
         "solve",
         "Finds a solution with fewest pushes, or shows that there is none",
-        SOLVES,
+        solves(),
     )
     .arg(required_arg(alloc, "FILE", FILE))?
     .arg(number_arg(alloc, "N", N))?
@@ -129,7 +88,7 @@ fn check_command<'a>(alloc: Global) -> Result<Command<'a>, AllocError>
         alloc,
         "check",
         "Judges a certificate, which shows how many pushes a level needs",
-        CHECKS,
+        checks(),
     )
     .arg(required_arg(alloc, "FILE", FILE))?
     .arg(number_arg(alloc, "N", N))?
@@ -144,8 +103,8 @@ fn add_command<'a>(alloc: Global) -> Result<Command<'a>, AllocError>
     let command = described(
         alloc,
         "add",
-        "Adds the levels of a collection to a book (not built yet)",
-        UNBUILT,
+        "Adds the levels of a collection to a book",
+        adds(),
     )
     .arg(required_arg(alloc, "DB", DB))?
     .arg(required_arg(alloc, "FILE", FILE))?;
@@ -159,8 +118,8 @@ fn offer_command<'a>(alloc: Global) -> Result<Command<'a>, AllocError>
     let command = described(
         alloc,
         "offer",
-        "Offers a solution, which the book keeps if it has fewer pushes (not built yet)",
-        UNBUILT,
+        "Offers a solution, which the book keeps if it has fewer pushes",
+        offers(),
     )
     .arg(required_arg(alloc, "DB", DB))?
     .arg(id_arg(alloc, "ID", ID))?
@@ -175,8 +134,8 @@ fn prove_command<'a>(alloc: Global) -> Result<Command<'a>, AllocError>
     let command = described(
         alloc,
         "prove",
-        "Judges a certificate for a level of a book, and keeps the verdict (not built yet)",
-        UNBUILT,
+        "Judges a certificate for a level of a book, and keeps the verdict",
+        proves(),
     )
     .arg(required_arg(alloc, "DB", DB))?
     .arg(id_arg(alloc, "ID", ID))?
@@ -191,8 +150,8 @@ fn show_command<'a>(alloc: Global) -> Result<Command<'a>, AllocError>
     let command = described(
         alloc,
         "show",
-        "Shows a level of a book: its rows, title, best solution and verdict (not built yet)",
-        UNBUILT,
+        "Shows a level of a book: its rows, title, best solution and verdict",
+        shows(),
     )
     .arg(required_arg(alloc, "DB", DB))?
     .arg(id_arg(alloc, "ID", ID))?;
@@ -206,8 +165,8 @@ fn export_command<'a>(alloc: Global) -> Result<Command<'a>, AllocError>
     let command = described(
         alloc,
         "export",
-        "Writes the levels of a book as a collection (not built yet)",
-        UNBUILT,
+        "Writes the levels of a book as a collection",
+        exports(),
     )
     .arg(required_arg(alloc, "DB", DB))?;
     Ok(command)
@@ -222,7 +181,7 @@ fn top_command<'a>(alloc: Global) -> Command<'a>
         alloc,
         "sok",
         "Plays, solves and proves levels of Sokoban: what it answers is proved",
-        ENDS,
+        ends(),
     )
     .subcommand_required(true)
 }

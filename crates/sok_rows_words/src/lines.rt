@@ -1,7 +1,7 @@
 //! Words, and the texts that are printed for some of them.
 
-use crate::job::{Job, JobRefused};
-use crate::words::job;
+use sok_words::job::{Job, JobRefused};
+use sok_words::words::job;
 use std::test::Fail;
 
 /// What is asked for by the words of a line, which blanks separate.

@@ -1,8 +1,8 @@
 //! The engines over memory, with all that they write.
 
-use crate::listing::list_bytes;
-use crate::play::replay_bytes;
 use sok_engine::fault::ToolFault;
+use sok_play::listing::list_bytes;
+use sok_play::play::replay_bytes;
 use std::test::Fail;
 
 const COLLECTION: &[u8] = b"; First\n#####\n#@$.#\n#####\n\n#####\n#$ .#\n#####\n\
