@@ -1,17 +1,13 @@
 -- What a search for all boxes answers, in the words of the board.
-use Rattle.std.proofs.Common.{ℕ, ◌≡◌, ◌≢◌, ◌<◌, ◌≤◌, ◌+◌, ◌∙◌, inl, inr, refl, sym, ap, subst, List, [], ◌∷◌, Option, Some, None, Bool, true, false}
-use Rattle.std.proofs.Common.{true≢false, All, AllPairs, Contains, arith, length, get_or, sum, cond, zero, suc}
-use Rattle.std.proofs.lemmas.Bool.{cases_Bool}
+use Rattle.std.proofs.Common.{ℕ, ◌≡◌, ◌≢◌, ◌<◌, ◌≤◌, ◌+◌, ◌∙◌, refl, sym, subst, List, Option, Some, None}
+use Rattle.std.proofs.Common.{All, AllPairs, Contains, arith, length, get_or, sum}
 use Rattle.std.proofs.lemmas.Option.{slice_get_within, get_or_from_slice_get}
-use Rattle.std.proofs.lemmas.List.{get_or_default, take_all}
-use Rattle.std.proofs.lemmas.List.Elements.{All-contains, All-weaker}
-use Rattle.std.proofs.lemmas.List.Sums.{sum_by-cons, sum_by-le}
+use Rattle.std.proofs.lemmas.List.Elements.{All-weaker}
+use Rattle.std.proofs.lemmas.List.Sums.{sum_by-le}
 use Rattle.sok_board.specs.Area.{Numbered, goals_of}
-use Rattle.sok_board.proofs.Lists.{Contains-cons}
 use Rattle.sok_push.specs.Distances.{goal_at}
 use Rattle.sok_push.specs.Pushing.{Chain, TellsDistance}
 use Rattle.sok_price.specs.Costs.{TellCosts}
-use Rattle.sok_price.specs.Marked.{ListsMarked}
 use Rattle.sok_price.specs.declared.assign.Match.{Match}
 use Rattle.sok_price.specs.declared.assign.Match.TheVariants.{Prices, Crowd}
 use Rattle.sok_price.specs.declared.search.Search.{Search}
@@ -19,11 +15,11 @@ use Rattle.sok_price.specs.Matches.{ArePrices, HasPrices, IsMatch}
 use Rattle.sok_price.specs.Matchings.{AreFair, Costing, low}
 use Rattle.sok_price.specs.Prices.{IsAssignment, IsCrowd, Priced}
 use Rattle.sok_price.specs.Searches.{Growth, IsReady, IsSeen, ReachesNoOther}
-use Rattle.sok_price.specs.Trees.{count_of, is_marked}
-use Rattle.sok_price.proofs.CostRows.{short-some}
+use Rattle.sok_price.specs.Trees.{branch_at, members_of}
 use Rattle.sok_price.proofs.AssignmentLaws.{IsCarrying-IsAssignment}
+use Rattle.sok_price.proofs.Branching.{member-within}
 use Rattle.sok_price.proofs.CrowdLaws.{Excludes-IsCrowd}
-use Rattle.sok_price.proofs.Marks.{count_of-le, price-at}
+use Rattle.sok_price.proofs.Crowding.{IsCrowd-closed}
 use Rattle.sok_price.proofs.Places.{listed}
 use Rattle.sok_price.proofs.Sums.{prices_of-all, sum-along}
 
@@ -52,12 +48,14 @@ HasSums-ready cost members goals g ready all idle =
     let matched = ready.matched in
     let (distances, whole, exact) = listed (length g.goal_of) (Exact cost g.u g.v g.goal_of)
     (λ member within. let tight = matched.exact member within in (tight.pushes, (tight.way, tight.exact))) in
-    let u_long = matched.a_price_a_box in
-    let v_long = matched.a_price_a_goal in
-    let along = sum-along g.u g.v g.goal_of distances (omega (arith, all, u_long)) (omega (arith, whole, all, u_long))
-    (λ member within. (exact member (omega (arith, within, u_long, all))).1) in
-    let others = prices_of-all g.goal_of g.v matched.apart (λ k d within. let exists = matched.exist k d within in omega (arith, exists, v_long))
-    (λ goal within none. idle goal (omega (arith, within, v_long)) none) in
+    let along = sum-along g.u g.v g.goal_of distances (omega (arith, all, matched.a_price_a_box)) (omega (arith, whole, all, matched.a_price_a_box))
+    (λ member within. (exact member (omega (arith, within, matched.a_price_a_box, all))).1) in
+    let others = prices_of-all g.goal_of g.v matched.apart (λ k d within. let exists = matched.exist k d within in omega (
+      arith,
+      exists,
+      matched.a_price_a_goal,
+    ))
+    (λ goal within none. idle goal (omega (arith, within, matched.a_price_a_goal)) none) in
     record { distances = distances; whole = whole; exact = exact; sums = omega (arith, along, others) }
 
 -- a chain to a goal costs at least what is told
@@ -109,7 +107,6 @@ pub ArePrices-ready : (b : Numbered) (boxes : List ℕ) (goals : ℕ) (cost : Co
 ArePrices-ready b boxes goals cost g total told goals_are ready none few all equal =
     let has = HasSums-ready cost (length boxes) goals g ready all (idle-floor cost (length boxes) goals g ready none) in
     let limit : low (length boxes) g.floor ≤ 1000000 = omega (arith, none, few) in
-    let sums = has.sums in
     let assignment = IsAssignment-told b boxes goals cost g.goal_of has.distances told goals_are all (has.whole ∙ all) ready.matched.exist ready.matched.apart
     (λ i within. (has.exact i (omega (arith, within, all))).0) in
     record {
@@ -120,7 +117,7 @@ ArePrices-ready b boxes goals cost g total told goals_are ready none few all equ
       small_goals = small (low (length boxes) g.floor) g.v limit ready.low.goals;
       distances = has.distances;
       assignment = assignment;
-      cost = omega (arith, sums, equal);
+      cost = omega (arith, has.sums, equal);
       no_crowd = λ members crowd. Excludes-IsCrowd b boxes g.goal_of has.distances members
           (IsCarrying-IsAssignment b boxes g.goal_of has.distances assignment) crowd;
     }
@@ -133,89 +130,11 @@ sum-small members floor u v long few none within =
     (λ price below. omega (arith, below, few, none)) u within) in
     omega (arith, bound, long, few)
 
--- the goals whose marks are set
-abbrev pub picked : List Bool → List ℕ → List ℕ
-picked [] goals = []
-picked (mark ∷ marks) [] = []
-picked (mark ∷ marks) (goal ∷ goals) = cond mark (goal ∷ picked marks goals) (picked marks goals)
-
-pub length-picked : (marks : List Bool) (goals : List ℕ) → length (picked marks goals) ≤ count_of marks
-length-picked [] goals = omega arith
-length-picked (mark ∷ marks) [] = omega arith
-length-picked (true ∷ marks) (goal ∷ goals) = let rest = length-picked marks goals in let count = sum_by-cons (λ (mark : Bool). cond mark 1 0) true marks in
-    omega (arith, rest, count)
-length-picked (false ∷ marks) (goal ∷ goals) = let rest = length-picked marks goals in let count = sum_by-cons (λ (mark : Bool). cond mark 1 0) false marks in
-    omega (arith, rest, count)
-
-pub Contains-picked : (marks : List Bool) (goals : List ℕ) (k d : ℕ) → is_marked marks k ≡ true → k < length goals
-    → Contains (picked marks goals) (get_or goals k d)
-Contains-picked [] goals k d there within = absurd (true≢false (sym there))
-Contains-picked (mark ∷ marks) [] k d there within = absurd (omega (arith, within))
-Contains-picked (true ∷ marks) (goal ∷ goals) zero d there within = (0, omega arith, refl)
-Contains-picked (false ∷ marks) (goal ∷ goals) zero d there within = absurd (true≢false (sym there))
-Contains-picked (true ∷ marks) (goal ∷ goals) (suc k) d there within =
-    Contains-cons goal (get_or goals k d) (picked marks goals) (Contains-picked marks goals k d there (omega (arith, within)))
-Contains-picked (false ∷ marks) (goal ∷ goals) (suc k) d there within = Contains-picked marks goals k d there (omega (arith, within))
-
-pub chain-some : (b : Numbered) (goal square d : ℕ) (cost : Option ℕ) → TellsDistance b goal square cost → Chain b square goal d
-    → (pushes : ℕ) × (cost ≡ Some pushes)
-chain-some b goal square d None tells chain = absurd (tells d chain)
-chain-some b goal square d (Some pushes) tells chain = (pushes, refl)
-
--- a goal that a box of a tree reaches is of the tree, where no other goal is reached
-pub taken-closed : (cost : Costing) (members goals : ℕ) (g : Growth) → IsSeen cost members goals g → ReachesNoOther g → (member goal pushes : ℕ)
-    → is_marked g.met member ≡ true → goal < goals → cost member goal ≡ Some pushes → pushes ≤ 1024 → is_marked g.taken goal ≡ true
-taken-closed cost members goals g growing closed member goal pushes met inside way short = elim (cases_Bool (is_marked g.taken goal)) [
-  | inl taken ↦ taken
-  | inr free ↦
-      let (at, within, is) = growing.met.of member met in
-      let bound = growing.bounds at goal within within inside free pushes (ap (λ k. cost k goal) is ∙ way) in
-      let v_long = growing.matched.a_price_a_goal in
-      let far = closed goal (omega (arith, inside, v_long)) free in
-      let above = growing.rises.above at within in
-      let price = price-at (low members g.floor) g.v goal growing.low.goals in
-      let counted = growing.counted in
-      let count = count_of-le g.met in
-      let met_long = growing.roomy.met in
-      let few = growing.few in
-      let bounded = growing.bounded in
-      absurd (omega (arith, bound, far, above, price, counted, count, met_long, few, bounded, within, short))
-]
-
--- marked boxes that reach marked goals alone, and fewer of them, are a crowd
-pub IsCrowd-told : (b : Numbered) (boxes : List ℕ) (goals : ℕ) (cost : Costing) (marks taken : List Bool) (members : List ℕ) → TellCosts b boxes goals cost
-    → goals ≡ length (goals_of b) → length marks ≡ length boxes → ListsMarked marks (length marks) members
-    → ((i goal pushes : ℕ) → is_marked marks i ≡ true → i < length boxes → goal < goals → cost i goal ≡ Some pushes → pushes ≤ 1024
-    → is_marked taken goal ≡ true) → count_of taken < count_of marks → IsCrowd b boxes members
-IsCrowd-told b boxes goals cost marks taken members told goals_are long lists closed fewer = record {
-  listed = record { rising = lists.rising; within = λ k d inside. let within = lists.within k d inside in omega (arith, within, long) };
-  goals = picked taken (goals_of b);
-  all_reached = λ x goal n (i, member, at) (j, j_within, j_is) chain.
-      let i_within = slice_get_within boxes i x at in
-      let marked = All-contains (λ place. is_marked marks place ≡ true) members i lists.set member in
-      let x_is : x ≡ get_or boxes i 0 = sym (get_or_from_slice_get boxes i x 0 at) in
-      let goal_is : goal ≡ goal_at b j = sym j_is ∙ get_or_default (goals_of b) j goal 0 j_within in
-      let inside : j < goals = omega (arith, j_within, goals_are) in
-      let (pushes, way) = chain-some b (goal_at b j) (get_or boxes i 0) n (cost i j) (told i j i_within inside).exact
-      (subst (λ k. Chain b k (goal_at b j) n) x_is (subst (λ k. Chain b x k n) goal_is chain)) in
-      let short = short-some (cost i j) pushes (told i j i_within inside).short way in
-      subst (Contains (picked taken (goals_of b))) (sym goal_is) (Contains-picked taken (goals_of b) j 0 (closed i j pushes marked i_within inside way short)
-      j_within);
-  fewer =
-      let few = length-picked taken (goals_of b) in
-      let whole = lists.whole in
-      let all = ap count_of (take_all (length marks) marks (omega arith)) in
-      omega (arith, few, whole, all, fewer);
-}
-
 -- the boxes of a tree that reaches no other goal are a crowd
-pub IsCrowd-closed : (b : Numbered) (boxes : List ℕ) (goals : ℕ) (cost : Costing) (g : Growth) (members : List ℕ) → TellCosts b boxes goals cost
-    → goals ≡ length (goals_of b)
-    → IsSeen cost (length boxes) goals g → ReachesNoOther g → ListsMarked g.met (length g.met) members → IsCrowd b boxes members
-IsCrowd-closed b boxes goals cost g members told goals_are growing closed lists =
-    IsCrowd-told b boxes goals cost g.met g.taken members told goals_are growing.roomy.met lists
-    (λ i goal pushes met _ inside way short. taken-closed cost (length boxes) goals g growing closed i goal pushes met inside way short)
-    (let count = growing.marked.count in omega (arith, count))
+pub IsCrowd-members : (b : Numbered) (boxes : List ℕ) (goals : ℕ) (cost : Costing) (g : Growth) → TellCosts b boxes goals cost → goals ≡ length (goals_of b)
+    → IsSeen cost (length boxes) goals g → ReachesNoOther g → IsCrowd b boxes (members_of g.branches (length boxes))
+IsCrowd-members b boxes goals cost g told goals_are growing closed = IsCrowd-closed growing closed b boxes (λ i. i) goals_are told
+    (λ at within. ((branch_at g.branches at).member, member-within g.goal_of g.branches (length boxes) growing.tree growing.more at within, refl))
 
 -- what holds of the lists of a search holds of the prices and goals that are answered
 pub IsMatch-prices : (b : Numbered) (boxes : List ℕ) (search : Search) (answer : Match) → HasPrices search answer

@@ -18,20 +18,15 @@ pub record IsCarrying (b : Numbered) (boxes goal_of lengths : List ℕ) : Type 0
 pub AtLeast-IsCarrying : (b : Numbered) (boxes u v goal_of lengths : List ℕ) (n : ℕ) → Priced b boxes u v n → IsCarrying b boxes goal_of lengths
     → n ≤ sum lengths
 AtLeast-IsCarrying b boxes u v goal_of lengths n priced carrying =
-    let u_long = priced.a_price_a_box in
-    let v_long = priced.a_price_a_goal in
-    let goals_long = carrying.a_goal_a_box in
-    let lengths_long = carrying.a_length_a_box in
-    let exist : All (λ goal. goal < length v) goal_of = λ k d within. let here = carrying.exist k d within in omega (arith, here, v_long) in
-    let along = sum-along-le u v goal_of lengths (omega (arith, u_long, goals_long)) (omega (arith, u_long, lengths_long)) (λ i within.
-    let inside : i < length boxes = omega (arith, within, u_long) in
+    let exist : All (λ goal. goal < length v) goal_of = λ k d within. let here = carrying.exist k d within in omega (arith, here, priced.a_price_a_goal) in
+    let along = sum-along-le u v goal_of lengths (omega (arith, priced.a_price_a_box, carrying.a_goal_a_box))
+    (omega (arith, priced.a_price_a_box, carrying.a_length_a_box)) (λ i within.
+    let inside : i < length boxes = omega (arith, within, priced.a_price_a_box) in
     let goal = get_or goal_of i 0 in
-    let there : goal < length (goals_of b) = carrying.exist i 0 (omega (arith, inside, goals_long)) in
+    let there : goal < length (goals_of b) = carrying.exist i 0 (omega (arith, inside, carrying.a_goal_a_box)) in
     priced.fair i goal (get_or boxes i 0) (get_or (goals_of b) goal 0) (get_or lengths i 0) (slice_get-get_or boxes i 0 inside)
     (slice_get-get_or (goals_of b) goal 0 there) (carrying.chain i inside)) in
-    let all = prices_of-le goal_of v carrying.apart exist in
-    let enough = priced.enough in
-    omega (arith, along, all, enough)
+    omega (arith, along, prices_of-le goal_of v carrying.apart exist, priced.enough)
 
 -- an assignment carries, by its distances
 pub IsCarrying-IsAssignment : (b : Numbered) (boxes goal_of distances : List ℕ) → IsAssignment b boxes goal_of distances → IsCarrying b boxes goal_of distances

@@ -19,13 +19,13 @@ pub IsRow-more : (b : Numbered) (goals square : ℕ) (before after : List (Optio
 IsRow-more b goals square before after cost is tells = record {
   row = is.row ++ cost ∷ [];
   added = ap (λ entries. entries ++ cost ∷ []) is.added ∙ append_assoc before is.row (cost ∷ []);
-  whole = let long = length_push is.row cost in let whole = is.whole in omega (arith, long, whole);
+  whole = let long = length_push is.row cost in omega (arith, long, is.whole);
   told = λ goal within. elim (cases_eq goal goals) [
     | inl same ↦ subst (λ k. TellsCost b k square (get_or (is.row ++ cost ∷ []) k None)) (sym same)
         (subst (TellsCost b goals square) (sym (get_or_push is.row cost None goals is.whole)) tells)
     | inr other ↦
         let inside : goal < goals = omega (arith, within, other) in
-        subst (TellsCost b goal square) (sym (get_or_append_left is.row (cost ∷ []) None goal (let whole = is.whole in omega (arith, inside, whole))))
+        subst (TellsCost b goal square) (sym (get_or_append_left is.row (cost ∷ []) None goal (omega (arith, inside, is.whole))))
         (is.told goal inside)
   ];
 }
@@ -61,7 +61,7 @@ short-some (Some n) pushes short there = let same = same_Some n pushes there in 
 pub AreTold-more : (b : Numbered) (boxes : List ℕ) (goals members : ℕ) (entries after : List (Option ℕ)) → AreTold b boxes goals members entries
     → IsRow b goals (get_or boxes members 0) entries after → AreTold b boxes goals (members + 1) after
 AreTold-more b boxes goals members entries after told is = subst (AreTold b boxes goals (members + 1)) (sym is.added) (record {
-  whole = let long = length-append entries is.row in let whole = told.whole in let row = is.whole in omega (arith, long, whole, row);
+  whole = let long = length-append entries is.row in omega (arith, long, told.whole, is.whole);
   told = λ member goal below within. elim (cases_eq member members) [
     | inl same ↦ subst (λ m. TellsCost b goal (get_or boxes m 0) (cost_in goals (entries ++ is.row) m goal)) (sym same)
         (subst (TellsCost b goal (get_or boxes members 0)) (sym (cost-last entries is.row goals members goal told.whole)) (is.told goal within))
@@ -75,8 +75,7 @@ AreTold-more b boxes goals members entries after told is = subst (AreTold b boxe
     | inr past ↦
         let in_row = sym (get_or-append_right entries is.row (length entries) k None refl past) ∙ there in
         let within = some-within is.row (k - length entries) pushes in_row in
-        let whole = is.whole in
-        short-some (get_or is.row (k - length entries) None) pushes (is.told (k - length entries) (omega (arith, within, whole))).short in_row
+        short-some (get_or is.row (k - length entries) None) pushes (is.told (k - length entries) (omega (arith, within, is.whole))).short in_row
   ];
 })
 
@@ -95,8 +94,7 @@ AreCosts-told b boxes costs told few whole in_order = record {
       let row = in_order k (omega (arith, within, whole)) in
       let next : get_or costs.rows.items k d + 1 ≤ costs.members = omega (arith, same, row, within, whole) in
       let rows = mul-le-mul_left costs.goals next in
-      let long = told.whole in
-      omega (arith, rows, long);
+      omega (arith, rows, told.whole);
   few = few;
   short = λ member goal pushes there. told.short (get_or costs.rows.items member 0 * costs.goals + goal) pushes there;
   entries_short = told.short;
@@ -115,6 +113,5 @@ pub entry-within : (costs : Costs) (member goal : ℕ) → AreCosts costs → me
     → get_or costs.rows.items member 0 * costs.goals + goal < length costs.entries.items
 entry-within costs member goal are below within =
     let row = get_or costs.rows.items member 0 in
-    let whole = are.a_row_a_box in
-    let exists : (row + 1) * costs.goals ≤ length costs.entries.items = are.exist member 0 (omega (arith, below, whole)) in
+    let exists : (row + 1) * costs.goals ≤ length costs.entries.items = are.exist member 0 (omega (arith, below, are.a_row_a_box)) in
     omega (arith, exists, within)

@@ -24,11 +24,14 @@ Excludes-IsCrowd b boxes goal_of lengths members carrying crowd =
     let end : ℕ → ℕ = λ i. goal_at b (get_or goal_of i 0) in
     let ends = map end members in
     let long = length-map members end in
-    let goals_long = carrying.a_goal_a_box in
     let end_is : (k : ℕ) → k < length ends → get_or ends k 0 ≡ end (get_or members k 0) = λ k within.
     get_or-map end members k 0 0 (omega (arith, within, long)) in
     let box : (k : ℕ) → k < length ends → get_or members k 0 < length boxes = λ k within. crowd.listed.within k 0 (omega (arith, within, long)) in
-    let owns : (k : ℕ) → k < length ends → get_or members k 0 < length goal_of = λ k within. let here = box k within in omega (arith, here, goals_long) in
+    let owns : (k : ℕ) → k < length ends → get_or members k 0 < length goal_of = λ k within. let here = box k within in omega (
+      arith,
+      here,
+      carrying.a_goal_a_box,
+    ) in
     let exists : (k : ℕ) → k < length ends → get_or goal_of (get_or members k 0) 0 < length (goals_of b) = λ k within.
     carrying.exist (get_or members k 0) 0 (owns k within) in
     let apart = apart_from ends (λ i j i_in j_in same.
@@ -41,9 +44,7 @@ Excludes-IsCrowd b boxes goal_of lengths members carrying crowd =
     subst (Contains crowd.goals) (sym (end_is k within)) (crowd.all_reached (get_or boxes i 0) (end i) (get_or lengths i 0)
     (i, Contains-get_or members k 0 (omega (arith, within, long)), slice_get-get_or boxes i 0 (box k within))
     (Contains-get_or (goals_of b) (get_or goal_of i 0) 0 (exists k within)) (carrying.chain i (box k within)))) in
-    let most = pigeonhole ends crowd.goals apart each in
-    let fewer = crowd.fewer in
-    omega (arith, most, fewer, long)
+    omega (arith, pigeonhole ends crowd.goals apart each, crowd.fewer, long)
 
 pub Never-IsCrowd : (b : Numbered) → IsArea b.rows b.area → (x : Position) (boxes members : List ℕ) → Stands b x boxes → IsCrowd b boxes members
     → (w : List Dir) → SolvesFrom b.rows x w → ⊥

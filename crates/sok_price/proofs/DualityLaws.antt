@@ -13,5 +13,4 @@ pub AtLeast-Priced : (b : Numbered) → IsArea b.rows b.area → (x : Position) 
 AtLeast-Priced b area x ns u v n stands priced w solves =
     let ends = carried b area w x ns stands solves in
     let bound = AtLeast-IsCarrying b ns u v ends.goal_of ends.lengths n priced ends.carrying in
-    let total = ends.total in
-    omega (arith, bound, total)
+    omega (arith, bound, ends.total)

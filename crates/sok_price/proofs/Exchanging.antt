@@ -1,6 +1,6 @@
 -- A row that is exchanged for another: it becomes the last, its price is 0, and its goal is free.
-use Rattle.std.proofs.Common.{ℕ, ◌≡◌, ◌≢◌, ◌<◌, ◌≤◌, ◌+◌, ◌*◌, ◌∙◌, inl, inr, sym, ap, subst, List, All, AllPairs, true, false, arith, length, get_or, set}
-use Rattle.std.proofs.Common.{take, ◌==◌, if◌then◌else◌}
+use Rattle.std.proofs.Common.{ℕ, ◌≡◌, ◌≢◌, ◌<◌, ◌≤◌, ◌+◌, ◌*◌, ◌∙◌, inl, inr, sym, ap, subst, List, All, AllPairs, arith, length, get_or, set}
+use Rattle.std.proofs.Common.{take}
 use Rattle.std.specs.List.{SwappedAt}
 use Rattle.std.proofs.lemmas.Bool.{cases_eq}
 use Rattle.std.proofs.lemmas.Bool.Decides.{nat_tests}
@@ -17,18 +17,11 @@ use Rattle.sok_price.proofs.Rematching.{swapped-apart}
 -- an exchange with the last place, seen from the places before it
 pub moved-at : (xs ys : List ℕ) (row last k : ℕ) → SwappedAt xs ys row last → k < last → get_or ys k 0 ≡ get_or xs (moved_from row last k) 0
 unfolding moved_from
-moved-at xs ys row last k swapped before = elim (cases_eq k row) [
-  | inl same ↦
-      let yes : (k == row) ≡ true = grind (arith, nat_tests, same) in
-      ap (λ j. get_or ys j 0) same ∙ swapped.0 0 ∙ ap (λ t. get_or xs (if t then last else k) 0) (sym yes)
-  | inr other ↦
-      let no : (k == row) ≡ false = grind (arith, nat_tests, other) in
-      swapped.2 k 0 other (omega (arith, before)) ∙ ap (λ t. get_or xs (if t then last else k) 0) (sym no)
-]
+moved-at xs ys row last k swapped before = grind (arith, nat_tests, swapped.0 0, swapped.2 k 0)
 
 pub below-last : (row last k : ℕ) → row ≤ last → k < last → moved_from row last k < last + 1
 unfolding moved_from
-below-last row last k within before = elim (k == row) as (λ t. (if t then last else k) < last + 1) [ true ↦ omega arith | false ↦ omega (arith, before) ]
+below-last row last k within before = grind (arith, nat_tests)
 
 pub AreMoved-set : (xs ys : List ℕ) (row last value : ℕ) → row ≤ last → length xs ≡ last + 1 → length ys ≡ length xs → SwappedAt xs ys row last
     → AreMoved row value xs (set ys last value)
@@ -72,63 +65,48 @@ pub IsReady-exchanged : (cost after_cost : Costing) (members goals row last : �
     → members ≡ last + 1 → IsExchanged cost after_cost row last g after → IsReady after_cost members goals after
 IsReady-exchanged cost after_cost members goals row last g after ready all whole is =
     let m = ready.matched in
-    let u_long = m.a_price_a_box in
-    let v_long = m.a_price_a_goal in
-    let last_is : is.prices.last ≡ last = let long = is.prices.whole in omega (arith, long, u_long, whole) in
+    let last_is : is.prices.last ≡ last = omega (arith, is.prices.whole, m.a_price_a_box, whole) in
     let u_is : (k : ℕ) → k < last → get_or after.u k 0 ≡ get_or g.u (moved_from row last k) 0 =
     λ k before. subst (λ n. get_or after.u k 0 ≡ get_or g.u (moved_from row n k) 0) last_is (is.prices.moved k (omega (arith, before, last_is))) in
     let new : get_or after.u last 0 ≡ 0 = subst (λ n. get_or after.u n 0 ≡ 0) last_is is.prices.new in
-    let u_whole : length after.u ≡ members = let kept = is.prices.kept in omega (arith, kept, last_is, whole) in
-    let goals_long = is.goals in
-    let risen = is.risen in
+    let u_whole : length after.u ≡ members = omega (arith, is.prices.kept, last_is, whole) in
     subst (IsReady after_cost members goals) (sym is.same) (record {
       matched = record {
         a_price_a_box = u_whole;
-        a_price_a_goal = v_long;
+        a_price_a_goal = m.a_price_a_goal;
         exist = All-from_get_or (λ goal. goal < goals) after.goal_of 0 (λ k inside.
-            let was = is.goal_is k (omega (arith, inside, goals_long)) in
-            let below = below-last row last k is.within (omega (arith, inside, goals_long)) in
+            let below = below-last row last k is.within (omega (arith, inside, is.goals)) in
             let exists = m.exist (moved_from row last k) 0 (omega (arith, below, all, whole)) in
-            omega (arith, was, exists));
+            omega (arith, is.goal_is k (omega (arith, inside, is.goals)), exists));
         apart = is.apart;
-        fair = λ member goal pushes below within way. elim (cases_eq member last) [
-          | inl same ↦ let price = ap (λ k. get_or after.u k 0) same ∙ new in omega (arith, price)
-          | inr other ↦
-              let before : member < last = omega (arith, below, other, u_whole, whole) in
-              let was = below-last row last member is.within before in
-              let fair = m.fair (moved_from row last member) goal pushes (omega (arith, was, u_long, whole)) within
-              (sym (is.cost_is member goal before) ∙ way) in
-              let price = u_is member before in
-              omega (arith, fair, price)
-        ];
+        fair = λ member goal pushes below within way.
+            let old : member < last → get_or g.u (moved_from row last member) 0 ≤ get_or g.v goal 0 + pushes = λ before.
+            m.fair (moved_from row last member) goal pushes (omega (arith, below-last row last member is.within before, m.a_price_a_box, whole)) within
+            (sym (is.cost_is member goal before) ∙ way) in
+            grind (arith, old, new, u_is member, u_whole, whole);
         exact = λ member inside.
-            let before : member < last = omega (arith, inside, goals_long) in
+            let before : member < last = omega (arith, inside, is.goals) in
             let was = below-last row last member is.within before in
             let tight = m.exact (moved_from row last member) (omega (arith, was, all, whole)) in
             let goal_is = is.goal_is member before in
-            let exact = tight.exact in
             let price = u_is member before in
             let goal_price = ap (λ j. get_or g.v j 0) goal_is in
             record {
               pushes = tight.pushes;
               way = is.cost_is member (get_or after.goal_of member 0) before ∙ ap (cost (moved_from row last member)) goal_is ∙ tight.way;
-              exact = omega (arith, exact, price, goal_price);
+              exact = omega (arith, tight.exact, price, goal_price);
             };
         idle = λ goal within _. price-at after.floor g.v goal is.top;
       };
       bounded = is.bounded;
       low = record {
-        boxes = All-from_get_or (λ price. price ≤ low members after.floor) after.u 0 (λ member below. elim (cases_eq member last) [
-          | inl same ↦ let price = ap (λ k. get_or after.u k 0) same ∙ new in omega (arith, price)
-          | inr other ↦
-              let price = u_is member (omega (arith, below, other, u_whole, whole)) in
-              let old = price-at (low members g.floor) g.u (moved_from row last member) ready.low.boxes in
-              omega (arith, price, old, risen)
-        ]);
+        boxes = All-from_get_or (λ price. price ≤ low members after.floor) after.u 0 (λ member below.
+            let old = price-at (low members g.floor) g.u (moved_from row last member) ready.low.boxes in
+            grind (arith, old, new, u_is member, is.risen, u_whole, whole));
         goals = All-weaker (λ price. price ≤ low members g.floor) (λ price. price ≤ low members after.floor)
-            (λ price below. omega (arith, below, risen)) g.v ready.low.goals;
+            (λ price below. omega (arith, below, is.risen)) g.v ready.low.goals;
       };
-      roomy = record { met = ready.roomy.met; taken = ready.roomy.taken; slacks = ready.roomy.slacks; takers = ready.roomy.takers };
+      roomy = record { taken = ready.roomy.taken; slacks = ready.roomy.slacks; takers = ready.roomy.takers };
     })
 
 -- the rows before the last have the costs of those that they were
@@ -142,18 +120,15 @@ pub AreCosts-exchanged : (row entry : ℕ) (before after : Costs) → AreCosts b
     → (entry + 1) * before.goals ≤ length before.entries.items → AreExchanged row entry before after → AreCosts after
 unfolding cost_in
 AreCosts-exchanged row entry before after are within room is =
-    let whole = are.a_row_a_box in
-    let long = is.rows.whole in
-    let kept = is.rows.kept in
     subst AreCosts (sym is.same) (record {
-      a_row_a_box = omega (arith, kept, long, whole);
+      a_row_a_box = omega (arith, is.rows.kept, is.rows.whole, are.a_row_a_box);
       exist = All-from_get_or (λ r. (r + 1) * before.goals ≤ length before.entries.items) after.rows.items 0 (λ k inside. elim (cases_eq k is.rows.last) [
         | inl same ↦ subst (λ r. (r + 1) * before.goals ≤ length before.entries.items) (sym (ap (λ j. get_or after.rows.items j 0) same ∙ is.rows.new)) room
         | inr other ↦
-            let earlier : k < is.rows.last = omega (arith, inside, other, kept) in
-            let was = below-last row is.rows.last k (omega (arith, within, long, whole)) earlier in
+            let earlier : k < is.rows.last = omega (arith, inside, other, is.rows.kept) in
+            let was = below-last row is.rows.last k (omega (arith, within, is.rows.whole, are.a_row_a_box)) earlier in
             subst (λ r. (r + 1) * before.goals ≤ length before.entries.items) (sym (is.rows.moved k earlier))
-            (are.exist (moved_from row is.rows.last k) 0 (omega (arith, was, long)))
+            (are.exist (moved_from row is.rows.last k) 0 (omega (arith, was, is.rows.whole)))
       ]);
       few = are.few;
       short = λ member goal pushes there. are.entries_short (get_or after.rows.items member 0 * before.goals + goal) pushes there;

@@ -22,20 +22,14 @@ use Rattle.sok_price.proofs.Sparing.{sum-fits, sums-whole}
 pub HasWorth-whole : (costs : Costs) (search : Search) → IsWhole costs search → costs.members ≡ costs.goals → HasWorth search
 HasWorth-whole costs search whole square =
     let g = growth_of search in
-    let shaped = whole.shaped in
-    let all = whole.whole in
-    let few = shaped.few in
-    let fits = sum-fits (cost_of costs) costs.members costs.goals g whole.ready few in
-    let has = sums-whole (cost_of costs) costs.members costs.goals g whole.ready square all in
-    let ds = has.distances in
-    let long = has.whole in
-    let sums = has.sums in
-    let bound = sum_by-le (λ d. d) 1024 ds (λ k d within.
-    let exact = has.exact k (omega (arith, within, long)) in
-    let short = shaped.short k (get_or g.goal_of k 0) (get_or ds k 0) exact.0 in
-    let same = get_or_default ds k d 0 within in
+    let fits = sum-fits (cost_of costs) costs.members costs.goals g whole.ready whole.shaped.few in
+    let has = sums-whole (cost_of costs) costs.members costs.goals g whole.ready square whole.whole in
+    let bound = sum_by-le (λ d. d) 1024 has.distances (λ k d within.
+    let exact = has.exact k (omega (arith, within, has.whole)) in
+    let short = whole.shaped.short k (get_or g.goal_of k 0) (get_or has.distances k 0) exact.0 in
+    let same = get_or_default has.distances k d 0 within in
     omega (arith, short, same)) in
-    record { fits = omega (arith, fits); covered = omega (arith, sums); small = omega (arith, bound, sums, long, few, all) }
+    record { fits = omega (arith, fits); covered = omega (arith, has.sums); small = omega (arith, bound, has.sums, has.whole, whole.shaped.few, whole.whole) }
 
 -- costs whose rows are a copy
 abbrev pub AreCopied : Costs → Costs → Type 0
@@ -64,7 +58,7 @@ AreKept-copied b before after (same, items) kept =
     let there : AreKept b (record before { rows = after.rows }) = record {
       tabled = kept.tabled;
       square = kept.square;
-      rows = let rows = kept.rows in subst (λ xs. AreRows (length b.area) xs) (sym items) rows;
+      rows = subst (λ xs. AreRows (length b.area) xs) (sym items) kept.rows;
     } in
     subst (AreKept b) (sym same) there
 
@@ -74,14 +68,12 @@ pub IsWhole-copied : (before after : Costs) (search scratch copy : Search) → A
 IsWhole-copied before after search scratch copy copied whole shaped is =
     let members = ap (λ (h : Costs). h.members) copied.0 in
     let goals = ap (λ (h : Costs). h.goals) copied.0 in
-    let ready = whole.ready in
-    let roomy = shaped.roomy in
     let here : IsReady (cost_of before) before.members before.goals (growth_of copy) =
     subst (IsReady (cost_of before) before.members before.goals) (sym is.same) (record {
-      matched = ready.matched;
-      bounded = ready.bounded;
-      low = ready.low;
-      roomy = record { met = roomy.met; taken = roomy.taken; slacks = roomy.slacks; takers = roomy.takers };
+      matched = whole.ready.matched;
+      bounded = whole.ready.bounded;
+      low = whole.ready.low;
+      roomy = record { taken = shaped.roomy.taken; slacks = shaped.roomy.slacks; takers = shaped.roomy.takers };
     }) in
     record {
       shaped = AreCosts-copied before after copied whole.shaped;
@@ -106,29 +98,24 @@ pub AreKept-tried : (b : Numbered) (kept : KeptMatching) (before changed : Costs
     → AreExchanged row to before changed → IsMoved boxes from to after → All (λ square. square < length b.area) after
     → AreKept b changed × AreExactly (length b.area) changed.rows.items after
 AreKept-tried b kept before changed boxes after row from to holds can copied inside row_is is moved exist =
-    let items = copied.1 in
-    let squares = holds.serves.squares in
-    let others = can.holds.serves.squares in
-    let exists = can.exists in
-    let within = can.within in
-    let long = ap length items in
+    let long = ap length copied.1 in
     let kept_before = AreKept-copied b kept.costs before copied holds.serves.costs in
     let free : (k : ℕ) → k < length before.rows.items → get_or before.rows.items k 0 ≢ to = λ k k_within there.
-    let value : get_or kept.costs.rows.items k 0 ≡ to = ap (λ rows. get_or rows k 0) (sym items) ∙ there in
-    can.free (subst (Contains can.boxes) value (can.holds.exactly.of k (omega (arith, k_within, long)) (omega (arith, value, within)))) in
+    let value : get_or kept.costs.rows.items k 0 ≡ to = ap (λ rows. get_or rows k 0) (sym copied.1) ∙ there in
+    can.free (subst (Contains can.boxes) value (can.holds.exactly.of k (omega (arith, k_within, long)) (omega (arith, value, can.within)))) in
     let moved_to : IsMovedTo b before.rows.items row to boxes after = record {
-      of = subst (λ rows. AreOf (length b.area) rows boxes) (sym items) holds.exactly.of;
-      from = omega (arith, row_is, exists, squares, others);
-      within = omega (arith, within, squares, others);
+      of = subst (λ rows. AreOf (length b.area) rows boxes) (sym copied.1) holds.exactly.of;
+      from = omega (arith, row_is, can.exists, holds.serves.squares, can.holds.serves.squares);
+      within = omega (arith, can.within, holds.serves.squares, can.holds.serves.squares);
       free = free;
       moved = subst (λ s. IsMoved boxes s to after) (sym row_is) moved;
       exist = exist;
     } in (
-      AreKept-exchanged b row to before changed kept_before inside (omega (arith, within, squares, others)) (λ _. free) is,
+      AreKept-exchanged b row to before changed kept_before inside (omega (arith, can.within, holds.serves.squares, can.holds.serves.squares)) (λ _. free) is,
       record {
         of = AreOf-moved b before.rows.items changed.rows.items row to boxes after inside kept_before.rows moved_to is.rows;
         each = AreEach-moved b before.rows.items changed.rows.items row to boxes after inside
-            (subst (λ rows. All (Contains rows) boxes) (sym items) holds.exactly.each) moved_to is.rows;
+            (subst (λ rows. All (Contains rows) boxes) (sym copied.1) holds.exactly.each) moved_to is.rows;
       },
     )
 

@@ -1,7 +1,6 @@
 -- The rows of boxes of which one is moved.
-use Rattle.std.proofs.Common.{ℕ, ◌≡◌, ◌≢◌, ◌<◌, ◌≤◌, ◌∙◌, inl, inr, refl, sym, ap, subst, List, true, false, All, Contains, arith, length, get_or, ◌==◌}
-use Rattle.std.proofs.Common.{if◌then◌else◌}
-use Rattle.std.proofs.lemmas.Bool.{cases_eq, cases_lt}
+use Rattle.std.proofs.Common.{ℕ, ◌≡◌, ◌≢◌, ◌<◌, ◌≤◌, ◌∙◌, inl, inr, refl, sym, ap, subst, List, All, Contains, arith, length, get_or}
+use Rattle.std.proofs.lemmas.Bool.{cases_eq}
 use Rattle.std.proofs.lemmas.Bool.Decides.{nat_tests}
 use Rattle.std.proofs.lemmas.List.{get_or_default}
 use Rattle.std.proofs.lemmas.List.Elements.{All-contains}
@@ -14,71 +13,43 @@ use Rattle.sok_price.proofs.Exchanging.{below-last}
 -- no place but the last takes the exchanged row's, and no two take one
 from-other : (row last k : ℕ) → k < last → moved_from row last k ≢ row
 unfolding moved_from
-from-other row last k before = elim (cases_eq k row) [
-  | inl same ↦ λ e. let yes : (k == row) ≡ true = grind (arith, nat_tests, same) in let is : last ≡ row = sym (ap (λ t. if t then last else k) yes) ∙ e in
-      omega (arith, is, same, before)
-  | inr other ↦ λ e. let no : (k == row) ≡ false = grind (arith, nat_tests, other) in other (sym (ap (λ t. if t then last else k) no) ∙ e)
-]
+from-other row last k before = grind (arith, nat_tests)
 
 from-apart : (row last i j : ℕ) → i < j → j < last → moved_from row last i ≢ moved_from row last j
 unfolding moved_from
-from-apart row last i j before within = elim (cases_eq i row) [
-  | inl same ↦
-      let yes : (i == row) ≡ true = grind (arith, nat_tests, same) in
-      let no : (j == row) ≡ false = let other : j ≢ row = omega (arith, same, before) in grind (arith, nat_tests, other) in
-      λ e. let is : last ≡ j = sym (ap (λ t. if t then last else i) yes) ∙ e ∙ ap (λ t. if t then last else j) no in omega (arith, is, within)
-  | inr other ↦
-      let no : (i == row) ≡ false = grind (arith, nat_tests, other) in
-      elim (cases_eq j row) [
-        | inl same ↦
-            let yes : (j == row) ≡ true = grind (arith, nat_tests, same) in
-            λ e. let is : i ≡ last = sym (ap (λ t. if t then last else i) no) ∙ e ∙ ap (λ t. if t then last else j) yes in omega (arith, is, before, within)
-        | inr apart ↦
-            let no' : (j == row) ≡ false = grind (arith, nat_tests, apart) in
-            λ e. let is : i ≡ j = sym (ap (λ t. if t then last else i) no) ∙ e ∙ ap (λ t. if t then last else j) no' in omega (arith, is, before)
-      ]
-]
+from-apart row last i j before within = grind (arith, nat_tests)
 
 -- rows at different places differ, where one of them is a box's
 pub rows-apart : (end : ℕ) (rows : List ℕ) → AreRows end rows → (i j : ℕ) → i ≢ j → i < length rows → j < length rows → get_or rows i 0 < end
     → get_or rows i 0 ≢ get_or rows j 0
-rows-apart end rows are i j other i_within j_within below same = elim (cases_lt i j) [
-  | inl before ↦ are.apart i j before j_within below same
-  | inr after ↦ are.apart j i (omega (arith, after, other)) i_within (omega (arith, same, below)) (sym same)
-]
+rows-apart end rows are i j other i_within j_within below = grind (arith, are.apart i j, are.apart j i)
 
 pub AreRows-moved : (end row to : ℕ) (rows after : List ℕ) → row < length rows → AreRows end rows → to ≤ end
     → (to < end → (k : ℕ) → k < length rows → get_or rows k 0 ≢ to) → AreMoved row to rows after → AreRows end after
 AreRows-moved end row to rows after inside are to_within fresh is =
-    let last = is.last in
-    let long = is.whole in
-    let kept = is.kept in
+    let from : ℕ → ℕ = moved_from row is.last in
+    let was : (k : ℕ) → k < is.last → from k < length rows = λ k before. omega (
+      arith,
+      below-last row is.last k
+          (omega (arith, inside, is.whole)) before,
+      is.whole,
+    ) in
     record {
-      within = λ k within. elim (cases_eq k last) [
-        | inl same ↦ let value = ap (λ j. get_or after j 0) same ∙ is.new in omega (arith, value, to_within)
-        | inr other ↦
-            let before : k < last = omega (arith, within, kept, other) in
-            let value = is.moved k before in
-            let was = below-last row last k (omega (arith, inside, long)) before in
-            let old = are.within (moved_from row last k) (omega (arith, was, long)) in
-            omega (arith, value, old)
-      ];
+      within = λ k within. grind (arith, is.kept, is.new, is.moved k, was k, are.within (from k));
       apart = λ i j before within below same.
-          let i_before : i < last = omega (arith, before, within, kept) in
-          let i_value = is.moved i i_before in
-          let i_was = below-last row last i (omega (arith, inside, long)) i_before in
-          elim (cases_eq j last) [
-            | inl end_is ↦
-                let j_value = ap (λ t. get_or after t 0) end_is ∙ is.new in
-                let is_to : get_or rows (moved_from row last i) 0 ≡ to = sym i_value ∙ same ∙ j_value in
-                fresh (omega (arith, below, same, j_value)) (moved_from row last i) (omega (arith, i_was, long)) is_to
-            | inr other ↦
-                let j_before : j < last = omega (arith, within, kept, other) in
-                let j_value = is.moved j j_before in
-                let j_was = below-last row last j (omega (arith, inside, long)) j_before in
-                rows-apart end rows are (moved_from row last i) (moved_from row last j) (from-apart row last i j before j_before) (omega (arith, i_was, long))
-                (omega (arith, j_was, long)) (omega (arith, below, i_value)) (sym i_value ∙ same ∙ j_value)
-          ];
+          let fresh_from : to < end → from i < length rows → get_or rows (from i) 0 ≢ to = λ less. fresh less (from i) in
+          grind (
+            arith,
+            is.kept,
+            is.new,
+            is.moved i,
+            is.moved j,
+            was i,
+            was j,
+            from-apart row is.last i j before,
+            rows-apart end rows are (from i) (from j),
+            fresh_from,
+          );
     }
 
 -- costs of which a row is exchanged have a row for each goal still
@@ -95,31 +66,28 @@ AreKept-exchanged b row to before after kept inside to_within fresh is = subst (
 pub AreOf-moved : (b : Numbered) (rows changed : List ℕ) (row to : ℕ) (boxes after : List ℕ) → row < length rows → AreRows (length b.area) rows
     → IsMovedTo b rows row to boxes after → AreMoved row to rows changed → AreOf (length b.area) changed after
 AreOf-moved b rows changed row to boxes after inside are moved is k within below =
-    let last = is.last in
-    let long = is.whole in
-    let kept = is.kept in
-    elim (cases_eq k last) [
+    elim (cases_eq k is.last) [
       | inl same ↦
           let value = ap (λ j. get_or changed j 0) same ∙ is.new in
           subst (Contains after) (sym value) ((moved.moved to).1 (inl refl))
       | inr other ↦
-          let before : k < last = omega (arith, within, kept, other) in
+          let before : k < is.last = omega (arith, within, is.kept, other) in
           let value = is.moved k before in
-          let was = below-last row last k (omega (arith, inside, long)) before in
-          let place = moved_from row last k in
+          let was = below-last row is.last k (omega (arith, inside, is.whole)) before in
+          let place = moved_from row is.last k in
           subst (Contains after) (sym value) ((moved.moved (get_or rows place 0)).1 (inr (
-            moved.of place (omega (arith, was, long)) (omega (arith, below, value)),
-            rows-apart (length b.area) rows are place row (from-other row last k before) (omega (arith, was, long)) inside (omega (arith, below, value)),
+            moved.of place (omega (arith, was, is.whole)) (omega (arith, below, value)),
+            rows-apart (length b.area) rows are place row (from-other row is.last k before) (omega (arith, was, is.whole)) inside (omega (arith, below, value)),
           )))
     ]
 
 from-row : (row last : ℕ) → moved_from row last row ≡ last
 unfolding moved_from
-from-row row last = let yes : (row == row) ≡ true = grind (arith, nat_tests) in ap (λ t. if t then last else row) yes
+from-row row last = grind (arith, nat_tests)
 
 from-same : (row last k : ℕ) → k ≢ row → moved_from row last k ≡ k
 unfolding moved_from
-from-same row last k other = let no : (k == row) ≡ false = grind (arith, nat_tests, other) in ap (λ t. if t then last else k) no
+from-same row last k other = grind (arith, nat_tests)
 
 -- the rows of which one is exchanged have each of the boxes with one moved
 pub AreEach-moved : (b : Numbered) (rows changed : List ℕ) (row to : ℕ) (boxes after : List ℕ) → row < length rows → All (Contains rows) boxes
@@ -127,22 +95,20 @@ pub AreEach-moved : (b : Numbered) (rows changed : List ℕ) (row to : ℕ) (box
 AreEach-moved b rows changed row to boxes after inside each moved is i d within =
     let s = get_or after i d in
     let last = is.last in
-    let long = is.whole in
-    let kept = is.kept in
     elim ((moved.moved s).0 (i, within, get_or_default after i s d within)) [
-      | inl is_to ↦ let end : last < length changed = omega (arith, kept) in (last, end, get_or_default changed last s 0 end ∙ is.new ∙ sym is_to)
+      | inl is_to ↦ let end : last < length changed = omega (arith, is.kept) in (last, end, get_or_default changed last s 0 end ∙ is.new ∙ sym is_to)
       | inr (there, other) ↦
           let (k, k_in, k_is) = All-contains (Contains rows) boxes s each there in
           let value : get_or rows k 0 ≡ s = get_or_default rows k 0 s k_in ∙ k_is in
           let apart : k ≢ row = λ same. other (sym value ∙ ap (λ j. get_or rows j 0) same) in
           elim (cases_eq k last) [
             | inl at_last ↦
-                let before : row < last = omega (arith, inside, long, at_last, apart) in
-                let room : row < length changed = omega (arith, before, kept) in
+                let before : row < last = omega (arith, inside, is.whole, at_last, apart) in
+                let room : row < length changed = omega (arith, before, is.kept) in
                 (row, room, get_or_default changed row s 0 room ∙ is.moved row before ∙ ap (λ j. get_or rows j 0) (from-row row last ∙ sym at_last) ∙ value)
             | inr elsewhere ↦
-                let before : k < last = omega (arith, k_in, long, elsewhere) in
-                let room : k < length changed = omega (arith, before, kept) in
+                let before : k < last = omega (arith, k_in, is.whole, elsewhere) in
+                let room : k < length changed = omega (arith, before, is.kept) in
                 (k, room, get_or_default changed k s 0 room ∙ is.moved k before ∙ ap (λ j. get_or rows j 0) (from-same row last k apart) ∙ value)
           ]
     ]

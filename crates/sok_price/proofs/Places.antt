@@ -1,9 +1,9 @@
 -- Numbers that are apart, by their places, and the places where numbers stand in a list.
 use Rattle.std.proofs.Common.{ℕ, ◌≡◌, ◌≢◌, ◌<◌, ◌≤◌, ◌++◌, ◌∙◌, inl, inr, refl, sym, ap, subst, List, [], ◌∷◌, All, AllPairs, Contains}
-use Rattle.std.proofs.Common.{arith, length, get_or, replicate, zero, suc}
+use Rattle.std.proofs.Common.{arith, length, get_or, map, replicate, zero, suc}
 use Rattle.std.specs.List.Sorted.{IsStrictlyIncreasing}
-use Rattle.std.proofs.lemmas.Bool.{cases_eq, cases_order}
-use Rattle.std.proofs.lemmas.List.{get_or_default, get_or_append_left, get_or_push, get_or-replicate, length_push, length-replicate}
+use Rattle.std.proofs.lemmas.Bool.{cases_eq}
+use Rattle.std.proofs.lemmas.List.{get_or_default, get_or_append_left, get_or_push, get_or-map, get_or-replicate, length-map, length_push, length-replicate}
 use Rattle.std.proofs.lemmas.List.Elements.{All-from_get_or}
 use Rattle.std.proofs.lemmas.List.Folds.{sum_by-replicate}
 use Rattle.std.proofs.lemmas.List.Kept.{AllPairs-cons, AllPairs-from_increasing}
@@ -25,20 +25,18 @@ listed (suc n) P each =
       ],
     )
 
+pub Contains-map : {X Y : Type 0} (f : X → Y) (xs : List X) (x : X) → Contains xs x → Contains (map f xs) (f x)
+Contains-map f xs x (k, within, is) = (k, omega (arith, within, length-map xs f), get_or-map f xs k x (f x) within ∙ ap f is)
+
 -- numbers that are apart are the same at one place alone
 pub same_place : (xs : List ℕ) → AllPairs ◌≢◌ xs → (i j : ℕ) → i < length xs → j < length xs → get_or xs i 0 ≡ get_or xs j 0 → i ≡ j
-same_place xs apart i j i_within j_within same = elim (cases_order i j) [
-  | inl equal ↦ equal
-  | inr (inl before) ↦ absurd (apart i j 0 before j_within same)
-  | inr (inr after) ↦ absurd (apart j i 0 after i_within (sym same))
-]
+same_place xs apart i j i_within j_within same = grind (arith, apart i j 0, apart j i 0)
 
 -- and where that is so, they are apart
 pub apart_from : (xs : List ℕ) → ((i j : ℕ) → i < length xs → j < length xs → get_or xs i 0 ≡ get_or xs j 0 → i ≡ j) → AllPairs ◌≢◌ xs
 apart_from xs one i j d before within same =
     let i_within : i < length xs = omega (arith, before, within) in
-    let equal = one i j i_within within (get_or_default xs i 0 d i_within ∙ same ∙ get_or_default xs j d 0 within) in
-    omega (arith, equal, before)
+    omega (arith, one i j i_within within (get_or_default xs i 0 d i_within ∙ same ∙ get_or_default xs j d 0 within), before)
 
 pub apart_rising : (xs : List ℕ) → IsStrictlyIncreasing xs → AllPairs ◌≢◌ xs
 apart_rising xs rising i j d before within same = let rises = AllPairs-from_increasing xs rising i j d before within in omega (arith, rises, same)
@@ -57,17 +55,16 @@ places_in xs ys each =
     (places, record { whole = whole; within = λ i within. (told i within).0; there = λ i within. (told i within).1 })
 
 pub places_within : (xs ys places : List ℕ) → ArePlaces xs ys places → All (λ k. k < length ys) places
-places_within xs ys places are = All-from_get_or (λ k. k < length ys) places 0 (λ i within. let long = are.whole in are.within i (omega (arith, within, long)))
+places_within xs ys places are = All-from_get_or (λ k. k < length ys) places 0 (λ i within. are.within i (omega (arith, within, are.whole)))
 
 pub places_apart : (xs ys places : List ℕ) → ArePlaces xs ys places → AllPairs ◌≢◌ xs → AllPairs ◌≢◌ places
 places_apart xs ys places are apart = apart_from places (λ i j i_within j_within same.
-    let long = are.whole in
-    let i_in : i < length xs = omega (arith, i_within, long) in
-    let j_in : j < length xs = omega (arith, j_within, long) in
+    let i_in : i < length xs = omega (arith, i_within, are.whole) in
+    let j_in : j < length xs = omega (arith, j_within, are.whole) in
     same_place xs apart i j i_in j_in (sym (are.there i i_in) ∙ ap (λ k. get_or ys k 0) same ∙ are.there j j_in))
 
 -- different numbers below an end are no more than there are
-few_below : (n : ℕ) (xs : List ℕ) → AllPairs ◌≢◌ xs → All (λ x. x < n) xs → length xs ≤ n
+pub few_below : (n : ℕ) (xs : List ℕ) → AllPairs ◌≢◌ xs → All (λ x. x < n) xs → length xs ≤ n
 few_below n xs apart below =
     let m = length xs in
     let ones : List ℕ = replicate m 1 in
@@ -81,19 +78,16 @@ few_below n xs apart below =
     let left = get_or-replicate {A = ℕ} m i 1 0 inside in
     let right = get_or-replicate {A = ℕ} n (get_or xs i 0) 1 0 (below i 0 inside) in
     omega (arith, left, right)) in
-    let most = prices_of-le xs all apart (λ k d within. let here = below k d within in omega (arith, here, all_long)) in
     let count = sum_by-replicate (λ (x : ℕ). x) m 1 in
     let nothing = sum_by-replicate (λ (x : ℕ). x) m 0 in
     let end = sum_by-replicate (λ (x : ℕ). x) n 1 in
-    omega (arith, along, most, count, nothing, end)
+    omega (arith, along, prices_of-le xs all apart (λ k d within. let here = below k d within in omega (arith, here, all_long)), count, nothing, end)
 
 -- different numbers of a list are no more than it has (the pigeonhole principle)
 pub pigeonhole : (xs ys : List ℕ) → AllPairs ◌≢◌ xs → All (Contains ys) xs → length xs ≤ length ys
 pigeonhole xs ys apart each =
     let (places, are) = places_in xs ys each in
-    let few = few_below (length ys) places (places_apart xs ys places are apart) (places_within xs ys places are) in
-    let long = are.whole in
-    omega (arith, few, long)
+    omega (arith, few_below (length ys) places (places_apart xs ys places are apart) (places_within xs ys places are), are.whole)
 
 -- as many different numbers below an end as there are, are all of them
 pub all_below : (n : ℕ) (xs : List ℕ) → length xs ≡ n → All (λ x. x < n) xs → AllPairs ◌≢◌ xs → (x : ℕ) → x < n → (Contains xs x → ⊥) → ⊥

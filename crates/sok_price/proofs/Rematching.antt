@@ -19,15 +19,7 @@ abbrev Stood : ℕ → ℕ → ℕ → ℕ → Type 0
 Stood a b k before = ((k ≡ a) × (before ≡ b)) ⊎ (((k ≡ b) × (before ≡ a)) ⊎ ((k ≢ a) × (k ≢ b) × (before ≡ k)))
 
 stood_apart : (a b i j i' j' : ℕ) → Stood a b i i' → Stood a b j j' → i' ≡ j' → i ≡ j
-stood_apart a b i j i' j' (inl p) (inl q) same = omega (arith, p.0, q.0)
-stood_apart a b i j i' j' (inl p) (inr (inl q)) same = omega (arith, p.0, p.1, q.0, q.1, same)
-stood_apart a b i j i' j' (inl p) (inr (inr q)) same = absurd (q.1 (omega (arith, p.1, q.2, same)))
-stood_apart a b i j i' j' (inr (inl p)) (inl q) same = omega (arith, p.0, p.1, q.0, q.1, same)
-stood_apart a b i j i' j' (inr (inl p)) (inr (inl q)) same = omega (arith, p.0, q.0)
-stood_apart a b i j i' j' (inr (inl p)) (inr (inr q)) same = absurd (q.0 (omega (arith, p.1, q.2, same)))
-stood_apart a b i j i' j' (inr (inr p)) (inl q) same = absurd (p.1 (omega (arith, q.1, p.2, same)))
-stood_apart a b i j i' j' (inr (inr p)) (inr (inl q)) same = absurd (p.0 (omega (arith, q.1, p.2, same)))
-stood_apart a b i j i' j' (inr (inr p)) (inr (inr q)) same = omega (arith, p.2, q.2, same)
+stood_apart a b i j i' j' before_i before_j same = omega arith
 
 stood : (xs ys : List ℕ) (a b d : ℕ) → a < length xs → b < length xs → SwappedAt xs ys a b → (k : ℕ) → k < length xs
     → (before : ℕ) × (before < length xs) × (get_or ys k d ≡ get_or xs before d) × Stood a b k before
@@ -64,14 +56,13 @@ IsPath-begun cost members goals floor g near matched tree reached = record {
   apart = all_pairs_push ◌≢◌ g.goal_of near.goal matched.apart (λ k d within same. reached.free k within (get_or_default g.goal_of k 0 d within ∙ same));
   kept = λ goal among. Contains-append_left g.goal_of (near.goal ∷ []) goal among;
   exist = All-push (λ goal. goal < length g.v) g.goal_of near.goal
-      (λ k d within. let exists = matched.exist k d within in let long = matched.a_price_a_goal in omega (arith, exists, long)) reached.within;
+      (λ k d within. let exists = matched.exist k d within in omega (arith, exists, matched.a_price_a_goal)) reached.within;
   exact = λ member within. subst (IsTight cost g.u g.v member) (sym (get_or_append_left g.goal_of (near.goal ∷ []) 0 member within))
       (matched.exact member within);
   next = subst (IsTight cost g.u g.v (branch_at g.branches near.slack.from).member)
       (sym (get_or_push g.goal_of near.goal 0 (length g.goal_of) refl)) reached.tight;
   waits = λ earlier later before.
-      let from = reached.from in
-      let within : earlier < length g.branches = omega (arith, before, from) in
+      let within : earlier < length g.branches = omega (arith, before, reached.from) in
       get_or_append_left g.goal_of (near.goal ∷ []) 0 (branch_at g.branches earlier).member (tree.earlier earlier later within) ∙ tree.has earlier later within;
 }
 
@@ -86,10 +77,9 @@ IsPath-swapped cost g at goal_of after tree tight within later path long swapped
     let root = length g.goal_of in
     let earlier = tree.earlier at later within in
     let before = tree.before at later within in
-    let more = path.more in
     record {
-      more = long ∙ more;
-      apart = swapped-apart goal_of after member root long (omega (arith, earlier, more)) (omega (arith, more)) swapped path.apart;
+      more = long ∙ path.more;
+      apart = swapped-apart goal_of after member root long (omega (arith, earlier, path.more)) (omega (arith, path.more)) swapped path.apart;
       kept = λ goal among. Contains-permutation goal_of after goal permuted (path.kept goal among);
       exist = All-permutation (λ goal. goal < length g.v) goal_of after permuted path.exist;
       exact = λ other inside. elim (cases_eq other member) [
@@ -111,9 +101,9 @@ IsRematched-path cost g goal_of tree path = record {
   apart = path.apart;
   kept = path.kept;
   exist = path.exist;
-  exact = λ member within. let more = path.more in elim (cases_eq member (length g.goal_of)) [
+  exact = λ member within. elim (cases_eq member (length g.goal_of)) [
     | inl same ↦ subst (λ k. IsTight cost g.u g.v k (get_or goal_of k 0)) (sym same)
         (subst (λ k. IsTight cost g.u g.v k (get_or goal_of (length g.goal_of) 0)) tree.root path.next)
-    | inr other ↦ path.exact member (omega (arith, within, more, other))
+    | inr other ↦ path.exact member (omega (arith, within, path.more, other))
   ];
 }

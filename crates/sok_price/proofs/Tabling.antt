@@ -1,10 +1,9 @@
 -- The costs of all squares of a board, and a last row that costs nothing.
-use Rattle.std.proofs.Common.{ℕ, ◌≡◌, ◌<◌, ◌≤◌, ◌+◌, ◌*◌, ◌-◌, ◌++◌, ◌∙◌, inl, inr, refl, sym, ap, subst, List, Option, Some, None, arith, length, get_or, map}
+use Rattle.std.proofs.Common.{ℕ, ◌≡◌, ◌<◌, ◌≤◌, ◌+◌, ◌*◌, ◌++◌, ◌∙◌, sym, ap, subst, List, Option, Some, None, arith, length, get_or, map}
 use Rattle.std.proofs.Common.{replicate}
 use Rattle.std.specs.List.{range_with_len}
-use Rattle.std.proofs.lemmas.Bool.{cases_lt}
-use Rattle.std.proofs.lemmas.Option.{same_Some}
-use Rattle.std.proofs.lemmas.List.{get_or-append_right, get_or_append_left, get_or-replicate, length-append, length-replicate}
+use Rattle.std.proofs.lemmas.Grind.{common_steps}
+use Rattle.std.proofs.lemmas.List.{get_or-replicate, length-append, length-replicate}
 use Rattle.std.proofs.lemmas.List.Elements.{All-from_get_or}
 use Rattle.std.proofs.lemmas.List.FromFn.{get_or-map-range_with_len, length-range_with_len}
 use Rattle.std.proofs.lemmas.List.Sums.{count_by-le-length, length-filter}
@@ -14,7 +13,6 @@ use Rattle.sok_price.specs.declared.costs.Costs.{Costs}
 use Rattle.sok_price.specs.Costs.{cost_in, AreCosts, AreTold, TellsCost}
 use Rattle.sok_price.specs.Kept.{AreKept, AreTabled}
 use Rattle.sok_price.proofs.CostRows.{cost-before, cost-last}
-use Rattle.sok_price.proofs.Marks.{some-within}
 
 -- the squares before an end
 pub numbers : ℕ → List ℕ
@@ -30,8 +28,7 @@ AreTabled-spare b goals entries goals_are told =
     let row : List (Option ℕ) = replicate goals (Some 0) in
     record {
       goals_are = goals_are;
-      whole = let long = length-append entries row in let part = length-replicate {A = Option ℕ} goals (Some 0) in let whole = told.whole in
-          omega (arith, long, part, whole);
+      whole = let long = length-append entries row in let part = length-replicate {A = Option ℕ} goals (Some 0) in omega (arith, long, part, told.whole);
       told = λ square goal below within.
           subst (λ s. TellsCost b goal s (cost_in goals (entries ++ row) square goal)) (number-at (length b.area) square below)
           (subst (TellsCost b goal (get_or (numbers (length b.area)) square 0))
@@ -62,16 +59,7 @@ AreKept-tabled b costs entries goals_are square told is spare = record {
 
 short-spare : (entries : List (Option ℕ)) (goals : ℕ) → ((k pushes : ℕ) → get_or entries k None ≡ Some pushes → pushes ≤ 1024) → (k pushes : ℕ)
     → get_or (entries ++ replicate goals (Some 0)) k None ≡ Some pushes → pushes ≤ 1024
-short-spare entries goals short k pushes there = elim (cases_lt k (length entries)) [
-  | inl before ↦ short k pushes (sym (get_or_append_left entries (replicate goals (Some 0)) None k before) ∙ there)
-  | inr past ↦
-      let in_row : get_or (replicate goals (Some 0)) (k - length entries) None ≡ Some pushes =
-      sym (get_or-append_right entries (replicate goals (Some 0)) (length entries) k None refl past) ∙ there in
-      let within = some-within (replicate goals (Some 0)) (k - length entries) pushes in_row in
-      let long = length-replicate {A = Option ℕ} goals (Some 0) in
-      let none = same_Some 0 pushes (sym (get_or-replicate goals (k - length entries) (Some 0) None (omega (arith, within, long))) ∙ in_row) in
-      omega (arith, none)
-]
+short-spare entries goals short k pushes there = grind (arith, common_steps, short k pushes)
 
 pub AreCosts-tabled : (b : Numbered) (costs : Costs) (entries : List (Option ℕ)) → costs.members ≡ costs.goals → costs.goals ≤ 1024
     → AreTold b (numbers (length b.area)) costs.goals (length b.area) entries → costs.entries.items ≡ entries ++ replicate costs.goals (Some 0)
@@ -84,12 +72,12 @@ AreCosts-tabled b costs entries square few told is spare =
     let row : List (Option ℕ) = replicate costs.goals (Some 0) in
     let long = length-append entries row in
     let part = length-replicate {A = Option ℕ} costs.goals (Some 0) in
-    let whole = told.whole in
     let all = ap (λ (es : List (Option ℕ)). length es) is in
     record {
-      a_row_a_box = let rows = spare.whole in omega (arith, rows, square);
+      a_row_a_box = omega (arith, spare.whole, square);
       exist = All-from_get_or (λ r. (r + 1) * costs.goals ≤ length costs.entries.items) costs.rows.items 0
-          (λ k within. subst (λ r. (r + 1) * costs.goals ≤ length costs.entries.items) (sym (spare.each k within)) (omega (arith, long, part, whole, all)));
+          (λ k within. subst (λ r. (r + 1) * costs.goals ≤ length costs.entries.items) (sym (spare.each k within))
+          (omega (arith, long, part, told.whole, all)));
       few = omega (arith, square, few);
       short = λ member goal pushes there. short (get_or costs.rows.items member 0 * costs.goals + goal) pushes there;
       entries_short = short;

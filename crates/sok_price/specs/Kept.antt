@@ -59,7 +59,7 @@ pub record AreKept (b : Numbered) (costs : Costs) : Type 0 where
 pub record IsShaped (members goals : ℕ) (search : Search) : Type 0 where
   pub a_price_a_box : length search.u.items ≡ members
   pub a_price_a_goal : length search.v.items ≡ goals
-  pub roomy : IsRoomy members goals (growth_of search)
+  pub roomy : IsRoomy goals (growth_of search)
   pub room : HasRoom members search
 
 -- a matching of the boxes of a list, whose prices are low enough for one more exchange

@@ -8,7 +8,6 @@ pub mod Prices
 pub mod Costs
 pub mod Exchanges
 pub mod Kept
-pub mod Marked
 pub mod Matchings
 pub mod Searches
 pub mod Slacks

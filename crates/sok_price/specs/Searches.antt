@@ -9,7 +9,7 @@ use Rattle.sok_price.specs.declared.slacks.Near.{Near}
 use Rattle.sok_price.specs.Limits.{floor_limit}
 use Rattle.sok_price.specs.Matchings.{Costing, IsTight, AreTight, IsMatched, low, AreWithin, TellTakers}
 use Rattle.sok_price.specs.Slacks.{slack_at, unreached}
-use Rattle.sok_price.specs.Trees.{branch_at, count_of, is_marked, AreMarked, AreRaised, AreRises, IsBound, IsMet, IsSlack, IsTree}
+use Rattle.sok_price.specs.Trees.{branch_at, is_marked, AreRaised, AreRises, AreTaken, IsBound, IsSlack, IsTree}
 
 -- prices of boxes and goals, the goals of the first boxes, and a search for a goal for the next box
 pub record Growth : Type 0 where
@@ -17,7 +17,6 @@ pub record Growth : Type 0 where
   pub v : List ℕ
   pub goal_of : List ℕ
   pub branches : List Branch
-  pub met : List Bool
   pub taken : List Bool
   pub slacks : List Slack
   pub takers : List (Option ℕ)
@@ -29,7 +28,6 @@ growth_of search = record {
   v = search.v.items;
   goal_of = search.goal_of.items;
   branches = search.branches.items;
-  met = search.met.items;
   taken = search.taken.items;
   slacks = search.slacks.items;
   takers = search.takers.items;
@@ -45,9 +43,8 @@ pub record HasRoom (members : ℕ) (search : Search) : Type 0 where
 abbrev pub KeepsRoom : Search → Search → Type 0
 KeepsRoom before after = (members : ℕ) → HasRoom members before → HasRoom members after
 
--- scratch lists with an entry for each box or goal
-pub record IsRoomy (members goals : ℕ) (g : Growth) : Type 0 where
-  pub met : length g.met ≡ members
+-- scratch lists with an entry for each goal
+pub record IsRoomy (goals : ℕ) (g : Growth) : Type 0 where
   pub taken : length g.taken ≡ goals
   pub slacks : length g.slacks ≡ goals
   pub takers : length g.takers ≡ goals
@@ -55,16 +52,14 @@ pub record IsRoomy (members goals : ℕ) (g : Growth) : Type 0 where
 -- a search for a goal for the next box, of whose tree the first boxes are looked at
 pub record IsGrowing (cost : Costing) (members goals seen : ℕ) (g : Growth) : Type 0 where
   pub matched : IsMatched cost members goals g.floor g.u g.v g.goal_of
-  pub roomy : IsRoomy members goals g
+  pub roomy : IsRoomy goals g
   pub few : members ≤ square_limit
   pub bounded : g.floor ≤ floor_limit
   pub low : AreWithin (low members g.floor) g.u g.v
   pub more : length g.goal_of < members
   pub tells : TellTakers g.goal_of g.takers
-  pub marked : AreMarked g.goal_of g.met g.taken
   pub tree : IsTree g.goal_of g.branches
-  pub counted : length g.branches ≡ count_of g.met
-  pub met : IsMet g.met g.branches
+  pub taken : AreTaken g.taken g.branches
   pub rises : AreRises cost g.u g.v g.branches
   pub slack : (goal : ℕ) → goal < goals → is_marked g.taken goal ≡ false → (slack_at g.slacks goal).rise < unreached
       → IsSlack cost g.u g.v g.branches goal (slack_at g.slacks goal)
@@ -82,9 +77,11 @@ IsAhead cost members goals g = IsGrowing cost members goals (length g.branches -
 
 -- a search that has begun: a tree of the next box alone, of which nothing is looked at
 pub record IsBegun (g after : Growth) : Type 0 where
-  pub same : after ≡ record after { u = g.u; v = g.v; goal_of = g.goal_of; floor = g.floor }
+  pub u : after.u ≡ g.u
+  pub v : after.v ≡ g.v
+  pub goal_of : after.goal_of ≡ g.goal_of
+  pub floor : after.floor ≡ g.floor
   pub branches : after.branches ≡ record { member = length g.goal_of; goal = 0; parent = 0; rise = 0 } ∷ []
-  pub met : after.met ≡ slice_set (replicate (length g.met) false) (length g.goal_of) true
   pub taken : after.taken ≡ replicate (length g.taken) false
   pub slacks : after.slacks ≡ replicate (length g.slacks) (record { rise = unreached; from = 0 })
   pub whole : length after.takers ≡ length g.takers
@@ -100,7 +97,6 @@ pub record IsRaised (total : ℕ) (g after : Growth) : Type 0 where
 unfoldable pub joined : Near → ℕ → Growth → Growth
 joined near member g = record g {
   branches = g.branches ++ record { member = member; goal = near.goal; parent = near.slack.from; rise = near.slack.rise } ∷ [];
-  met = slice_set g.met member true;
   taken = slice_set g.taken near.goal true;
 }
 
@@ -146,7 +142,7 @@ pub record IsReady (cost : Costing) (members goals : ℕ) (g : Growth) : Type 0 
   pub matched : IsMatched cost members goals g.floor g.u g.v g.goal_of
   pub bounded : g.floor ≤ floor_limit
   pub low : AreWithin (low members g.floor) g.u g.v
-  pub roomy : IsRoomy members goals g
+  pub roomy : IsRoomy goals g
 
 -- how it ends for all boxes: with a goal for each, or with a tree of boxes that reach too few
 abbrev pub TellsFound : Costing → ℕ → ℕ → ℕ → Search → Bool → Type 0

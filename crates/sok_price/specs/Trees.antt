@@ -1,5 +1,6 @@
 -- A tree of boxes and goals that begins at a box without a goal, and goes from a box to a goal at an exact price and on to the box that has it.
-use Rattle.std.specs.Prelude.{ℕ, ◌≡◌, ◌≢◌, ◌≤◌, ◌<◌, ◌+◌, ◌-◌, ◌*◌, List, Some, Bool, true, false, Contains, count_by, length, slice_index, slice_index_or}
+use Rattle.std.specs.Prelude.{ℕ, ◌≡◌, ◌≢◌, ◌≤◌, ◌<◌, ◌+◌, ◌-◌, ◌*◌, ◌==◌, List, Some, Bool, true, false, filter, length, slice_index, slice_index_or}
+use Rattle.std.specs.List.{list_any, range_with_len}
 use Rattle.sok_board.specs.Limits.{square_limit}
 use Rattle.sok_price.specs.declared.search.Branch.{Branch}
 use Rattle.sok_price.specs.declared.slacks.Slack.{Slack}
@@ -11,8 +12,13 @@ branch_at branches at = slice_index_or branches at (record { member = 0; goal = 
 abbrev pub is_marked : List Bool → ℕ → Bool
 is_marked marks k = slice_index_or marks k false
 
-abbrev pub count_of : List Bool → ℕ
-count_of marks = count_by (λ mark. mark) marks
+-- whether a box is in a tree
+abbrev pub is_met : List Branch → ℕ → Bool
+is_met branches member = list_any (λ (branch : Branch). branch.member == member) branches
+
+-- the boxes before an end that are in a tree, rising
+abbrev pub members_of : List Branch → ℕ → List ℕ
+members_of branches end = filter (is_met branches) (range_with_len 0 end)
 
 -- a tree that begins at the next box; each other branch has a parent before it, and a box with its goal
 pub record IsTree (goal_of : List ℕ) (branches : List Branch) : Type 0 where
@@ -59,14 +65,7 @@ pub record AreRaised (place : Branch → ℕ) (total : ℕ) (branches : List Bra
       → slice_index after (place (branch_at branches at)) ≡ slice_index before (place (branch_at branches at)) + (total - (branch_at branches at).rise)
   pub others : (k : ℕ) → ((at : ℕ) → first ≤ at → at < end → place (branch_at branches at) ≢ k) → slice_index after k ≡ slice_index before k
 
--- the boxes of a tree are marked, and no others
-pub record IsMet (met : List Bool) (branches : List Branch) : Type 0 where
-  pub marked : (at : ℕ) → at < length branches → is_marked met (branch_at branches at).member ≡ true
-  pub of : (member : ℕ) → is_marked met member ≡ true → (at : ℕ) × (at < length branches) × ((branch_at branches at).member ≡ member)
-
--- the next box is marked, and of the others those whose goal is; only goals that boxes have are marked
-pub record AreMarked (goal_of : List ℕ) (met taken : List Bool) : Type 0 where
-  pub root : is_marked met (length goal_of) ≡ true
-  pub partner : (member : ℕ) → member < length goal_of → is_marked met member ≡ is_marked taken (slice_index goal_of member)
-  pub held : (goal : ℕ) → is_marked taken goal ≡ true → Contains goal_of goal
-  pub count : count_of met ≡ count_of taken + 1
+-- the goals of a tree are marked, and no others
+pub record AreTaken (taken : List Bool) (branches : List Branch) : Type 0 where
+  pub marked : (at : ℕ) → 0 < at → at < length branches → is_marked taken (branch_at branches at).goal ≡ true
+  pub of : (goal : ℕ) → is_marked taken goal ≡ true → (at : ℕ) × (0 < at) × (at < length branches) × ((branch_at branches at).goal ≡ goal)

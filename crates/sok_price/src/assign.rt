@@ -5,10 +5,10 @@ ghost use Rattle.sok_board.specs.Area.{IsAccepted, Numbered, goals_of};
 ghost use Rattle.sok_board.specs.Limits.{box_limit, square_limit};
 ghost use Rattle.sok_price.specs.Costs.{AreCosts, AreOfBoxes};
 ghost use Rattle.sok_price.specs.Matches.{IsMatch, HasPrices};
-ghost use Rattle.sok_price.specs.Marked.{ListsMarked};
+ghost use Rattle.sok_price.specs.Trees.{is_met, members_of};
 
 use crate::costs::Costs;
-use crate::search::{Search, match_all};
+use crate::search::{Branch, Search, match_all};
 use sok_board::area::Sq;
 use sok_push::tables::Tables;
 use sok_region::box_set::BoxSet;
@@ -56,14 +56,21 @@ fn total(u: &[u32], v: &[u32]) -> u32
     u.iter().sum::<u32>() - v.iter().sum::<u32>()
 }
 
-/// The indices of the marks that are set, rising.
-fn marked(alloc: Global, marks: &[bool]) -> Result<Vec<u32>, Memory>
-    requires { length marks.now ≤ square_limit }
-    ensures { IfOk result (λ members. ListsMarked marks.now (length marks.now) members.items) }
+/// Whether a box is in a tree.
+fn is_in(branches: &[Branch], member: usize) -> bool
+    ensures { result ≡ is_met branches.now member }
+{
+    branches.iter().any(|branch| branch.member == member)
+}
+
+/// Those of the first boxes that are in a tree, by their indices, rising.
+fn members_in(alloc: Global, branches: &[Branch], end: usize) -> Result<Vec<u32>, Memory>
+    requires { end ≤ square_limit }
+    ensures { IfOk result (λ members. members.items ≡ members_of branches.now end) }
 {
     let mut members = Vec::new(alloc);
-    for (member, mark) in marks.iter().enumerate() {
-        if *mark {
+    for member in 0..end {
+        if is_in(branches, member) {
             members.push(member as u32)?;
         }
     }
@@ -94,7 +101,7 @@ pub(crate) fn assign_rows(alloc: Global, costs: &Costs) -> Result<Match, Memory>
         return Ok(priced(search));
     }
     Ok(Match::Crowd {
-        members: marked(alloc, &search.met)?,
+        members: members_in(alloc, &search.branches, costs.members)?,
     })
 }
 
@@ -110,7 +117,6 @@ fn priced(search: Search) -> Match
         v,
         goal_of,
         branches: _,
-        met: _,
         taken: _,
         slacks: _,
         takers: _,

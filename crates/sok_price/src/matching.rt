@@ -131,10 +131,11 @@ impl Matching {
         mem::swap(&mut self.costs.rows, &mut self.trial_rows);
         let matched = exchange(row, to as usize, &mut self.costs, &mut self.trial);
         mem::swap(&mut self.costs.rows, &mut self.trial_rows);
-        if !matched {
-            return None;
+        if matched {
+            Some(worth(&self.trial))
+        } else {
+            None
         }
-        Some(worth(&self.trial))
     }
 
     /// The least assignment of goals to some boxes with prices that prove it, or a crowd of them,

@@ -65,16 +65,14 @@ const UNSEEN: Slack = Slack {
 };
 
 /// Prices of boxes and goals, the goals of the first boxes, and a search for a goal for the next
-/// box: a tree of boxes, whether each box is in it, whether each goal is had by a box of it, the
-/// slacks of the other goals, and which box has a goal. No goal without a box costs more than a
-/// floor.
+/// box: a tree of boxes, whether each goal is had by a box of it, the slacks of the other goals,
+/// and which box has a goal. No goal without a box costs more than a floor.
 #[derive(Drop)]
 pub(crate) struct Search {
     pub(crate) u: Vec<u32>,
     pub(crate) v: Vec<u32>,
     pub(crate) goal_of: Vec<usize>,
     pub(crate) branches: Vec<Branch>,
-    pub(crate) met: Vec<bool>,
     pub(crate) taken: Vec<bool>,
     pub(crate) slacks: Vec<Slack>,
     pub(crate) takers: Vec<Option<usize>>,
@@ -89,7 +87,6 @@ impl Search {
           v = replicate goals 0;
           goal_of = [];
           branches = [];
-          met = replicate members false;
           taken = replicate goals false;
           slacks = replicate goals (record { rise = unreached; from = 0 });
           takers = replicate goals None;
@@ -102,7 +99,6 @@ impl Search {
             v: vec![in alloc; 0; goals]?,
             goal_of: Vec::with_capacity(alloc, members)?,
             branches: Vec::with_capacity(alloc, members)?,
-            met: vec![in alloc; false; members]?,
             taken: vec![in alloc; false; goals]?,
             slacks: vec![in alloc; UNSEEN; goals]?,
             takers: vec![in alloc; None; goals]?,
@@ -174,7 +170,6 @@ fn append<T: Drop>(list: &mut Vec<T>, item: T)
 
 /// Begins a search for a goal for the next box, which is the root of its tree.
 pub(crate) fn begin(search: &mut Search)
-    requires more { length search.old.goal_of.items < length search.old.met.items }
     requires exist { All (λ goal. goal < length search.old.takers.items) search.old.goal_of.items }
     requires room { 0 < vec_capacity search.old.branches }
     ensures begun { IsBegun (growth_of search.old) (growth_of search.new) }
@@ -191,8 +186,6 @@ pub(crate) fn begin(search: &mut Search)
             rise: 0,
         },
     );
-    search.met.fill(false);
-    search.met[root] = true;
     search.taken.fill(false);
     search.slacks.fill(UNSEEN);
     find_takers(&search.goal_of, &mut search.takers);
@@ -238,7 +231,6 @@ fn widen(costs: &Costs, search: &mut Search) -> Option<Near>
 /// Takes a goal that was reached, and the box that has it, into the tree.
 #[tactic(auto, unfolding(crate::specs::Searches::joined))]
 fn join(near: Near, member: usize, search: &mut Search)
-    requires member { member < length search.old.met.items }
     requires goal { near.goal < length search.old.taken.items }
     requires room { length search.old.branches.items < vec_capacity search.old.branches }
     ensures joined { growth_of search.new ≡ joined near member (growth_of search.old) }
@@ -253,7 +245,6 @@ fn join(near: Near, member: usize, search: &mut Search)
             rise: near.slack.rise,
         },
     );
-    search.met[member] = true;
     search.taken[near.goal] = true;
 }
 

@@ -129,7 +129,7 @@ fn change(
 }
 
 /// Puts the rows of some boxes in order, and then spare rows.
-fn list_rows(squares: usize, boxes: &[Sq], rows: &mut Vec<usize>)
+fn fill_rows(squares: usize, boxes: &[Sq], rows: &mut Vec<usize>)
     requires { length boxes.now ≤ length rows.old.items }
     ensures { AreListed squares (length rows.old.items) boxes.now rows.new.items }
 {
@@ -137,6 +137,22 @@ fn list_rows(squares: usize, boxes: &[Sq], rows: &mut Vec<usize>)
     for (k, square) in boxes.iter().enumerate() {
         rows[k] = *square as usize;
     }
+}
+
+/// The rows of some boxes in order, and then spare rows.
+fn list_rows(squares: usize, boxes: &[Sq], costs: &mut Costs)
+    requires costs { AreCosts costs.old }
+    requires entries { (squares + 1) * costs.old.goals ≤ length costs.old.entries.items }
+    requires enough { length boxes.now ≤ costs.old.members }
+    requires exist { All (λ square. square < squares) boxes.now }
+    requires rising { IsStrictlyIncreasing boxes.now }
+    ensures costs { AreCosts costs.new }
+    ensures same { costs.new ≡ record costs.old { rows = costs.new.rows } }
+    ensures kept { (b : Numbered) → length b.area ≡ squares → AreKept b costs.old
+        → AreKept b costs.new }
+    ensures exactly { AreExactly squares costs.new.rows.items boxes.now }
+{
+    fill_rows(squares, boxes, &mut costs.rows);
 }
 
 /// Forgets the goals of all rows, and all prices.
@@ -173,7 +189,7 @@ fn match_anew(squares: usize, boxes: &[Sq], costs: &mut Costs, search: &mut Sear
     ensures crowd { result ≡ false → (b : Numbered) → length b.area ≡ squares → AreKept b costs.old
         → IsBounded b boxes.now None }
 {
-    list_rows(squares, boxes, &mut costs.rows);
+    list_rows(squares, boxes, costs);
     clear(search);
     match_all(costs, search)
 }

@@ -1,8 +1,10 @@
-use Rattle.std.proofs.Common.{◌∙◌, ap, subst, arith, length}
+use Rattle.std.proofs.Common.{◌∙◌, ap, sym, subst, List, arith, length}
 use Rattle.sok_price.specs.Costs.{cost_of}
-use Rattle.sok_price.specs.Marked.{ListsMarked}
+use Rattle.sok_price.specs.declared.search.Branch.{Branch}
+use Rattle.sok_price.specs.Prices.{IsCrowd}
+use Rattle.sok_price.specs.Trees.{members_of}
 use Rattle.sok_price.specs.Searches.{Growth, growth_of, IsReady, IsSeen, TellsFound}
-use Rattle.sok_price.proofs.Answering.{ArePrices-ready, idle-floor, HasSums-ready, IsCrowd-closed, IsMatch-prices, sum-small}
+use Rattle.sok_price.proofs.Answering.{ArePrices-ready, idle-floor, HasSums-ready, IsCrowd-members, IsMatch-prices, sum-small}
 use Rattle.sok_price.proofs.assign.assign_rows.Goals as goal
 
 pub priced-requires-clause-small : goal.priced-requires-clause-small
@@ -18,37 +20,24 @@ priced-requires-clause-small c =
 pub priced-requires-clause-covered : goal.priced-requires-clause-covered
 priced-requires-clause-covered c =
     let costs = c.args.costs.now in
-    let search = c.match_all.new.search in
     let (ready, all, floor) = subst (TellsFound
-    (cost_of costs) costs.members costs.goals c.in_ok-search.search.floor search) c.if-match_all.true c.match_all.ensures.tells in
+    (cost_of costs) costs.members costs.goals c.in_ok-search.search.floor c.match_all.new.search) c.if-match_all.true c.match_all.ensures.tells in
     let none = floor ∙ ap (λ (h : Growth). h.floor) c.in_ok-search.ensures.search in
-    let sums = (HasSums-ready (cost_of costs) costs.members costs.goals (growth_of search) ready all
-    (idle-floor (cost_of costs) costs.members costs.goals (growth_of search) ready none)).sums in
+    let sums = (HasSums-ready (cost_of costs) costs.members costs.goals (growth_of c.match_all.new.search) ready all
+    (idle-floor (cost_of costs) costs.members costs.goals (growth_of c.match_all.new.search) ready none)).sums in
     omega (arith, sums)
 
 pub returns-then-match_all : goal.returns-then-match_all
 returns-then-match_all c = λ b boxes of.
     let costs = c.args.costs.now in
-    let search = c.match_all.new.search in
-    let g = growth_of search in
+    let g = growth_of c.match_all.new.search in
     let (ready, all, floor) = subst (TellsFound
-    (cost_of costs) costs.members costs.goals c.in_ok-search.search.floor search) c.if-match_all.true c.match_all.ensures.tells in
+    (cost_of costs) costs.members costs.goals c.in_ok-search.search.floor c.match_all.new.search) c.if-match_all.true c.match_all.ensures.tells in
     let none = floor ∙ ap (λ (h : Growth). h.floor) c.in_ok-search.ensures.search in
     let here = subst (λ k. IsReady (cost_of costs) k costs.goals g) of.members ready in
-    let few = c.requires.few in
-    let members = of.members in
-    IsMatch-prices b boxes search c.priced.result c.priced.ensures
-    (λ total equal. ArePrices-ready b boxes costs.goals (cost_of costs) g total of.told of.goals here none (omega (arith, few, members)) (all ∙ members) equal)
-
-pub marked-requires : goal.marked-requires
-marked-requires c =
-    let costs = c.args.costs.now in
-    let (growing, closed) = subst (TellsFound
-    (cost_of costs) costs.members costs.goals c.in_ok-search.search.floor c.match_all.new.search) c.if-match_all.false c.match_all.ensures.tells in
-    let long = growing.roomy.met in
-    let few = growing.few in
-    let same = ap (λ marks. length marks) c.deref.ensures.value in
-    omega (arith, long, few, same)
+    IsMatch-prices b boxes c.match_all.new.search c.priced.result c.priced.ensures
+    (λ total equal. ArePrices-ready b boxes costs.goals (cost_of costs) g total of.told of.goals here none (omega (arith, c.requires.few, of.members)) (all
+    ∙ of.members) equal)
 
 pub returns : goal.returns
 returns c = λ b boxes of.
@@ -57,5 +46,6 @@ returns c = λ b boxes of.
     let (growing, closed) = subst (TellsFound
     (cost_of costs) costs.members costs.goals c.in_ok-search.search.floor c.match_all.new.search) c.if-match_all.false c.match_all.ensures.tells in
     let here = subst (λ k. IsSeen (cost_of costs) k costs.goals g) of.members growing in
-    IsCrowd-closed b boxes costs.goals (cost_of costs) g c.in_ok-marked.field-0.items of.told of.goals here closed
-    (subst (λ marks. ListsMarked marks (length marks) c.in_ok-marked.field-0.items) c.deref.ensures.value c.in_ok-marked.ensures)
+    subst (IsCrowd b boxes) (ap (λ (branches : List Branch). members_of branches (length boxes)) (sym c.deref.ensures.value)
+    ∙ ap (members_of c.deref.result.now) (sym of.members) ∙ sym c.in_ok-members_in.ensures)
+    (IsCrowd-members b boxes costs.goals (cost_of costs) g of.told of.goals here closed)

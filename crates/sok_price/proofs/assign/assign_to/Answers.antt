@@ -4,12 +4,10 @@ use Rattle.sok_price.proofs.assign.assign_to.Goals as goal
 
 pub returns : goal.returns
 returns c =
-    let costs = c.in_ok-costs.costs in
     let told = c.in_ok-costs.ensures in
     let b = c.args.tables.now.board in
-    let boxes = c.args.boxes.now in
-    c.assign_rows.ensures b boxes (record {
+    c.assign_rows.ensures b c.args.boxes.now (record {
       members = told.members;
       goals = told.goals ∙ c.requires.goals;
-      told = subst (λ k. TellCosts b boxes k (cost_of costs)) (sym told.goals) told.told;
+      told = subst (λ k. TellCosts b c.args.boxes.now k (cost_of c.in_ok-costs.costs)) (sym told.goals) told.told;
     })

@@ -19,32 +19,30 @@ returns-clause-ready c =
     let before = c.args.costs.now in
     let after : Costs = record before { rows = c.put_row.new.rows } in
     let search : Search = record c.args.search.now { u = c.put_price.new.prices; goal_of = c.free_goal.new.goal_of; floor = c.highest-search.result } in
-    let ready = c.requires.whole.ready in
-    let all = c.requires.whole.whole in
     let is : AreExchanged c.args.row c.args.entry before after = record { same = refl; rows = c.put_row.ensures } in
-    let last = c.put_row.ensures.last in
-    let long = c.put_row.ensures.whole in
     let a_row = c.requires.whole.shaped.a_row_a_box in
-    let below = c.requires.row in
-    let fewer = c.free_goal.ensures.fewer in
-    let last_is : length c.free_goal.new.goal_of.items ≡ last = omega (arith, fewer, all, long, a_row) in
-    let floor = c.requires.low in
-    let few = c.requires.whole.shaped.few in
-    let v = c.args.search.now.v.items in
-    let value = c.deref.ensures.value in
-    IsReady-exchanged (cost_of before) (cost_of after) before.members before.goals c.args.row last (growth_of c.args.search.now) (growth_of search) ready all
-    (omega (arith, long, a_row)) (record {
-      within = omega (arith, below, long, a_row);
+    let last_is : length c.free_goal.new.goal_of.items ≡ c.put_row.ensures.last = omega (
+      arith,
+      c.free_goal.ensures.fewer,
+      c.requires.whole.whole,
+      c.put_row.ensures.whole,
+      a_row,
+    ) in
+    IsReady-exchanged (cost_of before) (cost_of after) before.members before.goals c.args.row c.put_row.ensures.last (growth_of c.args.search.now)
+    (growth_of search) c.requires.whole.ready c.requires.whole.whole
+    (omega (arith, c.put_row.ensures.whole, a_row)) (record {
+      within = omega (arith, c.requires.row, c.put_row.ensures.whole, a_row);
       goals = last_is;
-      apart = c.free_goal.ensures.apart ready.matched.apart;
+      apart = c.free_goal.ensures.apart c.requires.whole.ready.matched.apart;
       goal_is = λ k inside. c.free_goal.ensures.moved k (omega (arith, inside, last_is))
           ∙ ap (λ n. get_or c.args.search.now.goal_of.items (moved_from c.args.row n k) 0) last_is;
       prices = c.put_price.ensures;
       cost_is = λ k goal inside. cost-moved c.args.row c.args.entry before after is k goal inside;
       same = refl;
       risen = c.highest-search.ensures.risen;
-      bounded = c.highest-search.ensures.least 536870912 (omega (arith, floor))
-          (subst (All (λ price. price ≤ 536870912)) (sym value) (All-weaker (λ price. price ≤ low before.members c.args.search.now.floor)
-          (λ price. price ≤ 536870912) (λ price bound. omega (arith, bound, floor, few)) v ready.low.goals));
-      top = subst (All (λ price. price ≤ c.highest-search.result)) value c.highest-search.ensures.top;
+      bounded = c.highest-search.ensures.least 536870912 (omega (arith, c.requires.low))
+          (subst (All (λ price. price ≤ 536870912)) (sym c.deref.ensures.value) (All-weaker (λ price. price ≤ low before.members c.args.search.now.floor)
+          (λ price. price ≤ 536870912) (λ price bound. omega (arith, bound, c.requires.low, c.requires.whole.shaped.few)) c.args.search.now.v.items
+          c.requires.whole.ready.low.goals));
+      top = subst (All (λ price. price ≤ c.highest-search.result)) c.deref.ensures.value c.highest-search.ensures.top;
     })

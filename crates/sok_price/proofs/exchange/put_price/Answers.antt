@@ -4,9 +4,7 @@ use Rattle.sok_price.proofs.exchange.put_price.Goals as goal
 
 pub returns : goal.returns
 returns c =
-    let xs = c.args.prices.now.items in
     let last = c.len-last.result - 1 in
-    let counted = c.len-last.ensures in
-    let below = c.requires in
-    AreMoved-set xs c.swap.new.self.items c.args.row last 0 (omega (arith, counted, below)) (omega (arith, counted, below))
-    (let kept = c.swap.ensures.len in omega (arith, kept)) c.swap.ensures.by_index
+    AreMoved-set c.args.prices.now.items c.swap.new.self.items c.args.row last 0 (omega (arith, c.len-last.ensures, c.requires))
+    (omega (arith, c.len-last.ensures, c.requires))
+    (omega (arith, c.swap.ensures.len)) c.swap.ensures.by_index

@@ -8,9 +8,9 @@ use Rattle.sok_price.proofs.search.match_all.Goals as goal
 
 pub grow-requires-clause-growing : goal.grow-requires-clause-growing
 grow-requires-clause-growing c =
-    let costs = c.args.costs.now in
     let (ready, count, _, floor, room) = c.loop.invariant in
-    IsAhead-begun (cost_of costs) costs.members costs.goals (growth_of c.loop.search) (growth_of c.begin.new.search) ready c.requires.costs.few
+    IsAhead-begun (cost_of c.args.costs.now) c.args.costs.now.members c.args.costs.now.goals (growth_of c.loop.search)
+    (growth_of c.begin.new.search) ready c.requires.costs.few
     (omega arith) c.begin.ensures.begun
 
 pub grow-requires-clause-room : goal.grow-requires-clause-room
@@ -20,12 +20,8 @@ grow-requires-clause-room c =
 
 pub rematch-requires-clause-room : goal.rematch-requires-clause-room
 rematch-requires-clause-room c =
-    let costs = c.args.costs.now in
-    let room = c.raise.ensures.room costs.members c.grow.ensures.room in
-    let capacity = room.matching in
-    let more = c.grow.ensures.growing.more in
     let same = ap (λ (h : Growth). length h.goal_of) c.raise.ensures.raised.same in
-    omega (arith, capacity, more, same)
+    omega (arith, (c.raise.ensures.room c.args.costs.now.members c.grow.ensures.room).matching, c.grow.ensures.growing.more, same)
 
 pub loop-preserved : goal.loop-preserved
 loop-preserved c =
@@ -34,27 +30,24 @@ loop-preserved c =
     let (ready, count, _, floor, room) = c.loop.invariant in
     let g = growth_of c.grow.new.search in
     let after = growth_of c.raise.new.search in
-    let near = c.in-Some.near in
     let (next, free) = subst (TellsEnd cost g) c.in-Some.is c.grow.ensures.end in
-    let are : AreLifted cost costs.members costs.goals g near after = record {
+    let are : AreLifted cost costs.members costs.goals g c.in-Some.near after = record {
       short = c.requires.costs.short;
       growing = c.grow.ensures.growing;
       next = next;
       raised = c.raise.ensures.raised;
     } in
-    let rematched = c.rematch.ensures.rematched cost costs.members costs.goals g.floor (matched-after cost costs.members costs.goals g near after are)
-    (tight-after cost costs.members costs.goals g near after are) (IsReached-raised cost costs.members costs.goals g near after are free) in
-    let begun_goals = ap (λ (h : Growth). length h.goal_of) c.begin.ensures.begun.same in
+    let rematched = c.rematch.ensures.rematched cost costs.members costs.goals g.floor (matched-after are free) (tight-after are free)
+    (IsReached-raised are free) in
+    let begun_goals = ap (λ (goals : List ℕ). length goals) c.begin.ensures.begun.goal_of in
     let grown_goals = ap (λ (goals : List ℕ). length goals) c.grow.ensures.same in
     let raised_goals = ap (λ (h : Growth). length h.goal_of) c.raise.ensures.raised.same in
-    let begun_floor = ap (λ (h : Growth). h.floor) c.begin.ensures.begun.same in
     let raised_floor = ap (λ (h : Growth). h.floor) c.raise.ensures.raised.same in
-    let after_floor = ap (λ (h : Growth). h.floor) c.rematch.ensures.same in
-    let more = rematched.more in (
+    let after_floor = ap (λ (h : Growth). h.floor) c.rematch.ensures.same in (
       subst (IsReady cost costs.members costs.goals) (sym c.rematch.ensures.same)
-          (IsReady-rematched cost costs.members costs.goals g near after c.rematch.new.search.goal_of.items are free rematched),
-      omega (arith, more, raised_goals, begun_goals, grown_goals, count),
+          (IsReady-rematched are free c.rematch.new.search.goal_of.items rematched),
+      omega (arith, rematched.more, raised_goals, begun_goals, grown_goals, count),
       omega arith,
-      after_floor ∙ raised_floor ∙ c.grow.ensures.floor ∙ begun_floor ∙ floor,
+      after_floor ∙ raised_floor ∙ c.grow.ensures.floor ∙ c.begin.ensures.begun.floor ∙ floor,
       c.rematch.ensures.room costs.members (c.raise.ensures.room costs.members c.grow.ensures.room),
     )

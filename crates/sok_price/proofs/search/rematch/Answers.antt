@@ -11,15 +11,13 @@ use Rattle.sok_price.proofs.search.rematch.Goals as goal
 
 pub loop-at-init : goal.loop-at-init
 loop-at-init c =
-    let g = growth_of c.args.search.now in
-    let near = c.args.near in
-    let pushed = c.append.ensures.items in (
+    let g = growth_of c.args.search.now in (
       refl,
       c.requires.from,
-      ap length pushed ∙ length_push g.goal_of near.goal,
-      λ members room. let more = c.append.ensures.room in let was = room.matching in record { tree = room.tree; matching = omega (arith, was, more) },
-      λ cost members goals floor matched tight reached. subst (IsPath cost g near.slack.from) (sym pushed)
-          (IsPath-begun cost members goals floor g near matched c.requires.tree reached),
+      ap length c.append.ensures.items ∙ length_push g.goal_of c.args.near.goal,
+      λ members room. record { tree = room.tree; matching = omega (arith, room.matching, c.append.ensures.room) },
+      λ cost members goals floor matched tight reached. subst (IsPath cost g c.args.near.slack.from) (sym c.append.ensures.items)
+          (IsPath-begun cost members goals floor g c.args.near matched c.requires.tree reached),
     )
 
 pub loop-at-preserved : goal.loop-at-preserved
@@ -35,7 +33,7 @@ loop-at-preserved c =
     c.index-branch.ensures ∙ ap (λ (bs : List Branch). get_or bs at branch) branches_are
     ∙ sym (get_or_default g.branches at (record { member = 0; goal = 0; parent = 0; rise = 0 }) branch within) in
     let later : 0 < at = omega arith in
-    let root_is : c.len-root.result ≡ length g.goal_of = let counted = c.len-root.ensures in omega arith in
+    let root_is : c.len-root.result ≡ length g.goal_of = omega arith in
     let member_is : branch.member ≡ (branch_at g.branches at).member = ap (λ (b : Branch). b.member) branch_is in
     let parent_is : branch.parent ≡ (branch_at g.branches at).parent = ap (λ (b : Branch). b.parent) branch_is in
     let swapped : SwappedAt before after (branch_at g.branches at).member (length g.goal_of) =
@@ -50,7 +48,7 @@ loop-at-preserved c =
       omega (arith, first, parent_is, within),
       whole ∙ long,
       λ members before_room. let old = room members before_room in
-          record { tree = old.tree; matching = let kept = c.swap.ensures.capacity in let was = old.matching in omega (arith, kept, was) },
+          record { tree = old.tree; matching = omega (arith, c.swap.ensures.capacity, old.matching) },
       λ cost members goals floor matched tight reached. subst (λ k. IsPath cost g k after) (sym parent_is)
           (IsPath-swapped cost g at before after c.requires.tree tight within later
           (path cost members goals floor matched tight reached) whole swapped permuted),

@@ -8,6 +8,5 @@ loop-square-preserved c = below_more _ _ c.loop-square.invariant
 
 pub returns : goal.returns
 returns c = λ k d within.
-    let boxes = c.args.boxes.now in
-    let all : length boxes ≤ c.loop-square.square-index = let past = c.loop-square-test.false in omega arith in
-    subst (Contains c.args.rows.now) (get_or_default boxes k 0 d within) (c.loop-square.invariant k (omega (arith, within, all)))
+    let all : length c.args.boxes.now ≤ c.loop-square.square-index = omega arith in
+    subst (Contains c.args.rows.now) (get_or_default c.args.boxes.now k 0 d within) (c.loop-square.invariant k (omega (arith, within, all)))

@@ -7,10 +7,8 @@ pub returns-clause-each : goal.returns-clause-each
 unfolding cost_in
 returns-clause-each c = λ goal within.
     let costs = c.args.self.now in
-    let below = c.requires.member in
-    let whole = c.requires.costs.a_row_a_box in
     let row : get_or costs.rows.items c.args.member 0 ≡ c.index.result.now =
-    get_or_default costs.rows.items c.args.member 0 c.index.result.now (omega (arith, below, whole)) ∙ sym c.index.ensures in
+    get_or_default costs.rows.items c.args.member 0 c.index.result.now (omega (arith, c.requires.member, c.requires.costs.a_row_a_box)) ∙ sym c.index.ensures in
     let start = c.index.result.now * costs.goals in
     get_or-take (start + costs.goals - start) (drop start c.deref.result.now) goal None (omega (arith, within))
     ∙ get_or-drop start c.deref.result.now goal None

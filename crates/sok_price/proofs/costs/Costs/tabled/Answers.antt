@@ -1,4 +1,5 @@
 use Rattle.std.proofs.Common.{◌≡◌, arith, refl, sym, subst}
+use Rattle.sok_price.specs.declared.costs.Costs.{Costs}
 use Rattle.sok_price.specs.Costs.{AreTold, IsRow}
 use Rattle.sok_price.proofs.CostRows.{AreTold-more}
 use Rattle.sok_price.proofs.Tabling.{AreCosts-tabled, AreKept-tabled, AreSpare, AreSpare-replicate, number-at, numbers}
@@ -12,40 +13,18 @@ loop-square-preserved c =
     (sym (number-at c.args.squares c.loop-square.square (omega arith))) c.in_ok-entries.ensures)
 
 -- what is told of the squares, and the spare rows
-pub returns-clause-costs : goal.returns-clause-costs
-returns-clause-costs c =
+pub returns : goal.returns
+returns c =
     let b = c.args.tables.now.board in
     let goals = c.args.goals in
     let entries = c.loop-square.entries.items in
-    let area = c.requires.squares in
-    let all : c.loop-square.square ≡ c.args.squares = let past = c.loop-square-test.false in let end = c.loop-square.auto.square-end in omega arith in
-    let told = subst (λ n. AreTold b (numbers n) goals n entries) area
+    let all : c.loop-square.square ≡ c.args.squares = omega arith in
+    let told = subst (λ n. AreTold b (numbers n) goals n entries) c.requires.squares
     (subst (λ n. AreTold b (numbers c.args.squares) goals n entries) all c.loop-square.invariant) in
-    let rows = c.in_ok-spare_rows.field-0 in
-    let spare = subst (λ n. AreSpare n goals rows.items) area
+    let spare = subst (λ n. AreSpare n goals c.in_ok-spare_rows.field-0.items) c.requires.squares
     (subst (AreSpare c.args.squares goals) (sym c.in_ok-spare_rows.ensures) (AreSpare-replicate c.args.squares goals)) in
-    AreCosts-tabled b (record {
-      members = goals;
-      goals = goals;
-      rows = rows;
-      entries = c.in_ok-entries-2.entries;
-    }) entries refl c.requires.few told c.in_ok-entries-2.ensures spare
-
-pub returns-clause-kept : goal.returns-clause-kept
-returns-clause-kept c =
-    let b = c.args.tables.now.board in
-    let goals = c.args.goals in
-    let entries = c.loop-square.entries.items in
-    let area = c.requires.squares in
-    let all : c.loop-square.square ≡ c.args.squares = let past = c.loop-square-test.false in let end = c.loop-square.auto.square-end in omega arith in
-    let told = subst (λ n. AreTold b (numbers n) goals n entries) area
-    (subst (λ n. AreTold b (numbers c.args.squares) goals n entries) all c.loop-square.invariant) in
-    let rows = c.in_ok-spare_rows.field-0 in
-    let spare = subst (λ n. AreSpare n goals rows.items) area
-    (subst (AreSpare c.args.squares goals) (sym c.in_ok-spare_rows.ensures) (AreSpare-replicate c.args.squares goals)) in
-    AreKept-tabled b (record {
-      members = goals;
-      goals = goals;
-      rows = rows;
-      entries = c.in_ok-entries-2.entries;
-    }) entries c.requires.goals refl told c.in_ok-entries-2.ensures spare
+    let costs : Costs = record { members = goals; goals = goals; rows = c.in_ok-spare_rows.field-0; entries = c.in_ok-entries-2.entries } in
+    record {
+      costs = AreCosts-tabled b costs entries refl c.requires.few told c.in_ok-entries-2.ensures spare;
+      kept = AreKept-tabled b costs entries c.requires.goals refl told c.in_ok-entries-2.ensures spare;
+    }

@@ -4,7 +4,4 @@ use Rattle.sok_price.proofs.matching.Matching.new.Goals as goal
 
 pub tabled-requires-clause-few : goal.tabled-requires-clause-few
 tabled-requires-clause-few c =
-    let few = goals-few c.args.tables.now.board in
-    let count = c.goals-goals.ensures.count in
-    let squares = c.goals-goals.ensures.accepted.few_squares in
-    omega (arith, few, count, squares)
+    omega (arith, goals-few c.args.tables.now.board, c.goals-goals.ensures.count, c.goals-goals.ensures.accepted.few_squares)

@@ -20,7 +20,6 @@ returns-clause-least c = λ b serves.
     let boxes = c.args.boxes.now in
     let found = c.match_boxes-self-inside in
     let costs = found.new.costs in
-    let g = growth_of found.new.search in
     let before = subst (Serves b) (sym c.self.view_is) serves in
     let kept = found.ensures.kept b (sym before.squares) before.costs in
     let settled = found.ensures.settled c.if-not-self.false in
@@ -28,15 +27,15 @@ returns-clause-least c = λ b serves.
     let exactly = subst (AreExactly (length b.area) costs.rows.items) c.list-boxes.ensures.list
     (subst (λ n. AreExactly n costs.rows.items c.list-boxes.result.now) before.squares settled.exactly) in
     let exist = subst (λ n. All (λ square. square < n) boxes) serves.squares c.requires.exist in
-    TellsLeast-ready b costs g c.worth.result boxes kept whole.shaped whole.ready whole.whole c.worth.ensures exactly exist c.list-boxes.ensures.rising
+    TellsLeast-ready b costs (growth_of found.new.search) c.worth.result boxes kept whole.shaped whole.ready whole.whole c.worth.ensures exactly exist
+    c.list-boxes.ensures.rising
 
 pub returns-clause-holds : goal.returns-clause-holds
 returns-clause-holds c = λ b serves.
     let found = c.match_boxes-self-inside in
     let rows = found.new.costs.rows.items in
     let before = subst (Serves b) (sym c.self.view_is) serves in
-    let settled = found.ensures.settled c.if-not-self.false in
-    let exact = subst (λ n. AreExactly n rows c.list-boxes.result.now) before.squares settled.exactly in
+    let exact = subst (λ n. AreExactly n rows c.list-boxes.result.now) before.squares (found.ensures.settled c.if-not-self.false).exactly in
     record {
       serves = record { squares = before.squares; costs = found.ensures.kept b (sym before.squares) before.costs };
       matched = c.if-not-self.false;
@@ -46,8 +45,8 @@ returns-clause-holds c = λ b serves.
 pub returns-then-boxes-self-clause-least : goal.returns-then-boxes-self-clause-least
 returns-then-boxes-self-clause-least c = λ b serves.
     let before = subst (Serves b) (sym c.self.view_is) serves in
-    let goals = before.costs.tabled.goals_are in
-    let square = before.costs.square in
-    let more = c.if-boxes-self.true in
-    let list = ap (λ (boxes : List ℕ). length boxes) c.list-boxes.ensures.list in
-    (range_with_len 0 (length c.args.boxes.now), IsCrowd-many b c.args.boxes.now (omega (arith, goals, square, more, list)))
+    let list = ap (λ (boxes : List ℕ). length boxes) c.list-boxes.ensures.list in (
+      range_with_len 0 (length c.args.boxes.now),
+      IsCrowd-many b c.args.boxes.now
+          (omega (arith, before.costs.tabled.goals_are, before.costs.square, c.if-boxes-self.true, list)),
+    )

@@ -1,0 +1,114 @@
+-- The boxes and goals of a search's tree.
+use Rattle.std.proofs.Common.{ℕ, ◌≡◌, ◌≢◌, ◌<◌, ◌≤◌, ◌∙◌, ◌==◌, inl, inr, sym, ap, List, AllPairs, Contains, true, arith, length, get_or, map}
+use Rattle.std.specs.Cmp.{both_ways}
+use Rattle.std.proofs.lemmas.Bool.{cases_eq}
+use Rattle.std.proofs.lemmas.Bool.Decides.{nat_tests}
+use Rattle.std.proofs.lemmas.List.{get_or_default, get_or-map, length-map}
+use Rattle.std.proofs.lemmas.List.Elements.{All-from_get_or}
+use Rattle.std.proofs.lemmas.List.Folds.{Any-from_list_any, list_any_at}
+use Rattle.sok_price.specs.declared.search.Branch.{Branch}
+use Rattle.sok_price.specs.Matchings.{Costing}
+use Rattle.sok_price.specs.Searches.{Growth, IsGrowing}
+use Rattle.sok_price.specs.Trees.{branch_at, is_marked, is_met, IsTree}
+use Rattle.sok_price.proofs.Places.{few_below, same_place}
+
+abbrev pub no_branch : Branch
+no_branch = record { member = 0; goal = 0; parent = 0; rise = 0 }
+
+-- a box that is met is that of a branch, and the other way round
+pub branch-met : (branches : List Branch) (member : ℕ) → is_met branches member ≡ true
+    → (at : ℕ) × (at < length branches) × ((branch_at branches at).member ≡ member)
+branch-met branches member met =
+    let (at, branch, within, is, same) = Any-from_list_any (λ (b : Branch). b.member == member) branches met in
+    let here : branch.member ≡ member = grind (arith, nat_tests, same) in
+    (at, within, ap (λ (b : Branch). b.member) (get_or_default branches at no_branch branch within ∙ is) ∙ here)
+
+pub met-branch : (branches : List Branch) (at : ℕ) → at < length branches → is_met branches (branch_at branches at).member ≡ true
+met-branch branches at within =
+    let member = (branch_at branches at).member in
+    let same : (member == member) ≡ true = grind (arith, nat_tests) in
+    list_any_at (λ (b : Branch). b.member == member) branches at no_branch within same
+
+-- the boxes of the branches of a tree
+abbrev pub boxes_of : List Branch → List ℕ
+boxes_of branches = map (λ (b : Branch). b.member) branches
+
+pub length-boxes_of : (branches : List Branch) → length (boxes_of branches) ≡ length branches
+length-boxes_of branches = length-map branches (λ (b : Branch). b.member)
+
+pub box-at : (branches : List Branch) (at : ℕ) → at < length branches → get_or (boxes_of branches) at 0 ≡ (branch_at branches at).member
+box-at branches at within = get_or-map (λ (b : Branch). b.member) branches at no_branch 0 within
+
+-- the boxes of a tree are apart
+pub boxes-apart : (goal_of : List ℕ) (branches : List Branch) → IsTree goal_of branches → AllPairs ◌≢◌ (boxes_of branches)
+boxes-apart goal_of branches tree = λ i j d before within same.
+    let long = length-boxes_of branches in
+    let i_in : i < length branches = omega (arith, before, within, long) in
+    let j_in : j < length branches = omega (arith, within, long) in
+    let i_within : i < length (boxes_of branches) = omega (arith, before, within) in
+    tree.apart i j before j_in (sym (get_or_default (boxes_of branches) i d 0 i_within ∙ box-at branches i i_in) ∙ same
+    ∙ get_or_default (boxes_of branches) j d 0 within ∙ box-at branches j j_in)
+
+-- the box of a branch exists
+pub member-within : (goal_of : List ℕ) (branches : List Branch) (members : ℕ) → IsTree goal_of branches → length goal_of < members → (at : ℕ)
+    → at < length branches → (branch_at branches at).member < members
+member-within goal_of branches members tree more at within = elim (cases_eq at 0) [
+  | inl first ↦ let root = ap (λ k. (branch_at branches k).member) first in omega (arith, root, tree.root, more)
+  | inr later ↦ omega (arith, tree.earlier at (omega (arith, later)) within, more)
+]
+
+-- a tree has no more branches than there are boxes
+pub few-branches : (goal_of : List ℕ) (branches : List Branch) (members : ℕ) → IsTree goal_of branches → length goal_of < members
+    → length branches ≤ members
+few-branches goal_of branches members tree more =
+    let long = length-boxes_of branches in
+    let few = few_below members (boxes_of branches) (boxes-apart goal_of branches tree) (All-from_get_or (λ k. k < members) (boxes_of branches) 0 (λ at within.
+    let inside : at < length branches = omega (arith, within, long) in
+    omega (arith, box-at branches at inside, member-within goal_of branches members tree more at inside))) in
+    omega (arith, few, long)
+
+module _ {cost : Costing} {members goals seen : ℕ} {g : Growth} (growing : IsGrowing cost members goals seen g) where
+  -- the goal of a branch exists
+  pub goal-within : (at : ℕ) → 0 < at → at < length g.branches → (branch_at g.branches at).goal < length g.v
+  goal-within at later inside =
+      let exists = growing.matched.exist (branch_at g.branches at).member 0 (growing.tree.earlier at later inside) in
+      omega (arith, exists, growing.tree.has at later inside, growing.matched.a_price_a_goal)
+
+  -- goals of different branches differ, since those of different boxes do
+  pub goals-apart : (at to : ℕ) → 0 < at → at < to → to < length g.branches → (branch_at g.branches at).goal ≢ (branch_at g.branches to).goal
+  goals-apart at to later before within same =
+      let at_in : at < length g.branches = omega (arith, before, within) in
+      let to_later : 0 < to = omega (arith, later, before) in
+      growing.tree.apart at to before within
+      (same_place g.goal_of growing.matched.apart (branch_at g.branches at).member (branch_at g.branches to).member (growing.tree.earlier at later at_in)
+      (growing.tree.earlier to to_later within) (growing.tree.has at later at_in ∙ same ∙ sym (growing.tree.has to to_later within)))
+
+  -- a box that is met and has a goal is that of a branch behind the root
+  pub branch-matched : (member : ℕ) → member < length g.goal_of → is_met g.branches member ≡ true
+      → (at : ℕ) × (0 < at) × (at < length g.branches) × ((branch_at g.branches at).member ≡ member)
+  branch-matched member has met =
+      let (at, within, is) = branch-met g.branches member met in
+      elim (cases_eq at 0) [
+        | inl first ↦ let root = ap (λ k. (branch_at g.branches k).member) first in absurd (omega (arith, root, growing.tree.root, is, has))
+        | inr later ↦ (at, omega (arith, later), within, is)
+      ]
+
+  -- a box that has a goal is in the tree where its goal is
+  pub partner : (member : ℕ) → member < length g.goal_of → is_met g.branches member ≡ is_marked g.taken (get_or g.goal_of member 0)
+  partner member has = both_ways (is_met g.branches member) (is_marked g.taken (get_or g.goal_of member 0)) (λ met.
+      let (at, later, within, is) = branch-matched member has met in
+      ap (is_marked g.taken) (sym (ap (λ k. get_or g.goal_of k 0) is) ∙ growing.tree.has at later within) ∙ growing.taken.marked at later within) (λ taken.
+      let (at, later, within, is) = growing.taken.of (get_or g.goal_of member 0) taken in
+      ap (is_met g.branches) (same_place g.goal_of growing.matched.apart member (branch_at g.branches at).member has (growing.tree.earlier at later within)
+      (sym is ∙ sym (growing.tree.has at later within))) ∙ met-branch g.branches at within)
+
+  -- a goal of the tree is one that a box has
+  pub held : (goal : ℕ) → is_marked g.taken goal ≡ true → Contains g.goal_of goal
+  held goal taken =
+      let (at, later, within, is) = growing.taken.of goal taken in
+      let inside = growing.tree.earlier at later within in (
+        (branch_at g.branches at).member,
+        inside,
+        get_or_default g.goal_of (branch_at g.branches at).member goal 0 inside ∙ growing.tree.has at later within
+            ∙ is,
+      )
