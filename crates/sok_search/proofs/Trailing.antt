@@ -78,6 +78,6 @@ told-expanded b limit p index key depth pushes whole (On after) followed = follo
 told-expanded b limit p index key depth pushes whole Full more = more
 
 -- what holds after an answer, and so what follows
-pub on-ok : {X E P Q : Type 0} (r : Result X E) → (P → Q) → OnOk r P → OnOk r Q
-on-ok (Ok x) along told = along told
-on-ok (Err e) along told = tt
+pub both-ok : {X E P Q R : Type 0} (r : Result X E) → (P → Q → R) → OnOk r P → OnOk r Q → OnOk r R
+both-ok (Ok x) along first second = along first second
+both-ok (Err e) along first second = tt

@@ -4,11 +4,18 @@ use Rattle.std.specs.List.Sorted.{IsStrictlyIncreasing}
 use Rattle.sok_board.specs.Area.{Numbered}
 use Rattle.sok_price.specs.Matched.{Holds, KeptMatching, Serves}
 use Rattle.sok_region.specs.BoxSets.{IsMoved}
+use Rattle.sok_state.specs.Layouts.{IsLaidOut, Laid}
 
 -- a matching for a board, which is that of some boxes if it is said so
 pub record IsTrial (b : Numbered) (boxes : List ℕ) (matching : KeptMatching) (matched : Bool) : Type 0 where
   pub serves : Serves b matching
   pub holds : matched ≡ true → Holds b boxes matching
+
+-- a matching for a board, and boxes of it that are laid out, whichever they are
+pub record IsReady (b : Numbered) (matching : KeptMatching) (layout : Laid) : Type 0 where
+  pub serves : Serves b matching
+  pub boxes : List ℕ
+  pub laid : IsLaidOut b boxes layout
 
 -- boxes before and after one of them is moved to a square where no box is
 pub record AreMoved (b : Numbered) (boxes : List ℕ) (from to : ℕ) (after : List ℕ) : Type 0 where

@@ -1,6 +1,7 @@
 //! The reasons of a certificate, found again from the boxes of a state.
 
 ghost use Rattle.std.specs.Prelude.{◌≡◌, ◌<◌, ◌↔◌, IfOk, IsTrue, All, length};
+ghost use Rattle.sok_price.specs.Matched.{Serves};
 ghost use Rattle.sok_bar.specs.declared.rest.Rest.{Rest};
 ghost use Rattle.sok_cert.specs.Closed.{rest_of};
 ghost use Rattle.sok_search.specs.Searches.{IsDead};
@@ -12,7 +13,8 @@ use sok_bar::frozen::find_frozen;
 use sok_board::board::Board;
 use sok_cert::claim::Claim;
 use sok_cert::entry::{Numbers, Reason};
-use sok_price::assign::{Match, assign};
+use sok_price::assign::Match;
+use sok_price::matching::Matching;
 use sok_push::tables::Tables;
 use sok_region::box_set::BoxSet;
 use sok_rules::fault::Memory;
@@ -42,21 +44,24 @@ pub(crate) fn reason_of(
     alloc: Global,
     board: &Board,
     tables: &Tables,
+    matching: &mut Matching,
     claim: Claim,
     boxes: &BoxSet,
     depth: u32,
     standing: Standing,
 ) -> Result<Reason, Memory>
     requires tables { tables.now.board ≡ board.now }
+    requires serves { Serves board.now matching.old }
     requires exist { All (λ square. square < length board.now.area) boxes.now }
     requires finished { IsDone board.now claim boxes.now depth standing }
+    ensures serves { Serves board.now matching.new }
     ensures reason { IfOk result (IsReasonOf board.now claim boxes.now depth standing) }
     ensures fits { IfOk result (HasText boxes.now) }
 {
     match standing {
-        Standing::Open(_) => open_reason(alloc, tables, claim, boxes, depth),
+        Standing::Open(_) => open_reason(alloc, board, matching, claim, boxes, depth),
         Standing::Expanded(_) => Ok(Reason::Expanded),
-        Standing::Dead => dead_reason(alloc, board, tables, boxes),
+        Standing::Dead => dead_reason(alloc, board, tables, matching, boxes),
     }
 }
 
@@ -64,21 +69,23 @@ pub(crate) fn reason_of(
 /// that there will be.
 fn open_reason(
     alloc: Global,
-    tables: &Tables,
+    board: &Board,
+    matching: &mut Matching,
     claim: Claim,
     boxes: &BoxSet,
     depth: u32,
 ) -> Result<Reason, Memory>
-    requires exist { All (λ square. square < length tables.now.board.area) boxes.now }
-    requires finished { CostsEnough tables.now.board claim boxes.now depth }
-    ensures bars { IfOk result
-        (λ why. ReasonBars tables.now.board boxes.now why (rest_of claim depth)) }
+    requires serves { Serves board.now matching.old }
+    requires exist { All (λ square. square < length board.now.area) boxes.now }
+    requires finished { CostsEnough board.now claim boxes.now depth }
+    ensures serves { Serves board.now matching.new }
+    ensures bars { IfOk result (λ why. ReasonBars board.now boxes.now why (rest_of claim depth)) }
     ensures fits { IfOk result (HasText boxes.now) }
 {
     if is_spent(claim, depth) {
         return Ok(Reason::Spent);
     }
-    assigned_reason(alloc, tables, boxes)
+    assigned_reason(alloc, board, matching, boxes)
 }
 
 /// Whether as many pushes as claimed were made.
@@ -96,11 +103,14 @@ fn dead_reason(
     alloc: Global,
     board: &Board,
     tables: &Tables,
+    matching: &mut Matching,
     boxes: &BoxSet,
 ) -> Result<Reason, Memory>
     requires tables { tables.now.board ≡ board.now }
+    requires serves { Serves board.now matching.old }
     requires exist { All (λ square. square < length board.now.area) boxes.now }
     requires dead { IsDead board.now boxes.now }
+    ensures serves { Serves board.now matching.new }
     ensures bars { IfOk result (λ why. (rest : Rest) → ReasonBars board.now boxes.now why rest) }
     ensures fits { IfOk result (HasText boxes.now) }
 {
@@ -111,19 +121,26 @@ fn dead_reason(
             let members = Numbers::from(members);
             Ok(Reason::Frozen { members })
         }
-        None => assigned_reason(alloc, tables, boxes),
+        None => assigned_reason(alloc, board, matching, boxes),
     }
 }
 
 /// The prices of a least assignment of goals to boxes, or a crowd.
-fn assigned_reason(alloc: Global, tables: &Tables, boxes: &BoxSet) -> Result<Reason, Memory>
-    requires { All (λ square. square < length tables.now.board.area) boxes.now }
-    ensures assigned { IfOk result (IsAssigned tables.now.board boxes.now) }
+fn assigned_reason(
+    alloc: Global,
+    board: &Board,
+    matching: &mut Matching,
+    boxes: &BoxSet,
+) -> Result<Reason, Memory>
+    requires serves { Serves board.now matching.old }
+    requires exist { All (λ square. square < length board.now.area) boxes.now }
+    ensures serves { Serves board.now matching.new }
+    ensures assigned { IfOk result (IsAssigned board.now boxes.now) }
     ensures fits { IfOk result (HasText boxes.now) }
 {
     // There are few boxes, so their indices have a text.
     let _list = boxes.list();
-    match assign(alloc, tables, boxes)? {
+    match matching.assign(alloc, boxes)? {
         Match::Prices {
             u,
             v,

@@ -1,7 +1,8 @@
 //! The certificate of a finished search.
 
-ghost use Rattle.std.specs.Prelude.{◌≡◌, ◌<◌, [], IfOk, length};
+ghost use Rattle.std.specs.Prelude.{◌≡◌, ◌<◌, [], IfOk, OnOk, length};
 ghost use Rattle.sok_board.specs.Area.{IsAccepted};
+ghost use Rattle.sok_price.specs.Matched.{Serves};
 ghost use Rattle.sok_search.specs.Finished.{claim_of, AreFirstEntries, IsEntryAt};
 ghost use Rattle.sok_search.specs.Searches.{IsSmallSearch};
 ghost use Rattle.sok_search.specs.Views.{progress_of};
@@ -12,6 +13,7 @@ use sok_board::area::Sq;
 use sok_board::board::Board;
 use sok_cert::claim::Claim;
 use sok_cert::entry::{Cert, Entry, Numbers};
+use sok_price::matching::Matching;
 use sok_push::tables::Tables;
 use sok_rules::fault::Memory;
 use std::alloc::Global;
@@ -33,9 +35,11 @@ pub(crate) fn certificate(
         AreFirstEntries board.now claim (progress_of search.now) (length search.now.table)
         cert.entries.items) }
 {
+    let mut matching = Matching::new(alloc, board, tables)?;
     let mut entries = Vec::new(alloc);
     for index in 0..search.table.len() {
-        entries.push(entry_at(alloc, board, tables, claim, search, index)?)?;
+        let entry = entry_at(alloc, board, tables, &mut matching, claim, search, index)?;
+        entries.push(entry)?;
     }
     Ok(Cert { entries })
 }
@@ -45,17 +49,20 @@ fn entry_at(
     alloc: Global,
     board: &Board,
     tables: &Tables,
+    matching: &mut Matching,
     claim: Claim,
     search: &Search,
     index: usize,
 ) -> Result<Entry, Memory>
     requires accepted { IsAccepted board.now }
     requires tables { tables.now.board ≡ board.now }
+    requires serves { Serves board.now matching.old }
     requires search { IsSmallSearch board.now (progress_of search.now) }
     requires finished { search.now.queue ≡ [] }
     requires claim { claim ≡ claim_of search.now.best }
     requires within { index < length search.now.table }
-    ensures { IfOk result (IsEntryAt board.now claim (progress_of search.now) index) }
+    ensures serves { OnOk result (Serves board.now matching.new) }
+    ensures entry { IfOk result (IsEntryAt board.now claim (progress_of search.now) index) }
 {
     let key = search.table.key(alloc, index)?;
     let depth = search.table.depth(index);
@@ -64,6 +71,7 @@ fn entry_at(
         alloc,
         board,
         tables,
+        matching,
         claim,
         &key.boxes,
         depth,

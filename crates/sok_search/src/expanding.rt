@@ -3,12 +3,12 @@
 ghost use Rattle.std.specs.Prelude.{◌≡◌, IfOk, OnOk, Some, All, slice_get};
 ghost use Rattle.std.specs.Map.{values_of};
 ghost use Rattle.sok_board.specs.Area.{IsAccepted};
-ghost use Rattle.sok_price.specs.Matched.{Serves};
+ghost use Rattle.sok_state.specs.Layouts.{IsLaidOut};
 ghost use Rattle.sok_state.specs.Pushes.{IsLegal};
 ghost use Rattle.sok_state.specs.Tables.{IsAt};
 ghost use Rattle.sok_search.specs.Searches.{IsSearch};
 ghost use Rattle.sok_search.specs.Steps.{holding};
-ghost use Rattle.sok_search.specs.Trials.{IsTrial};
+ghost use Rattle.sok_search.specs.Trials.{IsReady, IsTrial};
 ghost use Rattle.sok_search.specs.Views.{progress_of, TellsFollowed, TellsExpanded};
 
 use crate::beginning::start_key;
@@ -16,11 +16,13 @@ use crate::reaching::{Reached, reach};
 use crate::search::Search;
 use crate::trial::Trial;
 use sok_board::board::Board;
+use sok_field::field::Field;
 use sok_price::matching::Matching;
 use sok_push::tables::Tables;
 use sok_region::region::Region;
 use sok_rules::fault::Memory;
 use sok_state::key::Key;
+use sok_state::layout::Layout;
 use sok_state::legal::list_pushes;
 use sok_state::push::Push;
 use std::alloc::Global;
@@ -38,11 +40,13 @@ impl Scratch {
     /// Room for the states of a board.
     pub(crate) fn new(alloc: Global, board: &Board, tables: &Tables) -> Result<Scratch, Memory>
         requires { tables.now.board ≡ board.now }
-        ensures { IfOk result (λ scratch. Serves board.now scratch.trial.matching) }
+        ensures { IfOk result
+            (λ scratch. IsReady board.now scratch.trial.matching scratch.trial.layout) }
     {
         let key = start_key(alloc, board)?;
         let trial = Trial {
-            region: Region::of(alloc, board, &key.boxes, key.least)?,
+            layout: Layout::new(alloc, board),
+            seen: Field::new(),
             matching: Matching::new(alloc, board, tables)?,
             matched: false,
         };
@@ -71,11 +75,13 @@ fn follow(
     requires tables { tables.now.board ≡ board.now }
     requires search { IsSearch board.now limit (holding index (progress_of search)) }
     requires trial { IsTrial board.now key.now.boxes trial.old.matching trial.old.matched }
+    requires laid { IsLaidOut board.now key.now.boxes trial.old.layout }
     requires there { IsAt search.table key.now index }
     requires depth { slice_get (values_of search.table) index ≡ Some depth }
     requires legal { All (IsLegal board.now key.now) pushes.now }
     ensures trial { OnOk result
         (IsTrial board.now key.now.boxes trial.new.matching trial.new.matched) }
+    ensures laid { OnOk result (IsLaidOut board.now key.now.boxes trial.new.layout) }
     ensures tells { IfOk result
         (TellsFollowed board.now limit (progress_of search) index key.now depth pushes.now) }
 {
@@ -105,15 +111,17 @@ pub(crate) fn expand(
     requires accepted { IsAccepted board.now }
     requires tables { tables.now.board ≡ board.now }
     requires search { IsSearch board.now limit (holding index (progress_of search)) }
-    requires serves { Serves board.now scratch.old.trial.matching }
+    requires ready { IsReady board.now scratch.old.trial.matching scratch.old.trial.layout }
     requires there { IsAt search.table key.now index }
     requires depth { slice_get (values_of search.table) index ≡ Some depth }
-    ensures serves { OnOk result (Serves board.now scratch.new.trial.matching) }
+    ensures ready { OnOk result
+        (IsReady board.now scratch.new.trial.matching scratch.new.trial.layout) }
     ensures tells { IfOk result
         (TellsExpanded board.now limit (progress_of search) index key.now depth) }
 {
     scratch.region.again(board, &key.boxes, key.least);
     list_pushes(board, key, &scratch.region, &mut scratch.pushes)?;
+    scratch.trial.layout.lay(board, key.boxes.list())?;
     scratch.trial.matched = false;
     follow(
         alloc,

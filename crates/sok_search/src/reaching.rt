@@ -3,6 +3,7 @@
 ghost use Rattle.std.specs.Prelude.{◌≡◌, ◌<◌, IfOk, OnOk, Some, slice_get};
 ghost use Rattle.std.specs.Map.{values_of};
 ghost use Rattle.sok_board.specs.Area.{IsAccepted};
+ghost use Rattle.sok_state.specs.Layouts.{IsLaidOut};
 ghost use Rattle.sok_state.specs.Pushes.{IsLegal};
 ghost use Rattle.sok_state.specs.Tables.{IsAt};
 ghost use Rattle.sok_search.specs.Searches.{IsSearch};
@@ -12,12 +13,12 @@ ghost use Rattle.sok_search.specs.Views.{progress_of, TellsReached};
 
 use crate::note::{Note, Origin, Standing};
 use crate::search::{Search, add, lower};
+use crate::stepping::step;
 use crate::trial::{Trial, judge_after};
 use sok_board::board::Board;
 use sok_push::tables::Tables;
 use sok_rules::fault::Memory;
 use sok_state::key::Key;
-use sok_state::legal::follow;
 use sok_state::push::Push;
 use std::alloc::Global;
 
@@ -56,15 +57,17 @@ pub(crate) fn reach(
     requires tables { tables.now.board ≡ board.now }
     requires search { IsSearch board.now limit (holding index (progress_of search)) }
     requires trial { IsTrial board.now key.now.boxes trial.old.matching trial.old.matched }
+    requires laid { IsLaidOut board.now key.now.boxes trial.old.layout }
     requires there { IsAt search.table key.now index }
     requires depth { slice_get (values_of search.table) index ≡ Some depth }
     requires legal { IsLegal board.now key.now push }
     ensures trial { OnOk result
         (IsTrial board.now key.now.boxes trial.new.matching trial.new.matched) }
+    ensures laid { OnOk result (IsLaidOut board.now key.now.boxes trial.new.layout) }
     ensures tells { IfOk result
         (TellsReached board.now limit (progress_of search) index key.now depth push) }
 {
-    let next = follow(alloc, board, key, push, &mut trial.region)?;
+    let next = step(alloc, board, key, push, &mut trial.layout, &mut trial.seen)?;
     let origin = Some(Origin {
         parent: index as u32,
         push,
@@ -83,16 +86,7 @@ pub(crate) fn reach(
             }
             let from = push.from;
             let to = board.neighbour(from, push.dir).unwrap();
-            let standing = judge_after(
-                alloc,
-                board,
-                tables,
-                trial,
-                &key.boxes,
-                from,
-                to,
-                &next.boxes,
-            )?;
+            let standing = judge_after(board, tables, trial, &key.boxes, from, to, &next.boxes);
             Ok(Reached::On(add(search, next, depth + 1, Note { origin, standing })?))
         }
     }

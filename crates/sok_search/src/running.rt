@@ -3,9 +3,9 @@
 ghost use Rattle.std.specs.Prelude.{◌≡◌, ◌<◌, ◌+◌, ◌↔◌, IfOk, IsTrue, OnOk, Some};
 ghost use Rattle.std.specs.Prelude.{length, slice_get, slice_set};
 ghost use Rattle.sok_board.specs.Area.{IsAccepted};
-ghost use Rattle.sok_price.specs.Matched.{Serves};
 ghost use Rattle.sok_search.specs.Searches.{IsBeaten, IsSearch};
 ghost use Rattle.sok_search.specs.Steps.{done, holding};
+ghost use Rattle.sok_search.specs.Trials.{IsReady};
 ghost use Rattle.sok_search.specs.Views.{progress_of, TellsTurned, TellsFinished};
 ghost use Rattle.sok_search.specs.declared.note.Standing.TheVariants.{Open};
 
@@ -54,10 +54,11 @@ fn visit(
     requires accepted { IsAccepted board.now }
     requires tables { tables.now.board ≡ board.now }
     requires search { IsSearch board.now limit (holding index (progress_of search)) }
-    requires serves { Serves board.now scratch.old.trial.matching }
+    requires ready { IsReady board.now scratch.old.trial.matching scratch.old.trial.layout }
     requires noted { slice_get search.notes.items index ≡ Some note }
     requires is_open { note.standing ≡ Open bound }
-    ensures serves { OnOk result (Serves board.now scratch.new.trial.matching) }
+    ensures ready { OnOk result
+        (IsReady board.now scratch.new.trial.matching scratch.new.trial.layout) }
     ensures tells { IfOk result (TellsTurned board.now limit (holding index (progress_of search))) }
 {
     let depth = search.table.depth(index);
@@ -94,8 +95,9 @@ fn turn(
     requires accepted { IsAccepted board.now }
     requires tables { tables.now.board ≡ board.now }
     requires search { IsSearch board.now limit (holding index (progress_of search)) }
-    requires serves { Serves board.now scratch.old.trial.matching }
-    ensures serves { OnOk result (Serves board.now scratch.new.trial.matching) }
+    requires ready { IsReady board.now scratch.old.trial.matching scratch.old.trial.layout }
+    ensures ready { OnOk result
+        (IsReady board.now scratch.new.trial.matching scratch.new.trial.layout) }
     ensures tells { IfOk result (TellsTurned board.now limit (holding index (progress_of search))) }
 {
     let note = search.notes[index];
@@ -120,7 +122,7 @@ pub(crate) fn run(
     requires accepted { IsAccepted board.now }
     requires tables { tables.now.board ≡ board.now }
     requires search { IsSearch board.now limit (progress_of search) }
-    requires serves { Serves board.now scratch.old.trial.matching }
+    requires ready { IsReady board.now scratch.old.trial.matching scratch.old.trial.layout }
     ensures { IfOk result (TellsFinished board.now limit) }
 {
     while let Some(index) = search.queue.pop() {

@@ -1,26 +1,30 @@
 //! How a new state stands that a push leads to.
 
-ghost use Rattle.std.specs.Prelude.{◌≡◌, ◌<◌, IfOk, OnOk, All, length};
+ghost use Rattle.std.specs.Prelude.{ℕ, List, ◌≡◌, ◌<◌, ◌↔◌, IsTrue, All, length};
+ghost use Rattle.sok_board.specs.Area.{IsAccepted};
 ghost use Rattle.sok_price.specs.Matched.{TellsLeast};
+ghost use Rattle.sok_bar.specs.Jam.{HasJamWith};
+ghost use Rattle.sok_state.specs.Layouts.{IsLaidOut};
 ghost use Rattle.sok_search.specs.Steps.{IsJudged};
 ghost use Rattle.sok_search.specs.Trials.{AreMoved, IsTrial};
 
 use crate::note::Standing;
-use sok_bar::frozen::find_frozen;
+use sok_bar::layout_jam::has_jam;
 use sok_board::area::Sq;
 use sok_board::board::Board;
+use sok_field::field::Field;
 use sok_price::matching::Matching;
 use sok_push::tables::Tables;
 use sok_region::box_set::BoxSet;
-use sok_region::region::Region;
-use sok_rules::fault::Memory;
-use std::alloc::Global;
+use sok_state::layout::Layout;
 
-/// What pushes from a state are tried with: room for the player's region after a push, and a
-/// matching, which is made that of the state's boxes once a bound is asked for.
+/// What pushes from a state are tried with: its boxes, laid out; room for the squares that the
+/// player comes to after a push; and a matching, which is made that of its boxes once a bound is
+/// asked for.
 #[derive(Drop)]
 pub(crate) struct Trial {
-    pub(crate) region: Region,
+    pub(crate) layout: Layout,
+    pub(crate) seen: Field,
     pub(crate) matching: Matching,
     pub(crate) matched: bool,
 }
@@ -29,7 +33,8 @@ pub(crate) struct Trial {
 fn match_boxes(board: &Board, trial: &mut Trial, boxes: &BoxSet)
     requires trial { IsTrial board.now boxes.now trial.old.matching trial.old.matched }
     requires exist { All (λ square. square < length board.now.area) boxes.now }
-    ensures { IsTrial board.now boxes.now trial.new.matching trial.new.matched }
+    ensures trial { IsTrial board.now boxes.now trial.new.matching trial.new.matched }
+    ensures layout { trial.new.layout ≡ trial.old.layout }
 {
     if trial.matched {
         return;
@@ -52,6 +57,7 @@ fn bound_after(
     requires trial { IsTrial board.now before.now trial.old.matching trial.old.matched }
     requires moved { AreMoved board.now before.now from to after.now }
     ensures trial { IsTrial board.now before.now trial.new.matching trial.new.matched }
+    ensures layout { trial.new.layout ≡ trial.old.layout }
     ensures least { TellsLeast board.now after.now result }
 {
     match_boxes(board, trial, before);
@@ -61,10 +67,27 @@ fn bound_after(
     trial.matching.set(after)
 }
 
+/// Whether the boxes after a push have a jam with the box that was pushed. The boxes that are laid
+/// out are shifted by the push and back.
+fn is_jammed(board: &Board, tables: &Tables, layout: &mut Layout, from: Sq, to: Sq) -> bool
+    requires accepted { IsAccepted board.now }
+    requires tables { tables.now.board ≡ board.now }
+    requires laid { (boxes after : List ℕ)
+        × AreMoved board.now boxes from to after × IsLaidOut board.now boxes layout.old }
+    ensures laid { (boxes after : List ℕ) → AreMoved board.now boxes from to after
+        → IsLaidOut board.now boxes layout.old → IsLaidOut board.now boxes layout.new }
+    ensures jammed { (boxes after : List ℕ) → AreMoved board.now boxes from to after
+        → IsLaidOut board.now boxes layout.old → IsTrue result ↔ HasJamWith board.now after to }
+{
+    layout.shift(board, from, to);
+    let jammed = has_jam(board, tables, layout, to);
+    layout.shift(board, to, from);
+    jammed
+}
+
 /// How a new state with some boxes stands, of which one was pushed: dead, by a jam with that box or
 /// by a crowd, or open, with prices of a total.
 pub(crate) fn judge_after(
-    alloc: Global,
     board: &Board,
     tables: &Tables,
     trial: &mut Trial,
@@ -72,19 +95,21 @@ pub(crate) fn judge_after(
     from: Sq,
     to: Sq,
     after: &BoxSet,
-) -> Result<Standing, Memory>
+) -> Standing
+    requires accepted { IsAccepted board.now }
     requires tables { tables.now.board ≡ board.now }
     requires trial { IsTrial board.now before.now trial.old.matching trial.old.matched }
+    requires laid { IsLaidOut board.now before.now trial.old.layout }
     requires moved { AreMoved board.now before.now from to after.now }
-    ensures trial { OnOk result
-        (IsTrial board.now before.now trial.new.matching trial.new.matched) }
-    ensures judged { IfOk result (IsJudged board.now after.now) }
+    ensures trial { IsTrial board.now before.now trial.new.matching trial.new.matched }
+    ensures laid { IsLaidOut board.now before.now trial.new.layout }
+    ensures judged { IsJudged board.now after.now result }
 {
-    if let Some(_jam) = find_frozen(alloc, board, tables, after, to)? {
-        return Ok(Standing::Dead);
+    if is_jammed(board, tables, &mut trial.layout, from, to) {
+        return Standing::Dead;
     }
     match bound_after(board, trial, before, from, to, after) {
-        Some(bound) => Ok(Standing::Open(bound)),
-        None => Ok(Standing::Dead),
+        Some(bound) => Standing::Open(bound),
+        None => Standing::Dead,
     }
 }

@@ -2,7 +2,7 @@ use Rattle.std.proofs.Common.{sym, subst, All, length, List, ℕ, ◌∷◌, Som
 use Rattle.std.proofs.lemmas.Result.{IfOk-weaker}
 use Rattle.sok_cert.specs.Text.{IsSmall}
 use Rattle.sok_cert.specs.Reason.{Reason}
-use Rattle.sok_search.specs.Finished.{IsAssigned, TellsJam}
+use Rattle.sok_search.specs.Finished.{TellsJam}
 use Rattle.sok_search.proofs.Reasons.{crowd-again, members-fit}
 use Rattle.sok_search.proofs.barring.dead_reason.Goals as goal
 
@@ -19,4 +19,4 @@ returns-in-None-clause-bars c =
     let boxes = c.args.boxes.now in
     let none : TellsJam b boxes None = subst (TellsJam b boxes) c.in-None.is c.in_ok-members.ensures in
     IfOk-weaker c.assigned_reason.result _ _ (λ (why : Reason) assigned. crowd-again b boxes none c.requires.dead why
-    (subst (λ board. IsAssigned board boxes why) c.requires.tables assigned)) c.assigned_reason.ensures.assigned
+    assigned) c.assigned_reason.ensures.assigned

@@ -5,14 +5,19 @@ use Rattle.sok_search.proofs.Certified.{first-more, first-none}
 use Rattle.sok_search.proofs.certifying.certificate.Goals as goal
 
 pub loop-index-init : goal.loop-index-init
-loop-index-init c = first-none c.args.board.now c.args.claim (progress_of c.args.search.now) c.new-entries.result.items c.new-entries.ensures.items
+loop-index-init c = record {
+  first = first-none c.args.board.now c.args.claim (progress_of c.args.search.now) c.new-entries.result.items c.new-entries.ensures.items;
+  serves = c.in_ok-matching.ensures.serves;
+}
 
 pub loop-index-preserved : goal.loop-index-preserved
 loop-index-preserved c =
-    first-more c.args.board.now c.args.claim
-    (progress_of c.args.search.now) c.loop-index.index c.loop-index.entries.items c.push.new.self.items c.in_ok-entry_at.field-0 c.loop-index.invariant
-    c.in_ok-entry_at.ensures
-    c.in_ok-push.ensures.items
+    record {
+      first = first-more c.args.board.now c.args.claim
+          (progress_of c.args.search.now) c.loop-index.index c.loop-index.entries.items c.push.new.self.items c.in_ok-entry.entry c.loop-index.invariant.first
+          c.in_ok-entry.ensures.entry c.in_ok-push.ensures.items;
+      serves = c.in_ok-entry.ensures.serves;
+    }
 
 pub returns : goal.returns
 returns c =
@@ -20,4 +25,4 @@ returns c =
     let past = c.loop-index-test.false in
     let near = c.loop-index.auto.index-end in
     let all : c.loop-index.index ≡ length c.args.search.now.table = omega (arith, count, past, near) in
-    subst (λ n. AreFirstEntries c.args.board.now c.args.claim (progress_of c.args.search.now) n c.loop-index.entries.items) all c.loop-index.invariant
+    subst (λ n. AreFirstEntries c.args.board.now c.args.claim (progress_of c.args.search.now) n c.loop-index.entries.items) all c.loop-index.invariant.first

@@ -38,8 +38,8 @@ reason_of-requires-clause-finished c =
     is-done c.args.board.now c.requires.search.0 p c.args.index c.in_ok-key.key c.depth-depth.result note c.args.claim c.requires.search.1 c.requires.finished
     c.requires.claim state
 
-pub returns : goal.returns
-returns c =
+pub returns-clause-entry : goal.returns-clause-entry
+returns-clause-entry c =
     let p = progress_of c.args.search.now in
     let within = c.requires.within in
     let notes = c.requires.search.1.a_note_each in

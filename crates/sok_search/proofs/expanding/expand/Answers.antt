@@ -1,18 +1,31 @@
-use Rattle.std.proofs.Common.{sym, subst, Contains, List}
+use Rattle.std.proofs.Common.{ℕ, ◌<◌, sym, subst, All, Contains, List, length}
 use Rattle.std.proofs.lemmas.Result.{IfOk-weaker}
 use Rattle.sok_state.specs.declared.push.Push.{Push}
+use Rattle.sok_state.specs.Layouts.{IsLaidOut}
 use Rattle.sok_state.specs.Pushes.{IsLegal}
 use Rattle.sok_search.specs.Views.{progress_of}
 use Rattle.sok_search.proofs.Adding.{taken-key}
-use Rattle.sok_search.proofs.Trailing.{on-ok, told-expanded}
+use Rattle.sok_search.proofs.Trailing.{both-ok, told-expanded}
 use Rattle.sok_search.proofs.expanding.expand.Goals as goal
 
 pub again-requires : goal.again-requires
 again-requires c = (taken-key c.args.board.now c.args.limit c.args.index
     (progress_of c.args.search) c.args.key.now c.args.depth c.requires.search c.requires.there c.requires.depth).is.placed
 
-pub returns-clause-serves : goal.returns-clause-serves
-returns-clause-serves c = on-ok c.follow.result (λ trial. trial.serves) c.follow.ensures.trial
+pub lay-requires-clause-exist : goal.lay-requires-clause-exist
+lay-requires-clause-exist c = subst (λ (squares : List ℕ). All (λ square. square < length c.args.board.now.area) squares) (sym c.list.ensures.list)
+    (taken-key c.args.board.now c.args.limit c.args.index
+    (progress_of c.args.search) c.args.key.now c.args.depth c.requires.search c.requires.there c.requires.depth).is.placed.boxes_exist
+
+pub lay-requires-clause-laid : goal.lay-requires-clause-laid
+lay-requires-clause-laid c = (c.requires.ready.boxes, c.requires.ready.laid)
+
+pub follow-requires-clause-laid : goal.follow-requires-clause-laid
+follow-requires-clause-laid c = subst (λ boxes. IsLaidOut c.args.board.now boxes c.lay.new.self) c.list.ensures.list c.in_ok-lay.ensures
+
+pub returns-clause-ready : goal.returns-clause-ready
+returns-clause-ready c = both-ok c.follow.result (λ trial laid. record { serves = trial.serves; boxes = c.args.key.now.boxes; laid = laid })
+    c.follow.ensures.trial c.follow.ensures.laid
 
 pub returns-clause-tells : goal.returns-clause-tells
 returns-clause-tells c =

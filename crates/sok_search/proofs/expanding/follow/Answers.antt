@@ -11,6 +11,7 @@ loop-push-init c = record {
   followed = followed-none c.args.board.now c.args.limit
       (progress_of c.args.search) c.args.index c.args.key.now c.args.depth c.args.pushes.now c.requires.search;
   trial = c.requires.trial;
+  laid = c.requires.laid;
 }
 
 pub reach-requires-clause-search : goal.reach-requires-clause-search
@@ -43,6 +44,7 @@ loop-push-preserved c =
           (progress_of c.in-On.after) c.args.index c.args.key.now c.args.depth pushes n push
           (slice_get-get_or pushes n no_push c.loop-push-test.true) c.loop-push.invariant.followed told;
       trial = c.in_ok-after.ensures.trial;
+      laid = c.in_ok-after.ensures.laid;
     }
 
 pub returns-clause-tells : goal.returns-clause-tells

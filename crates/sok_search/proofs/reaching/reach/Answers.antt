@@ -11,8 +11,8 @@ use Rattle.sok_search.proofs.Moving.{moved-next}
 use Rattle.sok_search.proofs.Pushing.{pushed-added, pushed-changed}
 use Rattle.sok_search.proofs.reaching.reach.Goals as goal
 
-pub follow-requires-clause-key : goal.follow-requires-clause-key
-follow-requires-clause-key c = taken-key c.args.board.now c.args.limit c.args.index
+pub step-requires-clause-key : goal.step-requires-clause-key
+step-requires-clause-key c = taken-key c.args.board.now c.args.limit c.args.index
     (progress_of c.args.search) c.args.key.now c.args.depth c.requires.search c.requires.there c.requires.depth
 
 pub overflow_add-depth : goal.overflow_add-depth
@@ -87,7 +87,7 @@ returns-in_ok-add-in-None-clause-tells c =
     pushed-added c.args.board.now c.args.limit c.args.index p c.requires.search c.args.key.now
     c.args.depth c.requires.there c.requires.depth one.note one.note_is
     c.args.push c.requires.legal c.in_ok-next.next c.in_ok-next.ensures.exact c.in_ok-next.ensures.of_board c.in_ok-next.ensures.as_many c.in-None.ensures
-    (omega (arith, room, count)) _ refl c.in_ok-standing-in-None.ensures.judged q c.in_ok-add-in-None.ensures
+    (omega (arith, room, count)) _ refl c.judge_after-standing.ensures.judged q c.in_ok-add-in-None.ensures
 
 pub overflow_cast-origin : goal.overflow_cast-origin
 overflow_cast-origin c =
@@ -109,8 +109,8 @@ unwrap-to-requires c =
     let (_, clear) = clear-legal b c.requires.accepted.numbered c.args.key.now state.is.placed c.args.push c.requires.legal in
     ap is_some (c.neighbour.ensures.beside ∙ clear.ahead_is)
 
-pub judge_after-requires-clause-moved : goal.judge_after-requires-clause-moved
-judge_after-requires-clause-moved c =
+pub judge_after-standing-requires-clause-moved : goal.judge_after-standing-requires-clause-moved
+judge_after-standing-requires-clause-moved c =
     let b = c.args.board.now in
     let p = progress_of c.args.search in
     let one = taken b c.args.limit c.args.index p c.args.key.now c.args.depth c.requires.search c.requires.there c.requires.depth in

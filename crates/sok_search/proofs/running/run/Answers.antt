@@ -7,7 +7,7 @@ use Rattle.sok_search.proofs.Turning.{held-search, work-taken}
 use Rattle.sok_search.proofs.running.run.Goals as goal
 
 pub loop-index-init : goal.loop-index-init
-loop-index-init c = (c.requires.search, c.requires.serves)
+loop-index-init c = (c.requires.search, c.requires.ready)
 
 pub turn-requires-clause-search : goal.turn-requires-clause-search
 turn-requires-clause-search c = held-search c.args.board.now c.args.limit c.in-Some.index
@@ -19,7 +19,7 @@ loop-index-preserved c =
     let p = progress_of c.loop-index.search in
     let taken : Progress = holding c.in-Some.index (record p { queue = c.pop.new.self }) in
     let told : TellsTurned b c.args.limit taken (On c.in-On.after) = subst (TellsTurned b c.args.limit taken) c.in-On.is c.in_ok-after.ensures.tells in
-    (told.0, c.in_ok-after.ensures.serves)
+    (told.0, c.in_ok-after.ensures.ready)
 
 pub loop-index-smaller : goal.loop-index-smaller
 loop-index-smaller c =

@@ -1,4 +1,4 @@
-use Rattle.std.proofs.Common.{◌<◌, All, length, subst, sym}
+use Rattle.std.proofs.Common.{◌<◌, All, subst, sym}
 use Rattle.sok_search.proofs.trial.match_boxes.Goals as goal
 
 pub set-requires : goal.set-requires
