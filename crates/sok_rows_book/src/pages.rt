@@ -1,6 +1,5 @@
 //! Rows as records, and what is shown of them.
 
-use sok_book::fault::BookFault;
 use sok_page::columns::{Columns, columns_of};
 use sok_page::reading::record_of;
 use sok_page::title::kept_title;
@@ -80,99 +79,6 @@ fn records_are_shown_and_exported(rt: HostRuntime) -> Result<(), Fail> {
     for kept in records {
         let again = columns_of(kept);
         assert_eq!(rt; again.pushes.is_some(), again.verdict == 1);
-    }
-    Ok(())
-}
-
-#[test]
-fn rows_that_break_a_rule_are_refused(rt: HostRuntime) -> Result<(), Fail> {
-    let alloc = rt.alloc();
-    let rows = [
-        Row {
-            text: "######\n#    #\n# $@.#\n######",
-            ..ROOM
-        },
-        Row {
-            text: "#####\n#@$.#\n##### \n",
-            ..UNTITLED
-        },
-        Row {
-            text: "#####\n#@$./\n#####\n",
-            ..UNTITLED
-        },
-        Row {
-            text: "#####\n#@$.\n#####\n",
-            ..UNTITLED
-        },
-        Row {
-            title: Some(""),
-            ..ROOM
-        },
-        Row {
-            title: Some("A\nroom"),
-            ..ROOM
-        },
-        Row {
-            title: Some("A room\r"),
-            ..ROOM
-        },
-        Row {
-            title: Some(" A room"),
-            ..ROOM
-        },
-        Row {
-            title: Some("A room\t"),
-            ..ROOM
-        },
-        Row {
-            lurd: Some("ulldrr"),
-            ..ROOM
-        },
-        Row {
-            lurd: Some("ulld RR"),
-            ..ROOM
-        },
-        Row {
-            lurd: Some("ulld"),
-            moves: Some(4),
-            pushes: Some(0),
-            ..ROOM
-        },
-        Row {
-            lurd: Some("uu"),
-            ..ROOM
-        },
-        Row {
-            lurd: Some("x"),
-            ..ROOM
-        },
-        Row { lurd: None, ..ROOM },
-        Row {
-            pushes: None,
-            ..ROOM
-        },
-        Row {
-            moves: None,
-            ..ROOM
-        },
-        Row {
-            pushes: Some(3),
-            ..ROOM
-        },
-        Row {
-            moves: Some(7),
-            ..ROOM
-        },
-        Row { verdict: 2, ..ROOM },
-        Row { verdict: 3, ..ROOM },
-        Row {
-            verdict: 1,
-            ..UNTITLED
-        },
-    ];
-    for row in rows {
-        let fault = record_of(alloc, 7, columns(alloc, row)?).err();
-        assert_eq!(rt; fault, Some(BookFault::BadBook(7)));
     }
     Ok(())
 }

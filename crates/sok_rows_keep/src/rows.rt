@@ -1,0 +1,86 @@
+//! Commands on a book, with what they write.
+
+use sok_engine::fault::ToolFault;
+use sok_keep::add::add_bytes;
+use sok_keep::offer::offer_bytes;
+use sok_keep::prove::prove_bytes;
+use sok_keep::show::{export_bytes, show_bytes};
+use sok_store::book::Book;
+use sqlite::{Alter, Connection};
+use std::alloc::Global;
+use std::test::Fail;
+
+/// A command, with its input.
+#[derive(Clone, Copy, Debug, PartialEq, Eq)]
+pub(crate) enum Command {
+    Add(&'static str),
+    Offer(i64, &'static str),
+    Prove(i64, &'static str),
+    Show(i64),
+    Export,
+}
+
+/// A command, what it writes, and its status or fault.
+pub(crate) type Row = (Command, &'static str, Result<u8, ToolFault>);
+
+/// A database as a book.
+pub(crate) fn book_in<S: Alter + Drop>(
+    alloc: Global,
+    connection: Connection<S>,
+) -> Result<Book<S>, Fail> {
+    if !connection.is_autocommit() {
+        return Err(ToolFault::Database.into());
+    }
+    match Book::open(alloc, connection) {
+        Ok(book) => Ok(book),
+        Err(refused) => Err(refused.fault.into()),
+    }
+}
+
+fn answer<S: Alter>(
+    alloc: Global,
+    book: &mut Book<S>,
+    command: Command,
+    out: &mut Vec<u8>,
+) -> Result<u8, ToolFault> {
+    match command {
+        Command::Add(collection) => add_bytes(alloc, book, &mut collection.as_bytes(), out),
+        Command::Offer(id, text) => offer_bytes(alloc, book, id, text.as_bytes(), out),
+        Command::Prove(id, cert) => prove_bytes(alloc, book, id, &mut cert.as_bytes(), out),
+        Command::Show(id) => show_bytes(alloc, book, id, out),
+        Command::Export => export_bytes(alloc, book, out),
+    }
+}
+
+fn is_told<S: Alter>(alloc: Global, book: &mut Book<S>, row: Row) -> bool {
+    let (command, text, result) = row;
+    let mut out = Vec::new(alloc);
+    answer(alloc, book, command, &mut out) == result && out.as_slice() == text.as_bytes()
+}
+
+/// The first command that tells something else, beginning with an empty book in memory.
+pub(crate) fn first_other(alloc: Global, rows: &[Row]) -> Result<Option<Command>, Fail> {
+    let mut book = book_in(alloc, Connection::open_in_memory(alloc)?)?;
+    for row in rows {
+        if !is_told(alloc, &mut book, *row) {
+            return Ok(Some(row.0));
+        }
+    }
+    Ok(None)
+}
+
+/// The same in a file, which is closed after each command and opened for the next.
+pub(crate) fn first_other_in_file(
+    rt: &HostRuntime,
+    path: &str,
+    rows: &[Row],
+) -> Result<Option<Command>, Fail> {
+    for row in rows {
+        let mut book = book_in(rt.alloc(), Connection::open(rt, path)?)?;
+        if !is_told(rt.alloc(), &mut book, *row) {
+            return Ok(Some(row.0));
+        }
+        book.into_connection().close()?;
+    }
+    Ok(None)
+}

@@ -1,0 +1,90 @@
+//! Levels with titles, and a book that is full.
+
+use crate::tables::opened;
+use sok_book::fault::BookFault;
+use sok_row::book::LEVEL_LIMIT;
+use sok_sketch::sketch::{ONE_PUSH, SOLVED, level};
+use sok_sql::making::create;
+use sok_sql::writing::insert;
+use sok_store::book::Book;
+use sqlite::{Connection, MemStore};
+use std::alloc::{AllocError, Global};
+use std::test::Fail;
+
+/// A table as a book.
+fn book_in(alloc: Global, connection: Connection<MemStore>) -> Result<Book<MemStore>, Fail> {
+    match opened(alloc, connection)? {
+        Ok(book) => Ok(book),
+        Err(refused) => Err(refused.fault.into()),
+    }
+}
+
+/// What comes of adding a board.
+fn added(
+    alloc: Global,
+    book: &mut Book<MemStore>,
+    board: &str,
+    title: Option<&[u8]>,
+) -> Result<Result<i64, BookFault>, Fail> {
+    let level = level(alloc, board)?;
+    Ok(book.add(&level, title))
+}
+
+fn title_of(book: &mut Book<MemStore>, id: i64) -> Result<Option<Vec<u8>>, BookFault> {
+    let kept = book.get(id)?;
+    Ok(kept.title)
+}
+
+#[test]
+fn the_first_title_is_kept_without_its_ends(rt: HostRuntime) -> Result<(), Fail> {
+    let alloc = rt.alloc();
+    let mut book = book_in(alloc, Connection::open_in_memory(alloc)?)?;
+    for (board, title, id) in [
+        (ONE_PUSH, " \t A \t level \r\t\r\nmore", 1),
+        (ONE_PUSH, "Another", 1),
+        (SOLVED, "\r \nmore", 2),
+    ] {
+        let found = added(alloc, &mut book, board, Some(title.as_bytes()))?;
+        assert_eq!(rt; found, Ok(id));
+    }
+    assert!(rt; title_of(&mut book, 1)? == Some(b"A \t level".to_vec(alloc)?));
+    assert!(rt; title_of(&mut book, 2)?.is_none());
+    Ok(())
+}
+
+/// A level with the digits of a number at its side.
+fn numbered(alloc: Global, number: u32) -> Result<String, AllocError> {
+    let mut digits = String::new(alloc);
+    let mut rest = number;
+    for _ in 0..14 {
+        digits.push(if rest % 2 == 1 { '*' } else { '#' })?;
+        rest /= 2;
+    }
+    let wall = "#".repeat(alloc, 20)?;
+    format!(in alloc; "{wall}\n#@$.#{digits}#\n{wall}\n")
+}
+
+/// A table of as many levels as a book may have.
+fn filled(alloc: Global) -> Result<Connection<MemStore>, Fail> {
+    let mut connection = Connection::open_in_memory(alloc)?;
+    create(&mut connection)?;
+    for id in 1..=LEVEL_LIMIT {
+        let text = numbered(alloc, id)?;
+        insert(&mut connection, id, text.as_str(), None)?;
+    }
+    Ok(connection)
+}
+
+#[test]
+fn a_full_book_takes_no_other_level(rt: HostRuntime) -> Result<(), Fail> {
+    let alloc = rt.alloc();
+    let mut book = book_in(alloc, filled(alloc)?)?;
+    let there = numbered(alloc, 7)?;
+    for (board, found) in [
+        (ONE_PUSH, Err(BookFault::BookFull)),
+        (there.as_str(), Ok(7)),
+    ] {
+        assert_eq!(rt; added(alloc, &mut book, board, None)?, found);
+    }
+    Ok(())
+}

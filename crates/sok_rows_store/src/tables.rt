@@ -1,0 +1,118 @@
+//! Tables that are opened as a book, or that are not.
+
+use sok_book::fault::BookFault;
+use sok_store::book::{Book, OpenRefused};
+use sqlite::{Connection, MemStore};
+use std::alloc::Global;
+use std::test::Fail;
+
+/// A table whose columns take any value, with a level as it was added, and one whose best is
+/// proved.
+const TWO_LEVELS: &str = "
+CREATE TABLE level (id, text, title, lurd, pushes, moves, verdict);
+INSERT INTO level VALUES (1, '#####\n#@$.#\n#####\n', NULL, NULL, NULL, NULL, 0);
+INSERT INTO level VALUES (2, '###\n#@#\n#$#\n#.#\n###\n', x'41', 'D', 1, 1, 1);
+";
+
+type Opened = Result<Book<MemStore>, OpenRefused<MemStore>>;
+
+/// What comes of opening a connection as a book.
+pub(crate) fn opened(alloc: Global, connection: Connection<MemStore>) -> Result<Opened, Fail> {
+    if !connection.is_autocommit() {
+        return Err("a transaction is open".into());
+    }
+    Ok(Book::open(alloc, connection))
+}
+
+/// What comes of opening the table that a text makes.
+fn made(alloc: Global, sql: &str) -> Result<Opened, Fail> {
+    let mut connection = Connection::open_in_memory(alloc)?;
+    connection.execute_batch(sql)?;
+    opened(alloc, connection)
+}
+
+/// Why the two levels are no book, once the second is changed.
+fn fault_with(alloc: Global, change: &str) -> Result<Option<BookFault>, Fail> {
+    let sql = format!(in alloc; "{TWO_LEVELS} UPDATE level SET {change} WHERE id = 2")?;
+    match made(alloc, sql.as_str())? {
+        Ok(_) => Ok(None),
+        Err(refused) => Ok(Some(refused.fault)),
+    }
+}
+
+#[test]
+fn the_first_bad_row_is_named(rt: HostRuntime) -> Result<(), Fail> {
+    for (change, id) in [
+        ("id = 3", 3),
+        ("id = 1", 1),
+        ("id = 0", 0),
+        ("id = -1", -1),
+        // an id that is no whole number is told as the row's place
+        ("id = 2.0", 2),
+        ("id = '2'", 2),
+        ("id = NULL", 1),
+        ("text = '###\n#@#\n#$#\n#.#\n###'", 2),
+        ("text = '###\r\n#@#\n#$#\n#.#\n###\n'", 2),
+        ("text = '### \n#@#\n#$#\n#.#\n###\n'", 2),
+        ("text = '###\n#@#\n#$#\n#.#\n'", 2),
+        ("text = '#####\n#@$.#\n#####\n', lurd = 'R'", 2),
+        ("text = NULL", 2),
+        ("text = x'41'", 2),
+        ("title = x''", 2),
+        ("title = x'410A42'", 2),
+        ("title = x'410D'", 2),
+        ("title = x'2041'", 2),
+        ("title = x'4109'", 2),
+        ("title = 'A'", 2),
+        ("lurd = 'd'", 2),
+        ("lurd = 'D '", 2),
+        ("lurd = 'x'", 2),
+        ("lurd = 'u'", 2),
+        ("lurd = '', pushes = 0, moves = 0", 2),
+        ("lurd = x'44'", 2),
+        ("lurd = NULL", 2),
+        ("pushes = 2", 2),
+        ("pushes = NULL", 2),
+        ("moves = 2", 2),
+        ("moves = '1'", 2),
+        ("moves = NULL", 2),
+        ("lurd = NULL, pushes = NULL, moves = NULL", 2),
+        ("verdict = 2", 2),
+        ("verdict = 3", 2),
+        ("verdict = -1", 2),
+        ("verdict = NULL", 2),
+    ] {
+        let found = fault_with(rt.alloc(), change)?;
+        assert_eq!(rt; found, Some(BookFault::BadBook(id)), "of {change}");
+    }
+    Ok(())
+}
+
+#[test]
+fn tables_that_keep_the_rules_are_opened(rt: HostRuntime) -> Result<(), Fail> {
+    for change in [
+        "id = 2",
+        "title = NULL",
+        "title = x'4109FF'",
+        "verdict = 0",
+        "lurd = NULL, pushes = NULL, moves = NULL, verdict = 2",
+    ] {
+        assert_eq!(rt; fault_with(rt.alloc(), change)?, None, "of {change}");
+    }
+    Ok(())
+}
+
+#[test]
+fn a_table_with_other_columns_stays(rt: HostRuntime) -> Result<(), Fail> {
+    let sql = "CREATE TABLE level (name); INSERT INTO level VALUES ('kept')";
+    let Err(refused) = made(rt.alloc(), sql)? else {
+        return Err("it was opened".into());
+    };
+    assert_eq!(rt; refused.fault, BookFault::Database);
+    let mut connection = refused.connection;
+    let rows = connection.query_all("SELECT name FROM level", &[])?;
+    assert_eq!(rt; rows.len(), 1);
+    let name: String = rows[0].get(0)?;
+    assert_eq!(rt; name.as_str(), "kept");
+    Ok(())
+}
