@@ -1,6 +1,7 @@
 -- Levels that are added one after another.
-use Rattle.std.proofs.Common.{ℕ, ℤ, ◌≡◌, ◌≢◌, ◌⊎◌, ◌∙◌, ◌+◌, ◌<◌, ◌≤◌, inl, inr, List, [], ◌++◌, Option, Some, None, Result, Ok, Err}
-use Rattle.std.proofs.Common.{IfErr, IfOk, IfSome, ap, length, refl, subst, sym}
+use Rattle.std.proofs.Common.{ℕ, ℤ, ◌≡◌, ◌≢◌, ◌⊎◌, ◌∙◌, ◌+◌, ◌<◌, ◌≤◌, inl, inr, List, [], ◌++◌, Option, Result, Ok, Err}
+use Rattle.std.proofs.Common.{Bool, true, false, IfErr, IfOk, IfSome, ap, arith, length, nat_lt, refl, subst, sym}
+use Rattle.std.proofs.lemmas.Bool.Decides.{nat_tests}
 use Rattle.std.proofs.KnownBytes.{Keeps-refl}
 use Rattle.sqlite.specs.State.{State, HasCleanDisk}
 use Rattle.sok_rules.specs.declared.fault.LevelFault.{LevelFault}
@@ -20,7 +21,10 @@ use Rattle.sok_engine.specs.declared.input.InputFault.{InputFault}
 use Rattle.sok_engine.specs.declared.input.InputFault.TheVariants as input
 use Rattle.sok_engine.specs.Faults.{of_board, of_input, of_level}
 use Rattle.sok_engine.specs.Limits.{input_limit}
-use Rattle.sok_engine.specs.Written.{Answer, WritesOne}
+use Rattle.sok_engine.specs.Inputs.{UnlessMuch}
+use Rattle.sok_engine.specs.Written.{Answer, Answers, WritesOne}
+use Rattle.sok_engine.proofs.Answering.{too_much}
+use Rattle.sok_judge.proofs.Checking.{some_text}
 use Rattle.sok_row.specs.Faults.{IsOutside}
 use Rattle.sok_store.specs.Calls.{Keeps, Turns, id_number, title_kept}
 use Rattle.sok_keep.specs.Faults.{of_book}
@@ -201,52 +205,72 @@ none_added s blocks fault memory clean book holds =
 
 -- ---- the answer
 
+-- an input that is too long, where the reader's is
+too_long : (much : Bool) (n : ℕ) → nat_lt input_limit n ≡ much → UnlessMuch much (λ (_ : Result Answer ToolFault). ⊥) (Err tool.TooMuch) → input_limit < n
+too_long true n is told = grind (arith, nat_tests)
+too_long false n is told = absurd told
+
+some_longer : (known : Option (List ℕ)) → IfSome known (λ all. input_limit < length all)
+    → (bytes : List ℕ) × IfSome known (λ all. bytes ≡ all) × (input_limit < length bytes)
+some_longer known much =
+    let none : List ℕ → Answers = λ _ _. ⊥ in
+    let (bytes, told, within) = too_much input_limit none known much in
+    (bytes, told, too_long (nat_lt input_limit (length bytes)) (length bytes) refl within)
+
 -- the input was not read
-unread : (book : Book) (bytes : List ℕ) (held : Option (List ℕ)) (fault : InputFault) → (fault ≡ input.TooMuch → input_limit < length bytes)
-    → WritesAdding book bytes book held held (Err (of_input fault))
-unread book bytes held input.Memory much = record { count = 0; text = []; added = none; ended = Keeps-refl held }
-unread book bytes held input.ReadFailed much = record { count = 0; text = []; added = none; ended = (refl, Keeps-refl held) }
-unread book bytes held input.TooMuch much = record { count = 0; text = []; added = none; ended = (refl, much refl, Keeps-refl held) }
+unread : (book : Book) (known held : Option (List ℕ)) (fault : InputFault) → (fault ≡ input.TooMuch → IfSome known (λ all. input_limit < length all))
+    → WritesAdding book known book held held (Err (of_input fault))
+unread book known held input.Memory much =
+    let (bytes, told) = some_text known in
+    record { bytes = bytes; told = told; count = 0; text = []; added = none; ended = Keeps-refl held }
+unread book known held input.ReadFailed much =
+    let (bytes, told) = some_text known in
+    record { bytes = bytes; told = told; count = 0; text = []; added = none; ended = (refl, Keeps-refl held) }
+unread book known held input.TooMuch much =
+    let (bytes, told, longer) = some_longer known (much refl) in
+    record { bytes = bytes; told = told; count = 0; text = []; added = none; ended = (refl, longer, Keeps-refl held) }
 
-pub adding_unread : (s : State) (bytes held : Option (List ℕ)) (fault : InputFault)
-    → (fault ≡ input.TooMuch → IfSome bytes (λ all. input_limit < length all))
-    → Turns s s (λ b after. IfSome bytes (λ all. WritesAdding b all after held held (Err (of_input fault))))
-adding_unread s None held fault much clean book holds = (book, tt, holds)
-adding_unread s (Some bytes) held fault much clean book holds = (book, unread book bytes held fault much, holds)
+pub adding_unread : (s : State) (known held : Option (List ℕ)) (fault : InputFault)
+    → (fault ≡ input.TooMuch → IfSome known (λ all. input_limit < length all))
+    → Turns s s (λ b after. WritesAdding b known after held held (Err (of_input fault)))
+adding_unread s known held fault much clean book holds = (book, unread book known held fault much, holds)
 
-ends_at : (bytes : List ℕ) (book after : Book) (held : Option (List ℕ)) (fault : ToolFault) → length bytes ≤ input_limit
-    → LeavesLevels (blocks_of bytes) book after (Err fault) → WritesAdding book bytes after held held (Err fault)
-ends_at bytes book after held tool.Memory few (n, text, first, why) = record { count = n; text = text; added = first; ended = Keeps-refl held }
-ends_at bytes book after held tool.Database few (n, text, first, why) = record { count = n; text = text; added = first; ended = Keeps-refl held }
-ends_at bytes book after held tool.BookFull few (n, text, first, full) =
-    record { count = n; text = text; added = first; ended = (few, full, Keeps-refl held) }
-ends_at bytes book after held fault few (n, text, first, never) = absurd never
+ends_at : (bytes : List ℕ) (known : Option (List ℕ)) (book after : Book) (held : Option (List ℕ)) (fault : ToolFault) → IfSome known (λ all. bytes ≡ all)
+    → length bytes ≤ input_limit → LeavesLevels (blocks_of bytes) book after (Err fault) → WritesAdding book known after held held (Err fault)
+ends_at bytes known book after held tool.Memory all few (n, text, first, why) =
+    record { bytes = bytes; told = all; count = n; text = text; added = first; ended = Keeps-refl held }
+ends_at bytes known book after held tool.Database all few (n, text, first, why) =
+    record { bytes = bytes; told = all; count = n; text = text; added = first; ended = Keeps-refl held }
+ends_at bytes known book after held tool.BookFull all few (n, text, first, full) =
+    record { bytes = bytes; told = all; count = n; text = text; added = first; ended = (few, full, Keeps-refl held) }
+ends_at bytes known book after held fault all few (n, text, first, never) = absurd never
 
-pub adding_stopped : (old new : State) (read : List ℕ) (bytes held : Option (List ℕ)) (fault : ToolFault) → IfSome bytes (λ all. read ≡ all)
+pub adding_stopped : (old new : State) (read : List ℕ) (known held : Option (List ℕ)) (fault : ToolFault) → IfSome known (λ all. read ≡ all)
     → length read ≤ input_limit → Turns old new (λ b after. LeavesLevels (blocks_of read) b after (Err fault))
-    → Turns old new (λ b after. IfSome bytes (λ all. WritesAdding b all after held held (Err fault)))
-adding_stopped old new read None held fault all few turns clean book holds =
-    let (after, left, held_after) = turns clean book holds in (after, tt, held_after)
-adding_stopped old new read (Some bytes) held fault all few turns clean book holds =
-    let (after, left, held_after) = turns clean book holds in
-    (after, subst (λ known. WritesAdding book known after held held (Err fault)) all (ends_at read book after held fault few left), held_after)
+    → Turns old new (λ b after. WritesAdding b known after held held (Err fault))
+adding_stopped old new read known held fault all few turns clean book holds =
+    let (after, left, held_after) = turns clean book holds in (after, ends_at read known book after held fault all few left, held_after)
 
-ends_written : (bytes : List ℕ) (book after : Book) (before later : Option (List ℕ)) (answer : Answer) (result : Result ℕ ToolFault)
-    → length bytes ≤ input_limit → AddsFirst (blocks_of bytes) book (length (blocks_of bytes)) answer.text after → answer.status ≡ 0
-    → WritesOne answer before later result → WritesAdding book bytes after before later result
-ends_written bytes book after before later answer (Ok status) few first zero written =
-    record { count = length (blocks_of bytes); text = answer.text; added = first; ended = (few, refl, written.0 ∙ zero, written.1) }
-ends_written bytes book after before later answer (Err fault) few first zero written =
-    subst (λ f. WritesAdding book bytes after before later (Err f)) (sym written.0)
-    (record { count = length (blocks_of bytes); text = answer.text; added = first; ended = (few, refl, written.1) })
+ends_written : (bytes : List ℕ) (known : Option (List ℕ)) (book after : Book) (before later : Option (List ℕ)) (answer : Answer) (result : Result ℕ ToolFault)
+    → IfSome known (λ all. bytes ≡ all) → length bytes ≤ input_limit
+    → AddsFirst (blocks_of bytes) book (length (blocks_of bytes)) answer.text after → answer.status ≡ 0
+    → WritesOne answer before later result → WritesAdding book known after before later result
+ends_written bytes known book after before later answer (Ok status) all few first zero written = record {
+  bytes = bytes;
+  told = all;
+  count = length (blocks_of bytes);
+  text = answer.text;
+  added = first;
+  ended = (few, refl, written.0 ∙ zero, written.1);
+}
+ends_written bytes known book after before later answer (Err fault) all few first zero written =
+    subst (λ f. WritesAdding book known after before later (Err f)) (sym written.0)
+    (record { bytes = bytes; told = all; count = length (blocks_of bytes); text = answer.text; added = first; ended = (few, refl, written.1) })
 
-pub adding_written : (old new : State) (read : List ℕ) (bytes before later : Option (List ℕ)) (answer : Answer) (result : Result ℕ ToolFault)
-    → IfSome bytes (λ all. read ≡ all) → length read ≤ input_limit → answer.status ≡ 0
+pub adding_written : (old new : State) (read : List ℕ) (known before later : Option (List ℕ)) (answer : Answer) (result : Result ℕ ToolFault)
+    → IfSome known (λ all. read ≡ all) → length read ≤ input_limit → answer.status ≡ 0
     → Turns old new (λ b after. LeavesLevels (blocks_of read) b after (Ok answer.text)) → WritesOne answer before later result
-    → Turns old new (λ b after. IfSome bytes (λ all. WritesAdding b all after before later result))
-adding_written old new read None before later answer result all few zero turns written clean book holds =
-    let (after, left, held) = turns clean book holds in (after, tt, held)
-adding_written old new read (Some bytes) before later answer result all few zero turns written clean book holds =
+    → Turns old new (λ b after. WritesAdding b known after before later result)
+adding_written old new read known before later answer result all few zero turns written clean book holds =
     let (after, left, held) = turns clean book holds in
-    let ended = ends_written read book after before later answer result few left zero written in
-    (after, subst (λ known. WritesAdding book known after before later result) all ended, held)
+    (after, ends_written read known book after before later answer result all few left zero written, held)

@@ -1,5 +1,5 @@
 -- How a call ends that has no answer.
-use Rattle.std.proofs.Common.{ℕ, ◌≡◌, ◌<◌, inl, List, Option, Result, Ok, Err, length, refl}
+use Rattle.std.proofs.Common.{ℕ, inl, List, Option, Result, Ok, Err}
 use Rattle.std.proofs.KnownBytes.{Keeps-refl}
 use Rattle.sok_board.specs.declared.fault.BoardFault.{BoardFault}
 use Rattle.sok_board.specs.declared.fault.BoardFault.TheVariants as board
@@ -9,12 +9,9 @@ use Rattle.sok_book.specs.declared.fault.BookFault.{BookFault}
 use Rattle.sok_book.specs.declared.fault.BookFault.TheVariants as refusal
 use Rattle.sok_book.specs.Books.{Book}
 use Rattle.sok_engine.specs.declared.fault.ToolFault.{ToolFault}
-use Rattle.sok_engine.specs.declared.input.InputFault.{InputFault}
-use Rattle.sok_engine.specs.declared.input.InputFault.TheVariants as input
-use Rattle.sok_engine.specs.Faults.{of_board, of_input, of_lurd}
-use Rattle.sok_engine.specs.Inputs.{Within}
+use Rattle.sok_engine.specs.Faults.{of_board, of_lurd}
 use Rattle.sok_engine.specs.Written.{Answer, Answers, AnswersOf, IsFaultOf, Writes, WritesOne}
-use Rattle.sok_engine.proofs.Answering.{EndsBy-fault, Within-much}
+use Rattle.sok_engine.proofs.Answering.{EndsBy-fault}
 use Rattle.sok_keep.specs.Faults.{of_book}
 use Rattle.sok_keep.specs.Offers.{StaysOnFault}
 
@@ -46,10 +43,3 @@ stays_written answer old new (Err fault) book after written = inl written.0
 -- nothing is written, and the book stays
 pub ends_unwritten : (P : Answers) (held : Option (List ℕ)) (fault : ToolFault) → IsFaultOf P fault → Writes P held held (Err fault)
 ends_unwritten P held fault is = EndsBy-fault P held held fault is (Keeps-refl held)
-
--- an input that is not read
-pub ends_unread : (limit : ℕ) (P : List ℕ → Answers) (bytes : List ℕ) (held : Option (List ℕ)) (fault : InputFault)
-    → (fault ≡ input.TooMuch → limit < length bytes) → Writes (Within limit P bytes) held held (Err (of_input fault))
-ends_unread limit P bytes held input.Memory much = Keeps-refl held
-ends_unread limit P bytes held input.ReadFailed much = Keeps-refl held
-ends_unread limit P bytes held input.TooMuch much = (Within-much limit P bytes (much refl), Keeps-refl held)

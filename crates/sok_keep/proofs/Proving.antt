@@ -19,17 +19,16 @@ use Rattle.sok_engine.specs.declared.fault.ToolFault.TheVariants as tool
 use Rattle.sok_engine.specs.declared.input.InputFault.{InputFault}
 use Rattle.sok_engine.specs.declared.input.InputFault.TheVariants as input
 use Rattle.sok_engine.specs.Faults.{of_input}
-use Rattle.sok_engine.specs.Inputs.{Within}
 use Rattle.sok_engine.specs.Limits.{cert_limit}
 use Rattle.sok_engine.specs.Written.{Answer, IsFaultOf, WritesOne}
-use Rattle.sok_engine.proofs.Answering.{IsFaultOf-weaker, Within-few, Writes-one}
+use Rattle.sok_engine.proofs.Answering.{Writes-none, Writes-read, Writes-unread}
 use Rattle.sok_judge.specs.Verdicts.{verdict_answer}
 use Rattle.sok_row.specs.Faults.{IsOutside}
 use Rattle.sok_row.specs.Told.{IsRecordOf, Told}
 use Rattle.sok_store.specs.Calls.{Keeps, Turns, id_number}
 use Rattle.sok_keep.specs.Faults.{of_book}
 use Rattle.sok_keep.specs.Proves.{GivesProof, IsProof, TellsProof, WritesProof, claim_about, failed, proved, proved_answer, refused, unproved}
-use Rattle.sok_keep.proofs.Ending.{book_fault, ends_unread, ends_unwritten, stays_written}
+use Rattle.sok_keep.proofs.Ending.{book_fault, stays_written}
 use Rattle.sok_keep.proofs.Pages.{on_page}
 
 -- the claim is about the best
@@ -139,46 +138,28 @@ told_fault b id after bytes fault (inr (failed kept same)) =
     let is : fault ≡ tool.Database = cc in
     subst (IsFaultOf (IsProof b id after bytes)) (sym is) (failed kept refl)
 
-pub proof_unanswered : (old new : State) (id : ℤ) (read : List ℕ) (bytes : Option (List ℕ)) (held : Option (List ℕ)) (fault : ToolFault)
-    → IfSome bytes (λ all. read ≡ all) → length read ≤ cert_limit → Turns old new (λ b after. GivesProof b (id_number id) read after (Err fault))
-    → Turns old new (λ b after. IfSome bytes (λ all. WritesProof b id all after held held (Err fault)))
-proof_unanswered old new id read None held fault all few turns clean book holds =
-    let (after, why, held_after) = turns clean book holds in (after, tt, held_after)
-proof_unanswered old new id read (Some bytes) held fault all few turns clean book holds =
+pub proof_unanswered : (old new : State) (id : ℤ) (read : List ℕ) (known held : Option (List ℕ)) (fault : ToolFault)
+    → IfSome known (λ all. read ≡ all) → length read ≤ cert_limit → Turns old new (λ b after. GivesProof b (id_number id) read after (Err fault))
+    → Turns old new (λ b after. WritesProof b id known after held held (Err fault))
+proof_unanswered old new id read known held fault all few turns clean book holds =
     let (after, (same, why), held_after) = turns clean book holds in
     let is = told_fault book id after read fault why in
-    let within : IsFaultOf (Within cert_limit (IsProof book id after) read) fault = IsFaultOf-weaker (IsProof book id after read)
-    (Within cert_limit (IsProof book id after) read) (λ f told. Within-few cert_limit (IsProof book id after) read (Err f) few told) fault is in (
-      after,
-      subst (λ known. WritesProof book id known after held held (Err fault)) all
-          (ends_unwritten (Within cert_limit (IsProof book id after) read) held fault within, inr same),
-      held_after,
-    )
+    (after, (Writes-none cert_limit (IsProof book id after) known held read fault all few is, inr same), held_after)
 
-pub proof_answered : (old new : State) (id : ℤ) (read : List ℕ) (bytes : Option (List ℕ)) (before later : Option (List ℕ)) (answer : Answer)
-    (result : Result ℕ ToolFault) → IfSome bytes (λ all. read ≡ all) → length read ≤ cert_limit
-    → Turns old new (λ b after. GivesProof b (id_number id) read after (Ok answer)) → WritesOne answer before later result
-    → Turns old new (λ b after. IfSome bytes (λ all. WritesProof b id all after before later result))
-proof_answered old new id read None before later answer result all few turns written clean book holds =
-    let (after, told, held) = turns clean book holds in (after, tt, held)
-proof_answered old new id read (Some bytes) before later answer result all few turns written clean book holds =
+pub proof_answered : (old new : State) (id : ℤ) (read : List ℕ) (known before later : Option (List ℕ)) (answer : Answer) (result : Result ℕ ToolFault)
+    → IfSome known (λ all. read ≡ all) → length read ≤ cert_limit → Turns old new (λ b after. GivesProof b (id_number id) read after (Ok answer))
+    → WritesOne answer before later result → Turns old new (λ b after. WritesProof b id known after before later result)
+proof_answered old new id read known before later answer result all few turns written clean book holds =
     let (after, told, held) = turns clean book holds in
-    let is = Within-few cert_limit (IsProof book id after) read (Ok answer) few told in (
-      after,
-      subst (λ known. WritesProof book id known after before later result) all (
-        Writes-one (Within cert_limit (IsProof book id after) read) before later answer result is written,
-        stays_written answer before later result book after written,
-      ),
-      held,
-    )
+    let writes = Writes-read cert_limit (IsProof book id after) known before later read answer result all few told written in
+    (after, (writes, stays_written answer before later result book after written), held)
 
 -- the input was not read
-pub proof_unread : (s : State) (id : ℤ) (bytes held : Option (List ℕ)) (fault : InputFault)
-    → (fault ≡ input.TooMuch → IfSome bytes (λ all. cert_limit < length all))
-    → Turns s s (λ b after. IfSome bytes (λ all. WritesProof b id all after held held (Err (of_input fault))))
-proof_unread s id None held fault much clean book holds = (book, tt, holds)
-proof_unread s id (Some bytes) held fault much clean book holds =
-    (book, (ends_unread cert_limit (IsProof book id book) bytes held fault much, inr refl), holds)
+pub proof_unread : (s : State) (id : ℤ) (known held : Option (List ℕ)) (fault : InputFault)
+    → (fault ≡ input.TooMuch → IfSome known (λ all. cert_limit < length all))
+    → Turns s s (λ b after. WritesProof b id known after held held (Err (of_input fault)))
+proof_unread s id known held fault much clean book holds =
+    (book, (Writes-unread cert_limit (IsProof book id book) known held fault much, inr refl), holds)
 
 -- what is told where the book refuses
 pub proof_ended : (old mid new : State) (id : ℕ) (bytes : List ℕ) (P : Book → Type 0) (fault : BookFault) (result : Result Answer ToolFault)

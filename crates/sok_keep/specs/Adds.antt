@@ -1,5 +1,5 @@
 -- What is told of the levels of a collection as they are added to a book, one after another, and what becomes of the book.
-use Rattle.std.specs.Prelude.{ℕ, ℤ, ◌≡◌, ◌<◌, ◌≤◌, ◌+◌, List, [], ◌++◌, Option, Result, Ok, Err, codes, length}
+use Rattle.std.specs.Prelude.{ℕ, ℤ, ◌≡◌, ◌<◌, ◌≤◌, ◌+◌, List, [], ◌++◌, Option, Result, Ok, Err, IfSome, codes, length}
 use Rattle.std.specs.Fmt.{decimal, signed_decimal}
 use Rattle.std.specs.Io.KnownBytes.{Appends, Keeps}
 use Rattle.std.specs.Option.{option_and_then}
@@ -64,8 +64,11 @@ EndsAdding bytes n text after old new (Err tool.Database) = Keeps old new
 EndsAdding bytes n text after old new (Err tool.Memory) = Keeps old new
 EndsAdding bytes n text after old new (Err fault) = ⊥
 
--- the first n levels of a collection were added to the book, and how it ended then
-pub record WritesAdding (book : Book) (bytes : List ℕ) (after : Book) (old new : Option (List ℕ)) (result : Result ℕ ToolFault) : Type 0 where
+-- The first levels of the collection that a reader has left were added to the book, and how it ended then. Where the reader does not tell it, it is some
+-- collection.
+pub record WritesAdding (book : Book) (known : Option (List ℕ)) (after : Book) (old new : Option (List ℕ)) (result : Result ℕ ToolFault) : Type 0 where
+  pub bytes : List ℕ
+  pub told : IfSome known (λ all. bytes ≡ all)
   pub count : ℕ
   pub text : List ℕ
   pub added : AddsFirst (blocks_of bytes) book count text after

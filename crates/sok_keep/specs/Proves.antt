@@ -11,7 +11,7 @@ use Rattle.sok_book.specs.Commands.{Proves}
 use Rattle.sok_book.specs.Refusals.{IsNotProved}
 use Rattle.sok_engine.specs.declared.fault.ToolFault.{ToolFault}
 use Rattle.sok_engine.specs.declared.fault.ToolFault.TheVariants as tool
-use Rattle.sok_engine.specs.Inputs.{Within}
+use Rattle.sok_engine.specs.Inputs.{OfReader, Within}
 use Rattle.sok_engine.specs.Limits.{cert_limit}
 use Rattle.sok_engine.specs.Written.{Answer, Answers, Writes}
 use Rattle.sok_judge.specs.Verdicts.{verdict_answer}
@@ -38,9 +38,10 @@ pub data TellsProof (book : Book) (id : ℕ) (bytes : List ℕ) (after : Book) (
 abbrev pub IsProof : Book → ℤ → Book → List ℕ → Answers
 IsProof book id after bytes = TellsProof book (id_number id) bytes after
 
--- the answer was written, and this is the book after the command
-abbrev pub WritesProof : Book → ℤ → List ℕ → Book → Option (List ℕ) → Option (List ℕ) → Result ℕ ToolFault → Type 0
-WritesProof book id bytes after old new result = Writes (Within cert_limit (IsProof book id after) bytes) old new result × StaysOnFault book after result
+-- the answer to the certificate that a reader has left was written, and this is the book after the command
+abbrev pub WritesProof : Book → ℤ → Option (List ℕ) → Book → Option (List ℕ) → Option (List ℕ) → Result ℕ ToolFault → Type 0
+WritesProof book id known after old new result =
+    Writes (OfReader known (Within cert_limit (IsProof book id after))) old new result × StaysOnFault book after result
 
 -- the claim that is proved of a level with so many pushes as its best, if it has one
 abbrev pub claim_about : Option ℕ → Claim

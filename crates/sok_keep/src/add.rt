@@ -1,9 +1,8 @@
 //! The levels of a collection are added to a book.
 
-ghost use Rattle.std.specs.Prelude.{◌≡◌, ◌≢◌, ◌≤◌, ◌⊎◌, IfErr, IfOk, IfSome, Ok};
+ghost use Rattle.std.specs.Prelude.{◌≡◌, ◌≢◌, ◌⊎◌, IfErr, IfOk, Ok};
 ghost use Rattle.std.specs.Prelude.{option_map, string_bytes};
 ghost use Rattle.sqlite.specs.Held.{state};
-ghost use Rattle.sqlite.specs.View.{doubt};
 ghost use Rattle.sok_text.specs.Collections.{blocks_of, level_at};
 ghost use Rattle.sok_rules.specs.declared.fault.LevelFault.TheVariants as level;
 ghost use Rattle.sok_board.specs.declared.fault.BoardFault.{BoardFault};
@@ -14,6 +13,7 @@ ghost use Rattle.sok_engine.specs.declared.fault.ToolFault.TheVariants as tool;
 ghost use Rattle.sok_store.specs.Calls.{Turns};
 ghost use Rattle.sok_keep.specs.Adds.{WritesAdding, fault_line, id_line, title_at};
 ghost use Rattle.sok_keep.specs.Adding.{LeavesLevel, LeavesLevels, seen};
+ghost use Rattle.sok_keep.specs.Disk.{NoCleaner};
 
 use crate::fault::tool_fault;
 use sok_book::fault::BookFault;
@@ -36,16 +36,17 @@ use std::io::{Read, Write};
 /// Any other fault ends the call. Then nothing is written, and the levels before stay added:
 /// `ReadFailed` or `TooMuch`, before any; `BookFull` at the first that is new where there are
 /// 10,000; `Database` at any. A write that fails is `WriteFailed` at once, after a front of the
-/// lines. Of a reader that does not tell which bytes it holds nothing is promised.
+/// lines.
 pub fn add_bytes<S: Alter, R: Read, W: Write>(
     alloc: Global,
     book: &mut Book<S>,
     input: &mut R,
     out: &mut W,
 ) -> Result<u8, ToolFault>
-    ensures { Turns (state S.Store book.old) (state S.Store book.new) (λ pages after.
-        IfSome (R.remaining input.old) (λ bytes. WritesAdding
-        pages bytes after (W.contents out.old) (W.contents out.new) result)) }
+    ensures writes { Turns (state S.Store book.old) (state S.Store book.new) (λ pages after.
+        WritesAdding pages (R.remaining input.old) after (W.contents out.old) (W.contents out.new)
+        result) }
+    ensures clean { NoCleaner (state S.Store book.old) (state S.Store book.new) }
 {
     let bytes = read_input(alloc, input)?;
     let lines = added(alloc, book, bytes.as_slice())?;
@@ -55,8 +56,9 @@ pub fn add_bytes<S: Alter, R: Read, W: Write>(
 
 /// The lines of all levels of a collection, which are added.
 fn added<S: Alter>(alloc: Global, book: &mut Book<S>, bytes: &[u8]) -> Result<Vec<u8>, ToolFault>
-    ensures { Turns (state S.Store book.old) (state S.Store book.new) (λ pages after.
+    ensures leaves { Turns (state S.Store book.old) (state S.Store book.new) (λ pages after.
         LeavesLevels (blocks_of bytes.now) pages after (seen (λ v. v.items) result)) }
+    ensures clean { NoCleaner (state S.Store book.old) (state S.Store book.new) }
 {
     let collection = Collection::read(alloc, bytes)?;
     add_levels(alloc, book, &collection)
@@ -67,8 +69,9 @@ fn add_levels<S: Alter>(
     book: &mut Book<S>,
     collection: &Collection<'_>,
 ) -> Result<Vec<u8>, ToolFault>
-    ensures { Turns (state S.Store book.old) (state S.Store book.new) (λ pages after.
+    ensures leaves { Turns (state S.Store book.old) (state S.Store book.new) (λ pages after.
         LeavesLevels collection.now pages after (seen (λ v. v.items) result)) }
+    ensures clean { NoCleaner (state S.Store book.old) (state S.Store book.new) }
 {
     let mut lines = Vec::new(alloc);
     for index in 0..collection.len() {
@@ -88,8 +91,7 @@ fn add_level<S: Alter>(
     ensures leaves { Turns (state S.Store book.old) (state S.Store book.new) (λ pages after.
         LeavesLevel n (level_at collection.now n) (title_at collection.now n) pages after
         (seen string_bytes result)) }
-    ensures clean { doubt (state S.Store book.old).is_clean
-        ≤ doubt (state S.Store book.new).is_clean }
+    ensures clean { NoCleaner (state S.Store book.old) (state S.Store book.new) }
 {
     let title = collection.title(n);
     match collection.level(alloc, n) {
@@ -121,8 +123,7 @@ fn add_made<S: Alter>(
     ensures leaves { Turns (state S.Store book.old) (state S.Store book.new) (λ pages after.
         LeavesLevel n (Ok level.now) (option_map (λ t. t.now) title.entry) pages after
         (seen string_bytes result)) }
-    ensures clean { doubt (state S.Store book.old).is_clean
-        ≤ doubt (state S.Store book.new).is_clean }
+    ensures clean { NoCleaner (state S.Store book.old) (state S.Store book.new) }
 {
     match book.add(level, title) {
         Ok(id) => Ok(id_line(alloc, n, id)?),

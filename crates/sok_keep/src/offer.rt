@@ -1,15 +1,15 @@
 //! A solution is offered to a level of a book.
 
-ghost use Rattle.std.specs.Prelude.{◌≡◌, ◌⊎◌, ◌≤◌, IfOk, MatchResult};
+ghost use Rattle.std.specs.Prelude.{◌≡◌, ◌⊎◌, IfOk, MatchResult};
 ghost use Rattle.std.specs.Prelude.{option_map, string_bytes};
 ghost use Rattle.sqlite.specs.Held.{state};
-ghost use Rattle.sqlite.specs.View.{doubt};
 ghost use Rattle.sok_book.specs.Books.{Page};
 ghost use Rattle.sok_book.specs.Refusals.{IsNoSolution};
 ghost use Rattle.sok_book.specs.declared.fault.BookFault.TheVariants as cause;
 ghost use Rattle.sok_page.specs.Kept.{IsKeptPage};
 ghost use Rattle.sok_page.specs.Texts.{best_text, page_text, record_text};
 ghost use Rattle.sok_store.specs.Calls.{Keeps, Turns, id_number};
+ghost use Rattle.sok_keep.specs.Disk.{NoCleaner};
 ghost use Rattle.sok_keep.specs.Offers.{Foretells, GivesForecast, GivesOffer, WritesOffer};
 ghost use Rattle.sok_keep.specs.Offers.{offer_line, offer_status, offer_word, outcome_answer};
 ghost use Rattle.sok_keep.specs.Offers.{told_offer};
@@ -45,8 +45,9 @@ pub fn offer_bytes<S: Alter, W: Write>(
     text: &[u8],
     out: &mut W,
 ) -> Result<u8, ToolFault>
-    ensures { Turns (state S.Store book.old) (state S.Store book.new) (λ pages after. WritesOffer
+    ensures writes { Turns (state S.Store book.old) (state S.Store book.new) (λ pages after. WritesOffer
         pages id text.now after (W.contents out.old) (W.contents out.new) result) }
+    ensures clean { NoCleaner (state S.Store book.old) (state S.Store book.new) }
 {
     let letters = read_lurd(alloc, text)?;
     let answer = offered(alloc, book, id, &letters)?;
@@ -60,8 +61,9 @@ fn offered<S: Alter>(
     id: i64,
     letters: &[Dir],
 ) -> Result<Answer, ToolFault>
-    ensures { Turns (state S.Store book.old) (state S.Store book.new) (λ pages after.
+    ensures gives { Turns (state S.Store book.old) (state S.Store book.new) (λ pages after.
         GivesOffer pages (id_number id) letters.now after result) }
+    ensures clean { NoCleaner (state S.Store book.old) (state S.Store book.new) }
 {
     let answer = foretold(alloc, book, id, letters)?;
     match book.offer(id, letters) {
@@ -79,8 +81,7 @@ fn foretold<S: Alter>(
 ) -> Result<Answer, ToolFault>
     ensures gives { Keeps (state S.Store book.old) (state S.Store book.new) (λ pages.
         GivesForecast pages (id_number id) letters.now result) }
-    ensures clean { doubt (state S.Store book.old).is_clean
-        ≤ doubt (state S.Store book.new).is_clean }
+    ensures clean { NoCleaner (state S.Store book.old) (state S.Store book.new) }
 {
     let kept = match book.get(id) {
         Ok(kept) => kept,

@@ -1,12 +1,13 @@
 //! A verdict on a level of a book is proved.
 
-ghost use Rattle.std.specs.Prelude.{◌≡◌, ◌⊎◌, Err, IfErr, IfOk, IfSome, option_map};
+ghost use Rattle.std.specs.Prelude.{◌≡◌, ◌⊎◌, Err, IfErr, IfOk, option_map};
 ghost use Rattle.sqlite.specs.Held.{state};
 ghost use Rattle.sok_cert.specs.CertFault.{CertFault};
 ghost use Rattle.sok_book.specs.declared.fault.BookFault.TheVariants as refusal;
 ghost use Rattle.sok_engine.specs.declared.fault.ToolFault.TheVariants as tool;
 ghost use Rattle.sok_judge.specs.Verdicts.{verdict_answer};
 ghost use Rattle.sok_store.specs.Calls.{Turns, id_number};
+ghost use Rattle.sok_keep.specs.Disk.{NoCleaner};
 ghost use Rattle.sok_keep.specs.Faults.{of_book};
 ghost use Rattle.sok_keep.specs.Proves.{GivesProof, WritesProof, claim_about, proved_answer};
 
@@ -39,9 +40,10 @@ pub fn prove_bytes<S: Alter, C: Read, W: Write>(
     cert_input: &mut C,
     out: &mut W,
 ) -> Result<u8, ToolFault>
-    ensures { Turns (state S.Store book.old) (state S.Store book.new) (λ pages after.
-        IfSome (C.remaining cert_input.old) (λ bytes. WritesProof
-        pages id bytes after (W.contents out.old) (W.contents out.new) result)) }
+    ensures writes { Turns (state S.Store book.old) (state S.Store book.new) (λ pages after.
+        WritesProof pages id (C.remaining cert_input.old) after
+        (W.contents out.old) (W.contents out.new) result) }
+    ensures clean { NoCleaner (state S.Store book.old) (state S.Store book.new) }
 {
     let bytes = read_certificate(alloc, cert_input)?;
     let answer = proved(alloc, book, id, bytes.as_slice())?;
@@ -55,8 +57,9 @@ fn proved<S: Alter>(
     id: i64,
     bytes: &[u8],
 ) -> Result<Answer, ToolFault>
-    ensures { Turns (state S.Store book.old) (state S.Store book.new) (λ pages after.
+    ensures gives { Turns (state S.Store book.old) (state S.Store book.new) (λ pages after.
         GivesProof pages (id_number id) bytes.now after result) }
+    ensures clean { NoCleaner (state S.Store book.old) (state S.Store book.new) }
 {
     let kept = match book.get(id) {
         Ok(kept) => kept,

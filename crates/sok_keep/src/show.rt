@@ -3,6 +3,7 @@
 ghost use Rattle.sqlite.specs.Held.{state};
 ghost use Rattle.sok_engine.specs.Written.{Gives, Writes};
 ghost use Rattle.sok_store.specs.Calls.{Keeps};
+ghost use Rattle.sok_keep.specs.Disk.{NoCleaner};
 ghost use Rattle.sok_keep.specs.Shows.{IsExport, IsShow};
 
 use crate::fault::tool_fault;
@@ -27,8 +28,9 @@ pub fn show_bytes<S: Alter, W: Write>(
     id: i64,
     out: &mut W,
 ) -> Result<u8, ToolFault>
-    ensures { Keeps (state S.Store book.old) (state S.Store book.new) (λ pages.
+    ensures writes { Keeps (state S.Store book.old) (state S.Store book.new) (λ pages.
         Writes (IsShow pages id) (W.contents out.old) (W.contents out.new) result) }
+    ensures clean { NoCleaner (state S.Store book.old) (state S.Store book.new) }
 {
     let answer = shown(alloc, book, id)?;
     answer.write(out)
@@ -36,8 +38,9 @@ pub fn show_bytes<S: Alter, W: Write>(
 
 /// The answer that shows a level.
 fn shown<S: Alter>(alloc: Global, book: &mut Book<S>, id: i64) -> Result<Answer, ToolFault>
-    ensures { Keeps (state S.Store book.old) (state S.Store book.new)
+    ensures gives { Keeps (state S.Store book.old) (state S.Store book.new)
         (λ pages. Gives (IsShow pages id) result) }
+    ensures clean { NoCleaner (state S.Store book.old) (state S.Store book.new) }
 {
     match book.get(id) {
         Ok(kept) => Ok(Answer::new(shown_text(alloc, &kept)?, 0)),
@@ -55,8 +58,9 @@ pub fn export_bytes<S: Alter, W: Write>(
     book: &mut Book<S>,
     out: &mut W,
 ) -> Result<u8, ToolFault>
-    ensures { Keeps (state S.Store book.old) (state S.Store book.new) (λ pages.
+    ensures writes { Keeps (state S.Store book.old) (state S.Store book.new) (λ pages.
         Writes (IsExport pages) (W.contents out.old) (W.contents out.new) result) }
+    ensures clean { NoCleaner (state S.Store book.old) (state S.Store book.new) }
 {
     let answer = exported(alloc, book)?;
     answer.write(out)
@@ -64,8 +68,9 @@ pub fn export_bytes<S: Alter, W: Write>(
 
 /// The answer that has all levels.
 fn exported<S: Alter>(alloc: Global, book: &mut Book<S>) -> Result<Answer, ToolFault>
-    ensures { Keeps (state S.Store book.old) (state S.Store book.new)
+    ensures gives { Keeps (state S.Store book.old) (state S.Store book.new)
         (λ pages. Gives (IsExport pages) result) }
+    ensures clean { NoCleaner (state S.Store book.old) (state S.Store book.new) }
 {
     match book.list() {
         Ok(records) => Ok(Answer::new(export_text(alloc, &records)?, 0)),

@@ -1,13 +1,10 @@
-//! `check` on files, and the commands on a book, which are not built yet.
+//! `check` on files.
 
 use crate::rows::{OPEN_FAILED, Row, first_other, prepare};
 use std::fs;
 use std::test::Fail;
 
-const UNBUILT: &str =
-    "sok: the book of levels is not built yet, so add, offer, prove, show and export do nothing\n";
-
-const CHECKS: [Row; 9] = [
+const CHECKS: [Row; 6] = [
     (
         "sok check certs/levels 1 certs/cert",
         "accepted at least 1 pushes\n",
@@ -35,9 +32,6 @@ const CHECKS: [Row; 9] = [
     ("sok check certs/levels 1 certs/none", "", OPEN_FAILED, 5),
     // both files are opened before the level is read
     ("sok check certs/levels 9 certs/none", "", OPEN_FAILED, 5),
-    ("sok show certs/book 1", "", UNBUILT, 2),
-    ("sok export certs/book", "", UNBUILT, 2),
-    ("sok add certs/book certs/levels", "", UNBUILT, 2),
 ];
 
 #[test]

@@ -3,9 +3,10 @@
 //!
 //! | Module | What it tests |
 //! |---|---|
-//! | `checking` | `check` on files, and the commands on a book, which are not built yet |
+//! | `checking` | `check` on files |
 //! | `checks` | the judgement of a certificate for a level of a collection |
 //! | `devices` | readers and writers that fail, or that give and take little (no test) |
+//! | `keeping` | the commands on a book in a file |
 //! | `listing` | `list` on files |
 //! | `plays` | the replay of a text, its words and its streams |
 //! | `printing` | the line of each fault |
@@ -21,6 +22,8 @@ mod checking;
 mod checks;
 #[cfg(test)]
 mod devices;
+#[cfg(test)]
+mod keeping;
 #[cfg(test)]
 mod listing;
 #[cfg(test)]

@@ -1,101 +1,102 @@
--- What is answered to the bytes of files.
-use Rattle.std.proofs.Common.{ℕ, ◌≡◌, ◌∙◌, inl, inr, Global, String, List, Option, Result, Err, IfSome, Bool, true, false, length, nat_lt, refl}
-use Rattle.std.proofs.Common.{option_map, string_bytes, subst, sym}
+-- What is answered to a job is what serves its form.
+use Rattle.std.proofs.Common.{ℕ, ℤ, ◌≡◌, ◌∙◌, inl, FitsSigned, Global, String, List, Option, Err, option_map, pos, refl, string_bytes, subst, sym, w64}
 use Rattle.std.specs.Str.Parse.{digits_value}
-use Rattle.std.proofs.KnownBytes.{Keeps-refl}
-use Rattle.sok_engine.specs.declared.fault.ToolFault.{ToolFault}
 use Rattle.sok_engine.specs.declared.fault.ToolFault.TheVariants as tool
-use Rattle.sok_engine.specs.Certified.{Bytes, CertifiedAnswers, Stays, WritesBoth}
-use Rattle.sok_engine.specs.Inputs.{OfReader, UnlessMuch, Within}
-use Rattle.sok_engine.specs.Limits.{cert_limit, input_limit}
-use Rattle.sok_engine.specs.Written.{Answer, Answers, EndsBy, Writes}
-use Rattle.sok_engine.proofs.Answering.{Writes-weaker}
-use Rattle.sok_engine.proofs.Certifying.{WritesBoth-weaker}
-use Rattle.sok_judge.specs.Checks.{IsCheck}
-use Rattle.sok_judge.proofs.Checking.{some_text}
-use Rattle.sok_solve.specs.Solves.{IsSolve}
+use Rattle.sok_engine.specs.Certified.{Bytes, Stays}
+use Rattle.sok_keep.specs.Shows.{IsExport, IsShow}
+use Rattle.sok_keep.proofs.Ids.{fits, of_passed, passed}
 use Rattle.sok_words.specs.declared.job.Job.TheVariants as job
-use Rattle.sok_words.specs.Forms.{Form, Means, check, limit_of, list, replay, solve}
-use Rattle.sok_tool.specs.Commands.{RunsBoth, Serves}
-use Rattle.sok_tool.specs.Endings.{Runs}
-use Rattle.sok_tool.specs.Files.{Files, OfFile, OfFiles}
-use Rattle.sok_tool.specs.Solving.{SolvesTo}
-
--- where a file can't be opened, nothing is written
-pub Writes-unopened : (P : Answers) (held : Option (List ℕ)) (fault : ToolFault) → fault ≡ tool.ReadFailed → Writes P held held (Err fault)
-Writes-unopened P held fault same = subst (EndsBy P held held) (sym same) (Keeps-refl held)
-
--- the answers to what an opened file has left are those to the file
-pub Writes-file : (reads : Option (List ℕ) → Type 0) (P : List ℕ → Answers) (known old new : Option (List ℕ)) (result : Result ℕ ToolFault)
-    → reads known → Writes (OfReader known P) old new result → Writes (OfFile reads P) old new result
-Writes-file reads P known old new result may = Writes-weaker (OfReader known P) (OfFile reads P) (λ answer is. (known, may, is)) old new result
-
-UnlessMuch-text : (cert : Option (List ℕ)) (P : List ℕ → Answers) (much : Bool) (answer : Result Answer ToolFault) → UnlessMuch much (OfReader cert P) answer
-    → OfReader cert (λ text. UnlessMuch much (P text)) answer
-UnlessMuch-text cert P true answer much = let (text, told) = some_text cert in (text, told, much)
-UnlessMuch-text cert P false answer is = is
-
--- the same of two files
-pub Writes-files : (reads reads_text : Option (List ℕ) → Type 0) (limit : ℕ) (P : List ℕ → List ℕ → Answers) (known cert old new : Option (List ℕ))
-    (result : Result ℕ ToolFault) → reads known → reads_text cert
-    → Writes (OfReader known (Within limit (λ bytes. OfReader cert (λ text. P text bytes)))) old new result
-    → Writes (OfFiles reads reads_text (λ text. Within limit (P text))) old new result
-Writes-files reads reads_text limit P known cert old new result may may_text =
-    let read : Answers = OfReader known (Within limit (λ bytes. OfReader cert (λ text. P text bytes))) in
-    let of_both : (answer : Result Answer ToolFault) → read answer → OfFiles reads reads_text (λ text. Within limit (P text)) answer =
-    λ answer is.
-    let (bytes, told, said) = is in
-    let (text, told_text, within) = UnlessMuch-text cert (λ t. P t bytes) (nat_lt limit (length bytes)) answer said in
-    (cert, may_text, text, told_text, (known, may, (bytes, told, within))) in
-    Writes-weaker read (OfFiles reads reads_text (λ text. Within limit (P text))) of_both old new result
-
--- the solver's answers to what an opened file has left are those to the file
-pub SolvesTo-file : (reads : Option (List ℕ) → Type 0) (P : List ℕ → CertifiedAnswers) (IsPlace : Bytes → Type 0) (known : Option (List ℕ)) (cert out : Bytes)
-    (result : Result ℕ ToolFault) → reads known → IsPlace cert → WritesBoth (OfReader known P) cert out result → SolvesTo (OfFile reads P) IsPlace out result
-SolvesTo-file reads P IsPlace known cert out result may goes written =
-    inr (cert, goes, WritesBoth-weaker (OfReader known P) (OfFile reads P) (λ answer is. (known, may, is)) cert out result written)
+use Rattle.sok_words.specs.Forms.{Form, IsId, IsPlain, Means, add, check, export, limit_of, list, offer, prove, replay, show, solve}
+use Rattle.sok_files.specs.Files.{Files}
+use Rattle.sok_tool.specs.Commands.{RunsAdd, RunsCheck, RunsOffer, RunsProve, RunsReplay, RunsShowing, RunsSolve, Serves}
+use Rattle.sok_tool.specs.Databases.{Databases, unready}
 
 -- where memory was refused, nothing is written
-pub Serves-memory : (files : Files) (form : Form) (out err : Bytes) (exit : ℕ) → exit ≡ 6 → Stays out → Serves files form out err exit
-Serves-memory files (list file) out err exit six kept = (Err tool.Memory, kept, six)
-Serves-memory files (replay file number text) out err exit six kept = (Err tool.Memory, kept, six)
-Serves-memory files (check file number cert) out err exit six kept = (Err tool.Memory, kept, six)
-Serves-memory files (solve file number limit cert) out err exit six kept = (Err tool.Memory, inl (inl refl, kept), six)
-Serves-memory files _ out err exit six kept = (inr six, kept)
+pub Serves-memory : (files : Files) (databases : Databases) (form : Form) (out err : Bytes) (exit : ℕ) → exit ≡ 6 → Stays out
+    → Serves files databases form out err exit
+Serves-memory files databases (list file) out err exit six kept = (Err tool.Memory, kept, six)
+Serves-memory files databases (replay file number text) out err exit six kept = (Err tool.Memory, kept, six)
+Serves-memory files databases (check file number cert) out err exit six kept = (Err tool.Memory, kept, six)
+Serves-memory files databases (solve file number limit cert) out err exit six kept = (Err tool.Memory, inl (inl refl, kept), six)
+Serves-memory files databases _ out err exit six kept = (Err tool.Memory, unready (inl refl) kept, six)
 
--- what is answered to a job of judging
-abbrev pub RunsCheck : Files → List ℕ → ℕ → List ℕ → Bytes → Bytes → ℕ → Type 0
-RunsCheck files file n cert out err exit =
-    Runs (OfFiles (files.reads file) (files.reads cert) (λ text. Within input_limit (IsCheck cert_limit n text))) out.old out.new err.old err.new exit
+-- a job of replaying serves its form
+pub Serves-replay : (files : Files) (databases : Databases) (form : Form) (file : String Global) (n : ℕ) (text : String Global) (name letters : List ℕ)
+    (out err : Bytes) (exit : ℕ) → Means form (job.Replay file n text) → name ≡ string_bytes file → letters ≡ string_bytes text
+    → RunsReplay files name n letters out err exit → Serves files databases form out err exit
+Serves-replay files databases (replay of number spelled) file n text name letters out err exit (file_is, number_is, text_is) named spelt runs =
+    subst (λ t. RunsReplay files of (digits_value 10 number) t out err exit) (spelt ∙ text_is)
+    (subst (λ k. RunsReplay files of k letters out err exit) number_is
+    (subst (λ f. RunsReplay files f n letters out err exit) (named ∙ file_is) runs))
+Serves-replay files databases _ file n text name letters out err exit means named spelt runs = absurd means
 
--- a job of judging serves its form
-pub Serves-check : (files : Files) (form : Form) (file : String Global) (n : ℕ) (cert : String Global) (name cert_name : List ℕ) (out err : Bytes) (exit : ℕ)
-    → Means form (job.Check file n cert) → name ≡ string_bytes file → cert_name ≡ string_bytes cert
-    → RunsCheck files name n cert_name out err exit → Serves files form out err exit
-Serves-check files (check of number place) file n cert name cert_name out err exit means named cert_named runs =
-    let (file_is, number_is, cert_is) = means in
+-- and so does one of judging
+pub Serves-check : (files : Files) (databases : Databases) (form : Form) (file : String Global) (n : ℕ) (cert : String Global) (name cert_name : List ℕ)
+    (out err : Bytes) (exit : ℕ) → Means form (job.Check file n cert) → name ≡ string_bytes file → cert_name ≡ string_bytes cert
+    → RunsCheck files name n cert_name out err exit → Serves files databases form out err exit
+Serves-check files databases (check of number place) file n cert name cert_name out err exit (file_is, number_is, cert_is) named cert_named runs =
     subst (λ p. RunsCheck files of (digits_value 10 number) p out err exit) (cert_named ∙ cert_is)
     (subst (λ k. RunsCheck files of k cert_name out err exit) number_is
     (subst (λ f. RunsCheck files f n cert_name out err exit) (named ∙ file_is) runs))
-Serves-check files _ file n cert name cert_name out err exit means named cert_named runs = absurd means
+Serves-check files databases _ file n cert name cert_name out err exit means named cert_named runs = absurd means
 
--- where a certificate may go
-abbrev pub goes_to : Files → Option (List ℕ) → Bytes → Type 0
-goes_to files path cert = IfSome path (λ place. files.makes place cert)
-
--- what is answered to a job of solving
-abbrev pub RunsSolve : Files → List ℕ → ℕ → ℕ → Option (List ℕ) → Bytes → Bytes → ℕ → Type 0
-RunsSolve files file n most path out err exit =
-    RunsBoth (OfFile (files.reads file) (Within input_limit (IsSolve n most))) (goes_to files path) out err exit
-
--- a job of solving serves its form
-pub Serves-solve : (files : Files) (form : Form) (file : String Global) (name : List ℕ) (n most : ℕ) (path : Option (String Global)) (out err : Bytes) (exit : ℕ)
-    → Means form (job.Solve file n most path) → name ≡ string_bytes file
-    → RunsSolve files name n most (option_map (λ s. string_bytes s) path) out err exit → Serves files form out err exit
-Serves-solve files (solve of number limit cert) file name n most path out err exit means named runs =
-    let (file_is, number_is, limit_is, path_is) = means in
+-- and so does one of solving
+pub Serves-solve : (files : Files) (databases : Databases) (form : Form) (file : String Global) (name : List ℕ) (n most : ℕ) (path : Option (String Global))
+    (out err : Bytes) (exit : ℕ) → Means form (job.Solve file n most path) → name ≡ string_bytes file
+    → RunsSolve files name n most (option_map (λ s. string_bytes s) path) out err exit → Serves files databases form out err exit
+Serves-solve files databases (solve of number limit cert) file name n most path out err exit (file_is, number_is, limit_is, path_is) named runs =
     subst (λ p. RunsSolve files of (digits_value 10 number) (limit_of limit) p out err exit) path_is
     (subst (λ m. RunsSolve files of (digits_value 10 number) m (option_map (λ s. string_bytes s) path) out err exit) limit_is
     (subst (λ k. RunsSolve files of k most (option_map (λ s. string_bytes s) path) out err exit) number_is
     (subst (λ f. RunsSolve files f n most (option_map (λ s. string_bytes s) path) out err exit) (named ∙ file_is) runs)))
-Serves-solve files _ file name n most path out err exit means named runs = absurd means
+Serves-solve files databases _ file name n most path out err exit means named runs = absurd means
+
+-- ---- on a book
+
+-- an id below 2 ^ 63 fits
+plain_id : (id : ℤ) (number : List ℕ) → IsId number → id ≡ pos (digits_value 10 number) → FitsSigned w64 id
+plain_id id number plain is = subst (λ i. FitsSigned w64 i) (sym is) (fits (pos (digits_value 10 number)) plain.1)
+
+pub Serves-add : (files : Files) (databases : Databases) (form : Form) (db file : String Global) (db_name name : List ℕ) (out err : Bytes) (exit : ℕ)
+    → Means form (job.Add db file) → db_name ≡ string_bytes db → name ≡ string_bytes file → RunsAdd files databases db_name name out err exit
+    → Serves files databases form out err exit
+Serves-add files databases (add of place) db file db_name name out err exit (db_is, file_is) db_named named runs =
+    subst (λ f. RunsAdd files databases of f out err exit) (named ∙ file_is)
+    (subst (λ d. RunsAdd files databases d name out err exit) (db_named ∙ db_is) runs)
+Serves-add files databases _ db file db_name name out err exit means db_named named runs = absurd means
+
+pub Serves-offer : (files : Files) (databases : Databases) (form : Form) (db : String Global) (id : ℤ) (text : String Global) (db_name letters : List ℕ)
+    (out err : Bytes) (exit : ℕ) → IsPlain form → Means form (job.Offer db id text) → db_name ≡ string_bytes db → letters ≡ string_bytes text
+    → RunsOffer databases db_name (passed id) letters out err exit → Serves files databases form out err exit
+Serves-offer files databases (offer of number spelled) db id text db_name letters out err exit plain (db_is, id_is, text_is) db_named named runs =
+    subst (λ t. RunsOffer databases of (pos (digits_value 10 number)) t out err exit) (named ∙ text_is)
+    (subst (λ i. RunsOffer databases of i letters out err exit) id_is
+    (subst (λ d. RunsOffer databases d id letters out err exit) (db_named ∙ db_is)
+    (of_passed (λ i. RunsOffer databases db_name i letters out err exit) id (plain_id id number plain.1 id_is) runs)))
+Serves-offer files databases _ db id text db_name letters out err exit plain means db_named named runs = absurd means
+
+pub Serves-prove : (files : Files) (databases : Databases) (form : Form) (db : String Global) (id : ℤ) (cert : String Global) (db_name name : List ℕ)
+    (out err : Bytes) (exit : ℕ) → IsPlain form → Means form (job.Prove db id cert) → db_name ≡ string_bytes db → name ≡ string_bytes cert
+    → RunsProve files databases db_name (passed id) name out err exit → Serves files databases form out err exit
+Serves-prove files databases (prove of number place) db id cert db_name name out err exit plain (db_is, id_is, cert_is) db_named named runs =
+    subst (λ f. RunsProve files databases of (pos (digits_value 10 number)) f out err exit) (named ∙ cert_is)
+    (subst (λ i. RunsProve files databases of i name out err exit) id_is
+    (subst (λ d. RunsProve files databases d id name out err exit) (db_named ∙ db_is)
+    (of_passed (λ i. RunsProve files databases db_name i name out err exit) id (plain_id id number plain.1 id_is) runs)))
+Serves-prove files databases _ db id cert db_name name out err exit plain means db_named named runs = absurd means
+
+pub Serves-show : (files : Files) (databases : Databases) (form : Form) (db : String Global) (id : ℤ) (db_name : List ℕ) (out err : Bytes) (exit : ℕ)
+    → IsPlain form → Means form (job.Show db id) → db_name ≡ string_bytes db
+    → RunsShowing databases db_name (λ book. IsShow book (passed id)) out err exit
+    → Serves files databases form out err exit
+Serves-show files databases (show of number) db id db_name out err exit plain (db_is, id_is) db_named runs =
+    subst (λ i. RunsShowing databases of (λ book. IsShow book i) out err exit) id_is
+    (subst (λ d. RunsShowing databases d (λ book. IsShow book id) out err exit) (db_named ∙ db_is)
+    (of_passed (λ i. RunsShowing databases db_name (λ book. IsShow book i) out err exit) id (plain_id id number plain.1 id_is) runs))
+Serves-show files databases _ db id db_name out err exit plain means db_named runs = absurd means
+
+pub Serves-export : (files : Files) (databases : Databases) (form : Form) (db : String Global) (db_name : List ℕ) (out err : Bytes) (exit : ℕ)
+    → Means form (job.Export db) → db_name ≡ string_bytes db → RunsShowing databases db_name IsExport out err exit → Serves files databases form out err exit
+Serves-export files databases (export of) db db_name out err exit db_is db_named runs =
+    subst (λ d. RunsShowing databases d IsExport out err exit) (db_named ∙ db_is) runs
+Serves-export files databases _ db db_name out err exit means db_named runs = absurd means

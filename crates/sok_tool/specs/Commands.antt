@@ -1,37 +1,78 @@
 -- What the program does for a command line.
-use Rattle.std.specs.Prelude.{ℕ, ◌≡◌, ◌⊎◌, Result, IfSome}
-use Rattle.std.specs.Io.KnownBytes.{Keeps}
+use Rattle.std.specs.Prelude.{ℕ, ℤ, ◌≡◌, List, Option, Result, IfSome, pos}
 use Rattle.std.specs.Str.Parse.{digits_value}
+use Rattle.sok_book.specs.Books.{Book}
 use Rattle.sok_engine.specs.declared.fault.ToolFault.{ToolFault}
 use Rattle.sok_engine.specs.Certified.{Bytes, CertifiedAnswers}
 use Rattle.sok_engine.specs.Inputs.{Within}
 use Rattle.sok_engine.specs.Limits.{cert_limit, input_limit}
+use Rattle.sok_engine.specs.Written.{Answers, Writes}
+use Rattle.sok_files.specs.Endings.{Ends, Runs}
+use Rattle.sok_files.specs.Files.{Files, OfFile, OfFiles}
+use Rattle.sok_files.specs.Solving.{SolvesTo}
 use Rattle.sok_judge.specs.Checks.{IsCheck}
+use Rattle.sok_keep.specs.Adds.{WritesAdding}
+use Rattle.sok_keep.specs.Offers.{WritesOffer}
+use Rattle.sok_keep.specs.Proves.{WritesProof}
+use Rattle.sok_keep.specs.Shows.{IsExport, IsShow}
 use Rattle.sok_play.specs.Listing.{IsListing}
 use Rattle.sok_play.specs.Plays.{IsReplay}
 use Rattle.sok_solve.specs.Solves.{IsSolve}
-use Rattle.sok_words.specs.Forms.{Form, check, limit_of, list, replay, solve}
-use Rattle.sok_tool.specs.Endings.{Ends, Runs}
-use Rattle.sok_tool.specs.Files.{Files, OfFile, OfFiles}
-use Rattle.sok_tool.specs.Solving.{SolvesTo}
+use Rattle.sok_words.specs.Forms.{Form, add, check, export, limit_of, list, offer, prove, replay, show, solve}
+use Rattle.sok_tool.specs.Databases.{Databases, OfOpened, WorksOn}
 
 -- a certificate is written to such a writer, and one of the answers to the output, and the program ends with its status, or that of the fault
 abbrev pub RunsBoth : CertifiedAnswers → (Bytes → Type 0) → Bytes → Bytes → ℕ → Type 0
 RunsBoth P IsPlace out err exit = (result : Result ℕ ToolFault) × SolvesTo P IsPlace out result × Ends result err.old err.new exit
 
--- nothing is written to the output, and the program ends with status 2, or for want of memory with 6
-abbrev pub IsUnbuilt : Bytes → ℕ → Type 0
-IsUnbuilt out exit = ((exit ≡ 2) ⊎ (exit ≡ 6)) × Keeps out.old out.new
+-- what is answered to the job of replaying
+abbrev pub RunsReplay : Files → List ℕ → ℕ → List ℕ → Bytes → Bytes → ℕ → Type 0
+RunsReplay files file n text out err exit = Runs (OfFile (files.reads file) (Within input_limit (IsReplay n text))) out.old out.new err.old err.new exit
 
--- the output has grown by the answer of the form's engine to the files that the form names, with its values; the commands on a book are not built
-abbrev pub Serves : Files → Form → Bytes → Bytes → ℕ → Type 0
-Serves files (list file) out err exit = Runs (OfFile (files.reads file) (Within input_limit IsListing)) out.old out.new err.old err.new exit
-Serves files (replay file number text) out err exit =
-    Runs (OfFile (files.reads file) (Within input_limit (IsReplay (digits_value 10 number) text))) out.old out.new err.old err.new exit
-Serves files (check file number cert) out err exit =
-    Runs (OfFiles (files.reads file) (files.reads cert) (λ text. Within input_limit (IsCheck cert_limit (digits_value 10 number) text)))
-    out.old out.new err.old err.new exit
-Serves files (solve file number limit cert) out err exit =
-    RunsBoth (OfFile (files.reads file) (Within input_limit (IsSolve (digits_value 10 number) (limit_of limit))))
-    (λ written. IfSome cert (λ place. files.makes place written)) out err exit
-Serves files _ out err exit = IsUnbuilt out exit
+-- what is answered to the job of judging
+abbrev pub RunsCheck : Files → List ℕ → ℕ → List ℕ → Bytes → Bytes → ℕ → Type 0
+RunsCheck files file n cert out err exit =
+    Runs (OfFiles (files.reads file) (files.reads cert) (λ text. Within input_limit (IsCheck cert_limit n text))) out.old out.new err.old err.new exit
+
+-- what is answered to the job of solving
+abbrev pub RunsSolve : Files → List ℕ → ℕ → ℕ → Option (List ℕ) → Bytes → Bytes → ℕ → Type 0
+RunsSolve files file n most path out err exit =
+    RunsBoth (OfFile (files.reads file) (Within input_limit (IsSolve n most))) (λ cert. IfSome path (λ place. files.makes place cert)) out err exit
+
+-- a command works on the book in the database at a path, and the program ends with its status, or that of the fault
+abbrev pub RunsOn : Databases → List ℕ → (Book → Book → Result ℕ ToolFault → Type 0) → Bytes → Bytes → ℕ → Type 0
+RunsOn databases db Makes out err exit =
+    (result : Result ℕ ToolFault)
+    × WorksOn databases.shows (databases.keeps db) (databases.leaves db) (λ book after. Makes book after result) out result × Ends result err.old err.new exit
+
+-- the levels of a file are added
+abbrev pub RunsAdd : Files → Databases → List ℕ → List ℕ → Bytes → Bytes → ℕ → Type 0
+RunsAdd files databases db file out err exit =
+    RunsOn databases db (λ book after result. OfOpened (files.reads file) (λ known. WritesAdding book known after out.old out.new result)) out err exit
+
+-- a text is offered to the level with an id
+abbrev pub RunsOffer : Databases → List ℕ → ℤ → List ℕ → Bytes → Bytes → ℕ → Type 0
+RunsOffer databases db id text out err exit =
+    RunsOn databases db (λ book after result. WritesOffer book id text after out.old out.new result) out err exit
+
+-- the certificate in a file is judged for the level with an id
+abbrev pub RunsProve : Files → Databases → List ℕ → ℤ → List ℕ → Bytes → Bytes → ℕ → Type 0
+RunsProve files databases db id cert out err exit =
+    RunsOn databases db (λ book after result. OfOpened (files.reads cert) (λ known. WritesProof book id known after out.old out.new result)) out err exit
+
+-- the book stays, and such an answer is written
+abbrev pub RunsShowing : Databases → List ℕ → (Book → Answers) → Bytes → Bytes → ℕ → Type 0
+RunsShowing databases db P out err exit =
+    RunsOn databases db (λ book after result. (after ≡ book) × Writes (P book) out.old out.new result) out err exit
+
+-- what becomes of the output, of the files and of the book that a form names, with its values
+abbrev pub Serves : Files → Databases → Form → Bytes → Bytes → ℕ → Type 0
+Serves files databases (list file) out err exit = Runs (OfFile (files.reads file) (Within input_limit IsListing)) out.old out.new err.old err.new exit
+Serves files databases (replay file number text) out err exit = RunsReplay files file (digits_value 10 number) text out err exit
+Serves files databases (check file number cert) out err exit = RunsCheck files file (digits_value 10 number) cert out err exit
+Serves files databases (solve file number limit cert) out err exit = RunsSolve files file (digits_value 10 number) (limit_of limit) cert out err exit
+Serves files databases (add db file) out err exit = RunsAdd files databases db file out err exit
+Serves files databases (offer db id text) out err exit = RunsOffer databases db (pos (digits_value 10 id)) text out err exit
+Serves files databases (prove db id cert) out err exit = RunsProve files databases db (pos (digits_value 10 id)) cert out err exit
+Serves files databases (show db id) out err exit = RunsShowing databases db (λ book. IsShow book (pos (digits_value 10 id))) out err exit
+Serves files databases (export db) out err exit = RunsShowing databases db IsExport out err exit

@@ -5,34 +5,39 @@ ghost use Rattle.sok_engine.specs.Inputs.{OfReader, Within};
 ghost use Rattle.sok_engine.specs.Limits.{input_limit};
 ghost use Rattle.sok_play.specs.Plays.{IsPlay};
 ghost use Rattle.sok_words.specs.Forms.{Form, IsPlain, Means, words_of};
+ghost use Rattle.sok_files.specs.Endings.{Runs};
+ghost use Rattle.sok_files.specs.Files.{IsMade};
+ghost use Rattle.sqlite.specs.Held.{Held, state};
 ghost use Rattle.sok_tool.specs.Commands.{Serves};
-ghost use Rattle.sok_tool.specs.Endings.{Runs};
-ghost use Rattle.sok_tool.specs.Files.{IsMade};
 
-use crate::command::{check, list, replay, solve};
-use crate::ending::{ended, refused, unbuilt};
-use crate::folder::Folder;
+use crate::databases::Databases;
+use crate::keeping::{add, export, offer, prove, show};
+use sok_files::command::{check, list, replay, solve};
+use sok_files::ending::{ended, refused};
+use sok_files::folder::Folder;
 use sok_play::play::play_bytes;
 use sok_words::job::Job;
 use sok_words::words::job;
+use sqlite::{Alter, Connection};
 use std::io::{Read, Write};
 
 /// Runs the program, and gives its exit status. The first word is the program's name. Without
 /// further words it plays a text of letters on a level, both from the input. Else the words are
-/// read by `job` of `sok_words`, and its files are opened, or made, in the order in which they
-/// stand there. Then the command runs.
+/// read by `job` of `sok_words`, and its files and its database are opened, or made, in the order
+/// in which they stand there. Then the database is opened as a book, where there is one, and the
+/// command runs.
 ///
 /// A fault is told as one line on the error stream. A file that can't be opened or read is
-/// `ReadFailed`, and one that can't be made or written `WriteFailed`. Words that ask for nothing
-/// are told there too, at status 2, and a request for help on the output, at status 0. The
-/// commands on a book of levels are not built yet: they do nothing, say so, and end with status 2.
-pub fn run<F: Folder + AllocGlobal, R: Read, W: Write, E: Write>(
-    rt: &F,
-    words: &[String],
-    input: &mut R,
-    out: &mut W,
-    err: &mut E,
-) -> u8
+/// `ReadFailed`, one that can't be made or written `WriteFailed`, and a database that can't be
+/// opened `Database`. Words that ask for nothing are told there too, at status 2, and a request
+/// for help on the output, at status 0.
+pub fn run<
+    S: Alter + Drop,
+    F: Folder + Databases<Opened = Connection<S>> + AllocGlobal,
+    R: Read,
+    W: Write,
+    E: Write,
+>(rt: &F, words: &[String], input: &mut R, out: &mut W, err: &mut E) -> u8
     ensures plays { length words.now ≤ 1
         → Runs (OfReader (R.remaining input.old) (Within input_limit IsPlay))
         (W.contents out.old) (W.contents out.new) (E.contents err.old) (E.contents err.new) result }
@@ -41,6 +46,11 @@ pub fn run<F: Folder + AllocGlobal, R: Read, W: Write, E: Write>(
         → Serves (record {
           reads = F.reads rt.now;
           makes = λ path. IsMade F.Output.contents (F.makes rt.now path);
+        }) (record {
+          Connection = Held S;
+          shows = state S.Store;
+          keeps = F.keeps rt.now;
+          leaves = F.leaves rt.now;
         }) form
         (record { old = W.contents out.old; new = W.contents out.new })
         (record { old = E.contents err.old; new = E.contents err.new }) result }
@@ -55,16 +65,21 @@ pub fn run<F: Folder + AllocGlobal, R: Read, W: Write, E: Write>(
 }
 
 /// Runs the command that words ask for.
-fn served<F: Folder + AllocGlobal, W: Write, E: Write>(
-    rt: &F,
-    job: Job,
-    out: &mut W,
-    err: &mut E,
-) -> u8
-    ensures { (form : Form) → Means form job
+fn served<
+    S: Alter + Drop,
+    F: Folder + Databases<Opened = Connection<S>> + AllocGlobal,
+    W: Write,
+    E: Write,
+>(rt: &F, job: Job, out: &mut W, err: &mut E) -> u8
+    ensures { (form : Form) → IsPlain form → Means form job
         → Serves (record {
           reads = F.reads rt.now;
           makes = λ path. IsMade F.Output.contents (F.makes rt.now path);
+        }) (record {
+          Connection = Held S;
+          shows = state S.Store;
+          keeps = F.keeps rt.now;
+          leaves = F.leaves rt.now;
         }) form
         (record { old = W.contents out.old; new = W.contents out.new })
         (record { old = E.contents err.old; new = E.contents err.new }) result }
@@ -78,10 +93,10 @@ fn served<F: Folder + AllocGlobal, W: Write, E: Write>(
         Job::Solve(file, n, limit, cert) => {
             ended(solve(rt, file.as_str(), n, limit, cert, out), err)
         }
-        Job::Add(_, _) => unbuilt(err),
-        Job::Offer(_, _, _) => unbuilt(err),
-        Job::Prove(_, _, _) => unbuilt(err),
-        Job::Show(_, _) => unbuilt(err),
-        Job::Export(_) => unbuilt(err),
+        Job::Add(db, file) => ended(add(rt, db.as_str(), file.as_str(), out), err),
+        Job::Offer(db, id, text) => ended(offer(rt, db.as_str(), id, text.as_str(), out), err),
+        Job::Prove(db, id, cert) => ended(prove(rt, db.as_str(), id, cert.as_str(), out), err),
+        Job::Show(db, id) => ended(show(rt, db.as_str(), id, out), err),
+        Job::Export(db) => ended(export(rt, db.as_str(), out), err),
     }
 }

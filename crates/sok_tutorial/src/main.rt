@@ -2,7 +2,7 @@
 //! compared with what the program writes.
 //!
 //! In a block between lines of three backquotes, a line behind `$ ` is a command: `cat > FILE <<
-//! END`, with the lines up to `END`, or a command of `sok`.
+//! 'END'`, with the lines up to `END`, or a command of `sok`.
 #![tactic(auto)]
 
 use sok_tool::program::run;
@@ -11,7 +11,13 @@ use std::process::ExitCode;
 use std::{fs, io};
 
 /// What the tutorial's commands make.
-const MADE: [&str; 3] = ["small.xsb", "first.cert", "second.cert"];
+const MADE: [&str; 5] = [
+    "small.xsb",
+    "first.cert",
+    "second.cert",
+    "small.db",
+    "small.db-wal",
+];
 
 /// A page as it should be, as far as it is played.
 #[derive(Drop)]
@@ -98,7 +104,7 @@ fn taken(rt: &HostRuntime, session: Session, line: &str) -> io::Result<Session> 
 /// Runs a command. A file that is to be typed is answered.
 fn ran(rt: &HostRuntime, command: &str, page: &mut String) -> io::Result<Option<Typed>> {
     if let Some(rest) = command.strip_prefix("cat > ") {
-        let path = rest.strip_suffix(" << END").unwrap_or(rest);
+        let path = rest.strip_suffix(" << 'END'").unwrap_or(rest);
         return Ok(Some(Typed {
             path: String::from_str(rt.alloc(), path)?,
             text: String::new(rt.alloc()),

@@ -11,7 +11,7 @@ pub loop-index-init : goal.loop-index-init
 loop-index-init g c =
     let s = state g.S.Store c.args.book.now in
     let blocks = c.args.collection.now in
-    subst (λ items. Turns s s (λ pages after. AddsFirst blocks pages 0 items after)) (sym c.new-lines.ensures.items) (first_none s blocks)
+    (subst (λ items. Turns s s (λ pages after. AddsFirst blocks pages 0 items after)) (sym c.new-lines.ensures.items) (first_none s blocks), omega arith)
 
 pub loop-index-preserved : goal.loop-index-preserved
 loop-index-preserved g c =
@@ -24,11 +24,12 @@ loop-index-preserved g c =
     let line = string_bytes c.in_ok-line.line in
     let whole = c.extend_from_slice.new.self.items in
     let longer = grown whole here.lines.items c.as_bytes.result.now line c.in_ok-extend_from_slice.ensures.items c.as_bytes.ensures.value in
-    first_more (state g.S.Store c.args.book.now) mid new blocks here.index here.lines.items line whole early within
-    here.invariant c.in_ok-line.ensures.leaves longer
+    let first = first_more (state g.S.Store c.args.book.now) mid new blocks here.index here.lines.items line whole early within
+    here.invariant.0 c.in_ok-line.ensures.leaves longer in
+    (first, omega (arith, here.invariant.1, c.add_level.ensures.clean))
 
-pub returns-in_err-line : goal.returns-in_err-line
-returns-in_err-line g c =
+pub returns-in_err-line-clause-leaves : goal.returns-in_err-line-clause-leaves
+returns-in_err-line-clause-leaves g c =
     let p = err_from_is_err_and c.from_residual.result c.from_residual.ensures.1 in
     let here = c.loop-index in
     let blocks = c.args.collection.now in
@@ -37,10 +38,10 @@ returns-in_err-line g c =
     let early : HasCleanDisk new → HasCleanDisk mid = λ clean. omega (arith, clean, c.add_level.ensures.clean) in
     let within : here.index < length blocks = omega arith in
     rw (p.1, p.2) (first_stopped (state g.S.Store c.args.book.now) mid new blocks here.index here.lines.items c.in_err-line.field-0.0 early within
-    here.invariant c.in_err-line.ensures.leaves)
+    here.invariant.0 c.in_err-line.ensures.leaves)
 
-pub returns-in_err-extend_from_slice : goal.returns-in_err-extend_from_slice
-returns-in_err-extend_from_slice g c =
+pub returns-in_err-extend_from_slice-clause-leaves : goal.returns-in_err-extend_from_slice-clause-leaves
+returns-in_err-extend_from_slice-clause-leaves g c =
     let p = err_from_is_err_and c.from_residual-in_err-extend_from_slice.result c.from_residual-in_err-extend_from_slice.ensures.1 in
     let here = c.loop-index in
     let blocks = c.args.collection.now in
@@ -50,13 +51,13 @@ returns-in_err-extend_from_slice g c =
     let within : here.index < length blocks = omega arith in
     let line = string_bytes c.in_ok-line.line in
     let text = here.lines.items ++ line in
-    let more = first_more (state g.S.Store c.args.book.now) mid new blocks here.index here.lines.items line text early within here.invariant
+    let more = first_more (state g.S.Store c.args.book.now) mid new blocks here.index here.lines.items line text early within here.invariant.0
     c.in_ok-line.ensures.leaves refl in
     rw p.1 (first_unsaid (state g.S.Store c.args.book.now) new blocks _ text _ p.2 more)
 
-pub returns : goal.returns
-returns g c =
+pub returns-clause-leaves : goal.returns-clause-leaves
+returns-clause-leaves g c =
     let here = c.loop-index in
     let blocks = c.args.collection.now in
     let end : here.index ≡ length blocks = omega arith in
-    all_added (state g.S.Store c.args.book.now) (state g.S.Store here.book) blocks here.index here.lines.items end here.invariant
+    all_added (state g.S.Store c.args.book.now) (state g.S.Store here.book) blocks here.index here.lines.items end here.invariant.0

@@ -8,24 +8,24 @@ use Rattle.sok_keep.proofs.Ids.{of_passed, passed}
 use Rattle.sok_keep.proofs.Proving.{HasRecord, proof_done, proof_ended, proof_unfound, proof_unsaid_at_once}
 use Rattle.sok_keep.proofs.prove.proved.Goals as goal
 
-pub returns-in-Err : goal.returns-in-Err
-returns-in-Err g c =
+pub returns-in-Err-clause-gives : goal.returns-in-Err-clause-gives
+returns-in-Err-clause-gives g c =
     let old = state g.S.Store c.args.book.now in
     let new = state g.S.Store c.get.new.self in
     let bytes = c.args.bytes.now in
     of_passed (λ id. Turns old new (λ pages after. GivesProof pages (id_number id) bytes after (Err c.tool_fault.result))) c.args.id c.ranges.id
     (proof_unfound old new (id_number (passed c.args.id)) bytes c.in-Err.fault c.tool_fault.result c.tool_fault.ensures c.in-Err.ensures.refused)
 
-pub returns-in_err-answer : goal.returns-in_err-answer
-returns-in_err-answer g c =
+pub returns-in_err-answer-clause-gives : goal.returns-in_err-answer-clause-gives
+returns-in_err-answer-clause-gives g c =
     let p = err_from_is_err_and c.from_residual.result c.from_residual.ensures.1 in
     let old = state g.S.Store c.args.book.now in
     let new = state g.S.Store c.get.new.self in
     rw p.1 (proof_unsaid_at_once old new (id_number c.args.id) c.args.bytes.now (HasRecord (id_number (passed c.args.id)) c.in-Ok.kept) _ p.2
     c.in-Ok.ensures.found)
 
-pub returns-in-Ok-prove : goal.returns-in-Ok-prove
-returns-in-Ok-prove g c =
+pub returns-in-Ok-prove-clause-gives : goal.returns-in-Ok-prove-clause-gives
+returns-in-Ok-prove-clause-gives g c =
     let old = state g.S.Store c.args.book.now in
     let mid = state g.S.Store c.get.new.self in
     let new = state g.S.Store c.prove.new.self in
@@ -36,8 +36,8 @@ returns-in-Ok-prove g c =
     (proof_done old mid new (id_number (passed c.args.id)) bytes c.in-Ok.kept c.in-Ok-prove.field-0 answer early c.in-Ok.ensures.found
     c.in_ok-answer.ensures c.in-Ok-prove.ensures.proved)
 
-pub returns : goal.returns
-returns g c =
+pub returns-clause-gives : goal.returns-clause-gives
+returns-clause-gives g c =
     let old = state g.S.Store c.args.book.now in
     let mid = state g.S.Store c.get.new.self in
     let new = state g.S.Store c.prove.new.self in

@@ -6,8 +6,8 @@ use Rattle.sok_keep.proofs.Ids.{of_passed, passed}
 use Rattle.sok_keep.proofs.Showing.{page_unshown}
 use Rattle.sok_keep.proofs.show.shown.Goals as goal
 
-pub returns-in-Err : goal.returns-in-Err
-returns-in-Err g c =
+pub returns-in-Err-clause-gives : goal.returns-in-Err-clause-gives
+returns-in-Err-clause-gives g c =
     let old = state g.S.Store c.args.book.now in
     let new = state g.S.Store c.get.new.self in
     of_passed (λ id. Keeps old new (λ book. IsFaultOf (IsShow book id) c.tool_fault.result)) c.args.id c.ranges.id

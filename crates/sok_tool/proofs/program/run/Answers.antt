@@ -6,7 +6,7 @@ pub returns-in-Err-clause-serves : goal.returns-in-Err-clause-serves
 returns-in-Err-clause-serves g c = λ program form plain words.
     let memory : c.in-Err.refusal.status ≡ 6 = c.in-Err.ensures program form plain words in
     let some : c.in-Err.refusal.status ≢ 0 = λ none. omega (arith, memory, none) in
-    Serves-memory _ form _ _ c.refused.result (c.refused.ensures.status some ∙ memory) (c.refused.ensures.silent some)
+    Serves-memory _ _ form _ _ c.refused.result (c.refused.ensures.status some ∙ memory) (c.refused.ensures.silent some)
 
 pub returns-in-Ok-clause-serves : goal.returns-in-Ok-clause-serves
-returns-in-Ok-clause-serves g c = λ program form plain words. c.served.ensures form (c.in-Ok.ensures program form plain words)
+returns-in-Ok-clause-serves g c = λ program form plain words. c.served.ensures form plain (c.in-Ok.ensures program form plain words)

@@ -1,19 +1,61 @@
 use Rattle.std.proofs.Common.{subst}
 use Rattle.sok_words.specs.declared.job.Job.TheVariants as job
 use Rattle.sok_words.specs.Forms.{Means}
-use Rattle.sok_tool.proofs.Serving.{Serves-check, Serves-solve}
+use Rattle.sok_tool.proofs.Serving.{Serves-add, Serves-check, Serves-export, Serves-offer, Serves-prove, Serves-replay, Serves-show, Serves-solve}
 use Rattle.sok_tool.proofs.program.served.Goals as goal
 
+pub returns-in-Replay : goal.returns-in-Replay
+returns-in-Replay g c = λ form plain means.
+    let s = c.in-Replay in
+    let meant : Means form (job.Replay s.file s.n s.text) = subst (Means form) s.is means in
+    Serves-replay _ _ form s.file s.n s.text c.as_str-in-Replay.result.now c.as_str-in-Replay-2.result.now _ _ _ meant c.as_str-in-Replay.ensures.value
+    c.as_str-in-Replay-2.ensures.value (c.replay.result, c.replay.ensures, c.ended-in-Replay.ensures)
+
 pub returns-in-Check : goal.returns-in-Check
-returns-in-Check g c = λ form means.
+returns-in-Check g c = λ form plain means.
     let s = c.in-Check in
     let meant : Means form (job.Check s.file s.n s.cert) = subst (Means form) s.is means in
-    Serves-check _ form s.file s.n s.cert c.as_str-in-Check.result.now c.as_str-in-Check-2.result.now _ _ _ meant c.as_str-in-Check.ensures.value
+    Serves-check _ _ form s.file s.n s.cert c.as_str-in-Check.result.now c.as_str-in-Check-2.result.now _ _ _ meant c.as_str-in-Check.ensures.value
     c.as_str-in-Check-2.ensures.value (c.check.result, c.check.ensures, c.ended-in-Check.ensures)
 
 pub returns-in-Solve : goal.returns-in-Solve
-returns-in-Solve g c = λ form means.
+returns-in-Solve g c = λ form plain means.
     let s = c.in-Solve in
     let meant : Means form (job.Solve s.file s.n s.limit s.cert) = subst (Means form) s.is means in
-    Serves-solve _ form s.file c.as_str-in-Solve.result.now s.n s.limit s.cert _ _ _ meant c.as_str-in-Solve.ensures.value
+    Serves-solve _ _ form s.file c.as_str-in-Solve.result.now s.n s.limit s.cert _ _ _ meant c.as_str-in-Solve.ensures.value
     (c.solve.result, c.solve.ensures, c.ended-in-Solve.ensures)
+
+pub returns-in-Add : goal.returns-in-Add
+returns-in-Add g c = λ form plain means.
+    let s = c.in-Add in
+    let meant : Means form (job.Add s.db s.file) = subst (Means form) s.is means in
+    Serves-add _ _ form s.db s.file c.as_str-in-Add.result.now c.as_str-in-Add-2.result.now _ _ _ meant c.as_str-in-Add.ensures.value
+    c.as_str-in-Add-2.ensures.value (c.add.result, c.add.ensures, c.ended-in-Add.ensures)
+
+pub returns-in-Offer : goal.returns-in-Offer
+returns-in-Offer g c = λ form plain means.
+    let s = c.in-Offer in
+    let meant : Means form (job.Offer s.db s.id s.text) = subst (Means form) s.is means in
+    Serves-offer _ _ form s.db s.id s.text c.as_str-in-Offer.result.now c.as_str-in-Offer-2.result.now _ _ _ plain meant c.as_str-in-Offer.ensures.value
+    c.as_str-in-Offer-2.ensures.value (c.offer.result, c.offer.ensures, c.ended-in-Offer.ensures)
+
+pub returns-in-Prove : goal.returns-in-Prove
+returns-in-Prove g c = λ form plain means.
+    let s = c.in-Prove in
+    let meant : Means form (job.Prove s.db s.id s.cert) = subst (Means form) s.is means in
+    Serves-prove _ _ form s.db s.id s.cert c.as_str-in-Prove.result.now c.as_str-in-Prove-2.result.now _ _ _ plain meant c.as_str-in-Prove.ensures.value
+    c.as_str-in-Prove-2.ensures.value (c.prove.result, c.prove.ensures, c.ended-in-Prove.ensures)
+
+pub returns-in-Show : goal.returns-in-Show
+returns-in-Show g c = λ form plain means.
+    let s = c.in-Show in
+    let meant : Means form (job.Show s.db s.id) = subst (Means form) s.is means in
+    Serves-show _ _ form s.db s.id c.as_str-in-Show.result.now _ _ _ plain meant c.as_str-in-Show.ensures.value
+    (c.show.result, c.show.ensures, c.ended-in-Show.ensures)
+
+pub returns-in-Export : goal.returns-in-Export
+returns-in-Export g c = λ form plain means.
+    let s = c.in-Export in
+    let meant : Means form (job.Export s.db) = subst (Means form) s.is means in
+    Serves-export _ _ form s.db c.as_str-in-Export.result.now _ _ _ meant c.as_str-in-Export.ensures.value
+    (c.export.result, c.export.ensures, c.ended-in-Export.ensures)

@@ -7,7 +7,7 @@ use crate::folder::Folder;
 use sok_engine::fault::ToolFault;
 
 /// Opens a file that is there.
-pub(crate) fn open<F: Folder>(folder: &F, path: &str) -> Result<F::Input, ToolFault>
+pub fn open<F: Folder>(folder: &F, path: &str) -> Result<F::Input, ToolFault>
     ensures { MatchResult result
         (λ file. F.reads folder.now path.now (F.Input.remaining file))
         (λ fault. fault ≡ tool.ReadFailed) }
@@ -19,7 +19,7 @@ pub(crate) fn open<F: Folder>(folder: &F, path: &str) -> Result<F::Input, ToolFa
 }
 
 /// Makes a file, or empties it.
-pub(crate) fn create<F: Folder>(folder: &F, path: &str) -> Result<F::Output, ToolFault>
+pub fn create<F: Folder>(folder: &F, path: &str) -> Result<F::Output, ToolFault>
     ensures { MatchResult result (F.makes folder.now path.now) (λ fault. fault ≡ tool.WriteFailed) }
 {
     match folder.create(path) {

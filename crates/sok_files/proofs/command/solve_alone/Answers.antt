@@ -6,8 +6,8 @@ use Rattle.sok_engine.specs.Certified.{Bytes}
 use Rattle.sok_engine.specs.Inputs.{Within}
 use Rattle.sok_engine.specs.Limits.{input_limit}
 use Rattle.sok_solve.specs.Solves.{IsSolve}
-use Rattle.sok_tool.proofs.Serving.{SolvesTo-file}
-use Rattle.sok_tool.proofs.command.solve_alone.Goals as goal
+use Rattle.sok_files.proofs.Filing.{SolvesTo-file}
+use Rattle.sok_files.proofs.command.solve_alone.Goals as goal
 
 pub returns-in_err-input : goal.returns-in_err-input
 returns-in_err-input g c =

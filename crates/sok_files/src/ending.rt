@@ -2,7 +2,7 @@
 
 ghost use Rattle.std.specs.Prelude.{◌≡◌, ◌≢◌, Ok, string_bytes};
 ghost use Rattle.std.specs.Io.KnownBytes.{Keeps};
-ghost use Rattle.sok_tool.specs.Endings.{Ends, Runs};
+ghost use Rattle.sok_files.specs.Endings.{Ends, Runs};
 
 use sok_engine::answer::Answer;
 use sok_engine::fault::ToolFault;
@@ -28,7 +28,7 @@ pub fn ended<E: Write>(outcome: Result<u8, ToolFault>, err: &mut E) -> u8
 
 /// The exit status for words that ask for nothing. Help that was asked for is written to the
 /// output, and what is wrong with the words to the error stream, as far as that takes it.
-pub(crate) fn refused<W: Write, E: Write>(refusal: JobRefused, out: &mut W, err: &mut E) -> u8
+pub fn refused<W: Write, E: Write>(refusal: JobRefused, out: &mut W, err: &mut E) -> u8
     ensures help { refusal.status ≡ 0
         → Runs (λ answer. answer ≡ Ok (record { text = string_bytes refusal.text; status = 0 }))
         (W.contents out.old) (W.contents out.new) (E.contents err.old) (E.contents err.new) result }
@@ -45,14 +45,3 @@ pub(crate) fn refused<W: Write, E: Write>(refusal: JobRefused, out: &mut W, err:
     let _ = write_whole(err, text.as_bytes());
     status
 }
-
-/// The exit status for a command that is not built yet, which is said on the error stream.
-pub(crate) fn unbuilt<E: Write>(err: &mut E) -> u8
-    ensures { result ≡ 2 }
-{
-    let _ = write_whole(err, UNBUILT.as_bytes());
-    2
-}
-
-const UNBUILT: &str =
-    "sok: the book of levels is not built yet, so add, offer, prove, show and export do nothing\n";

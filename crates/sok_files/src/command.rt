@@ -9,8 +9,8 @@ ghost use Rattle.sok_judge.specs.Checks.{IsCheck};
 ghost use Rattle.sok_play.specs.Listing.{IsListing};
 ghost use Rattle.sok_play.specs.Plays.{IsReplay};
 ghost use Rattle.sok_solve.specs.Solves.{IsSolve};
-ghost use Rattle.sok_tool.specs.Files.{IsMade, OfFile, OfFiles};
-ghost use Rattle.sok_tool.specs.Solving.{SolvesTo};
+ghost use Rattle.sok_files.specs.Files.{IsMade, OfFile, OfFiles};
+ghost use Rattle.sok_files.specs.Solving.{SolvesTo};
 
 use crate::file::{create, open};
 use crate::folder::Folder;
@@ -23,7 +23,7 @@ use std::io;
 use std::io::Write;
 
 /// Lists the levels of a collection.
-pub(crate) fn list<F: Folder + AllocGlobal, W: Write>(
+pub fn list<F: Folder + AllocGlobal, W: Write>(
     rt: &F,
     path: &str,
     out: &mut W,
@@ -36,7 +36,7 @@ pub(crate) fn list<F: Folder + AllocGlobal, W: Write>(
 }
 
 /// Plays a text of letters on the n-th level of a collection.
-pub(crate) fn replay<F: Folder + AllocGlobal, W: Write>(
+pub fn replay<F: Folder + AllocGlobal, W: Write>(
     rt: &F,
     path: &str,
     n: u32,
@@ -52,7 +52,7 @@ pub(crate) fn replay<F: Folder + AllocGlobal, W: Write>(
 
 /// Judges a certificate for the n-th level of a collection. It is read only where the level has a
 /// board.
-pub(crate) fn check<F: Folder + AllocGlobal, W: Write>(
+pub fn check<F: Folder + AllocGlobal, W: Write>(
     rt: &F,
     path: &str,
     n: u32,
@@ -70,7 +70,7 @@ pub(crate) fn check<F: Folder + AllocGlobal, W: Write>(
 
 /// Solves the n-th level of a collection. The certificate is written to a file, if a path is given,
 /// and else is dropped.
-pub(crate) fn solve<F: Folder + AllocGlobal, W: Write>(
+pub fn solve<F: Folder + AllocGlobal, W: Write>(
     rt: &F,
     path: &str,
     n: u32,

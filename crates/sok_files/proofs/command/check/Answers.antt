@@ -4,9 +4,9 @@ use Rattle.sok_engine.specs.Inputs.{Within}
 use Rattle.sok_engine.specs.Limits.{cert_limit, input_limit}
 use Rattle.sok_engine.specs.Written.{Answers}
 use Rattle.sok_judge.specs.Checks.{IsCheck}
-use Rattle.sok_tool.specs.Files.{OfFiles}
-use Rattle.sok_tool.proofs.Serving.{Writes-files, Writes-unopened}
-use Rattle.sok_tool.proofs.command.check.Goals as goal
+use Rattle.sok_files.specs.Files.{OfFiles}
+use Rattle.sok_files.proofs.Filing.{Writes-files, Writes-unopened}
+use Rattle.sok_files.proofs.command.check.Goals as goal
 
 pub returns-in_err-input : goal.returns-in_err-input
 returns-in_err-input g c =

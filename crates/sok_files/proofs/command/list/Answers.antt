@@ -2,9 +2,9 @@ use Rattle.std.proofs.lemmas.Result.{err_from_is_err_and}
 use Rattle.sok_engine.specs.Inputs.{Within}
 use Rattle.sok_engine.specs.Limits.{input_limit}
 use Rattle.sok_play.specs.Listing.{IsListing}
-use Rattle.sok_tool.specs.Files.{OfFile}
-use Rattle.sok_tool.proofs.Serving.{Writes-file, Writes-unopened}
-use Rattle.sok_tool.proofs.command.list.Goals as goal
+use Rattle.sok_files.specs.Files.{OfFile}
+use Rattle.sok_files.proofs.Filing.{Writes-file, Writes-unopened}
+use Rattle.sok_files.proofs.command.list.Goals as goal
 
 pub returns-in_err-input : goal.returns-in_err-input
 returns-in_err-input g c =

@@ -4,9 +4,9 @@ use Rattle.sok_engine.specs.Inputs.{OfReader, Within}
 use Rattle.sok_engine.specs.Limits.{input_limit}
 use Rattle.sok_engine.specs.Written.{Writes}
 use Rattle.sok_play.specs.Plays.{IsReplay}
-use Rattle.sok_tool.specs.Files.{OfFile}
-use Rattle.sok_tool.proofs.Serving.{Writes-file, Writes-unopened}
-use Rattle.sok_tool.proofs.command.replay.Goals as goal
+use Rattle.sok_files.specs.Files.{OfFile}
+use Rattle.sok_files.proofs.Filing.{Writes-file, Writes-unopened}
+use Rattle.sok_files.proofs.command.replay.Goals as goal
 
 pub returns-in_err-input : goal.returns-in_err-input
 returns-in_err-input g c =

@@ -1,0 +1,83 @@
+//! The commands on a book in a file, which is opened anew by each.
+
+use crate::rows::{OPEN_FAILED, Row, first_other, prepare};
+use std::fs;
+use std::test::Fail;
+
+/// What is told of a database that can't be opened.
+const NO_DATABASE: &str = "fault 32 Database\n";
+
+const COMMANDS: [Row; 19] = [
+    // the file is made
+    ("sok export books/book", "", "", 0),
+    ("sok show books/book 1", "", "fault 30 NoLevel\n", 3),
+    (
+        "sok add books/book books/levels",
+        "1 id 1\n2 fault 4 ManyPlayers\n3 fault 8 TooFewGoals\n4 id 2\n",
+        "",
+        0,
+    ),
+    ("sok add books/book books/none", "", OPEN_FAILED, 5),
+    (
+        "sok prove books/book 1 books/cert",
+        "",
+        "fault 31 NoBest\n",
+        3,
+    ),
+    ("sok offer books/book 1 r", "stored 1 1\n", "", 0),
+    ("sok offer books/book 1 R", "kept 1 1\n", "", 1),
+    ("sok offer books/book 2 ulld", "", "fault 13 NotSolved\n", 1),
+    (
+        "sok offer books/book 2 rlulldRurrdLulldRR",
+        "stored 4 18\n",
+        "",
+        0,
+    ),
+    (
+        "sok prove books/book 2 books/cert",
+        "",
+        "fault 33 ClaimDiffers\n",
+        3,
+    ),
+    (
+        "sok prove books/book 1 books/levels",
+        "refused 20 Header\n",
+        "",
+        1,
+    ),
+    (
+        "sok prove books/book 1 books/cert",
+        "proved optimal 1\n",
+        "",
+        0,
+    ),
+    (
+        "sok show books/book 1",
+        "#####\n#@$.#\n#####\ntitle First\nbest 1 1 R\nverdict optimal\n",
+        "",
+        0,
+    ),
+    (
+        "sok export books/book",
+        "; First\n#####\n#@$.#\n#####\n\n; The room\n######\n#    #\n# $@.#\n######\n\n",
+        "",
+        0,
+    ),
+    // the text is read before the level is looked for, and the file is opened before both
+    ("sok offer books/book 9 x", "", "fault 11 BadLetter 0\n", 3),
+    ("sok prove books/book 9 books/none", "", OPEN_FAILED, 5),
+    // no database, and none can be made
+    ("sok export books/cert", "", NO_DATABASE, 5),
+    ("sok show books/none/book 1", "", NO_DATABASE, 5),
+    // the database is opened before the file
+    ("sok add books/none/book books/none", "", NO_DATABASE, 5),
+];
+
+#[test]
+fn a_book_in_a_file(rt: HostRuntime) -> Result<(), Fail> {
+    prepare(&rt, "books")?;
+    let other = first_other(&rt, &COMMANDS)?;
+    assert_eq!(rt; other, None);
+    fs::remove_dir_all(&rt, "books")?;
+    Ok(())
+}

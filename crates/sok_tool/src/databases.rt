@@ -1,0 +1,54 @@
+//! Databases by their paths.
+
+ghost use Rattle.std.specs.Prelude.{◌≡◌, ◌⊎◌, ℕ, List, IfErr, IfOk, ⊤};
+ghost use Rattle.sok_engine.specs.declared.fault.ToolFault.TheVariants as tool;
+
+use sok_engine::fault::ToolFault;
+use sok_keep::fault::tool_fault;
+use sok_row::fault::fault_of;
+use sqlite::{Connection, File, FileStore};
+
+/// Databases by their paths, as those in files of the machine.
+pub trait Databases {
+    type Opened: Drop;
+
+    // The database at this path may be opened as this connection.
+    ghost keeps: { Self → List ℕ → Self.Opened → Type 0 };
+
+    // This connection to the database at this path was given back.
+    ghost leaves: { Self → List ℕ → Self.Opened → Type 0 };
+
+    /// Opens the database at a path, or makes an empty one. Where it can't be opened, for another
+    /// cause than memory, that is `Database`.
+    fn database(&self, path: &str) -> Result<Self::Opened, ToolFault>
+        ensures kept { IfOk result (keeps self.now path.now) }
+        ensures refused { IfErr result
+            (λ fault. (fault ≡ tool.Memory) ⊎ (fault ≡ tool.Database)) };
+
+    /// Takes a connection back, when the work on the database at a path is done.
+    fn close(&self, path: &str, connection: Self::Opened)
+        ensures { leaves self.now path.now connection };
+}
+
+/// No contract knows what the machine's files hold.
+impl Databases for HostRuntime {
+    type Opened = Connection<FileStore<File>>;
+
+    ghost keeps = { λ _ _ _. ⊤ };
+
+    ghost leaves = { λ _ _ _. ⊤ };
+
+    fn database(&self, path: &str) -> Result<Connection<FileStore<File>>, ToolFault> {
+        match Connection::open(self, path) {
+            Ok(connection) => Ok(connection),
+            Err(error) => Err(tool_fault(fault_of(error))),
+        }
+    }
+
+    fn close(&self, _path: &str, connection: Connection<FileStore<File>>)
+        ensures { ⊤ }
+    {
+        // The log is copied into the database file. Where that fails, the next open reads the log.
+        let _ = connection.close();
+    }
+}
