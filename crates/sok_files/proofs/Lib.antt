@@ -1,1 +1,2 @@
 pub mod Filing
+pub mod Telling

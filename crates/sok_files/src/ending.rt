@@ -1,14 +1,15 @@
 //! How a run ends, and what it tells on the error stream.
 
-ghost use Rattle.std.specs.Prelude.{◌≡◌, ◌≢◌, Ok, string_bytes};
+ghost use Rattle.std.specs.Prelude.{◌≡◌, ◌≢◌, Err, Ok, string_bytes};
 ghost use Rattle.std.specs.Io.KnownBytes.{Keeps};
-ghost use Rattle.sok_files.specs.Endings.{Ends, Runs};
+ghost use Rattle.sok_engine.specs.declared.fault.ToolFault.TheVariants as tool;
+ghost use Rattle.sok_files.specs.Endings.{Ends, Runs, Tells, fault_line};
 
 use sok_engine::answer::Answer;
 use sok_engine::fault::ToolFault;
 use sok_engine::output::write_whole;
 use sok_words::job::JobRefused;
-use std::fmt::InlineText;
+use std::fmt::{InlineText, Write as _};
 use std::io::Write;
 
 /// The exit status for an outcome. A fault is told as one line, as far as the error stream takes
@@ -19,10 +20,20 @@ pub fn ended<E: Write>(outcome: Result<u8, ToolFault>, err: &mut E) -> u8
     match outcome {
         Ok(status) => status,
         Err(fault) => {
-            let line = InlineText::<64>::of(fault).and_str("\n", 1);
-            let _ = write_whole(err, line.as_str().as_bytes());
+            tell(fault, err);
             fault.status()
         }
+    }
+}
+
+/// Tells a fault in its line, by one write where the stream takes it whole.
+fn tell<E: Write>(fault: ToolFault, err: &mut E)
+    ensures { Tells (E.contents err.old) (E.contents err.new) (fault_line fault) }
+{
+    // the longest line has 41 bytes
+    let mut line = InlineText::<64>::new();
+    if line.writeln(fault).is_ok() {
+        let _ = write_whole(err, line.as_str().as_bytes());
     }
 }
 
@@ -32,7 +43,10 @@ pub fn refused<W: Write, E: Write>(refusal: JobRefused, out: &mut W, err: &mut E
     ensures help { refusal.status ≡ 0
         → Runs (λ answer. answer ≡ Ok (record { text = string_bytes refusal.text; status = 0 }))
         (W.contents out.old) (W.contents out.new) (E.contents err.old) (E.contents err.new) result }
-    ensures status { refusal.status ≢ 0 → result ≡ refusal.status }
+    ensures memory { refusal.status ≡ 6
+        → Ends (Err tool.Memory) (E.contents err.old) (E.contents err.new) result }
+    ensures wrong { refusal.status ≢ 0 → refusal.status ≢ 6 → (result ≡ refusal.status)
+        × Tells (E.contents err.old) (E.contents err.new) (string_bytes refusal.text) }
     ensures silent { refusal.status ≢ 0 → Keeps (W.contents out.old) (W.contents out.new) }
 {
     let JobRefused { text, status } = refusal;

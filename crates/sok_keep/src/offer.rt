@@ -45,8 +45,8 @@ pub fn offer_bytes<S: Alter, W: Write>(
     text: &[u8],
     out: &mut W,
 ) -> Result<u8, ToolFault>
-    ensures writes { Turns (state S.Store book.old) (state S.Store book.new) (λ pages after. WritesOffer
-        pages id text.now after (W.contents out.old) (W.contents out.new) result) }
+    ensures writes { Turns (state S.Store book.old) (state S.Store book.new) (λ pages after.
+        WritesOffer pages id text.now after (W.contents out.old) (W.contents out.new) result) }
     ensures clean { NoCleaner (state S.Store book.old) (state S.Store book.new) }
 {
     let letters = read_lurd(alloc, text)?;

@@ -103,7 +103,8 @@ not_refused : (rows : Rows) (lurd : List ℕ) (letters : List Dir) (fault : Book
     → IsLurdOf rows lurd best → ⊥
 not_refused rows lurd letters fault spelled refused best is =
     let same = letters_are rows lurd letters spelled best is in
-    solutions-are-not-refused rows letters fault (subst (Solves rows) same is.kept.solution.solves) (subst (λ w. length w ≤ letter_limit) same is.kept.few) refused
+    solutions-are-not-refused rows letters fault (subst (Solves rows) same is.kept.solution.solves) (subst (λ w. length w ≤ letter_limit) same is.kept.few)
+    refused
 
 not_marked : (rows : Rows) (lurd marked : List ℕ) (letters : List Dir) → Spells lurd letters → marked ≡ marked_text rows (start rows) letters → marked ≢ lurd
     → (best : Solution) → IsLurdOf rows lurd best → ⊥

@@ -7,18 +7,19 @@ use Rattle.sok_keep.specs.Shows.{IsExport, IsShow}
 use Rattle.sok_keep.proofs.Ids.{fits, of_passed, passed}
 use Rattle.sok_words.specs.declared.job.Job.TheVariants as job
 use Rattle.sok_words.specs.Forms.{Form, IsId, IsPlain, Means, add, check, export, limit_of, list, offer, prove, replay, show, solve}
+use Rattle.sok_files.specs.Endings.{Ends}
 use Rattle.sok_files.specs.Files.{Files}
 use Rattle.sok_tool.specs.Commands.{RunsAdd, RunsCheck, RunsOffer, RunsProve, RunsReplay, RunsShowing, RunsSolve, Serves}
 use Rattle.sok_tool.specs.Databases.{Databases, unready}
 
 -- where memory was refused, nothing is written
-pub Serves-memory : (files : Files) (databases : Databases) (form : Form) (out err : Bytes) (exit : ℕ) → exit ≡ 6 → Stays out
-    → Serves files databases form out err exit
-Serves-memory files databases (list file) out err exit six kept = (Err tool.Memory, kept, six)
-Serves-memory files databases (replay file number text) out err exit six kept = (Err tool.Memory, kept, six)
-Serves-memory files databases (check file number cert) out err exit six kept = (Err tool.Memory, kept, six)
-Serves-memory files databases (solve file number limit cert) out err exit six kept = (Err tool.Memory, inl (inl refl, kept), six)
-Serves-memory files databases _ out err exit six kept = (Err tool.Memory, unready (inl refl) kept, six)
+pub Serves-memory : (files : Files) (databases : Databases) (form : Form) (out err : Bytes) (exit : ℕ) → Ends (Err tool.Memory) err.old err.new exit
+    → Stays out → Serves files databases form out err exit
+Serves-memory files databases (list file) out err exit ends kept = (Err tool.Memory, kept, ends)
+Serves-memory files databases (replay file number text) out err exit ends kept = (Err tool.Memory, kept, ends)
+Serves-memory files databases (check file number cert) out err exit ends kept = (Err tool.Memory, kept, ends)
+Serves-memory files databases (solve file number limit cert) out err exit ends kept = (Err tool.Memory, inl (inl refl, kept), ends)
+Serves-memory files databases _ out err exit ends kept = (Err tool.Memory, unready (inl refl) kept, ends)
 
 -- a job of replaying serves its form
 pub Serves-replay : (files : Files) (databases : Databases) (form : Form) (file : String Global) (n : ℕ) (text : String Global) (name letters : List ℕ)

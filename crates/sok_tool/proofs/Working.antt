@@ -14,8 +14,8 @@ unopened fault (inl memory) = inl (ap Err memory)
 unopened fault (inr database) = inr (inl (ap Err database))
 
 -- what was found is no book
-pub no_book : {C : Type 0} (shows : C → State) (keeps leaves : C → Type 0) (Makes : Book → Book → Type 0) (found : C) (held : Option (List ℕ)) (told : ToolFault)
-    → keeps found → (told ≡ tool.Database) ⊎ ((left : C) × leaves left × IsNoBook (shows found) (shows left) told)
+pub no_book : {C : Type 0} (shows : C → State) (keeps leaves : C → Type 0) (Makes : Book → Book → Type 0) (found : C) (held : Option (List ℕ))
+    (told : ToolFault) → keeps found → (told ≡ tool.Database) ⊎ ((left : C) × leaves left × IsNoBook (shows found) (shows left) told)
     → WorksOn shows keeps leaves Makes (record { old = held; new = held }) (Err told)
 no_book shows keeps leaves Makes found held told kept (inl refused) = unready (inr (inl (ap Err refused))) (Keeps-refl held)
 no_book shows keeps leaves Makes found held told kept (inr (left, given, none)) = bookless found left told kept given none refl (Keeps-refl held)

@@ -8,7 +8,9 @@ ghost use Rattle.sok_words.specs.Shapes.{check_app, add_app, offer_app, prove_ap
 ghost use Rattle.sok_words.specs.Shapes.{export_app};
 
 use crate::arg::{cert_arg, id_arg, limit_arg, number_arg, required_arg};
-use crate::help::{adds, checks, ends, exports, lists, offers, proves, replays, shows, solves};
+use crate::help::{
+    adds, checks, ends, exports, lists, offers, plays, proves, replays, shows, solves,
+};
 use clap::Command;
 use std::alloc::{AllocError, Global};
 
@@ -183,6 +185,7 @@ fn top_command<'a>(alloc: Global) -> Command<'a>
         "Plays, solves and proves levels of Sokoban: what it answers is proved",
         ends(),
     )
+    .long_about(plays())
     .subcommand_required(true)
 }
 

@@ -1,11 +1,17 @@
 //! The long texts of help. Each is a function's, so that no proof that only passes it on reads it.
 
-/// What stands at the end of the program's help.
+/// What the program is, and what it does without a command.
+pub(crate) fn plays<'a>() -> &'a str {
+    "\
+Plays, solves and proves levels of Sokoban: what it answers is proved.
+
+Without a command it reads a line of letters from standard input, and behind it a collection, and
+plays the letters on the first level."
+}
+
+/// How the program ends.
 pub(crate) fn ends<'a>() -> &'a str {
     "\
-Without a command it reads a line of letters from standard input, and behind it a collection, and
-plays the letters on the first level.
-
 Exit status:
   0  done
   1  no: not solved, certificate refused, offer not better

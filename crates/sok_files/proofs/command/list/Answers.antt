@@ -13,4 +13,5 @@ returns-in_err-input g c =
 
 pub returns : goal.returns
 returns g c =
-    Writes-file (g.F.Folder.reads c.args.rt.now c.args.path.now) (Within input_limit IsListing) _ _ _ c.list_bytes.result c.in_ok-input.ensures c.list_bytes.ensures
+    Writes-file (g.F.Folder.reads c.args.rt.now c.args.path.now) (Within input_limit IsListing) _ _ _ c.list_bytes.result c.in_ok-input.ensures
+    c.list_bytes.ensures

@@ -32,6 +32,7 @@ returns g c =
     let left = state g.S.Store call.new.book in
     let same = c.into_connection.ensures in
     let opens : HasCleanDisk left → HasCleanDisk opened = λ clean. omega (arith, clean, call.ensures.clean) in
-    let turns = Turns-weaker opened left _ _ (λ book after made. (g.F.Input.Read.remaining c.in_ok-input.input, c.in_ok-input.ensures, made)) call.ensures.writes in
+    let turns = Turns-weaker opened left _ _ (λ book after made. (g.F.Input.Read.remaining c.in_ok-input.input, c.in_ok-input.ensures, made))
+    call.ensures.writes in
     worked found.connection c.in_ok-book.book call.new.book found.ensures.kept (subst (g.F.Databases.leaves c.args.rt.now c.args.db.now) same c.close.ensures)
     (λ clean. c.in_ok-book.ensures.opens (opens clean)) turns

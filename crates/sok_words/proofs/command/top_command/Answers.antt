@@ -4,4 +4,5 @@ use Rattle.sok_words.proofs.command.top_command.Goals as goal
 
 pub returns-clause-app : goal.returns-clause-app
 returns-clause-app c =
-    ap app_of_fields c.subcommand_required.ensures ∙ ap (on_top (λ (s : Shape). record s { subcommand_required = true })) c.described.ensures.app
+    ap app_of_fields c.subcommand_required.ensures
+    ∙ ap (on_top (λ (s : Shape). record s { subcommand_required = true })) (ap app_of_fields c.long_about.ensures ∙ c.described.ensures.app)
