@@ -1,10 +1,10 @@
 //! Which levels a solver accepts, and their square numbers.
 
-use crate::setting::board;
 use sok_board::area::Sq;
 use sok_board::board::Board;
 use sok_board::fault::BoardFault;
 use sok_rules::cell::{Cell, Dir, Spot};
+use sok_sketch::sets::board;
 use sok_sketch::{rooms, sketch};
 use std::alloc::Global;
 use std::test::Fail;

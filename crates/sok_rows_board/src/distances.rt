@@ -2,10 +2,10 @@
 
 ghost use Rattle.std.specs.Prelude.{◌≡◌};
 
-use crate::setting::board;
 use sok_board::area::Sq;
 use sok_board::board::Board;
 use sok_push::tables::Tables;
+use sok_sketch::sets::board;
 use sok_sketch::{rooms, sketch};
 use std::alloc::Global;
 use std::test::Fail;

@@ -3,8 +3,8 @@
 use crate::setting::are_below;
 use sok_bar::layout_jam::has_jam;
 use sok_board::area::Sq;
-use sok_board::board::Board;
 use sok_push::tables::Tables;
+use sok_sketch::sets::board;
 use sok_sketch::sketch;
 use sok_state::layout::Layout;
 use std::alloc::Global;
@@ -19,7 +19,7 @@ fn jam(
     boxes: &[Sq],
     square: Sq,
 ) -> Result<bool, Fail> {
-    let board = Board::new(alloc, &sketch::level(alloc, level)?)?;
+    let board = board(alloc, level)?;
     let tables = Tables::new(alloc, &board)?;
     let squares = board.squares();
     assert!(rt; are_below(boxes, squares) && (square as usize) < squares);
@@ -47,7 +47,7 @@ fn jams_over_layouts(rt: HostRuntime) -> Result<(), Fail> {
 #[test]
 fn layout_of_a_push_and_back(rt: HostRuntime) -> Result<(), Fail> {
     let alloc = rt.alloc();
-    let board = Board::new(alloc, &sketch::level(alloc, sketch::BOX_IN_THE_OPEN)?)?;
+    let board = board(alloc, sketch::BOX_IN_THE_OPEN)?;
     let squares = board.squares();
     assert_eq!(rt; squares, 9);
     let mut layout = Layout::new(alloc, &board);

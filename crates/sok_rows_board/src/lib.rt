@@ -12,7 +12,7 @@
 //! | `regions` | where the player comes without a push, and by which letters |
 //! | `rounds` | rounds of squares, in rows of words |
 //! | `sets` | sets of boxes |
-//! | `setting` | the board of a worked level, and sets of boxes on it |
+//! | `setting` | squares that are there |
 //! | `states` | the states of a level, their pushes, and tables of them |
 #![tactic(auto)]
 

@@ -2,8 +2,9 @@
 
 ghost use Rattle.std.specs.Prelude.{◌≤◌};
 
-use crate::setting::{are_below, box_set};
-use sok_board::area::Sq;
+use crate::setting::are_below;
+use sok_board::area::{BOX_LIMIT, Sq};
+use sok_sketch::sets::box_set;
 use sok_state::key::Key;
 use sok_state::packed::PackedKey;
 use sok_state::packed_table::PackedTable;
@@ -33,9 +34,9 @@ fn pack<const N: usize>(
 ) -> Result<PackedKey<N>, Fail>
     requires { N ≤ 16 }
 {
-    assert!(rt; squares.len() <= 128);
+    assert!(rt; squares.len() <= BOX_LIMIT);
     assert!(rt; are_below(squares, 64 * N));
-    let boxes = box_set(rt, alloc, squares)?;
+    let boxes = box_set(alloc, squares)?;
     let key = Key {
         boxes,
         least: other,

@@ -8,6 +8,7 @@ use sok_board::board::Board;
 use sok_region::box_set::BoxSet;
 use sok_region::region::Region;
 use sok_rules::cell::Dir;
+use sok_sketch::sets::board;
 use sok_sketch::sketch;
 use sok_state::key::Key;
 use sok_state::legal::{follow, list_pushes};
@@ -83,7 +84,7 @@ fn leads_to(alloc: Global, board: &Board, key: &Key, boxes: &[Sq], least: Sq) ->
 #[test]
 fn pushes_over_kept_lists(rt: HostRuntime) -> Result<(), Fail> {
     let alloc = rt.alloc();
-    let board = Board::new(alloc, &sketch::level(alloc, sketch::BOX_IN_THE_OPEN)?)?;
+    let board = board(alloc, sketch::BOX_IN_THE_OPEN)?;
     let key = start_key(&rt, alloc, &board)?;
     let mut pushes = Vec::new(alloc);
     for _ in 0..2 {

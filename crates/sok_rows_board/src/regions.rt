@@ -3,11 +3,11 @@
 ghost use Rattle.std.specs.Prelude.{IfOk};
 ghost use Rattle.sok_region.specs.Regions.{IsRegionOf};
 
-use crate::setting::{board, box_set};
 use sok_board::area::Sq;
 use sok_board::board::Board;
 use sok_region::region::Region;
 use sok_rules::cell::Dir;
+use sok_sketch::sets::{board, box_set};
 use sok_sketch::sketch;
 use std::alloc::Global;
 use std::process::Abort;
@@ -18,7 +18,7 @@ pub fn region(rt: &impl Abort, alloc: Global, board: &Board, player: Sq) -> Resu
     ensures { IfOk result (IsRegionOf board.now) }
 {
     let (_, boxes) = board.start();
-    let boxes = box_set(rt, alloc, boxes)?;
+    let boxes = box_set(alloc, boxes)?;
     assert!(rt; (player as usize) < board.squares());
     assert!(rt; !boxes.has(player));
     Ok(Region::of(alloc, board, &boxes, player)?)
@@ -111,7 +111,7 @@ fn find_again(
     player: Sq,
 ) -> Result<(), Fail> {
     let (_, boxes) = board.start();
-    let boxes = box_set(rt, alloc, boxes)?;
+    let boxes = box_set(alloc, boxes)?;
     assert!(rt; (player as usize) < board.squares());
     assert!(rt; !boxes.has(player));
     region.again(board, &boxes, player);

@@ -1,10 +1,10 @@
 //! Rounds of squares, in rows of words.
 
-use crate::setting::board;
 use sok_field::drawing::free_squares;
 use sok_field::field::Field;
 use sok_field::spread::spread;
 use sok_rules::cell::Spot;
+use sok_sketch::sets::board;
 use sok_sketch::sketch;
 use std::alloc::Global;
 use std::test::Fail;

@@ -1,15 +1,15 @@
 //! Sets of boxes: a box of them is moved.
 
-use crate::setting::{board, box_set};
 use sok_board::area::Sq;
+use sok_sketch::sets::{board, box_set};
 use sok_sketch::{rooms, sketch};
 use std::alloc::Global;
 use std::process::Abort;
 use std::test::Fail;
 
 /// Whether a copy of a set has the same squares.
-fn copies(rt: &impl Abort, alloc: Global, boxes: &[Sq]) -> Result<bool, Fail> {
-    let copy = box_set(rt, alloc, boxes)?.copy(alloc)?;
+fn copies(alloc: Global, boxes: &[Sq]) -> Result<bool, Fail> {
+    let copy = box_set(alloc, boxes)?.copy(alloc)?;
     Ok(copy.list() == boxes)
 }
 
@@ -22,7 +22,7 @@ fn moves(
     to: Sq,
     front: &[Sq],
 ) -> Result<bool, Fail> {
-    let set = box_set(rt, alloc, boxes)?;
+    let set = box_set(alloc, boxes)?;
     assert!(rt; set.has(from) && !set.has(to));
     let after = set.moved(alloc, from, to)?;
     Ok(after.list().len() == boxes.len() && after.list().starts_with(front))
@@ -40,11 +40,7 @@ fn has_boxes(
 ) -> Result<bool, Fail> {
     let board = board(alloc, text)?;
     let (_, boxes) = board.start();
-    Ok(
-        boxes.len() == count
-            && copies(rt, alloc, boxes)?
-            && moves(rt, alloc, boxes, from, to, front)?,
-    )
+    Ok(boxes.len() == count && copies(alloc, boxes)? && moves(rt, alloc, boxes, from, to, front)?)
 }
 
 #[test]

@@ -3,10 +3,10 @@
 ghost use Rattle.std.specs.Prelude.{IfOk};
 ghost use Rattle.sok_state.specs.Keys.{IsKey};
 
-use crate::setting::{board, box_set};
 use sok_board::area::Sq;
 use sok_board::board::Board;
 use sok_rules::cell::Dir;
+use sok_sketch::sets::{board, box_set};
 use sok_sketch::sketch;
 use sok_state::key::Key;
 use sok_state::legal::{after, pushes};
@@ -22,7 +22,7 @@ fn key(rt: &impl Abort, alloc: Global, board: &Board, boxes: &[Sq], player: Sq) 
     let squares = board.squares();
     assert!(rt; boxes.iter().all(|square| (*square as usize) < squares));
     assert!(rt; (player as usize) < squares);
-    let boxes = box_set(rt, alloc, boxes)?;
+    let boxes = box_set(alloc, boxes)?;
     assert!(rt; !boxes.has(player));
     Ok(Key::of(alloc, board, &boxes, player)?)
 }

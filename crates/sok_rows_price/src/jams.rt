@@ -4,8 +4,8 @@ use crate::setting::{IN_THE_ROOM, ON_THE_GOAL, Position, TWO_IN_A_ROW, boxes_on,
 use sok_bar::frozen::{Frozen, find_frozen};
 use sok_bar::rest::Rest;
 use sok_board::area::Sq;
-use sok_board::board::Board;
 use sok_push::tables::Tables;
+use sok_sketch::sets::board;
 use sok_sketch::sketch;
 use std::alloc::Global;
 use std::process::Abort;
@@ -46,7 +46,7 @@ fn found(
     squares: &[Sq],
     square: Sq,
 ) -> Result<Option<Vec<u32>>, Fail> {
-    let board = Board::new(alloc, &sketch::level(alloc, level)?)?;
+    let board = board(alloc, level)?;
     let tables = Tables::new(alloc, &board)?;
     let boxes = boxes_on(rt, alloc, &board, squares)?;
     assert!(rt; boxes.has(square));

@@ -10,6 +10,7 @@ use sok_price::assign::{Match, assign};
 use sok_price::matching::Matching;
 use sok_push::tables::Tables;
 use sok_region::box_set::BoxSet;
+use sok_sketch::sets::board;
 use sok_sketch::{rooms, sketch};
 use std::alloc::Global;
 use std::process::Abort;
@@ -142,7 +143,7 @@ fn walk_on(
 
 /// Moves boxes of a level at random, so often.
 fn walk(rt: &impl Abort, alloc: Global, text: &str, moves: usize) -> Result<(), Fail> {
-    let board = Board::new(alloc, &sketch::level(alloc, text)?)?;
+    let board = board(alloc, text)?;
     let tables = Tables::new(alloc, &board)?;
     let mut matching = Matching::new(alloc, &board, &tables)?;
     let (_, start) = board.start();
@@ -212,7 +213,7 @@ fn set_in_turn(
 #[test]
 fn totals_of_one_set_after_another(rt: HostRuntime) -> Result<(), Fail> {
     let text = sketch::TWO_BOXES_AND_THREE_GOALS;
-    let board = Board::new(rt.alloc(), &sketch::level(rt.alloc(), text)?)?;
+    let board = board(rt.alloc(), text)?;
     let tables = Tables::new(rt.alloc(), &board)?;
     let mut matching = Matching::new(rt.alloc(), &board, &tables)?;
     set_in_turn(&rt, rt.alloc(), &board, &tables, &mut matching)

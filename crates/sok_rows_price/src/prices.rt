@@ -1,16 +1,16 @@
 //! Which goal each box could go to at the least cost, and crowds.
 
-use sok_board::board::Board;
 use sok_price::assign::{Match, assign};
 use sok_push::tables::Tables;
 use sok_region::box_set::BoxSet;
+use sok_sketch::sets::board;
 use sok_sketch::{rooms, sketch};
 use std::alloc::Global;
 use std::test::Fail;
 
 /// What is found of the boxes of a level where they start.
 fn assigned(alloc: Global, text: &str) -> Result<Match, Fail> {
-    let board = Board::new(alloc, &sketch::level(alloc, text)?)?;
+    let board = board(alloc, text)?;
     let tables = Tables::new(alloc, &board)?;
     let (_, boxes) = board.start();
     let boxes = BoxSet::of(alloc, boxes)?;

@@ -1,6 +1,6 @@
 //! The positions, and whether a reason holds of one.
 
-ghost use Rattle.std.specs.Prelude.{◌≡◌, ◌<◌, All, IfOk, length};
+ghost use Rattle.std.specs.Prelude.{◌<◌, All, IfOk, length};
 
 use sok_bar::bar::Bar;
 use sok_bar::rest::Rest;
@@ -8,6 +8,7 @@ use sok_board::area::Sq;
 use sok_board::board::Board;
 use sok_push::tables::Tables;
 use sok_region::box_set::BoxSet;
+use sok_sketch::sets::{board, box_set};
 use sok_sketch::sketch;
 use std::alloc::Global;
 use std::process::Abort;
@@ -34,17 +35,6 @@ pub(crate) const TWO_AND_THREE_GOALS: Position<'_> = (
     0,
 );
 
-/// The set of some boxes, which rise.
-pub(crate) fn box_set(rt: &impl Abort, alloc: Global, squares: &[Sq]) -> Result<BoxSet, Fail>
-    ensures { IfOk result (λ set. set ≡ squares.now) }
-{
-    assert!(rt; squares.len() <= 128);
-    for i in 1..squares.len() {
-        assert!(rt; squares[i - 1] < squares[i]);
-    }
-    Ok(BoxSet::of(alloc, squares)?)
-}
-
 /// The set of boxes on some squares of a board, which rise.
 pub(crate) fn boxes_on(
     rt: &impl Abort,
@@ -58,7 +48,7 @@ pub(crate) fn boxes_on(
     for square in squares {
         assert!(rt; (*square as usize) < count);
     }
-    box_set(rt, alloc, squares)
+    box_set(alloc, squares)
 }
 
 /// Whether a reason holds, through the trait alone.
@@ -70,7 +60,7 @@ pub(crate) fn holds<B: Bar>(
     rest: Rest,
 ) -> Result<bool, Fail> {
     let (level, boxes, player) = position;
-    let board = Board::new(alloc, &sketch::level(alloc, level)?)?;
+    let board = board(alloc, level)?;
     let tables = Tables::new(alloc, &board)?;
     assert!(rt; (player as usize) < board.squares());
     let boxes = boxes_on(rt, alloc, &board, boxes)?;

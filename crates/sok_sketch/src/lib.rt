@@ -3,8 +3,10 @@
 //! | Module | What it holds |
 //! |---|---|
 //! | `rooms` | large rooms, of which one row repeats |
+//! | `sets` | the board of a drawn level, and sets of boxes |
 //! | `sketch` | boards, and the level of a board |
 #![tactic(auto)]
 
 pub mod rooms;
+pub mod sets;
 pub mod sketch;
