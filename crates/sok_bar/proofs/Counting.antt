@@ -32,15 +32,6 @@ pub record Counts (b : Numbered) (boxes members : List ℕ) (k count : ℕ) : Ty
   pub many : length goals ≡ count
   pub least : (others : List ℕ) → HasFirst b boxes members k others → count ≤ length others
 
-pub Counts-none : (b : Numbered) (boxes members : List ℕ) → Counts b boxes members 0 0
-Counts-none b boxes members = record {
-  low = omega arith;
-  goals = [];
-  enough = λ goal before reached. absurd (omega (arith, before));
-  many = refl;
-  least = λ others has. omega arith;
-}
-
 -- one more goal that is not reached
 pub Counts-missed : (b : Numbered) (boxes members : List ℕ) (k count : ℕ) → Counts b boxes members k count → (IsReachedBy b boxes members k → ⊥)
     → Counts b boxes members (k + 1) count

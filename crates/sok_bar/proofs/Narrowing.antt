@@ -20,46 +20,32 @@ use Rattle.sok_bar.specs.Settings.{IsDrawn}
 use Rattle.sok_bar.proofs.Removal.{IsHeld-more}
 use Rattle.sok_bar.proofs.Rising.{Contains-member, index_of}
 
+-- one more, or none
+length-filter_cons : (p : ℕ → Bool) (x : ℕ) (xs : List ℕ) → length (filter p (x ∷ xs)) ≡ (if p x then 1 else 0) + length (filter p xs)
+length-filter_cons p x xs = elim (p x) as (λ t. length (if t then x ∷ filter p xs else filter p xs) ≡ (if t then 1 else 0) + length (filter p xs))
+    [ true ↦ omega arith | false ↦ omega arith ]
+
+one-le : (q p : Bool) → (q ≡ true → p ≡ true) → ◌≤◌ (if q then 1 else 0) (if p then 1 else 0)
+one-le false p more = omega arith
+one-le true true more = omega arith
+one-le true false more = absurd (true≢false (sym (more refl)))
+
 -- fewer pass a test that asks for more
 no_more : (p q : ℕ → Bool) → ((x : ℕ) → q x ≡ true → p x ≡ true) → (xs : List ℕ) → length (filter q xs) ≤ length (filter p xs)
 no_more p q less [] = omega arith
 no_more p q less (x ∷ xs) =
-    let rest = no_more p q less xs in
-    elim (cases_Bool (q x)) [
-      | inl on ↦
-          let left = ap (λ t. length (if t then x ∷ filter q xs else filter q xs)) on in
-          let right = ap (λ t. length (if t then x ∷ filter p xs else filter p xs)) (less x on) in
-          omega (arith, rest, left, right)
-      | inr off ↦
-          let left = ap (λ t. length (if t then x ∷ filter q xs else filter q xs)) off in
-          elim (cases_Bool (p x)) [
-            | inl on ↦ let right = ap (λ t. length (if t then x ∷ filter p xs else filter p xs)) on in omega (arith, rest, left, right)
-            | inr out ↦ let right = ap (λ t. length (if t then x ∷ filter p xs else filter p xs)) out in omega (arith, rest, left, right)
-          ]
-    ]
+    omega (arith, no_more p q less xs, length-filter_cons p x xs, length-filter_cons q x xs, one-le (q x) (p x) (less x))
 
 fewer : (p q : ℕ → Bool) → ((x : ℕ) → q x ≡ true → p x ≡ true) → (xs : List ℕ) (k : ℕ) → k < length xs → p (get_or xs k 0) ≡ true
     → q (get_or xs k 0) ≡ false → length (filter q xs) < length (filter p xs)
 fewer p q less [] k within on off = absurd (omega (arith, within))
 fewer p q less (x ∷ xs) zero within on off =
-    let rest = no_more p q less xs in
-    let left = ap (λ t. length (if t then x ∷ filter q xs else filter q xs)) off in
-    let right = ap (λ t. length (if t then x ∷ filter p xs else filter p xs)) on in
-    omega (arith, rest, left, right)
+    let one = ap {B = ℕ} (λ t. if t then 1 else 0) on in
+    let none = ap {B = ℕ} (λ t. if t then 1 else 0) off in
+    omega (arith, no_more p q less xs, length-filter_cons p x xs, length-filter_cons q x xs, one, none)
 fewer p q less (x ∷ xs) (suc k) within on off =
     let rest = fewer p q less xs k (omega (arith, within)) on off in
-    elim (cases_Bool (q x)) [
-      | inl there ↦
-          let left = ap (λ t. length (if t then x ∷ filter q xs else filter q xs)) there in
-          let right = ap (λ t. length (if t then x ∷ filter p xs else filter p xs)) (less x there) in
-          omega (arith, rest, left, right)
-      | inr gone ↦
-          let left = ap (λ t. length (if t then x ∷ filter q xs else filter q xs)) gone in
-          elim (cases_Bool (p x)) [
-            | inl here ↦ let right = ap (λ t. length (if t then x ∷ filter p xs else filter p xs)) here in omega (arith, rest, left, right)
-            | inr out ↦ let right = ap (λ t. length (if t then x ∷ filter p xs else filter p xs)) out in omega (arith, rest, left, right)
-          ]
-    ]
+    omega (arith, rest, length-filter_cons p x xs, length-filter_cons q x xs, one-le (q x) (p x) (less x))
 
 -- a box that is not held is in no jam
 KeepsJams-taken : (b : Numbered) → IsArea b.rows b.area → (boxes old new : List ℕ) (s : ℕ) → IsTaken b s old new → KeepsJams b boxes old → KeepsJams b boxes new
@@ -72,14 +58,6 @@ KeepsJams-taken b area boxes old new s taken keeps = record {
         | inl same ↦ absurd (taken.loose (IsHeld-more b (IsMember boxes members) (IsDrawn b old) (keeps.most members jam) s
             (jam.held s (subst (IsMember boxes members) same member))))
       ];
-}
-
-pub TellsPass-none : (b : Numbered) (boxes rows : List ℕ) → TellsPass b boxes 0 rows rows false
-TellsPass-none b boxes rows = record {
-  jams = λ others keeps. keeps;
-  fewer = omega arith;
-  some = λ e. absurd (true≢false (sym e));
-  none = λ _. (refl, λ k below. absurd (omega (arith, below)));
 }
 
 -- one box more is taken away

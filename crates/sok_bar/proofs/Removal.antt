@@ -126,13 +126,6 @@ AreAllMembers-range boxes = record {
       (i, omega (arith, exists, all), get_or-range_with_len 0 (length boxes) i i exists ∙ counted);
 }
 
--- all boxes
-pub HasJams-all : (b : Numbered) (boxes all : List ℕ) → AreAllMembers boxes all → HasJams b boxes all
-HasJams-all b boxes all are_all = record {
-  listed = are_all.listed;
-  most = λ jam is_jam i (k, within, is). are_all.each i (subst (λ n. n < length boxes) is (is_jam.listed.within k i within));
-}
-
 -- a box of a jam is held by all boxes
 pub IsHeld-all : (b : Numbered) (boxes jam : List ℕ) → IsJam b boxes jam → (s : ℕ) → IsMember boxes jam s → IsHeld b (Contains boxes) s
 IsHeld-all b boxes jam is_jam s one = IsHeld-more b (IsMember boxes jam) (Contains boxes) (Contains-member boxes jam) s (is_jam.held s one)

@@ -1,8 +1,10 @@
 -- The reasons for barring a position: what each of them says, and what it shows.
-use Rattle.std.specs.Prelude.{ℕ, ◌≡◌, List}
+use Rattle.std.specs.Prelude.{ℕ, ◌≡◌, List, Option, Some, None}
 use Rattle.sok_board.specs.Area.{Numbered}
 use Rattle.sok_region.specs.Regions.{IsPlaced}
 use Rattle.sok_price.specs.Prices.{Priced, IsCrowd}
+use Rattle.sok_entry.specs.declared.entry.Reason.{Reason}
+use Rattle.sok_entry.specs.declared.entry.Reason.TheVariants.{Expanded, Spent, Bound, Crowd, Frozen}
 use Rattle.sok_bar.specs.declared.rest.Rest.{Rest}
 use Rattle.sok_bar.specs.declared.rest.Rest.TheVariants.{AtLeast, Never}
 use Rattle.sok_bar.specs.Jam.{IsJam}
@@ -24,6 +26,14 @@ Bars b boxes (Barring.bound u v) (AtLeast n) = Priced b boxes u v n
 Bars b boxes (Barring.bound u v) Never = ⊥
 Bars b boxes (Barring.crowd members) rest = IsCrowd b boxes members
 Bars b boxes (Barring.frozen members) rest = IsJam b boxes members
+
+-- the reason by which an entry is barred; an expanded one gives none
+abbrev pub barring : Reason → Option Barring
+barring Expanded = None
+barring Spent = Some Barring.spent
+barring (Bound u v) = Some (Barring.bound u v)
+barring (Crowd members) = Some (Barring.crowd members)
+barring (Frozen members) = Some (Barring.frozen members)
 
 -- the law of reasons: a position that is barred by what a reason says is barred by what rests to be shown
 abbrev pub ReasonsBar : Numbered → Type 0

@@ -10,6 +10,7 @@
 //! | `layout_jam` | whether the boxes of a layout have a jam |
 //! | `law` | what a reason says of a position bars it |
 //! | `members` | lists of members of a box list; whether numbers rise |
+//! | `reason` | whether the reason of an entry holds |
 //! | `rest` | what is still to be shown of a position |
 //! | `spent` | no more pushes are asked for |
 #![tactic(auto)]
@@ -22,5 +23,6 @@ mod held;
 pub mod law;
 pub mod layout_jam;
 pub mod members;
+pub mod reason;
 pub mod rest;
 pub mod spent;

@@ -9,7 +9,7 @@ use Rattle.sok_rules.specs.declared.cell.Cell.{Cell}
 use Rattle.sok_rules.specs.declared.cell.Dir.{Dir}
 use Rattle.sok_rules.specs.declared.cell.Dir.TheVariants.{Left, Up, Right, Down}
 use Rattle.sok_rules.specs.declared.cell.Spot.{Spot}
-use Rattle.sok_rules.specs.Squares.{Rows, cell_at, holds, is_box, is_goal, is_open, is_wall, next, same_spot}
+use Rattle.sok_rules.specs.Squares.{Rows, cell_at, holds, is_box, is_open, is_wall, next, same_spot}
 use Rattle.sok_rules.specs.Levels.{IsProper}
 use Rattle.sok_board.specs.Area.{Numbered, Before, InArea, IsArea, IsAccepted, number_of, spot_of, is_among, is_decoration, goals_of, boxes_of}
 use Rattle.sok_board.specs.Refusals.{IsRefused, lies_beside, has_gap}
@@ -52,12 +52,6 @@ pub decoration-outside : (b : Numbered) → IsArea b.rows b.area → (s : Spot) 
 decoration-outside b area s e =
     let (box, apart) = both (holds is_box b.rows s) (not (is_among b.area s)) e in
     (box, λ inside. true≢false (sym (is_among-InArea b area s inside) ∙ not-true (is_among b.area s) apart))
-
--- each decoration of an accepted level is on a goal
-pub decoration-on_goal : (b : Numbered) → IsAccepted b → (s : Spot) → IsTrue (is_decoration b s) → IsTrue (holds is_goal b.rows s)
-decoration-on_goal b accepted s e =
-    let (box, out) = decoration-outside b accepted.numbered s e in
-    elim (cases_Bool (holds is_goal b.rows s)) [ inl on ↦ on | inr off ↦ absurd (accepted.no_stray s (box, out, off)) ]
 
 -- a square among those of an area is in the area
 pub InArea-is_among : (b : Numbered) → IsArea b.rows b.area → (s : Spot) → is_among b.area s ≡ true → InArea b.rows s

@@ -1,11 +1,13 @@
 -- Letters keep the man in the area, and the boxes outside it.
-use Rattle.std.proofs.Common.{◌≡◌, inl, inr, refl, sym, ap, ◌∙◌, subst, List, [], ◌∷◌, Bool, true, false, Some, if◌then◌else◌}
+use Rattle.std.proofs.Common.{◌≡◌, inl, inr, refl, sym, ◌∙◌, subst, List, [], ◌∷◌, false, Some}
 use Rattle.std.proofs.lemmas.Bool.{cases_Bool}
 use Rattle.std.proofs.lemmas.Option.{same_Some, option_and_then_some}
 use Rattle.sok_rules.specs.declared.cell.Dir.{Dir}
 use Rattle.sok_rules.specs.declared.cell.Spot.{Spot}
-use Rattle.sok_rules.specs.Squares.{Rows, holds, is_box, same_spot}
-use Rattle.sok_rules.specs.Play.{Position, After, start, step, moved, run}
+use Rattle.sok_rules.specs.Squares.{Rows, same_spot}
+use Rattle.sok_rules.specs.Play.{Position, After, start, step, run}
+use Rattle.sok_rules.proofs.Moved.{moved-other}
+use Rattle.sok_rules.proofs.Runs.{boxes-start}
 use Rattle.sok_rules.proofs.Spots.{same_spot-is}
 use Rattle.sok_rules.proofs.Steps.{step_cases}
 use Rattle.sok_board.specs.Area.{Numbered, InArea, IsArea}
@@ -18,11 +20,6 @@ apart_outside rows s t out inside = elim (cases_Bool (same_spot s t)) [
   | inl same ↦ absurd (out (subst (InArea rows) (sym (same_spot-is s t same)) inside))
   | inr apart ↦ apart
 ]
-
-pub moved-other : (boxes : Spot → Bool) (from to s : Spot) → same_spot s to ≡ false → same_spot s from ≡ false → moved boxes from to s ≡ boxes s
-unfolding moved
-moved-other boxes from to s off_to off_from =
-    ap (λ b. if b then true else if same_spot s from then false else boxes s) off_to ∙ ap (λ b. if b then false else boxes s) off_from
 
 confined-step : (rows : Rows) (d : Dir) (x : Position) (a : After) → InArea rows x.man → step rows d x ≡ Some a → IsConfined rows x a.position
 confined-step rows d x a inside e = elim (step_cases rows d x a e) [
@@ -49,11 +46,7 @@ confined-run rows (d ∷ w) x y inside e = option_and_then_some (λ (after : Aft
 pub confines-play : (rows : Rows) → ConfinesPlay rows
 confines-play rows x y w inside e = confined-run rows w x y inside e
 
-pub start-boxes : (rows : Rows) (s : Spot) → (start rows).boxes s ≡ holds is_box rows s
-unfolding start
-start-boxes rows s = refl
-
 pub keeps-decorations : (b : Numbered) → IsArea b.rows b.area → KeepsDecorations b
 keeps-decorations b area y w e s decoration =
     let (box, out) = decoration-outside b area s decoration in
-    (confined-run b.rows w (start b.rows) y (InArea-man b.rows) e).boxes s out ∙ start-boxes b.rows s ∙ box
+    (confined-run b.rows w (start b.rows) y (InArea-man b.rows) e).boxes s out ∙ boxes-start b.rows s ∙ box

@@ -1,5 +1,5 @@
 -- The squares of an area in a list, and their numbers in a table.
-use Rattle.std.proofs.Common.{ℕ, ◌≡◌, ◌<◌, ◌≤◌, ◌+◌, inl, inr, refl, sym, ap, ◌∙◌, subst, List, [], ◌∷◌, ◌++◌, Bool, true, false, true≢false, Option, Some}
+use Rattle.std.proofs.Common.{ℕ, ◌≡◌, ◌<◌, ◌≤◌, ◌+◌, inl, inr, refl, sym, ap, ◌∙◌, subst, List, [], ◌∷◌, ◌++◌, Bool, true, false, Option, Some}
 use Rattle.std.proofs.Common.{None, All, AllPairs, Contains, arith, length, get_or, set, take, filter, position, cond, nat_lt, not, ◌==◌}
 use Rattle.std.specs.List.{range_with_len, position_or_len}
 use Rattle.std.specs.List.Sorted.{IsStrictlyIncreasing}
@@ -18,7 +18,7 @@ use Rattle.sok_rules.specs.Levels.{IsProper}
 use Rattle.sok_board.specs.Area.{Numbered, InArea, IsArea, Before, spot_of, goals_of, boxes_of}
 use Rattle.sok_board.specs.Floods.{MarksArea}
 use Rattle.sok_board.specs.Tables.{table_places, HasPlace, place_of, entry}
-use Rattle.sok_rules.proofs.Spots.{same_spot-is, same_spot-refl}
+use Rattle.sok_rules.proofs.Spots.{apart_back, same_spot-is, same_spot-refl}
 use Rattle.sok_board.proofs.AreaLaws.{before_apart, spot_of-at, origin}
 use Rattle.sok_rules.proofs.Grid.{cell-from_holds}
 use Rattle.sok_board.proofs.Inside.{InArea-open}
@@ -37,12 +37,6 @@ IsArea-marked rows marks proper exact = record {
       Contains-filter (λ s. entry false marks s) (places rows) s (Contains-places rows s cell at) ((exact s).1 inside);
   in_order = AllPairs-filter Before (λ s. entry false marks s) (places rows) (in_order-places rows);
 }
-
-apart_back : (x s : Spot) → same_spot x s ≡ false → same_spot s x ≡ false
-apart_back x s apart = elim (cases_Bool (same_spot s x)) [
-  | inl same ↦ absurd (true≢false (sym (same_spot-refl x) ∙ ap (same_spot x) (sym (same_spot-is s x same)) ∙ apart))
-  | inr other ↦ other
-]
 
 ends : (at n : ℕ) → at ≤ n → ◌≡◌ {A = Option ℕ} (cond (nat_lt (cond (at == n) (n + 1) at) (n + 1)) (Some (cond (at == n) (n + 1) at)) None)
     (cond (nat_lt at n) (Some at) None)
@@ -148,7 +142,7 @@ where_same test b n numbers within so_far fails = so_far ∙ chosen_same (λ k. 
     (ap (holds test b.rows) (spot_of-get_or b.rows b.area n origin within) ∙ sym fails)
 
 -- each number below the end is in the range
-Contains-range : (n k : ℕ) → k < n → Contains (range_with_len 0 n) k
+pub Contains-range : (n k : ℕ) → k < n → Contains (range_with_len 0 n) k
 Contains-range n k within =
     let counted : 0 + k ≡ k = omega arith in
     (k, omega (arith, within, length-range_with_len 0 n), get_or-range_with_len 0 n k k within ∙ counted)

@@ -13,7 +13,7 @@ use Rattle.sok_board.specs.Area.{Numbered, InArea, IsArea, number_of, spot_of, i
 use Rattle.sok_board.proofs.Accepted.{InArea-is_among, decoration-outside}
 use Rattle.sok_rules.proofs.Spots.{same_spot-is, same_spot-refl}
 use Rattle.sok_board.proofs.AreaLaws.{origin, spot_of-number_of, number-InArea, InArea-spot_of, same_number}
-use Rattle.sok_board.proofs.Confined.{start-boxes}
+use Rattle.sok_rules.proofs.Runs.{boxes-start}
 use Rattle.sok_board.proofs.Numbering.{Contains-boxes_of}
 
 -- a square is among those of some numbers, if one of them is its number
@@ -62,7 +62,7 @@ pub position_of-start : (b : Numbered) → IsArea b.rows b.area → (player : �
     → position_of b player (boxes_of b) ≡ start b.rows
 position_of-start b area player is =
     let (_, there) = spot_of-number_of b (start b.rows).man player (sym is) in
-    λ i. record { man = there i; boxes = λ s. (all_boxes b area s ∙ sym (start-boxes b.rows s)) i }
+    λ i. record { man = there i; boxes = λ s. (all_boxes b area s ∙ sym (boxes-start b.rows s)) i }
 
 either : (p q : Bool) → (p || q) ≡ true → q ≡ false → p ≡ true
 either true q e fails = e

@@ -1,8 +1,7 @@
 -- One entry more in the table.
-use Rattle.std.proofs.Common.{ℕ, ◌≡◌, ◌<◌, ◌+◌, ◌∙◌, ◌≢◌, inl, inr, refl, sym, ap, subst, List, [], ◌∷◌, ◌++◌, Some, None, Option, true, false, true≢false}
-use Rattle.std.proofs.Common.{is_some, MatchOption, All, AllPairs, Contains, arith, length, get_or, slice_get}
+use Rattle.std.proofs.Common.{ℕ, ◌≡◌, ◌<◌, ◌+◌, ◌∙◌, ◌≢◌, inl, inr, sym, ap, subst, List, [], ◌∷◌, ◌++◌, Some, None, Option, true, false, true≢false}
+use Rattle.std.proofs.Common.{is_some, below_more, MatchOption, All, AllPairs, Contains, arith, length, get_or, slice_get}
 use Rattle.std.specs.Map.{keys_of, values_of}
-use Rattle.std.proofs.lemmas.Bool.{cases_eq}
 use Rattle.std.proofs.lemmas.Option.{same_Some, slice_get_within, slice_get-get_or}
 use Rattle.std.proofs.lemmas.List.{get_or_default, length-append, length-map, map-append}
 use Rattle.sok_board.specs.Area.{Numbered, IsAccepted}
@@ -52,14 +51,15 @@ IsNew-absent b claim entries i table e key accepted fine entered is absent j f b
     let equal : entry.key ≡ key = keys_equal b accepted.numbered (entry_position b f) (entry_position b e) entry.key key stands entry.is is same in
     absent (subst (Contains (keys_of table)) equal (Contains-at (keys_of table) entry.key j entry.there))
 
+-- what holds of each element before a place, and of the one there, holds of each before the next place
+pub before_more : {X : Type 0} (P : ℕ → X → Type 0) (xs : List X) (n : ℕ) (x : X) → slice_get xs n ≡ Some x
+    → ((i : ℕ) (y : X) → i < n → slice_get xs i ≡ Some y → P i y) → P n x → (i : ℕ) (y : X) → i < n + 1 → slice_get xs i ≡ Some y → P i y
+before_more {X} P xs n x there before here i y below at = below_more (λ k. (z : X) → slice_get xs k ≡ Some z → P k z) n
+    (λ k k_below z z_at. before k z k_below z_at) (λ z z_at. subst (P n) (same_Some x z (sym there ∙ z_at)) here) i below y at
+
 pub AreFine-more : (b : Numbered) (claim : Claim) (entries : List Entry) (i : ℕ) (e : Entry) → slice_get entries i ≡ Some e → AreFine b claim entries i
     → IsFine b claim entries i e → AreFine b claim entries (i + 1)
-AreFine-more b claim entries i e there fine one j f below f_there = elim (cases_eq j i) [
-  | inl last ↦
-      let is : e ≡ f = same_Some e f (sym there ∙ ap (slice_get entries) (sym last) ∙ f_there) in
-      subst (λ n. IsFine b claim entries n f) (sym last) (subst (IsFine b claim entries i) is one)
-  | inr other ↦ fine j f (omega (arith, below, other)) f_there
-]
+AreFine-more b claim entries i e there fine one = before_more (IsFine b claim entries) entries i e there fine one
 
 entered-more : (b : Numbered) (table more : Entries) (i : ℕ) (e : Entry) → IsEntered b table i e → IsEntered b (table ++ more) i e
 entered-more b table more i e entry = record {
@@ -90,34 +90,22 @@ IsTableOf-more b entries i table after e key index there entered is absent (inr 
     let count = entered.count in
     let key_count = length-map table (λ (one : Key × ℕ). one.0) in
     let depth_count = length-map table (λ (one : Key × ℕ). one.1) in
+    let key_last : i ≡ length (keys_of table) = omega (arith, count, key_count) in
+    let depth_last : i ≡ length (values_of table) = omega (arith, count, depth_count) in
     subst (IsTableOf b entries (i + 1)) (sym last.more) (record {
       count = omega (arith, longer, count);
       distinct = subst (AllPairs (λ k other. k ≢ other)) (sym keys)
           (AllPairs-append (λ k other. k ≢ other) (keys_of table) (key ∷ []) entered.distinct (λ n m d below within. absurd (omega (arith, below, within)))
           (differs table key absent));
-      entered = λ j f below f_there. elim (cases_eq j i) [
-        | inr other ↦ entered-more b table more j f (entered.entered j f (omega (arith, below, other)) f_there)
-        | inl same ↦
-            let f_is : e ≡ f = same_Some e f (sym there ∙ ap (slice_get entries) (sym same) ∙ f_there) in
-            let key_last : j ≡ length (keys_of table) = omega (arith, same, count, key_count) in
-            let depth_last : j ≡ length (values_of table) = omega (arith, same, count, depth_count) in
-            subst (IsEntered b (table ++ more) j) f_is (record {
-              key = key;
-              there = ap (λ some. slice_get some j) keys ∙ ap (slice_get (keys_of table ++ key ∷ [])) key_last ∙ slice_get-push (keys_of table) key;
-              depth = ap (λ some. slice_get some j) depths ∙ ap (slice_get (values_of table ++ e.depth ∷ [])) depth_last ∙ slice_get-push (values_of table)
-                  e.depth;
-              is = is;
-            })
-      ];
+      entered = before_more (IsEntered b (table ++ more)) entries i e there
+          (λ j f below f_there. entered-more b table more j f (entered.entered j f below f_there)) (record {
+            key = key;
+            there = ap (λ some. slice_get some i) keys ∙ ap (slice_get (keys_of table ++ key ∷ [])) key_last ∙ slice_get-push (keys_of table) key;
+            depth = ap (λ some. slice_get some i) depths ∙ ap (slice_get (values_of table ++ e.depth ∷ [])) depth_last
+                ∙ slice_get-push (values_of table) e.depth;
+            is = is;
+          });
     })
-
--- a table without an entry
-pub IsTableOf-none : (b : Numbered) (entries : List Entry) → IsTableOf b entries 0 []
-IsTableOf-none b entries = record {
-  count = refl;
-  distinct = λ i j d below within. absurd (omega (arith, within));
-  entered = λ i e below. absurd (omega (arith, below));
-}
 
 -- what a look-up tells, by whether it found a place
 pub present : (N : Type 0) (S : ℕ → Type 0) (o : Option ℕ) → MatchOption o N S → is_some o ≡ true → (i : ℕ) × S i

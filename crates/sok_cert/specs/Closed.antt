@@ -1,5 +1,5 @@
 -- A certificate: positions in which each legal push leads to another of them, or which are barred with a reason.
-use Rattle.std.specs.Prelude.{ℕ, ◌≡◌, ◌≤◌, ◌+◌, ◌-◌, List, Option, Some, None, Bool, true, false, IsTrue, IsSomeAnd, MatchBool, Contains, All, length}
+use Rattle.std.specs.Prelude.{ℕ, ◌≡◌, ◌≤◌, ◌+◌, ◌-◌, List, Some, Bool, true, false, IsTrue, IsSomeAnd, MatchBool, Contains, All, length}
 use Rattle.std.specs.Prelude.{slice_get}
 use Rattle.sok_rules.specs.declared.cell.Dir.{Dir}
 use Rattle.sok_rules.specs.Squares.{Rows}
@@ -9,12 +9,13 @@ use Rattle.sok_board.specs.Area.{Numbered, position_of, boxes_of}
 use Rattle.sok_region.specs.Regions.{IsPlaced}
 use Rattle.sok_bar.specs.declared.rest.Rest.{Rest}
 use Rattle.sok_bar.specs.declared.rest.Rest.TheVariants as rest
-use Rattle.sok_bar.specs.Bars.{Barring, Bars}
+use Rattle.sok_bar.specs.Bars.{Bars}
+pub use Rattle.sok_bar.specs.Bars.{barring}
 use Rattle.sok_entry.specs.declared.claim.Claim.{Claim}
 use Rattle.sok_entry.specs.declared.claim.Claim.TheVariants.{Pushes, Unsolvable}
 use Rattle.sok_entry.specs.declared.entry.Entry.{Entry}
 use Rattle.sok_entry.specs.declared.entry.Reason.{Reason}
-use Rattle.sok_entry.specs.declared.entry.Reason.TheVariants.{Expanded, Spent, Bound, Crowd, Frozen}
+use Rattle.sok_entry.specs.declared.entry.Reason.TheVariants.{Expanded}
 
 -- what a claim says of a level: no list that solves has fewer pushes; or none solves
 abbrev pub IsTrueOf : Rows → Claim → Type 0
@@ -33,14 +34,6 @@ pub record IsPosition (b : Numbered) (e : Entry) : Type 0 where
 abbrev pub rest_of : Claim → ℕ → Rest
 rest_of (Pushes k) depth = rest.AtLeast (k - depth)
 rest_of Unsolvable depth = rest.Never
-
--- the reason by which an entry is barred; an expanded one gives none
-abbrev pub barring : Reason → Option Barring
-barring Expanded = None
-barring Spent = Some Barring.spent
-barring (Bound u v) = Some (Barring.bound u v)
-barring (Crowd members) = Some (Barring.crowd members)
-barring (Frozen members) = Some (Barring.frozen members)
 
 -- by what its reason says, an entry is barred by what rests of the claim at its depth
 abbrev pub IsBarredBy : Numbered → Claim → Entry → Type 0

@@ -6,7 +6,8 @@ ghost use Rattle.sok_board.specs.Area.{IsAccepted, position_of};
 ghost use Rattle.sok_cert.specs.Closed.{IsPosition};
 ghost use Rattle.sok_cert.specs.Judging.{IsFinding};
 
-use crate::reason::{is_expanded, reason_holds, rest_of};
+use crate::reason::{is_expanded, rest_of};
+use sok_bar::reason::reason_holds;
 use sok_board::area::Sq;
 use sok_board::board::Board;
 use sok_entry::claim::Claim;

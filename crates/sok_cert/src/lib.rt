@@ -10,7 +10,7 @@
 //! | `judging` | what is found of an entry by its reason (private) |
 //! | `law` | a closed certificate is true; a list has one judgement, and a text one verdict |
 //! | `placing` | which entries are positions, and of which state (private) |
-//! | `reason` | what the reasons of a certificate show (private) |
+//! | `reason` | what rests of a claim at a depth, and which entries are expanded (private) |
 #![tactic(auto)]
 
 pub mod accepted;

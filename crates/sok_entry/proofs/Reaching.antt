@@ -8,7 +8,7 @@ use Rattle.sok_text.proofs.Lines.{lines-first}
 use Rattle.sok_entry.specs.declared.entry.Entry.{Entry}
 use Rattle.sok_entry.specs.declared.fault.CertFault.TheVariants.{Truncated, Line}
 use Rattle.sok_entry.specs.Text.{entry_line, last_line, FitsEntry}
-use Rattle.sok_entry.specs.Reading.{IsEntryLine, missing, cut, other, behind, StopsAt, ended_lines}
+use Rattle.sok_entry.specs.Reading.{IsEntryLine, cut, other, behind, StopsAt, ended_lines}
 use Rattle.sok_entry.proofs.EntryNumbers.{no_elements}
 use Rattle.sok_entry.proofs.LineEnds.{first_ended, first_unended, ended_lines-after_line}
 use Rattle.sok_text.proofs.Lines.{after_line-unended}
@@ -48,16 +48,6 @@ pub lines-Reached : (text : List ℕ) (entries : List Entry) (rest : List ℕ) �
     → length (after_line rest) == 0 ≡ true → lines text ≡ map entry_line entries ++ last_line ∷ []
 lines-Reached text entries rest reached some last none =
     lines-rest text entries rest reached some ∙ (λ i. map entry_line entries ++ last i ∷ lines-none (after_line rest) none i)
-
-pub StopsAt-missing : (text : List ℕ) (entries : List Entry) (rest : List ℕ) → Reached text entries rest → length rest == 0 ≡ true
-    → StopsAt (ended_lines text) (lines text) Truncated
-StopsAt-missing text entries rest reached none = record {
-  entries = entries;
-  rest = [];
-  fit = reached.fit;
-  has_lines = reached.has_lines ∙ ap (λ ls. map entry_line entries ++ ls) (lines-none rest none);
-  wrong = missing refl refl;
-}
 
 pub StopsAt-cut : (text : List ℕ) (entries : List Entry) (rest : List ℕ) → Reached text entries rest → 0 < length rest → first_line rest ≢ last_line
     → length rest ≤ length (first_line rest)

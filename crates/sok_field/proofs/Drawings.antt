@@ -1,8 +1,8 @@
 -- Bit rows and the numbers of a board's squares.
-use Rattle.std.proofs.Common.{Contains, ◌⊎◌, ◌++◌, ◌+◌, ℕ, ◌≡◌, ◌<◌, ◌↔◌, inl, inr, refl, sym, ap, ◌∙◌, subst, List, [], ◌∷◌, Bool, true, Some, None, arith}
+use Rattle.std.proofs.Common.{Contains, ◌++◌, ℕ, ◌≡◌, ◌<◌, ◌↔◌, inl, inr, refl, sym, ap, ◌∙◌, subst, List, [], ◌∷◌, Bool, true, Some, None, arith}
 use Rattle.std.proofs.Common.{length, get_or, if◌then◌else◌}
 use Rattle.std.specs.Option.{option_and_then}
-use Rattle.std.proofs.lemmas.Bool.{cases_eq, cases_lt}
+use Rattle.std.proofs.lemmas.Bool.{cases_lt}
 use Rattle.std.proofs.lemmas.List.Elements.{Contains-append_left, Contains-push, Contains-push_cases}
 use Rattle.std.proofs.lemmas.Option.{same_Some, option_and_then_some}
 use Rattle.sok_rules.specs.declared.cell.Dir.{Dir}
@@ -11,6 +11,7 @@ use Rattle.sok_rules.specs.Squares.{next}
 use Rattle.sok_board.specs.Area.{Numbered, IsArea, Before, spot_of, number_of, beside}
 use Rattle.sok_board.proofs.AreaLaws.{origin, spot_of-at, spot_of-number_of, number_of-spot_of, same_number}
 use Rattle.sok_board.proofs.Inside.{if_some}
+use Rattle.sok_board.proofs.Refusals.{before_asym}
 use Rattle.sok_field.specs.Fields.{has}
 use Rattle.sok_field.specs.Numbers.{Draws, JoinsNumbers, JoinsInside, FirstIsLeast}
 use Rattle.sok_field.specs.Trails.{trail, Leads}
@@ -65,12 +66,6 @@ joins-inside b area lets free draws m s within (w, leads) =
     let traced = way-trail b lets free draws w m s within leads in
     (traced.end, ap (number_of b) (sym traced.lies) ∙ number_of-spot_of b area traced.end traced.within)
 
-before-asym : (s t : Spot) → Before s t → Before t s → ⊥
-before-asym s t (inl over) (inl under) = omega arith
-before-asym s t (inl over) (inr (row, col)) = omega arith
-before-asym s t (inr (row, col)) (inl under) = omega arith
-before-asym s t (inr (row, col)) (inr (back, left)) = omega arith
-
 pub first-is-least : (b : Numbered) → IsArea b.rows b.area → FirstIsLeast b
 first-is-least b area test rows s draws first =
     let (n, number, passes) = (draws s).0 first.among in
@@ -87,7 +82,7 @@ first-is-least b area test rows s draws first =
             let has_it = (draws (spot_of b k)).1 (k, number_of-spot_of b area k k_within, on) in
             elim (first.first (spot_of b k) has_it) [
               | inl same ↦ let equal = same_number b area n k within k_within (there ∙ same) in absurd (omega (arith, equal, below))
-              | inr ahead ↦ absurd (before-asym (spot_of b k) (spot_of b n) before (subst (λ t. Before t (spot_of b k)) (sym there) ahead))
+              | inr ahead ↦ absurd (before_asym (spot_of b k) (spot_of b n) before (subst (λ t. Before t (spot_of b k)) (sym there) ahead))
             ]
       ],
     )
@@ -104,21 +99,6 @@ Draws-joined b area lets free seen m within draws joined s = (
   λ (n, number, (w, leads)).
       let (_, there) = spot_of-number_of b s n number in
       (joined s).1 (w, trail-way b lets free draws w m n leads ∙ ap Some there),
-)
-
--- one square more is drawn
-pub Draws-put : (b : Numbered) → (old new : List ℕ) (k : ℕ) → number_of b (spot_of b k) ≡ Some k
-    → ((s : Spot) → (has new s ≡ true) ↔ ((s ≡ spot_of b k) ⊎ (has old s ≡ true)))
-    → Draws b (λ n. n < k) old → Draws b (λ n. n < k + 1) new
-Draws-put b old new k numbered put draws s = (
-  λ e. elim ((put s).0 e) [
-    | inl same ↦ (k, ap (number_of b) same ∙ numbered, omega arith)
-    | inr before ↦ let (n, number, below) = (draws s).0 before in (n, number, omega (arith, below))
-  ],
-  λ (n, number, below). (put s).1 (elim (cases_eq n k) [
-    | inl same ↦ inl (sym (spot_of-number_of b s n number).1 ∙ ap (spot_of b) same)
-    | inr apart ↦ inr ((draws s).1 (n, number, omega (arith, below, apart)))
-  ]),
 )
 
 -- one square less

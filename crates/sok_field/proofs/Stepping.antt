@@ -1,5 +1,5 @@
 -- A flood that goes on row by row.
-use Rattle.std.proofs.Common.{ℕ, ◌≡◌, ◌<◌, ◌≤◌, ◌+◌, ◌*◌, ◌/◌, ◌%◌, ◌^◌, ◌⊎◌, inl, inr, List, refl, sym, ap, ◌∙◌, subst, arith, Bool, true, false, true≢false}
+use Rattle.std.proofs.Common.{ℕ, ◌≡◌, ◌<◌, ◌≤◌, ◌+◌, ◌*◌, ◌/◌, ◌%◌, ◌^◌, ◌⊎◌, inl, inr, List, refl, sym, ap, ◌∙◌, subst, arith, true, false, true≢false}
 use Rattle.std.proofs.Common.{get_or, set, length, bit_and, bit_or, max, min}
 use Rattle.std.specs.Int.{bit_at}
 use Rattle.std.specs.List.{sum}
@@ -84,9 +84,6 @@ widened-follows frees seen from r f x within fits is inside = set-grown frees se
       ],
     ))
 
-pub IsStepped-none : (free seeds : ℕ) → IsStepped free seeds seeds
-IsStepped-none free seeds = record { rises = omega arith; follows = λ frees seen from r within is flood. flood }
-
 pub IsStepped-more : (free seeds row : ℕ) → free < 2 ^ 64 → bit_and row free ≡ row → IsStepped free seeds row
     → IsStepped free seeds (bit_and free (widened row))
 IsStepped-more free seeds row fits inside so_far = record {
@@ -161,22 +158,4 @@ GoesOn-met free seen from r beside word within is_beside steps apart flood =
       flooding = steps.follows free seen from r within refl (seeds-flooding free seen from r beside within is_beside flood);
       rises = omega (arith, more);
       more = λ e. more;
-    }
-
-pub GoesOn-none : (free seen : List ℕ) (from : Spot) → IsSpreading free from seen → GoesOn free from seen seen false
-GoesOn-none free seen from flood = record { flooding = flood; rises = omega arith; more = λ e. absurd (true≢false (sym e)) }
-
--- one after another
-pub GoesOn-then : (free old seen new : List ℕ) (from : Spot) (first second both : Bool) → (both ≡ true → (first ≡ true) ⊎ (second ≡ true))
-    → GoesOn free from old seen first → GoesOn free from seen new second → GoesOn free from old new both
-GoesOn-then free old seen new from first second both one a b =
-    let rose = a.rises in
-    let rises = b.rises in
-    record {
-      flooding = b.flooding;
-      rises = omega (arith, rose, rises);
-      more = λ e. elim (one e) [
-        | inl one_is ↦ let more = a.more one_is in omega (arith, rises, more)
-        | inr other_is ↦ let more = b.more other_is in omega (arith, rose, more)
-      ];
     }

@@ -1,9 +1,7 @@
 -- Why a row is no page, part by part.
 use Rattle.std.proofs.Common.{ℕ, ℤ, FitsSigned, to_z, of_z, w64, ◌≡◌, ◌≢◌, ◌≤◌, ◌⊎◌, inl, inr, List, Option, Some, None, Result, Ok, Err, IfErr}
-use Rattle.std.proofs.Common.{IfSome, IsTrue, is_some, option_map, map, sym, ap, ◌∙◌, refl, subst, length}
-use Rattle.std.proofs.lemmas.Option.{none-some, same_Some}
+use Rattle.std.proofs.Common.{IfSome, IsTrue, is_some, option_map, sym, ap, ◌∙◌, refl, subst, length}
 use Rattle.std.proofs.lemmas.Int.{to_z-of_z}
-use Rattle.std.specs.Option.{option_map_or}
 use Rattle.sok_rules.specs.declared.cell.Dir.{Dir}
 use Rattle.sok_rules.specs.declared.fault.LevelFault.{LevelFault}
 use Rattle.sok_rules.specs.declared.fault.LevelFault.TheVariants as level
@@ -11,14 +9,12 @@ use Rattle.sok_rules.specs.declared.fault.PlayFault.{PlayFault}
 use Rattle.sok_rules.specs.declared.fault.PlayFault.TheVariants as play
 use Rattle.sok_rules.specs.Limits.{letter_limit}
 use Rattle.sok_rules.specs.Squares.{Rows}
-use Rattle.sok_rules.specs.Levels.{IsLevel, fault_of, level_of, trimmed}
+use Rattle.sok_rules.specs.Levels.{IsLevel}
 use Rattle.sok_rules.specs.Play.{start, Solves}
 use Rattle.sok_rules.specs.Replay.{IsReplayFault}
 use Rattle.sok_rules.proofs.Outcomes.{blocked_not_legal}
-use Rattle.sok_rules.proofs.Proper.{IsProper-from_none}
-use Rattle.sok_rules.proofs.Rows.{all_trimmed}
 use Rattle.sok_text.specs.Canonical.{level_text}
-use Rattle.sok_text.specs.Collections.{Block, block_at, blocks_of, level_at, rows_of}
+use Rattle.sok_text.specs.Collections.{blocks_of, level_at}
 use Rattle.sok_text.specs.Lurd.{GoesWrong, Spells}
 use Rattle.sok_text.specs.Marked.{marked_text}
 use Rattle.sok_text.specs.declared.lurd.LurdFault.{LurdFault}
@@ -53,26 +49,6 @@ row_fault id P fits none = inr (ap book.BadBook (to_z-of_z w64 id fits), none)
 
 -- ---- levels
 
--- what is read as a level is one
-level-from_fault : (rows level : Rows) → level_of rows ≡ Ok level → IsLevel level
-unfolding level_of
-level-from_fault rows level =
-    elim (fault_of (map trimmed rows)) as (λ o. fault_of (map trimmed rows) ≡ o
-    → elim o as (λ _. Result Rows LevelFault) [ None ↦ Ok (map trimmed rows) | Some f ↦ Err f ] ≡ Ok level → IsLevel level) [
-      | None ↦ λ none is.
-          let same : map trimmed rows ≡ level = cc in
-          subst IsLevel same (record { proper = IsProper-from_none (map trimmed rows) none; trimmed = all_trimmed rows })
-      | Some f ↦ λ some is. absurd cc
-    ] refl
-
-level-from_block : (o : Option Block) (rows : Rows) → option_map_or (λ block. level_of (rows_of block)) o (Err level.NoSuchLevel) ≡ Ok rows → IsLevel rows
-level-from_block None rows is = absurd cc
-level-from_block (Some block) rows is = level-from_fault (rows_of block) rows is
-
-pub IsLevel-level_at : (blocks : List Block) (n : ℕ) (level : Rows) → level_at blocks n ≡ Ok level → IsLevel level
-unfolding level_at
-IsLevel-level_at blocks n rows is = level-from_block (block_at blocks n) rows is
-
 -- of the text of a level, that level is read
 pub read_as : (text : List ℕ) (rows level : Rows) → level_at (blocks_of text) 1 ≡ Ok level → IsLevel rows → level_text rows ≡ text → rows ≡ level
 read_as text rows level read of same =
@@ -103,7 +79,8 @@ not_refused : (rows : Rows) (lurd : List ℕ) (letters : List Dir) (fault : Book
     → IsLurdOf rows lurd best → ⊥
 not_refused rows lurd letters fault spelled refused best is =
     let same = letters_are rows lurd letters spelled best is in
-    solutions-are-not-refused rows letters fault (subst (Solves rows) same is.kept.solution.solves) (subst (λ w. length w ≤ letter_limit) same is.kept.few)
+    solutions-are-not-refused rows letters fault (subst (Solves rows) same is.kept.solution.solves)
+    (subst (λ w. length w ≤ letter_limit) same is.kept.few)
     refused
 
 not_marked : (rows : Rows) (lurd marked : List ℕ) (letters : List Dir) → Spells lurd letters → marked ≡ marked_text rows (start rows) letters → marked ≢ lurd
@@ -183,12 +160,6 @@ IsBroken-as id text rows fault read broken =
 
 -- ---- rows
 
--- a solution of which the text is known, and its numbers
-pub IsTextOf-tally : (rows : Rows) (text : SolutionText) (best : Solution) → IsLurdOf rows text.lurd best → text.pushes ≡ best.pushes → text.moves ≡ best.moves
-    → IsTextOf rows text best
-IsTextOf-tally rows text best is pushes moves =
-    record { kept = is.kept; text_is = λ i. record { lurd = is.lurd_is i; pushes = pushes i; moves = moves i } }
-
 -- the same letters have the same numbers
 numbers_are : (rows : Rows) (lurd : List ℕ) (best other : Solution) → IsLurdOf rows lurd best → IsLurdOf rows lurd other → best ≡ other
 numbers_are rows lurd best other is of_other = one_solution rows best other is.kept of_other.kept (sym is.lurd_is ∙ of_other.lurd_is)
@@ -208,31 +179,10 @@ IsBroken-moves id rows text best fits is other = row_fault id (IsTextOf rows tex
     let same : found ≡ best = numbers_are rows text.lurd found best (record { kept = has.kept; lurd_is = lurd }) is in
     other (ap (λ (t : SolutionText). t.moves) has.text_is ∙ ap (λ (s : Solution). s.moves) same))
 
-pub IsBroken-lurd : (id : ℤ) (rows : Rows) (text : SolutionText) (fault : BookFault)
-    → IsBroken id (IsLurdOf rows text.lurd) fault → IsBroken id (IsTextOf rows text) fault
-IsBroken-lurd id rows text fault broken = IsBroken-from id (IsLurdOf rows text.lurd) (IsTextOf rows text) fault
-    (λ best is. (best, record { kept = is.kept; lurd_is = ap (λ (t : SolutionText). t.lurd) is.text_is })) broken
-
 -- the columns for a solution that is there
 pub AreOf-some : (rows : Rows) (text : SolutionText) (best : Solution) → IsTextOf rows text best
     → AreOf rows (solution_columns (Some text.lurd) (Some text.pushes) (Some text.moves)) (Some best)
 AreOf-some rows text best is = record { kept = is.kept; values_are = ap (λ (t : SolutionText). solution_values (Some t)) is.text_is }
-
-text_from : (rows : Rows) (text : SolutionText) (best : Option Solution)
-    → AreOf rows (solution_columns (Some text.lurd) (Some text.pushes) (Some text.moves)) best
-    → (x : Solution) × IsTextOf rows text x
-text_from rows text None are = absurd (none-some text.pushes (sym (ap (λ (v : SolutionValues). v.pushes) are.values_are)))
-text_from rows text (Some best) are =
-    let lurd = same_Some _ _ (ap (λ (v : SolutionValues). v.lurd) are.values_are) in
-    let pushes = same_Some _ _ (ap (λ (v : SolutionValues). v.pushes) are.values_are) in
-    let moves = same_Some _ _ (ap (λ (v : SolutionValues). v.moves) are.values_are) in
-    (best, record { kept = are.kept; text_is = λ i. record { lurd = lurd i; pushes = pushes i; moves = moves i } })
-
-pub IsBroken-solution : (id : ℤ) (rows : Rows) (text : SolutionText) (fault : BookFault) → IsBroken id (IsTextOf rows text) fault
-    → IsBroken id (AreOf rows (solution_columns (Some text.lurd) (Some text.pushes) (Some text.moves))) fault
-IsBroken-solution id rows text fault broken =
-    IsBroken-from id (IsTextOf rows text) (AreOf rows (solution_columns (Some text.lurd) (Some text.pushes) (Some text.moves))) fault
-    (text_from rows text) broken
 
 pub IfErr-as : {A : Type 0} (id : ℤ) (text : List ℕ) (rows : Rows) (r : Result A BookFault) → level_at (blocks_of text) 1 ≡ Ok rows
     → IfErr r (IsBroken id (IsAcceptedAs rows)) → IfErr r (IsBroken id (HasText text))

@@ -1,5 +1,5 @@
 -- What is kept of a title, byte by byte.
-use Rattle.std.proofs.Common.{ℕ, ◌≡◌, ◌<◌, ◌+◌, ◌-◌, ◌⊎◌, inl, inr, List, [], ◌∷◌, ◌++◌, Bool, true, false, All, Some, None, IfSome, IsTrue, ◌↔◌}
+use Rattle.std.proofs.Common.{ℕ, ◌≡◌, ◌<◌, ◌-◌, ◌⊎◌, inl, inr, List, [], ◌∷◌, ◌++◌, Bool, true, false, All, Some, None, IfSome, IsTrue, ◌↔◌}
 use Rattle.std.proofs.Common.{true≢false, nat_lt, position, slice_index, if◌then◌else◌}
 use Rattle.std.proofs.Common.{length, take, get_or, reverse, sym, ap, ◌∙◌, refl, subst, arith}
 use Rattle.std.proofs.lemmas.Bool.{cases_Bool}
@@ -7,32 +7,13 @@ use Rattle.std.proofs.lemmas.Bool.Decides.{nat_tests}
 use Rattle.std.specs.Bool.{Decides}
 use Rattle.std.proofs.lemmas.Option.{none-some, same_Some}
 use Rattle.std.proofs.lemmas.List.{get_or-reverse, length-append, length-reverse, length-take, get_or-take, reverse-append, reverse-reverse, take_all}
-use Rattle.std.proofs.lemmas.List.{take_more}
 use Rattle.std.proofs.lemmas.List.Elements.{All-tail}
 use Rattle.std.proofs.lemmas.List.Sums.{fails_before_first, position_or_len_is}
 use Rattle.std.proofs.Math.ListN.{get_or-append}
 use Rattle.std.specs.List.{before_first, position_or_len}
 use Rattle.sok_text.specs.Lines.{is_newline}
-use Rattle.sok_text.specs.Titles.{is_space, some_text, trimmed_front}
-use Rattle.sok_page.specs.Titles.{IsTitle, KeptAreTitles, TitlesAreKept, is_end_blank, kept_line, kept_title, without_back, without_front}
-
-reverse-take_more : (text : List ℕ) (i : ℕ) → i < length text → reverse (take (i + 1) text) ≡ get_or text i 0 ∷ reverse (take i text)
-reverse-take_more text i within = ap reverse (take_more text i 0 within) ∙ reverse-append (take i text) (get_or text i 0 ∷ [])
-
--- a byte at the back that passes the test
-pub back_passes : (test : ℕ → Bool) (text : List ℕ) (i : ℕ) → i < length text → test (get_or text i 0) ≡ true
-    → without_back test (take (i + 1) text) ≡ without_back test (take i text)
-back_passes test text i within passes =
-    ap (λ back. reverse (without_front test back)) (reverse-take_more text i within)
-    ∙ ap (λ b. reverse (if b then without_front test (reverse (take i text)) else get_or text i 0 ∷ reverse (take i text))) passes
-
--- and one that fails it
-pub back_fails : (test : ℕ → Bool) (text : List ℕ) (i : ℕ) → i < length text → test (get_or text i 0) ≡ false
-    → without_back test (take (i + 1) text) ≡ take (i + 1) text
-back_fails test text i within fails =
-    ap (λ back. reverse (without_front test back)) (reverse-take_more text i within)
-    ∙ ap (λ b. reverse (if b then without_front test (reverse (take i text)) else get_or text i 0 ∷ reverse (take i text))) fails
-    ∙ ap reverse (sym (reverse-take_more text i within)) ∙ reverse-reverse (take (i + 1) text)
+use Rattle.sok_text.specs.Titles.{is_space, some_text, trimmed_front, without_back, without_front}
+use Rattle.sok_page.specs.Titles.{IsTitle, KeptAreTitles, TitlesAreKept, is_end_blank, kept_line, kept_title}
 
 -- ---- what is left
 
@@ -43,10 +24,6 @@ front-without test (c ∷ text) = elim (test c) as (λ b. (gone : List ℕ) × (
   | true ↦ let (gone, is) = front-without test text in (c ∷ gone, ap (λ t. c ∷ t) is)
   | false ↦ ([], refl)
 ]
-
-pub trimmed-front : (text : List ℕ) → trimmed_front text ≡ without_front is_space text
-trimmed-front [] = refl
-trimmed-front (c ∷ text) = ap (λ rest. if is_space c then rest else c ∷ text) (trimmed-front text)
 
 -- nothing is left, or what is left begins with a byte that fails the test
 first-without : (test : ℕ → Bool) (text : List ℕ) → 0 < length (without_front test text) → test (get_or (without_front test text) 0 0) ≡ false
@@ -135,16 +112,15 @@ IsTitle-kept_line text some =
     let trimmed = trimmed_front line in
     let (before, split) = front-without is_space line in
     let (behind, cut) = back-without is_end_blank trimmed in
-    let whole : line ≡ before ++ trimmed = split ∙ ap (λ t. before ++ t) (sym (trimmed-front line)) in
+    let whole : line ≡ before ++ trimmed = split in
     let in_trimmed : All (λ c. is_newline c ≡ false) trimmed =
     all-back (λ c. is_newline c ≡ false) before trimmed (subst (All (λ c. is_newline c ≡ false)) whole (first_line-none_in text)) in
     let more : 0 < length trimmed = omega (arith, some, ap length cut, length-append (kept_line text) behind) in
-    let left : 0 < length (without_front is_space line) = omega (arith, more, ap length (trimmed-front line)) in
+    let left : 0 < length (without_front is_space line) = omega (arith, more) in
     record {
       some = some;
       one_line = all-front (λ c. is_newline c ≡ false) (kept_line text) behind (subst (All (λ c. is_newline c ≡ false)) cut in_trimmed);
-      front = ap is_space (first-prefix trimmed (kept_line text) behind cut some) ∙ ap (λ t. is_space (get_or t 0 0)) (trimmed-front line)
-          ∙ first-without is_space line left;
+      front = ap is_space (first-prefix trimmed (kept_line text) behind cut some) ∙ first-without is_space line left;
       back = last-without is_end_blank trimmed some;
     }
 
@@ -154,7 +130,7 @@ kept-are-titles text = elim (kept_line text) as (λ line. kept_line text ≡ lin
   | c ∷ line ↦ λ is. subst IsTitle is (IsTitle-kept_line text (omega (arith, ap length is)))
 ] refl
 
-some-some_text : (text : List ℕ) → 0 < length text → some_text text ≡ Some text
+pub some-some_text : (text : List ℕ) → 0 < length text → some_text text ≡ Some text
 some-some_text [] some = absurd (omega arith)
 some-some_text (c ∷ text) some = refl
 
@@ -167,7 +143,7 @@ back-whole text last = ap reverse (whole-without is_end_blank (reverse text) (λ
 pub titles-are-kept : TitlesAreKept
 titles-are-kept title is =
     let line : before_first is_newline title ≡ title = first_line-whole title is.one_line in
-    let front : trimmed_front title ≡ title = trimmed-front title ∙ whole-without is_space title (λ _. is.front) in
+    let front : trimmed_front title ≡ title = whole-without is_space title (λ _. is.front) in
     let back : without_back is_end_blank title ≡ title = back-whole title is.back in
     let same : kept_line title ≡ title = ap (λ t. without_back is_end_blank (trimmed_front t)) line ∙ ap (without_back is_end_blank) front ∙ back in
     ap some_text same ∙ some-some_text title is.some

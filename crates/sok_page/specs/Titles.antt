@@ -1,23 +1,13 @@
 -- What is kept of a title: one line, without blanks at its ends.
-use Rattle.std.specs.Prelude.{ℕ, ◌≡◌, ◌<◌, ◌-◌, List, [], ◌∷◌, Option, Some, Bool, false, ◌||◌, ◌==◌, All, IfSome, if◌then◌else◌}
-use Rattle.std.specs.Prelude.{codes, length, reverse, slice_index}
+use Rattle.std.specs.Prelude.{ℕ, ◌≡◌, ◌<◌, ◌-◌, List, Option, Some, Bool, false, ◌||◌, ◌==◌, All, IfSome, codes, length, slice_index}
 use Rattle.std.specs.List.{before_first}
 use Rattle.sok_text.specs.Characters.{code}
 use Rattle.sok_text.specs.Lines.{is_newline}
-use Rattle.sok_text.specs.Titles.{is_space, some_text, trimmed_front}
+use Rattle.sok_text.specs.Titles.{is_space, some_text, trimmed_front, without_back}
 
 -- space, tab or CR
 abbrev pub is_end_blank : ℕ → Bool
 is_end_blank c = is_space c || c == code (codes "\r")
-
--- a text without the bytes at its front that pass a test
-abbrev pub without_front : (ℕ → Bool) → List ℕ → List ℕ
-without_front test [] = []
-without_front test (c ∷ text) = if test c then without_front test text else c ∷ text
-
--- without those at its back
-abbrev pub without_back : (ℕ → Bool) → List ℕ → List ℕ
-without_back test text = reverse (without_front test (reverse text))
 
 -- what stands before the first LF, without spaces and tabs at its front, and without spaces, tabs and CRs at its back
 abbrev pub kept_line : List ℕ → List ℕ

@@ -3,9 +3,11 @@
 ghost use Rattle.std.specs.Prelude.{◌≡◌, ◌↔◌, IsTrue, option_map, position};
 ghost use Rattle.std.specs.List.{before_first};
 ghost use Rattle.sok_text.specs.Lines.{is_newline};
-ghost use Rattle.sok_text.specs.Titles.{is_space, trimmed_front};
-ghost use Rattle.sok_page.specs.Titles.{is_end_blank, kept_title, without_back};
+ghost use Rattle.sok_text.specs.Titles.{without_back};
+ghost use Rattle.sok_page.specs.Titles.{is_end_blank, kept_title};
 ghost use Rattle.sok_page.specs.Titles.{IsTitle, KeptAreTitles, TitlesAreKept};
+
+use sok_text::title::{is_space, trim_front};
 
 /// The title that is kept of a text, as a slice of it: what stands before the first LF, without
 /// spaces and tabs at its front, and without spaces, tabs and CRs at its back. None where nothing
@@ -13,7 +15,7 @@ ghost use Rattle.sok_page.specs.Titles.{IsTitle, KeptAreTitles, TitlesAreKept};
 pub fn kept_title(text: &[u8]) -> Option<&[u8]>
     ensures { option_map (λ title. title.now) result ≡ kept_title text.now }
 {
-    let title = without_blanks_at_back(without_spaces_at_front(first_line(text)));
+    let title = without_blanks_at_back(trim_front(first_line(text)));
     if title.is_empty() { None } else { Some(title) }
 }
 
@@ -44,16 +46,6 @@ fn line_end(text: &[u8]) -> Option<usize>
     text.iter().position(|byte| *byte == b'\n')
 }
 
-fn without_spaces_at_front(text: &[u8]) -> &[u8]
-    ensures { result.now ≡ trimmed_front text.now }
-{
-    let mut start = 0;
-    while start < text.len() && is_space(text[start]) {
-        start += 1;
-    }
-    &text[start..]
-}
-
 fn without_blanks_at_back(text: &[u8]) -> &[u8]
     ensures { result.now ≡ without_back is_end_blank text.now }
 {
@@ -62,12 +54,6 @@ fn without_blanks_at_back(text: &[u8]) -> &[u8]
         end -= 1;
     }
     &text[..end]
-}
-
-fn is_space(byte: u8) -> bool
-    ensures { result ≡ is_space byte }
-{
-    byte == b' ' || byte == b'\t'
 }
 
 fn is_end_blank(byte: u8) -> bool

@@ -11,14 +11,6 @@ use Rattle.sok_push.specs.Distances.{Distances, goal_at, distance_at, IsFilled, 
 abbrev pub with_entries : Numbered → List (Option ℕ) → Distances
 with_entries b entries = record { board = b; entries = entries }
 
--- no entry, and no goal
-pub IsFilled-none : (b : Numbered) → IsFilled 0 (with_entries b [])
-IsFilled-none b = record {
-  whole = omega arith;
-  exact = λ goal square below within. absurd (omega (arith, below));
-  bounded = λ goal square below within. absurd (omega (arith, below));
-}
-
 -- an entry of a goal before the last row
 entry_before : (entries row : List (Option ℕ)) (w k goal square : ℕ) → length entries ≡ k * w → goal < k → square < w
     → get_or (entries ++ row) (goal * w + square) None ≡ get_or entries (goal * w + square) None

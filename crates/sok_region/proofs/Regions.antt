@@ -1,10 +1,9 @@
 -- A region as the squares that a flood draws.
-use Rattle.std.proofs.Common.{ℕ, ◌≡◌, ◌<◌, ◌+◌, ◌*◌, ◌↔◌, refl, sym, ap, ◌∙◌, subst, List, Bool, true, true≢false, Option, Some, None, IsSome, Vec, Contains}
+use Rattle.std.proofs.Common.{ℕ, ◌≡◌, ◌<◌, ◌*◌, ◌↔◌, refl, sym, ap, ◌∙◌, subst, List, Bool, true, true≢false, Option, Some, None, IsSome, Vec, Contains}
 use Rattle.std.proofs.Common.{arith, length}
 use Rattle.std.specs.List.{range_with_len}
 use Rattle.std.specs.List.Sorted.{IsStrictlyIncreasing}
 use Rattle.std.proofs.lemmas.Option.{same_Some}
-use Rattle.std.proofs.lemmas.List.FromFn.{length-range_with_len, get_or-range_with_len}
 use Rattle.sok_rules.specs.declared.cell.Dir.{Dir}
 use Rattle.sok_rules.specs.Levels.{IsProper}
 use Rattle.sok_rules.specs.Play.{Position}
@@ -13,7 +12,7 @@ use Rattle.sok_rules.proofs.Walking.{IsStanding-Same, Same-refl, Same-sym, Same-
 use Rattle.sok_board.specs.Area.{Numbered, IsArea, position_of, spot_of}
 use Rattle.sok_board.proofs.AreaLaws.{same_number, number_of-spot_of, spot_of-number_of}
 use Rattle.sok_board.proofs.Lists.{Contains-filter, Contains-from_filter}
-use Rattle.sok_board.proofs.Numbering.{rising-chosen}
+use Rattle.sok_board.proofs.Numbering.{Contains-range, rising-chosen}
 use Rattle.sok_region.specs.Regions.{IsPlaced, IsRegion, IsWalkBetween, HasSquare, squares_of}
 use Rattle.sok_field.specs.Fields.{has}
 use Rattle.sok_field.specs.Numbers.{Draws, bit_of_number, has_number, word_bits}
@@ -21,12 +20,6 @@ use Rattle.sok_field.specs.Trails.{trail, Leads}
 use Rattle.sok_field.proofs.OneSquare.{has-within}
 use Rattle.sok_region.specs.Floods.{marked, Met, IsFlood, FindsWay}
 use Rattle.sok_region.proofs.Walks.{AreBoxes, standing, not_listed, run-trail, trail-run, trail-lets}
-
--- numbers below the end
-Contains-range : (n k : ℕ) → k < n → Contains (range_with_len 0 n) k
-Contains-range n k within =
-    let counted : 0 + k ≡ k = omega arith in
-    (k, omega (arith, within, length-range_with_len 0 n), get_or-range_with_len 0 n k k within ∙ counted)
 
 -- the squares of words are those whose bits are set
 pub Contains-squares_of : (words : List ℕ) (s : ℕ) → Contains (squares_of words) s ↔ (has_number words s ≡ true)

@@ -20,12 +20,6 @@ LeadsOn steps last at letters =
 abbrev pub nowhere : Step
 nowhere = record { square = 0; origin = None }
 
--- the step that has an origin
-here-is : (steps : List Step) (at : ℕ) (o : Option Origin) → at < length steps → (get_or steps at nowhere).origin ≡ o → (here : Step)
-    → slice_get steps at ≡ Some here → here.origin ≡ o
-here-is steps at o within is here there =
-    ap (λ (s : Step). s.origin) (same_Some here (get_or steps at nowhere) (sym there ∙ slice_get-get_or steps at nowhere within)) ∙ is
-
 pub before-within : (steps : List Step) (at : ℕ) (origin : Origin) → GoesBack steps → at < length steps → (get_or steps at nowhere).origin ≡ Some origin
     → origin.before < length steps
 before-within steps at origin back within is =

@@ -17,7 +17,7 @@ use Rattle.sok_rules.specs.Squares.{Rows, is_box, is_man, is_wall}
 use Rattle.sok_rules.specs.Levels.{IsLevel, IsProper, fault_of, count_in, level_of, row_without_wall, trimmed}
 
 -- a test that none passes fails at each element
-fails_at_each : {X : Type 0} (test : X → Bool) (xs : List X) → list_any test xs ≡ false → (k : ℕ) (d : X) → k < length xs → test (get_or xs k d) ≡ false
+pub fails_at_each : {X : Type 0} (test : X → Bool) (xs : List X) → list_any test xs ≡ false → (k : ℕ) (d : X) → k < length xs → test (get_or xs k d) ≡ false
 fails_at_each test xs none k d within = elim (cases_Bool (test (get_or xs k d))) [
   | inl passes ↦ absurd (true≢false (sym (list_any_at test xs k d within passes) ∙ none))
   | inr fails ↦ fails

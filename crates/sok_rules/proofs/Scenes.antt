@@ -221,28 +221,28 @@ leaves rows man astray scene =
     }
 
 -- rows that show a scene, on the ground of other rows
-pub record LeadsTo (rows new : Rows) (man : Spot) (boxes : Spot → Bool) (astray : ℕ) : Type 0 where
+pub record Redraws (rows new : Rows) (man : Spot) (boxes : Spot → Bool) (astray : ℕ) : Type 0 where
   pub ground : SameGround rows new
   pub boxes_are : (s : Spot) → holds is_box new s ≡ boxes s
   pub man_is : (s : Spot) → holds is_man new s ≡ same_spot man s
   pub counted : count_in is_astray new ≡ astray
 
-pub IsScene-LeadsTo : (rows new : Rows) (old_man man : Spot) (boxes : Spot → Bool) (n astray : ℕ) → IsScene rows old_man n
-    → LeadsTo rows new man boxes astray → IsScene new man astray
-IsScene-LeadsTo rows new old_man man boxes n astray scene leads = record {
+pub IsScene-Redraws : (rows new : Rows) (old_man man : Spot) (boxes : Spot → Bool) (n astray : ℕ) → IsScene rows old_man n
+    → Redraws rows new man boxes astray → IsScene new man astray
+IsScene-Redraws rows new old_man man boxes n astray scene leads = record {
   few_rows = few_rows-SameGround rows new leads.ground scene.few_rows;
   few_columns = few_columns-SameGround rows new leads.ground scene.few_columns;
   man_is = leads.man_is;
   astray_are = sym leads.counted;
 }
 
-pub start-LeadsTo : (rows new : Rows) (man : Spot) (boxes : Spot → Bool) (astray : ℕ) → LeadsTo rows new man boxes astray
+pub start-Redraws : (rows new : Rows) (man : Spot) (boxes : Spot → Bool) (astray : ℕ) → Redraws rows new man boxes astray
     → start new ≡ record { man = man; boxes = boxes }
-start-LeadsTo rows new man boxes astray leads = start-scene new man leads.man_is ∙ (λ i. record { man = man; boxes = λ s. leads.boxes_are s i })
+start-Redraws rows new man boxes astray leads = start-scene new man leads.man_is ∙ (λ i. record { man = man; boxes = λ s. leads.boxes_are s i })
 
 -- the player walks to an open square without a box
 pub walks : (rows : Rows) (man to : Spot) (astray : ℕ) → IsScene rows man astray → holds is_open rows to ≡ true → holds is_box rows to ≡ false
-    → LeadsTo rows (with_occupant (with_occupant rows man Nobody) to Man) to (holds is_box rows) astray
+    → Redraws rows (with_occupant (with_occupant rows man Nobody) to Man) to (holds is_box rows) astray
 walks rows man to astray scene opened free =
     let gone = leaves rows man astray scene in
     let rest = with_occupant rows man Nobody in
@@ -262,7 +262,7 @@ pub shifts : (rows : Rows) (man from to next_man : Spot) (astray after : ℕ) �
     → holds is_open rows from ≡ true → holds is_box rows from ≡ true → holds is_open rows to ≡ true → holds is_box rows to ≡ false
     → holds is_open rows next_man ≡ true → moved (holds is_box rows) from to next_man ≡ false
     → after + (if holds is_goal rows from then 0 else 1) ≡ astray + (if holds is_goal rows to then 0 else 1)
-    → LeadsTo rows (with_occupant (with_occupant (with_occupant (with_occupant rows man Nobody) from Nobody) to Box) next_man Man) next_man
+    → Redraws rows (with_occupant (with_occupant (with_occupant (with_occupant rows man Nobody) from Nobody) to Box) next_man Man) next_man
     (moved (holds is_box rows) from to) after
 unfolding moved
 shifts rows man from to next_man astray after scene from_open box_there to_open to_free man_open man_free balance =

@@ -9,7 +9,7 @@ use Rattle.sok_rules.proofs.Proper.{level_of-IsLevel}
 use Rattle.sok_text.specs.Canonical.{level_text, row_text}
 use Rattle.sok_text.specs.Collections.{Part, Parts, blocks_from, blocks_of, parts_of}
 use Rattle.sok_text.specs.Lines.{AreOf, is_newline}
-use Rattle.sok_text.specs.Titles.{first_text, is_space, some_text, title_after, title_before, trimmed_back, trimmed_front, trimmed_text}
+use Rattle.sok_text.specs.Titles.{first_text, is_space, some_text, title_after, title_before, trimmed_back, trimmed_text}
 use Rattle.sok_text.specs.Xsb.{is_board_line}
 use Rattle.sok_text.proofs.Canonical.{boards, cells-rows, lines-level_text, some_rows, strip-kept}
 use Rattle.sok_text.proofs.Cutting.{parts_of-front, parts_of-notes}
@@ -18,7 +18,7 @@ use Rattle.sok_book.specs.Books.{Book, Page}
 use Rattle.sok_page.specs.Kept.{IsKeptPage}
 use Rattle.sok_page.specs.Texts.{page_text}
 use Rattle.sok_page.specs.Titles.{IsTitle}
-use Rattle.sok_page.proofs.Titles.{trimmed-front, whole-without}
+use Rattle.sok_page.proofs.Titles.{some-some_text, whole-without}
 use Rattle.sok_shelf.specs.Exported.{ExportsReadBack, export_text, title_note, titled_block, titled_page}
 
 -- ---- lines
@@ -110,19 +110,12 @@ none_after-first : (book : Book) → title_after ([] ∷ first_notes book) ≡ N
 none_after-first [] = refl
 none_after-first (page ∷ book) = none_after page.title
 
-some-text : (text : List ℕ) → 0 < length text → some_text text ≡ Some text
-some-text [] some = absurd (omega arith)
-some-text (c ∷ text) some = refl
-
-whole_front : (text : List ℕ) → (0 < length text → is_space (get_or text 0 0) ≡ false) → trimmed_front text ≡ text
-whole_front text fails = trimmed-front text ∙ whole-without is_space text fails
-
 whole_title : (title : List ℕ) → IsTitle title → trimmed_text title ≡ title
 whole_title title is =
     let long = length-reverse title in
     let last : is_space (get_or (reverse title) 0 0) ≡ false =
     ap is_space (get_or-reverse title 0 0 is.some ∙ ap (λ k. get_or title k 0) (omega arith)) ∙ (neither _ _ is.back).0 in
-    ap trimmed_back (whole_front title (λ _. is.front)) ∙ ap reverse (whole_front (reverse title) (λ _. last)) ∙ reverse-reverse title
+    ap trimmed_back (whole-without is_space title (λ _. is.front)) ∙ ap reverse (whole-without is_space (reverse title) (λ _. last)) ∙ reverse-reverse title
 
 -- the empty line behind the level before, if there is one
 abbrev blank_of : Bool → List (List ℕ)
@@ -132,8 +125,8 @@ blank_of false = []
 title-before : (later : Bool) (title : Option (List ℕ)) → IfSome title IsTitle → title_before (blank_of later ++ notes_of title) ≡ title
 title-before true None is = refl
 title-before false None is = refl
-title-before true (Some title) is = ap some_text (whole_title title is) ∙ some-text title is.some
-title-before false (Some title) is = ap some_text (whole_title title is) ∙ some-text title is.some
+title-before true (Some title) is = ap some_text (whole_title title is) ∙ some-some_text title is.some
+title-before false (Some title) is = ap some_text (whole_title title is) ∙ some-some_text title is.some
 
 -- ---- blocks
 

@@ -15,13 +15,6 @@ use Rattle.sok_state.specs.Pushes.{IsLegal, Precedes}
 use Rattle.sok_state.proofs.LegalPushes.{clear-legal}
 use Rattle.sok_state.proofs.Order.{Precedes-place, rank_below, same_place}
 
--- nothing is listed before the first place
-pub Lists-none : (b : Numbered) (key : Key) → Lists b key 0 []
-Lists-none b key = record {
-  exact = λ push. (λ (k, within, is). absurd (omega (arith, within)), λ (legal, below). absurd (omega (arith, below)));
-  in_order = λ i j d below within. absurd (omega (arith, within));
-}
-
 -- where no legal push has a place in between
 pub Lists-raise : (b : Numbered) (key : Key) (bound higher : ℕ) (pushes : List Push) → bound ≤ higher
     → ((push : Push) → IsLegal b key push → place push < higher → place push < bound) → Lists b key bound pushes → Lists b key higher pushes
@@ -71,9 +64,6 @@ pub record IsListing (b : Numbered) (key : Key) (done : ℕ) (pushes : List Push
   pub lists : Lists b key bound pushes
   pub past : (k : ℕ) → k < done → slice_index key.boxes k * 4 + 4 ≤ bound
   pub ahead : (k : ℕ) → done ≤ k → k < length key.boxes → bound ≤ slice_index key.boxes k * 4
-
-pub IsListing-none : (b : Numbered) (key : Key) → IsListing b key 0 []
-IsListing-none b key = record { bound = 0; lists = Lists-none b key; past = λ k below. absurd (omega (arith, below)); ahead = λ k from within. omega arith }
 
 rising_at : (xs : List ℕ) → IsStrictlyIncreasing xs → (i j : ℕ) → i < j → j < length xs → slice_index xs i < slice_index xs j
 rising_at xs rising i j below within = AllPairs-from_increasing xs rising i j 0 below within

@@ -4,15 +4,14 @@ use Rattle.std.proofs.Common.{Contains, arith, length, get_or, map}
 use Rattle.std.proofs.Common.{Bool, false, true≢false, slice_get, slice_set, length-append, ◌&&◌, ◌==◌, ◌≤◌}
 use Rattle.std.specs.Bool.{Decides}
 use Rattle.std.specs.List.{IsDistinct, list_any, position_or_len}
-use Rattle.std.proofs.lemmas.Bool.{false_from_ne_true}
 use Rattle.std.proofs.lemmas.Bool.Decides.{nat_tests}
 use Rattle.std.proofs.lemmas.List.{get_or-map, length-map}
 use Rattle.std.proofs.lemmas.List.Elements.{Contains-push_cases}
-use Rattle.std.proofs.lemmas.List.Folds.{list_any_at}
 use Rattle.std.proofs.lemmas.List.Sums.{position_or_len_is}
 use Rattle.std.proofs.Math.ListN.{length-set}
 use Rattle.std.proofs.lemmas.Map.Made.{AllPairs-from_IsDistinct}
 use Rattle.std.proofs.lemmas.Option.{slice_get_within, slice_get-get_or, get_or_from_slice_get}
+use Rattle.sok_rules.proofs.Proper.{fails_at_each}
 use Rattle.sok_rules.proofs.Steps.{both}
 use lib.Pointwise.{pointwise}
 use Rattle.std.proofs.lemmas.Grind.{same_number_lists}
@@ -99,10 +98,6 @@ packed_eq-refl a =
 pub packed_decides : {N : ℕ} (a b : PackedKey N) → Decides (packed_eq a b) (a ≡ b)
 packed_decides a b = (same_packed_is a b, λ e. subst (λ k. packed_eq a k ≡ true) e (packed_eq-refl a))
 
--- a test that no element passes fails at each
-none_at : {X : Type 0} (p : X → Bool) (xs : List X) → list_any p xs ≡ false → (k : ℕ) (d : X) → k < length xs → p (get_or xs k d) ≡ false
-none_at p xs none k d within = false_from_ne_true (p (get_or xs k d)) (λ passes. true≢false (sym (list_any_at p xs k d within passes) ∙ none))
-
 -- an index of the list as which a table is seen is one of its depths
 pub depth-within : {N : ℕ} (keys : List (PackedKey N)) (depths : List ℕ) (seen : Entries) (index : ℕ) → ArePacked N keys depths → entries_of keys depths ≡ seen
     → index < length seen → index < length depths
@@ -149,7 +144,7 @@ module _ {N : ℕ} (keys : List (PackedKey N)) (depths : List ℕ) (packed : Are
       let within : k < length keys = omega (arith, inside, long) in
       let states = sym (state_at k (state_of key) key within) ∙ is in
       let found = same_packed N (get_or keys k key) key (fit_at k key within) of_words states in
-      true≢false (sym (packed_eq-refl key) ∙ ap (packed_eq key) (sym found) ∙ none_at (packed_eq key) keys none k key within)
+      true≢false (sym (packed_eq-refl key) ∙ ap (packed_eq key) (sym found) ∙ fails_at_each (packed_eq key) keys none k key within)
 
   pub GoesLast-packed : (key : PackedKey N) (depth index : ℕ) → IsOfWords N key → list_any (packed_eq key) keys ≡ false
       → index ≡ position_or_len (packed_eq key) keys → GoesLast (entries_of keys depths) (state_of key) depth index
@@ -157,7 +152,7 @@ module _ {N : ℕ} (keys : List (PackedKey N)) (depths : List ℕ) (packed : Are
   GoesLast-packed key depth index of_words none at = record {
     absent = absent-state key of_words none;
     last = at ∙ position_or_len_is (packed_eq key) keys (length keys) key (omega arith)
-        (λ k within. none_at (packed_eq key) keys none k key within) (λ within. absurd (omega (arith, within)))
+        (λ k within. fails_at_each (packed_eq key) keys none k key within) (λ within. absurd (omega (arith, within)))
         ∙ sym (length-entries_of keys depths packed.a_depth_each);
     more = entries_of-more keys depths key depth packed.a_depth_each;
   }

@@ -20,14 +20,6 @@ pub record IsUnpacked (words left squares : List ℕ) : Type 0 where
   pub below : (m n : ℕ) → Contains squares m → has_number left n ≡ true → m < n
   pub rising : IsStrictlyIncreasing squares
 
-pub IsUnpacked-none : (words : List ℕ) → IsUnpacked words words []
-IsUnpacked-none words = record {
-  whole = λ i. length words;
-  exact = λ n. (λ e. inr e, λ one. elim one [ inl (k, within, is) ↦ absurd (omega (arith, within)) | inr e ↦ e ]);
-  below = λ m n (k, within, is) e. absurd (omega (arith, within));
-  rising = λ k within. absurd (omega (arith, within));
-}
-
 rising-push : (xs : List ℕ) (x : ℕ) → IsStrictlyIncreasing xs → ((m : ℕ) → Contains xs m → m < x) → IsStrictlyIncreasing (xs ++ x ∷ [])
 rising-push xs x rising below = λ k within.
     let long = length_push xs x in

@@ -4,6 +4,7 @@ use Rattle.std.proofs.Common.{length, take, get_or, map, sym, ap, ◌∙◌, ref
 use Rattle.std.proofs.lemmas.Bool.{cases_Bool, eqb-true}
 use Rattle.std.proofs.lemmas.List.{append_assoc, append-nil, take_all, take_more, length-map}
 use Rattle.std.proofs.lemmas.List.Elements.{All-cons, All-head, All-nil, All-tail}
+use Rattle.std.proofs.lemmas.List.Sums.{AllPass-from_list_all}
 use Rattle.std.proofs.Math.ListN.{get_or-map}
 use Rattle.std.specs.List.{filter_map, list_all, list_any}
 use Rattle.std.specs.Str.Lines.{lines, strip_carriage_return}
@@ -99,10 +100,6 @@ cells-row_text : (row : List Cell) → filter_map cell_of (row_text row) ≡ row
 cells-row_text [] = refl
 cells-row_text (cell ∷ row) = cells_more cell (row_text row) ∙ ap (λ cells. cell ∷ cells) (cells-row_text row)
 
-both_hold : (p q : Bool) → (p && q) ≡ true → (p ≡ true) × (q ≡ true)
-both_hold true q e = (refl, e)
-both_hold false q e = absurd (true≢false (sym e))
-
 -- no character of XSB ends a line
 no_newline : (c : ℕ) → is_xsb c ≡ true → is_newline c ≡ false
 no_newline c xsb = elim (cases_Bool (c == 10)) [
@@ -116,14 +113,8 @@ no_return c xsb = elim (cases_Bool (c == 13)) [
   | inl return ↦ absurd (true≢false (sym xsb ∙ ap is_xsb (eqb-true c 13 return)))
 ]
 
-all_hold : (test : ℕ → Bool) (text : List ℕ) → list_all test text ≡ true → All (λ c. test c ≡ true) text
-all_hold test [] e = All-nil (λ c. test c ≡ true)
-all_hold test (c ∷ text) e =
-    let both = both_hold (test c) (list_all test text) e in
-    All-cons (λ d. test d ≡ true) c text both.0 (all_hold test text both.1)
-
 plain : (text : List ℕ) → list_all is_xsb text ≡ true → All (λ c. is_newline c ≡ false) text
-plain text xsb = λ k d within. no_newline (get_or text k d) (all_hold is_xsb text xsb k d within)
+plain text xsb = λ k d within. no_newline (get_or text k d) (AllPass-from_list_all is_xsb text xsb k d within)
 
 -- a line whose last byte is no CR is kept whole
 pub strip-kept : (text : List ℕ) → (get_or text (length text - 1) 0 == 13) ≡ false → strip_carriage_return text ≡ text
@@ -133,7 +124,7 @@ unstripped : (text : List ℕ) → list_all is_xsb text ≡ true → strip_carri
 unstripped [] xsb = refl
 unstripped (c ∷ text) xsb =
     let last = length (c ∷ text) - 1 in
-    strip-kept (c ∷ text) (no_return (get_or (c ∷ text) last 0) (all_hold is_xsb (c ∷ text) xsb last 0 (omega arith)))
+    strip-kept (c ∷ text) (no_return (get_or (c ∷ text) last 0) (AllPass-from_list_all is_xsb (c ∷ text) xsb last 0 (omega arith)))
 
 -- the lines of a level, and of what follows
 pub lines-level_text : (rows : Rows) (more : List ℕ) → lines (level_text rows ++ more) ≡ map row_text rows ++ lines more

@@ -58,11 +58,6 @@ other_kind false false other = absurd (true≢false other)
 pub not_empty : (text : List ℕ) → length text == 0 ≡ false → 0 < length text
 not_empty text full = grind (arith, nat_tests)
 
--- which kind a text begins with
-pub StartsWith-end : (kind : Bool) (text : List ℕ) → length text ≡ 0 → StartsWith kind (lines text)
-StartsWith-end kind [] none = tt
-StartsWith-end kind (byte ∷ text) none = absurd (omega arith)
-
 pub StartsWith-first : (kind : Bool) (text : List ℕ) → 0 < length text → is_board_line (first_line text) ≡ kind → StartsWith kind (lines text)
 StartsWith-first kind text some is = subst (StartsWith kind) (sym (lines-first text some)) is
 

@@ -1,41 +1,13 @@
 -- Titles, line by line and byte by byte.
-use Rattle.std.proofs.Common.{ℕ, ◌≡◌, ◌<◌, ◌+◌, List, [], ◌∷◌, Bool, true, false, Option, Some, None, if◌then◌else◌}
-use Rattle.std.proofs.Common.{codes, length, map, take, drop, get_or, find, reverse, sym, ap, ◌∙◌, refl}
-use Rattle.std.proofs.lemmas.List.{drop_more, reverse-append, reverse-reverse, take_more}
+use Rattle.std.proofs.Common.{ℕ, ◌≡◌, ◌<◌, List, [], ◌∷◌, Bool, true, false, Option, Some, None, if◌then◌else◌}
+use Rattle.std.proofs.Common.{codes, length, map, find, reverse, sym, ap, ◌∙◌, refl}
+use Rattle.std.proofs.lemmas.List.{reverse-append}
 use Rattle.std.proofs.lemmas.List.Folds.{find-append}
 use Rattle.std.specs.Option.{option_or}
 use Rattle.std.specs.Str.Lines.{lines}
 use Rattle.sok_text.specs.Lines.{first_line, after_line}
-use Rattle.sok_text.specs.Titles.{is_space, trimmed_front, trimmed_back, text_behind, title_after, first_text}
+use Rattle.sok_text.specs.Titles.{text_behind, title_after, first_text}
 use Rattle.sok_text.proofs.Lines.{lines-first}
-
--- a space at the front
-pub front_space : (text : List ℕ) (i : ℕ) → i < length text → is_space (get_or text i 0) ≡ true
-    → trimmed_front (drop i text) ≡ trimmed_front (drop (i + 1) text)
-front_space text i within space =
-    ap trimmed_front (drop_more text i 0 within) ∙ ap (λ b. if b then trimmed_front (drop (i + 1) text) else get_or text i 0 ∷ drop (i + 1) text) space
-
--- another byte at the front
-pub front_full : (text : List ℕ) (i : ℕ) → i < length text → is_space (get_or text i 0) ≡ false → trimmed_front (drop i text) ≡ drop i text
-front_full text i within full =
-    ap trimmed_front (drop_more text i 0 within) ∙ ap (λ b. if b then trimmed_front (drop (i + 1) text) else get_or text i 0 ∷ drop (i + 1) text) full
-    ∙ sym (drop_more text i 0 within)
-
-reverse-take_more : (text : List ℕ) (i : ℕ) → i < length text → reverse (take (i + 1) text) ≡ get_or text i 0 ∷ reverse (take i text)
-reverse-take_more text i within = ap reverse (take_more text i 0 within) ∙ reverse-append (take i text) (get_or text i 0 ∷ [])
-
--- a space at the back
-pub back_space : (text : List ℕ) (i : ℕ) → i < length text → is_space (get_or text i 0) ≡ true → trimmed_back (take (i + 1) text) ≡ trimmed_back (take i text)
-back_space text i within space =
-    ap (λ back. reverse (trimmed_front back)) (reverse-take_more text i within)
-    ∙ ap (λ b. reverse (if b then trimmed_front (reverse (take i text)) else get_or text i 0 ∷ reverse (take i text))) space
-
--- another byte at the back
-pub back_full : (text : List ℕ) (i : ℕ) → i < length text → is_space (get_or text i 0) ≡ false → trimmed_back (take (i + 1) text) ≡ take (i + 1) text
-back_full text i within full =
-    ap (λ back. reverse (trimmed_front back)) (reverse-take_more text i within)
-    ∙ ap (λ b. reverse (if b then trimmed_front (reverse (take i text)) else get_or text i 0 ∷ reverse (take i text))) full
-    ∙ ap reverse (sym (reverse-take_more text i within)) ∙ reverse-reverse (take (i + 1) text)
 
 or_last : (o : Option (List ℕ)) (b : Bool) (line : List ℕ) (last : Option (List ℕ))
     → option_or (option_or o (if b then Some line else None)) last ≡ option_or o (if b then Some line else last)

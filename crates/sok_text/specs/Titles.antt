@@ -8,14 +8,22 @@ use Rattle.sok_text.specs.Collections.{Block}
 abbrev pub is_space : ℕ → Bool
 is_space c = c == code (codes " ") || c == code (codes "\t")
 
+-- a text without the bytes at its front that pass a test
+abbrev pub without_front : (ℕ → Bool) → List ℕ → List ℕ
+without_front test [] = []
+without_front test (c ∷ text) = if test c then without_front test text else c ∷ text
+
+-- without those at its back
+abbrev pub without_back : (ℕ → Bool) → List ℕ → List ℕ
+without_back test text = reverse (without_front test (reverse text))
+
 -- without the spaces and tabs at its front
 abbrev pub trimmed_front : List ℕ → List ℕ
-trimmed_front [] = []
-trimmed_front (c ∷ text) = if is_space c then trimmed_front text else c ∷ text
+trimmed_front text = without_front is_space text
 
 -- without those at its back
 abbrev pub trimmed_back : List ℕ → List ℕ
-trimmed_back text = reverse (trimmed_front (reverse text))
+trimmed_back text = without_back is_space text
 
 -- without the spaces and tabs at both ends
 abbrev pub trimmed_text : List ℕ → List ℕ

@@ -5,7 +5,7 @@
 //! | `xsb` | the characters of a level's text, and which lines belong to a board |
 //! | `line` | the lines of a text, and runs of board lines and of notes |
 //! | `collection` | the levels of a text that has notes around them |
-//! | `title` | the titles that notes give to levels (private) |
+//! | `title` | the titles that notes give to levels; what is trimmed of them |
 //! | `print` | the canonical text of a level |
 //! | `lurd` | the letters of a text, and the marked text of letters |
 #![tactic(auto)]
@@ -14,5 +14,5 @@ pub mod collection;
 pub mod line;
 pub mod lurd;
 pub mod print;
-mod title;
+pub mod title;
 pub mod xsb;

@@ -80,7 +80,8 @@ fn trim(text: &[u8]) -> &[u8]
     trim_back(trim_front(text))
 }
 
-fn trim_front(text: &[u8]) -> &[u8]
+/// A text without the spaces and tabs at its front.
+pub fn trim_front(text: &[u8]) -> &[u8]
     ensures { result.now ≡ trimmed_front text.now }
 {
     let mut start = 0;
@@ -100,7 +101,8 @@ fn trim_back(text: &[u8]) -> &[u8]
     &text[..end]
 }
 
-fn is_space(byte: u8) -> bool
+/// Whether a byte is a space or a tab.
+pub fn is_space(byte: u8) -> bool
     ensures { result ≡ is_space byte }
 {
     byte == b' ' || byte == b'\t'

@@ -1,7 +1,7 @@
-use Rattle.std.proofs.Common.{◌≡◌, ◌∙◌, inl, inr, sym, subst, ap, arith, get_or, slice_get}
-use Rattle.std.proofs.lemmas.Bool.{cases_eq}
-use Rattle.std.proofs.lemmas.Option.{same_Some, slice_get_within, slice_get-get_or}
+use Rattle.std.proofs.Common.{subst, arith, get_or}
+use Rattle.std.proofs.lemmas.Option.{slice_get_within, slice_get-get_or}
 use Rattle.sok_cert.specs.Lookup.{IsFound, TellsFound}
+use Rattle.sok_cert.proofs.Entered.{before_more}
 use Rattle.sok_cert.proofs.Looking.{no_push}
 use Rattle.sok_cert.proofs.following.first_missing.Goals as goal
 
@@ -21,17 +21,12 @@ returns-then-not-branch c =
     )
 
 pub loop-place-preserved : goal.loop-place-preserved
-loop-place-preserved c = λ i push below there.
+loop-place-preserved c =
     let at = c.loop-place.place in
     let here = get_or c.args.pushes.now at no_push in
-    elim (cases_eq i at) [
-      | inl same ↦
-          let is : here ≡ push = same_Some here push (sym (slice_get-get_or c.args.pushes.now at no_push c.loop-place-test.true) ∙ ap
-          (slice_get c.args.pushes.now) (sym same) ∙ there) in
-          subst (IsFound c.args.board.now c.args.table.now c.args.key.now c.args.depth) is
-          (subst (TellsFound c.args.board.now c.args.table.now c.args.key.now c.args.depth here) c.if-not-branch.false c.in_ok-is_found.ensures)
-      | inr other ↦ c.loop-place.invariant i push (omega (arith, below, other)) there
-    ]
+    before_more (λ _ push. IsFound c.args.board.now c.args.table.now c.args.key.now c.args.depth push) c.args.pushes.now at here
+    (slice_get-get_or c.args.pushes.now at no_push c.loop-place-test.true) c.loop-place.invariant
+    (subst (TellsFound c.args.board.now c.args.table.now c.args.key.now c.args.depth here) c.if-not-branch.false c.in_ok-is_found.ensures)
 
 pub returns : goal.returns
 returns c = λ i push there.

@@ -1,5 +1,6 @@
 use Rattle.std.proofs.Common.{◌≡◌, ◌≤◌, length, take}
-use Rattle.sok_page.specs.Titles.{is_end_blank, without_back}
+use Rattle.sok_text.specs.Titles.{without_back}
+use Rattle.sok_page.specs.Titles.{is_end_blank}
 use Rattle.sok_page.proofs.title.without_blanks_at_back.Given as goal
 
 abbrev pub invariant-loop-end : goal.invariant-loop-end

@@ -4,7 +4,7 @@ use Rattle.sok_rules.specs.Squares.{Rows, holds, is_open, is_box, is_goal}
 use Rattle.sok_rules.specs.Play.{moved}
 use Rattle.sok_rules.specs.Scene.{IsScene, SameGround, with_occupant}
 use Rattle.sok_rules.specs.Levels.{cells_of}
-use Rattle.sok_rules.proofs.Scenes.{LeadsTo, IsScene-LeadsTo, SameGround-after, SameGround-refl, start-LeadsTo, shifts, man_open, some_astray, few_astray}
+use Rattle.sok_rules.proofs.Scenes.{Redraws, IsScene-Redraws, SameGround-after, SameGround-refl, start-Redraws, shifts, man_open, some_astray, few_astray}
 use Rattle.sok_rules.proofs.scene.Scene.shift.Goals as goal
 
 pub put-requires : goal.put-requires
@@ -54,7 +54,7 @@ astray_after-self-inside-requires-clause-some c =
 pub astray_after-self-inside-requires-clause-few : goal.astray_after-self-inside-requires-clause-few
 astray_after-self-inside-requires-clause-few c = omega (arith, few_astray _ _ _ c.self.invariant)
 
-leads : (c : goal.After-self-1) → LeadsTo c.args.self.now (cells_of c.put-2.new.cells.items) c.args.man
+leads : (c : goal.After-self-1) → Redraws c.args.self.now (cells_of c.put-2.new.cells.items) c.args.man
     (moved (holds is_box c.args.self.now) c.args.from c.args.to) c.astray_after-self-inside.result
 leads c =
     let now = c.args.self.now in
@@ -71,7 +71,7 @@ leads c =
     ≡ astray + (if holds is_goal now c.args.to then 0 else 1) =
     ap (λ b. c.astray_after-self-inside.result + (if b then 0 else 1)) (sym left_goal) ∙ c.astray_after-self-inside.ensures
     ∙ ap (λ b. astray + (if b then 0 else 1)) meets_goal in
-    subst (λ new. LeadsTo now new c.args.man (moved (holds is_box now) c.args.from c.args.to) c.astray_after-self-inside.result)
+    subst (λ new. Redraws now new c.args.man (moved (holds is_box now) c.args.from c.args.to) c.astray_after-self-inside.result)
     (ap (λ rows. with_occupant (with_occupant (with_occupant (with_occupant rows man Nobody) c.args.from Nobody) c.args.to Box) c.args.man Man)
     (sym c.self.view_is)
     ∙ ap (λ rows. with_occupant (with_occupant (with_occupant rows c.args.from Nobody) c.args.to Box) c.args.man Man) (sym c.put.ensures.cells)
@@ -83,12 +83,12 @@ leads c =
 
 pub invariant_of-self : goal.invariant_of-self
 invariant_of-self c =
-    IsScene-LeadsTo c.args.self.now _ c.self.inside.man c.args.man (moved (holds is_box c.args.self.now) c.args.from c.args.to) c.self.inside.astray _
+    IsScene-Redraws c.args.self.now _ c.self.inside.man c.args.man (moved (holds is_box c.args.self.now) c.args.from c.args.to) c.self.inside.astray _
     (subst (λ rows. IsScene rows c.self.inside.man c.self.inside.astray) c.self.view_is c.self.invariant) (leads c)
 
 pub returns-clause-ground : goal.returns-clause-ground
 returns-clause-ground c = (leads c).ground
 
 pub returns-clause-position : goal.returns-clause-position
-returns-clause-position c = start-LeadsTo c.args.self.now _ c.args.man
+returns-clause-position c = start-Redraws c.args.self.now _ c.args.man
     (moved (holds is_box c.args.self.now) c.args.from c.args.to) c.astray_after-self-inside.result (leads c)

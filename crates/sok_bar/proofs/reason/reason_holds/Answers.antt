@@ -2,11 +2,10 @@ use Rattle.std.proofs.Common.{ℕ, ◌∙◌, ◌↔◌, ap, sym, subst, List, B
 use Rattle.sok_rules.specs.declared.fault.Memory.{Memory}
 use Rattle.sok_board.specs.Area.{Numbered}
 use Rattle.sok_bar.specs.declared.rest.Rest.{Rest}
-use Rattle.sok_bar.specs.Bars.{Bars}
+use Rattle.sok_bar.specs.Bars.{Bars, barring}
 use Rattle.sok_entry.specs.declared.entry.Reason.{Reason}
 use Rattle.sok_entry.specs.declared.entry.Reason.TheVariants.{Bound, Crowd, Frozen}
-use Rattle.sok_cert.specs.Closed.{barring}
-use Rattle.sok_cert.proofs.reason.reason_holds.Goals as goal
+use Rattle.sok_bar.proofs.reason.reason_holds.Goals as goal
 
 -- what is told of a reason
 abbrev Tells : Numbered → List ℕ → Rest → Result Bool Memory → Reason → Type 0
