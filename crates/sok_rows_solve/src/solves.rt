@@ -11,6 +11,7 @@ use sok_rules::play::replay;
 use sok_search::fault::SolveFault;
 use sok_search::outcome::Outcome;
 use sok_search::solve::solve;
+use sok_sketch::rooms::{ROOM_OF_1024, Room};
 use sok_sketch::sketch::{self, level};
 use std::alloc::Global;
 use std::process::Abort;
@@ -104,6 +105,20 @@ fn fewest_pushes(rt: HostRuntime) -> Result<(), Fail> {
         (LOWERED, 1_000, Some(7)),
     ] {
         assert_eq!(rt; pushes_of(&rt, rt.alloc(), board, limit)?, pushes);
+    }
+    Ok(())
+}
+
+/// Rooms of 96, 160 and 1,024 squares, with the box beside the goal.
+#[test]
+fn large_rooms(rt: HostRuntime) -> Result<(), Fail> {
+    for times in [2, 4, 31] {
+        let room = Room {
+            times,
+            ..ROOM_OF_1024
+        };
+        let board = room.text(rt.alloc())?;
+        assert_eq!(rt; pushes_of(&rt, rt.alloc(), board.as_str(), 3)?, Some(1));
     }
     Ok(())
 }

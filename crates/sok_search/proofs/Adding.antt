@@ -1,35 +1,40 @@
 -- What the table and the notes tell of a state that is added, and what is known of one that was taken.
-use Rattle.std.proofs.Common.{ℕ, ◌≡◌, ◌<◌, ◌≤◌, ◌+◌, ◌∙◌, inl, inr, ap, subst, [], ◌∷◌, ◌++◌, Some, Contains, arith, length, slice_get}
+use Rattle.std.proofs.Common.{ℕ, ◌≡◌, ◌<◌, ◌≤◌, ◌+◌, ◌∙◌, ap, subst, Bool, true, false, [], ◌∷◌, Some, arith, length, slice_get}
 use Rattle.std.specs.Map.{keys_of, values_of}
 use Rattle.std.proofs.lemmas.List.{map-append}
-use Rattle.sok_board.specs.Area.{Numbered}
-use Rattle.sok_board.proofs.Lists.{Contains-at}
+use Rattle.std.proofs.lemmas.Option.{none-some}
+use Rattle.sok_board.specs.Area.{Numbered, IsAccepted}
 use Rattle.sok_state.specs.declared.key.Key.{Key}
+use Rattle.sok_state.specs.declared.push.Push.{Push}
 use Rattle.sok_state.specs.Keys.{IsKey}
-use Rattle.sok_state.specs.Tables.{Entries, GoesLast, Inserts, IsAt}
+use Rattle.sok_state.specs.Layouts.{IsLaidOut, Laid}
+use Rattle.sok_state.specs.Pushes.{IsLegal}
+use Rattle.sok_state.specs.Tables.{Entries, Enters, GoesLast, IsAt}
 use Rattle.sok_search.specs.declared.note.Note.{Note}
 use Rattle.sok_search.specs.Searches.{Progress, IsNoted, IsSearch}
-use Rattle.sok_search.specs.Steps.{IsAdded, Queues, holding}
+use Rattle.sok_search.specs.Steps.{IsAdded, IsListed, Queues, holding}
+use Rattle.sok_search.specs.Trials.{IsPushable}
 use Rattle.sok_search.proofs.Knowing.{key-within, some-at}
 
-goes_last : (old new : Entries) (key : Key) (depth index : ℕ) → (Contains (keys_of old) key → ⊥) → Inserts old key depth index new
-    → GoesLast old key depth index new
-goes_last old new key depth index absent (inl stays) = absurd (absent (Contains-at (keys_of old) key index stays.there))
-goes_last old new key depth index absent (inr last) = last
-
-pub added-made : (p q : Progress) (key : Key) (depth index : ℕ) (note : Note) → (Contains (keys_of p.table) key → ⊥)
-    → Inserts p.table key depth index q.table → q.notes ≡ p.notes ++ note ∷ [] → Queues note.standing index p.queue q.queue → q.best ≡ p.best
-    → IsAdded p key depth note q
-added-made p q key depth index note absent inserts notes queue best =
-    let last = goes_last p.table q.table key depth index absent inserts in
+-- a state that went last into the table, and is noted, is added
+pub added-made : (p : Progress) (room : ℕ) (table : Entries) (q : Progress) (key : Key) (depth index : ℕ) (note : Note) → room ≡ p.room
+    → GoesLast p.table key depth index table → IsListed (record p { room = room; table = table }) index note q → IsAdded p key depth note q
+added-made p room table q key depth index note same last listed =
     let entry : Key × ℕ = (key, depth) in
     record {
-      keys = ap keys_of last.more ∙ map-append (λ (one : Key × ℕ). one.0) p.table (entry ∷ []);
-      depths = ap values_of last.more ∙ map-append (λ (one : Key × ℕ). one.1) p.table (entry ∷ []);
-      notes = notes;
-      queue = subst (λ i. Queues note.standing i p.queue q.queue) last.last queue;
-      best = best;
+      room = listed.room ∙ same;
+      keys = ap keys_of listed.table ∙ ap keys_of last.more ∙ map-append (λ (one : Key × ℕ). one.0) p.table (entry ∷ []);
+      depths = ap values_of listed.table ∙ ap values_of last.more ∙ map-append (λ (one : Key × ℕ). one.1) p.table (entry ∷ []);
+      notes = listed.notes;
+      queue = subst (λ i. Queues note.standing i p.queue q.queue) last.last listed.queue;
+      best = listed.best;
     }
+
+-- the first state is new
+pub first-last : (old new : Entries) (key : Key) (depth index : ℕ) (is_new : Bool) → old ≡ [] → Enters old key depth index is_new new
+    → GoesLast [] key depth index new
+first-last old new key depth index true none last = subst (λ es. GoesLast es key depth index new) none last
+first-last old new key depth index false none stays = absurd (none-some key (subst (λ es. IsAt es key index) none stays.there))
 
 -- the state that was taken
 pub record IsTaken (b : Numbered) (p : Progress) (index : ℕ) (key : Key) (depth : ℕ) : Type 0 where
@@ -48,6 +53,16 @@ taken b limit index p key depth search there depth_is =
 pub taken-key : (b : Numbered) (limit index : ℕ) (p : Progress) (key : Key) (depth : ℕ) → IsSearch b limit (holding index p) → IsAt p.table key index
     → slice_get (values_of p.table) index ≡ Some depth → IsKey b key
 taken-key b limit index p key depth search there depth_is = (taken b limit index p key depth search there depth_is).noted.state
+
+-- so a push from it can be made
+pub taken-pushable : (b : Numbered) → IsAccepted b → (limit index : ℕ) (p : Progress) (key : Key) (depth : ℕ) → IsSearch b limit (holding index p)
+    → IsAt p.table key index → slice_get (values_of p.table) index ≡ Some depth → (push : Push) → IsLegal b key push → (layout : Laid)
+    → IsLaidOut b key.boxes layout → IsPushable b push layout key
+taken-pushable b accepted limit index p key depth search there depth_is push legal layout laid =
+    let one = taken b limit index p key depth search there depth_is in
+    let as_many = one.noted.as_many in
+    let few = accepted.few_boxes in
+    record { state = one.noted.state; few = omega (arith, as_many, few); legal = legal; laid = laid }
 
 -- its depth is below the limit
 pub taken-deep : (b : Numbered) (limit index : ℕ) (p : Progress) (key : Key) (depth : ℕ) → IsSearch b limit (holding index p) → IsAt p.table key index

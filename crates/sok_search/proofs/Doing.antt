@@ -35,6 +35,7 @@ keeps-done b limit p index key depth note notes best search there depth_is note_
     let q = done p notes best in
     let count = search.a_note_each in
     keeps b limit (holding index p) q search (record {
+      room = refl;
       distinct = search.distinct;
       a_note_each = omega (arith, as_many, count);
       few = search.few;
@@ -135,6 +136,7 @@ queues-holding Dead index i old new queues = ap (λ queue. index ∷ queue) queu
 pub added-holding : (index : ℕ) (p : Progress) (key : Key) (depth : ℕ) (note : Note) (q : Progress) → IsAdded p key depth note q
     → IsAdded (holding index p) key depth note (holding index q)
 added-holding index p key depth note q added = record {
+  room = added.room;
   keys = added.keys;
   depths = added.depths;
   notes = added.notes;
@@ -146,6 +148,7 @@ added-holding index p key depth note q added = record {
 pub changed-holding : (index : ℕ) (p : Progress) (at depth : ℕ) (note : Note) (q : Progress) → IsChanged p at depth note q
     → IsChanged (holding index p) at depth note (holding index q)
 changed-holding index p at depth note q changed = record {
+  room = changed.room;
   keys = changed.keys;
   depths = changed.depths;
   notes = changed.notes;

@@ -1,5 +1,5 @@
 -- What holds of a search holds after each step.
-use Rattle.std.proofs.Common.{ℕ, ◌≡◌, ◌<◌, ◌≤◌, ◌+◌, ◌∙◌, ◌⊎◌, inl, inr, ap, List, Option, Some, None}
+use Rattle.std.proofs.Common.{ℕ, ◌≡◌, ◌<◌, ◌≤◌, ◌+◌, ◌∙◌, ◌⊎◌, inl, inr, refl, ap, List, Option, Some, None}
 use Rattle.std.proofs.Common.{Contains, arith, length}
 use Rattle.std.specs.Option.{IfSome}
 use Rattle.sok_board.specs.Area.{Numbered}
@@ -105,6 +105,7 @@ best-along b p q grows (Some k) one = solved-along b p q grows k one
 
 -- a step after which each state is as it was, or is noted anew
 pub record IsStep (b : Numbered) (limit : ℕ) (p q : Progress) : Type 0 where
+  pub room : q.room ≡ p.room
   pub distinct : HasDistinctKeys q.table
   pub a_note_each : length q.notes ≡ length q.table
   pub few : length q.table ≤ limit
@@ -116,6 +117,7 @@ pub record IsStep (b : Numbered) (limit : ℕ) (p q : Progress) : Type 0 where
 
 pub keeps : (b : Numbered) (limit : ℕ) (p q : Progress) → IsSearch b limit p → IsStep b limit p q → IsSearch b limit q
 keeps b limit p q search after = record {
+  wide = let wide = search.wide in let room = after.room in omega (arith, wide, room);
   distinct = after.distinct;
   a_note_each = after.a_note_each;
   few = after.few;
@@ -136,6 +138,7 @@ pub keeps-queue : (b : Numbered) (limit : ℕ) (p : Progress) (queue : List ℕ)
 keeps-queue b limit p queue search queued each =
     let q : Progress = record p { queue = queue } in
     keeps b limit p q search (record {
+      room = refl;
       distinct = search.distinct;
       a_note_each = search.a_note_each;
       few = search.few;

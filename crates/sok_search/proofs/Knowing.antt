@@ -1,5 +1,5 @@
 -- States of a search by their indices.
-use Rattle.std.proofs.Common.{ℕ, ◌≡◌, ◌<◌, ◌⊎◌, ◌∙◌, inl, inr, refl, sym, subst, List, [], ◌∷◌, ◌++◌, Some, zero, suc, arith, length, slice_get}
+use Rattle.std.proofs.Common.{ℕ, ◌≡◌, ◌<◌, ◌≤◌, ◌⊎◌, ◌∙◌, inl, inr, refl, sym, subst, List, [], ◌∷◌, ◌++◌, Some, zero, suc, arith, length, slice_get}
 use Rattle.std.specs.Map.{keys_of, values_of}
 use Rattle.std.proofs.lemmas.Option.{none-some, same_Some, slice_get_within}
 use Rattle.std.proofs.lemmas.List.{length-map}
@@ -64,3 +64,12 @@ state-noted b limit p search i key there =
     let known = known-at b limit p search i (key-within p i key there) in
     let noted = search.noted i known.key known.depth known.note known.state in
     subst (IsKey b) (same_Some known.key key (sym known.state.there ∙ there)) noted.state
+
+-- and has few boxes
+pub state-few : (b : Numbered) → IsAccepted b → (limit : ℕ) (p : Progress) → IsSearch b limit p → (i : ℕ) (key : Key) → IsAt p.table key i
+    → length key.boxes ≤ 128
+state-few b accepted limit p search i key there =
+    let known = known-at b limit p search i (key-within p i key there) in
+    let as_many = (search.noted i known.key known.depth known.note known.state).as_many in
+    let few = accepted.few_boxes in
+    subst (λ (k : Key). length k.boxes ≤ 128) (same_Some known.key key (sym known.state.there ∙ there)) (omega (arith, as_many, few))

@@ -1,5 +1,5 @@
 -- A search that knows the start alone.
-use Rattle.std.proofs.Common.{ℕ, ◌≡◌, ◌≢◌, ◌<◌, ◌∙◌, inl, inr, sym, ap, subst, [], ◌∷◌, Some, None, AllPairs, arith, length, slice_get}
+use Rattle.std.proofs.Common.{ℕ, ◌≡◌, ◌≢◌, ◌<◌, ◌≤◌, ◌∙◌, inl, inr, sym, ap, subst, [], ◌∷◌, Some, None, AllPairs, arith, length, slice_get}
 use Rattle.std.specs.Option.{IfSome}
 use Rattle.std.proofs.lemmas.Option.{same_Some, slice_get_within}
 use Rattle.sok_rules.specs.Play.{start}
@@ -11,8 +11,8 @@ use Rattle.sok_search.specs.Searches.{Progress, IsCome, IsNoted, IsSearch, IsSol
 use Rattle.sok_search.specs.Steps.{IsAdded, IsJudged}
 use Rattle.sok_search.proofs.Changing.{key_count, queues-cases, stands-judged}
 
-abbrev pub nothing : Progress
-nothing = record { table = []; notes = []; queue = []; best = None }
+abbrev pub nothing : ℕ → Progress
+nothing room = record { room = room; table = []; notes = []; queue = []; best = None }
 
 -- with one element, it stands first
 only : {X : Type 0} (x : X) (i : ℕ) (y : X) → slice_get (x ∷ []) i ≡ Some y → (i ≡ 0) × (x ≡ y)
@@ -21,7 +21,8 @@ only x i y there =
     let first : i ≡ 0 = omega (arith, within) in
     (first, same_Some x y (ap (slice_get (x ∷ [])) (sym first) ∙ there))
 
-module _ (b : Numbered) (limit : ℕ) (positive : 0 < limit) (key : Key) (note : Note) (q : Progress) (added : IsAdded nothing key 0 note q)
+module _ (b : Numbered) (limit room : ℕ) (positive : 0 < limit) (wide : length b.area ≤ room) (key : Key) (note : Note) (q : Progress)
+    (added : IsAdded (nothing room) key 0 note q)
     (state : IsKey b key) (is : IsKeyOf b (start b.rows) key) (as_many : length key.boxes ≡ length (boxes_of b))
     (origin : note.origin ≡ None) (judged : IsJudged b key.boxes note.standing) where
   noted : IsNoted b q 0 key 0 note
@@ -39,6 +40,7 @@ module _ (b : Numbered) (limit : ℕ) (positive : 0 < limit) (key : Key) (note :
       let keys = ap length added.keys in
       let notes = ap length added.notes in
       record {
+        wide = let same = added.room in omega (arith, wide, same);
         distinct = subst (AllPairs (λ k other. k ≢ other)) (sym added.keys) (λ i j d below within. absurd (omega (arith, below, within)));
         a_note_each = omega (arith, count, keys, notes);
         few = omega (arith, count, keys, positive);

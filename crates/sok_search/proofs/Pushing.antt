@@ -1,5 +1,5 @@
 -- A push is followed: the state that it leads to is added, comes nearer, or stays.
-use Rattle.std.proofs.Common.{ℕ, ◌≡◌, ◌<◌, ◌≤◌, ◌+◌, ◌∙◌, sym, ap, subst, [], ◌∷◌, ◌++◌, Some, Contains, arith, length, slice_get}
+use Rattle.std.proofs.Common.{ℕ, ◌≡◌, ◌<◌, ◌≤◌, ◌+◌, ◌∙◌, inl, inr, refl, sym, ap, subst, [], ◌∷◌, ◌++◌, Some, Contains, arith, length, slice_get}
 use Rattle.std.specs.Map.{keys_of, values_of}
 use Rattle.std.proofs.lemmas.Option.{same_Some, slice_get_within}
 use Rattle.sok_rules.specs.Play.{Position}
@@ -10,15 +10,16 @@ use Rattle.sok_state.specs.declared.key.Key.{Key}
 use Rattle.sok_state.specs.declared.push.Push.{Push}
 use Rattle.sok_state.specs.Keys.{IsKey, IsKeyOf}
 use Rattle.sok_state.specs.Pushes.{IsLegal, LeadsTo}
-use Rattle.sok_state.specs.Tables.{IsAt}
+use Rattle.sok_state.specs.Tables.{Entries, IsAt, Stays}
 use Rattle.sok_search.specs.declared.note.Note.{Note}
 use Rattle.sok_search.specs.declared.note.Standing.{Standing}
 use Rattle.sok_search.specs.declared.note.Standing.TheVariants.{Open, Expanded, Dead}
 use Rattle.sok_search.specs.Searches.{Progress, IsCome, IsFrom, IsNoted, IsSearch, IsState, Stands}
-use Rattle.sok_search.specs.Steps.{IsAdded, IsChanged, IsJudged, IsPushed, holding, reopened}
+use Rattle.sok_search.specs.Steps.{IsAdded, IsChanged, IsJudged, IsPushed, Nears, holding, reopened}
 use Rattle.sok_search.proofs.Doing.{added-holding, changed-holding, work-added, work-changed}
 use Rattle.sok_search.proofs.Changing.{added-grows, changed-grows, depth_count, keeps-added, keeps-changed, key_count, set_other, set_same}
-use Rattle.sok_search.proofs.Knowing.{key-within}
+use Rattle.sok_search.proofs.Keeping.{Grows-refl}
+use Rattle.sok_search.proofs.Knowing.{key-within, some-at}
 
 -- what is open again is judged as before
 judged-reopened : (b : Numbered) (p : Progress) (i : ℕ) (key : Key) (depth : ℕ) (s : Standing) → Stands b p i key depth s → IsJudged b key.boxes (reopened s)
@@ -140,3 +141,33 @@ module _ (b : Numbered) (limit index : ℕ) (p : Progress) (search : IsSearch b 
             };
             no_more = work-changed limit (holding index p) at old (depth + 1) note (holding index q) more state.depth_is lower;
           }
+
+    -- it stays
+    pub pushed-stays : old ≤ depth + 1 → IsPushed b limit (holding index p) key depth push (holding index p)
+    pushed-stays near = record {
+      search = search;
+      grows = Grows-refl p.table;
+      stay = λ i k deep n shallow s. s;
+      found = record { next = next; is = is; index = at; there = state.there; deep = old; depth_is = state.depth_is; near = near };
+      no_more = omega arith;
+    }
+
+  pushed-nears : (at : ℕ) → IsAt p.table next at → (q : Progress) → Nears p at (depth + 1) (Some (record { parent = index; push = push })) q
+      → IsPushed b limit (holding index p) key depth push (holding index q)
+  pushed-nears at at_is q (inl stays) =
+      let held = key-within p at next at_is in
+      let many = search.a_note_each in
+      let (other, other_is) = some-at p.notes at (omega (arith, held, many)) in
+      let state : IsState p at next stays.old other = record { there = at_is; depth_is = stays.depth_is; note_is = other_is } in
+      subst (λ r. IsPushed b limit (holding index p) key depth push (holding index r)) (sym stays.same) (pushed-stays at stays.old other state stays.near)
+  pushed-nears at at_is q (inr nearer) =
+      let state : IsState p at next nearer.old nearer.was = record { there = at_is; depth_is = nearer.depth_is; note_is = nearer.note_is } in
+      pushed-changed at nearer.old nearer.was state nearer.nearer _ refl refl q nearer.changed
+
+  -- it is known already, in a table that is as it was
+  pub pushed-known : (at room : ℕ) (table : Entries) → room ≡ p.room → Stays p.table next at table → (q : Progress)
+      → Nears (record p { room = room; table = table }) at (depth + 1) (Some (record { parent = index; push = push })) q
+      → IsPushed b limit (holding index p) key depth push (holding index q)
+  pushed-known at room table same stays q nears =
+      let whole : record p { room = room; table = table } ≡ p = λ i. record p { room = same i; table = stays.unchanged i } in
+      pushed-nears at stays.there q (subst (λ r. Nears r at (depth + 1) (Some (record { parent = index; push = push })) q) whole nears)

@@ -13,15 +13,20 @@ use Rattle.sok_field.specs.Fields.{has, IsFirstSquare}
 use Rattle.sok_field.specs.Numbers.{Draws}
 use Rattle.sok_field.specs.Trails.{Leads}
 use Rattle.sok_field.proofs.Drawings.{first-is-least}
-use Rattle.sok_region.specs.BoxSets.{IsMoved}
+use Rattle.sok_region.specs.BoxSets.{IsMoved, put_in_order}
 use Rattle.sok_region.specs.Regions.{IsPlaced}
+use Rattle.sok_region.proofs.Moves.{IsBoxList-put, IsMoved-put}
 use Rattle.sok_region.proofs.Regions.{IsStanding-placed, placed_boxes, through-exact}
 use Rattle.sok_region.proofs.Walks.{not_listed, run-trail, trail-run}
 use Rattle.sok_state.specs.declared.key.Key.{Key}
 use Rattle.sok_state.specs.declared.push.Push.{Push}
 use Rattle.sok_state.specs.Keys.{IsKey, IsKeyOf}
+use Rattle.sok_state.specs.Layouts.{Laid}
 use Rattle.sok_state.specs.Pushes.{IsLegal}
 use Rattle.sok_state.proofs.LegalPushes.{IsPlaced-after, clear-legal, clear_ahead}
+use Rattle.sok_state.proofs.Placed.{same_rising}
+use Rattle.sok_search.specs.Stores.{IsNext}
+use Rattle.sok_search.specs.Trials.{IsLedTo, IsPushable}
 
 -- a box that is moved back
 pub moved-back : (boxes after : List ℕ) (from to : ℕ) → Contains boxes from → (Contains boxes to → ⊥) → IsMoved boxes from to after
@@ -53,6 +58,41 @@ clear-after b accepted key push ahead state legal ahead_is =
 pub placed-after : (b : Numbered) → IsAccepted b → (key : Key) (push : Push) (ahead : ℕ) (boxes : List ℕ) → IsKey b key → IsLegal b key push
     → beside b push.from push.dir ≡ Some ahead → IsMoved key.boxes push.from ahead boxes → IsStrictlyIncreasing boxes → IsPlaced b boxes push.from
 placed-after b accepted key push ahead boxes state legal = IsPlaced-after b accepted.numbered key state.is.placed push ahead boxes legal
+
+-- the state after a push, with its boxes put in order
+abbrev pub next_of : Key → ℕ → ℕ → ℕ → Key
+next_of key from to least = record { boxes = put_in_order from to key.boxes; least = least }
+
+pub next-made : (b : Numbered) → IsAccepted b → (key : Key) (push : Push) (to least : ℕ) (layout : Laid) → IsPushable b push layout key
+    → beside b push.from push.dir ≡ Some to
+    → IsNext key push.from to least (next_of key push.from to least) × (length (next_of key push.from to least).boxes ≡ length key.boxes)
+next-made b accepted key push to least layout can ahead =
+    let placed = can.state.is.placed in
+    let there = (clear-legal b accepted.numbered key placed push can.legal).0 in
+    let (list, as_many) = IsBoxList-put push.from to key.boxes placed.rising can.few there (clear-after b accepted key push to can.state can.legal ahead) in
+    (record { moved = IsMoved-put push.from to key.boxes; rising = list.rising; least_is = refl }, as_many)
+
+-- what is known of it
+pub record ComesNext (b : Numbered) (key : Key) (push : Push) (to least : ℕ) : Type 0 where
+  pub is : IsNext key push.from to least (next_of key push.from to least)
+  pub as_many : length (next_of key push.from to least).boxes ≡ length key.boxes
+  pub came : IsLedTo b key push (next_of key push.from to least)
+
+pub comes-next : (b : Numbered) → IsAccepted b → (key : Key) (push : Push) (to least : ℕ) (layout : Laid) → IsPushable b push layout key
+    → beside b push.from push.dir ≡ Some to
+    → ((other next : Key) → IsPushable b push layout other → IsNext other push.from to least next → IsLedTo b other push next)
+    → ComesNext b key push to least
+comes-next b accepted key push to least layout can ahead comes =
+    let (is, as_many) = next-made b accepted key push to least layout can ahead in
+    record { is = is; as_many = as_many; came = comes key (next_of key push.from to least) can is }
+
+-- a state has one that comes next
+pub next-same : (key : Key) (from to least : ℕ) (one other : Key) → IsNext key from to least one → IsNext key from to least other → one ≡ other
+next-same key from to least one other is also =
+    let boxes = same_rising one.boxes other.boxes is.rising also.rising (λ s here. (also.moved s).1 ((is.moved s).0 here))
+    (λ s here. (is.moved s).1 ((also.moved s).0 here)) in
+    let number = is.least_is ∙ sym also.least_is in
+    λ i. record { boxes = boxes i; least = number i }
 
 module _ (b : Numbered) (accepted : IsAccepted b) (boxes : List ℕ) (player : ℕ) (free seen : List ℕ) (placed : IsPlaced b boxes player)
     (drawn : Draws b (λ n. Contains boxes n → ⊥) free)

@@ -17,8 +17,10 @@ use Rattle.sok_search.specs.declared.note.Standing.{Standing}
 use Rattle.sok_search.specs.declared.note.Standing.TheVariants.{Open, Expanded, Dead}
 use Rattle.sok_search.specs.Limits.{state_limit}
 
--- the known states with their depths, a note of each, the indices that wait, and the least depth at which a solved state was taken
+-- how many squares there is room for, the known states with their depths, a note of each, the indices that wait, and the least depth at which a solved
+-- state was taken
 pub record Progress : Type 0 where
+  pub room : ℕ
   pub table : Entries
   pub notes : List Note
   pub queue : List ℕ
@@ -99,6 +101,7 @@ pub record IsSolvedIn (b : Numbered) (p : Progress) (k : ℕ) : Type 0 where
 
 -- all that is known
 pub record IsSearch (b : Numbered) (limit : ℕ) (p : Progress) : Type 0 where
+  pub wide : length b.area ≤ p.room
   pub distinct : HasDistinctKeys p.table
   pub a_note_each : length p.notes ≡ length p.table
   pub few : length p.table ≤ limit

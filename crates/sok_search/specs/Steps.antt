@@ -1,5 +1,5 @@
 -- What a search does: a state is added, or comes nearer, or is expanded.
-use Rattle.std.specs.Prelude.{ℕ, ◌≡◌, ◌≤◌, ◌+◌, ◌-◌, ◌*◌, ◌⊎◌, ◌↔◌, List, [], ◌∷◌, ◌++◌, Option, Some, Contains, length, slice_get, slice_set, sum_by}
+use Rattle.std.specs.Prelude.{ℕ, ◌≡◌, ◌<◌, ◌≤◌, ◌+◌, ◌-◌, ◌*◌, ◌⊎◌, ◌↔◌, List, [], ◌∷◌, ◌++◌, Option, Some, Contains, length, slice_get, slice_set, sum_by}
 use Rattle.std.specs.Map.{keys_of, values_of}
 use Rattle.sok_board.specs.Area.{Numbered}
 use Rattle.sok_state.specs.declared.key.Key.{Key}
@@ -7,6 +7,7 @@ use Rattle.sok_state.specs.declared.push.Push.{Push}
 use Rattle.sok_state.specs.Tables.{Entries, IsAt}
 use Rattle.sok_cert.specs.Lookup.{IsFound}
 use Rattle.sok_search.specs.declared.note.Note.{Note}
+use Rattle.sok_search.specs.declared.note.Origin.{Origin}
 use Rattle.sok_search.specs.declared.note.Standing.{Standing}
 use Rattle.sok_search.specs.declared.note.Standing.TheVariants.{Open, Expanded, Dead}
 use Rattle.sok_search.specs.Searches.{Progress, HasPrices, IsDead, IsSearch, IsState}
@@ -29,6 +30,7 @@ Queues Dead index old new = new ≡ old
 
 -- a state is added
 pub record IsAdded (p : Progress) (key : Key) (depth : ℕ) (note : Note) (q : Progress) : Type 0 where
+  pub room : q.room ≡ p.room
   pub keys : keys_of q.table ≡ keys_of p.table ++ key ∷ []
   pub depths : values_of q.table ≡ values_of p.table ++ depth ∷ []
   pub notes : q.notes ≡ p.notes ++ note ∷ []
@@ -37,9 +39,18 @@ pub record IsAdded (p : Progress) (key : Key) (depth : ℕ) (note : Note) (q : P
 
 -- a state has another depth and note
 pub record IsChanged (p : Progress) (index depth : ℕ) (note : Note) (q : Progress) : Type 0 where
+  pub room : q.room ≡ p.room
   pub keys : keys_of q.table ≡ keys_of p.table
   pub depths : values_of q.table ≡ slice_set (values_of p.table) index depth
   pub notes : q.notes ≡ slice_set p.notes index note
+  pub queue : Queues note.standing index p.queue q.queue
+  pub best : q.best ≡ p.best
+
+-- a state that went last into the table is noted
+pub record IsListed (p : Progress) (index : ℕ) (note : Note) (q : Progress) : Type 0 where
+  pub room : q.room ≡ p.room
+  pub table : q.table ≡ p.table
+  pub notes : q.notes ≡ p.notes ++ note ∷ []
   pub queue : Queues note.standing index p.queue q.queue
   pub best : q.best ≡ p.best
 
@@ -49,13 +60,33 @@ reopened (Open bound) = Open bound
 reopened (Expanded bound) = Open bound
 reopened Dead = Dead
 
+-- a known state is come to again, at a smaller depth
+pub record ComesNearer (p : Progress) (index depth : ℕ) (origin : Option Origin) (q : Progress) : Type 0 where
+  pub old : ℕ
+  pub depth_is : slice_get (values_of p.table) index ≡ Some old
+  pub was : Note
+  pub note_is : slice_get p.notes index ≡ Some was
+  pub nearer : depth < old
+  pub changed : IsChanged p index depth (record { origin = origin; standing = reopened was.standing }) q
+
+-- a known state is come to again, at a depth that is no smaller
+pub record StaysNear (p : Progress) (index depth : ℕ) (q : Progress) : Type 0 where
+  pub old : ℕ
+  pub depth_is : slice_get (values_of p.table) index ≡ Some old
+  pub near : old ≤ depth
+  pub same : q ≡ p
+
+-- a known state is come to again
+abbrev pub Nears : Progress → ℕ → ℕ → Option Origin → Progress → Type 0
+Nears p index depth origin q = StaysNear p index depth q ⊎ ComesNearer p index depth origin q
+
 -- with an index that was taken out of the queue, and is not done with
 abbrev pub holding : ℕ → Progress → Progress
 holding index p = record p { queue = index ∷ p.queue }
 
 -- done with it: its note may be another, and the best may be better
 abbrev pub done : Progress → List Note → Option ℕ → Progress
-done p notes best = record { table = p.table; notes = notes; queue = p.queue; best = best }
+done p notes best = record { room = p.room; table = p.table; notes = notes; queue = p.queue; best = best }
 
 -- what is found of a new state
 abbrev pub IsJudged : Numbered → List ℕ → Standing → Type 0

@@ -11,12 +11,12 @@ use crate::judging::judge;
 use crate::note::Note;
 use crate::queue::Queue;
 use crate::search::{Search, add};
+use crate::store::Store;
 use sok_board::board::Board;
 use sok_push::tables::Tables;
 use sok_region::box_set::BoxSet;
 use sok_rules::fault::Memory;
 use sok_state::key::Key;
-use sok_state::table::Table;
 use std::alloc::Global;
 
 /// The key of the start.
@@ -38,13 +38,14 @@ pub(crate) fn begin(alloc: Global, board: &Board, tables: &Tables) -> Result<Sea
 {
     let key = start_key(alloc, board)?;
     let standing = judge(alloc, board, tables, &key.boxes)?;
-    let table = Table::new(alloc)?;
+    let mut store = Store::new(alloc, board.squares());
+    let (index, _is_new) = store.insert(&key, 0)?;
     let search = Search {
-        table,
+        store,
         notes: Vec::new(alloc),
         queue: Queue::new(alloc),
         best: None,
     };
     let origin = None;
-    add(search, key, 0, Note { origin, standing })
+    add(search, index, 0, Note { origin, standing })
 }

@@ -5,6 +5,7 @@ ghost use Rattle.sok_board.specs.Area.{IsAccepted};
 ghost use Rattle.sok_price.specs.Matched.{Serves};
 ghost use Rattle.sok_search.specs.Finished.{claim_of, AreFirstEntries, IsEntryAt};
 ghost use Rattle.sok_search.specs.Searches.{IsSmallSearch};
+ghost use Rattle.sok_search.specs.Stores.{entries_in};
 ghost use Rattle.sok_search.specs.Views.{progress_of};
 
 use crate::barring::reason_of;
@@ -31,14 +32,23 @@ pub(crate) fn certificate(
     requires search { IsSmallSearch board.now (progress_of search.now) }
     requires finished { search.now.queue ≡ [] }
     requires claim { claim ≡ claim_of search.now.best }
-    ensures { IfOk result (λ cert.
-        AreFirstEntries board.now claim (progress_of search.now) (length search.now.table)
-        cert.entries.items) }
+    ensures { IfOk result (λ cert. AreFirstEntries board.now claim (progress_of search.now)
+        (length (entries_in search.now.store)) cert.entries.items) }
 {
     let mut matching = Matching::new(alloc, board, tables)?;
+    let mut squares = Vec::new(alloc);
     let mut entries = Vec::new(alloc);
-    for index in 0..search.table.len() {
-        let entry = entry_at(alloc, board, tables, &mut matching, claim, search, index)?;
+    for index in 0..search.store.len() {
+        let entry = entry_at(
+            alloc,
+            board,
+            tables,
+            &mut matching,
+            &mut squares,
+            claim,
+            search,
+            index,
+        )?;
         entries.push(entry)?;
     }
     Ok(Cert { entries })
@@ -50,6 +60,7 @@ fn entry_at(
     board: &Board,
     tables: &Tables,
     matching: &mut Matching,
+    squares: &mut Vec<Sq>,
     claim: Claim,
     search: &Search,
     index: usize,
@@ -60,12 +71,12 @@ fn entry_at(
     requires search { IsSmallSearch board.now (progress_of search.now) }
     requires finished { search.now.queue ≡ [] }
     requires claim { claim ≡ claim_of search.now.best }
-    requires within { index < length search.now.table }
+    requires within { index < length (entries_in search.now.store) }
     ensures serves { OnOk result (Serves board.now matching.new) }
     ensures entry { IfOk result (IsEntryAt board.now claim (progress_of search.now) index) }
 {
-    let key = search.table.key(alloc, index)?;
-    let depth = search.table.depth(index);
+    let key = search.store.key(alloc, squares, index)?;
+    let depth = search.store.depth(index);
     let note = search.notes[index];
     let reason = reason_of(
         alloc,

@@ -8,6 +8,7 @@ ghost use Rattle.sok_state.specs.Pushes.{IsLegal};
 ghost use Rattle.sok_state.specs.Tables.{IsAt};
 ghost use Rattle.sok_search.specs.Searches.{IsSearch};
 ghost use Rattle.sok_search.specs.Steps.{holding};
+ghost use Rattle.sok_search.specs.Stores.{entries_in};
 ghost use Rattle.sok_search.specs.Trials.{IsReady, IsTrial};
 ghost use Rattle.sok_search.specs.Views.{progress_of, TellsFollowed, TellsExpanded};
 
@@ -15,6 +16,7 @@ use crate::beginning::start_key;
 use crate::reaching::{Reached, reach};
 use crate::search::Search;
 use crate::trial::Trial;
+use sok_board::area::Sq;
 use sok_board::board::Board;
 use sok_field::field::Field;
 use sok_price::matching::Matching;
@@ -28,12 +30,13 @@ use sok_state::push::Push;
 use std::alloc::Global;
 
 /// What is kept from state to state, so that nothing is made anew: the player's region in the state
-/// that is expanded, its pushes, and what they are tried with.
+/// that is expanded, its pushes, what they are tried with, and room to list the boxes of a state.
 #[derive(Drop)]
 pub(crate) struct Scratch {
     pub(crate) region: Region,
     pub(crate) pushes: Vec<Push>,
     pub(crate) trial: Trial,
+    pub(crate) squares: Vec<Sq>,
 }
 
 impl Scratch {
@@ -54,6 +57,7 @@ impl Scratch {
             region: Region::of(alloc, board, &key.boxes, key.least)?,
             pushes: Vec::new(alloc),
             trial,
+            squares: Vec::new(alloc),
         })
     }
 }
@@ -76,8 +80,8 @@ fn follow(
     requires search { IsSearch board.now limit (holding index (progress_of search)) }
     requires trial { IsTrial board.now key.now.boxes trial.old.matching trial.old.matched }
     requires laid { IsLaidOut board.now key.now.boxes trial.old.layout }
-    requires there { IsAt search.table key.now index }
-    requires depth { slice_get (values_of search.table) index ≡ Some depth }
+    requires there { IsAt (entries_in search.store) key.now index }
+    requires depth { slice_get (values_of (entries_in search.store)) index ≡ Some depth }
     requires legal { All (IsLegal board.now key.now) pushes.now }
     ensures trial { OnOk result
         (IsTrial board.now key.now.boxes trial.new.matching trial.new.matched) }
@@ -112,8 +116,8 @@ pub(crate) fn expand(
     requires tables { tables.now.board ≡ board.now }
     requires search { IsSearch board.now limit (holding index (progress_of search)) }
     requires ready { IsReady board.now scratch.old.trial.matching scratch.old.trial.layout }
-    requires there { IsAt search.table key.now index }
-    requires depth { slice_get (values_of search.table) index ≡ Some depth }
+    requires there { IsAt (entries_in search.store) key.now index }
+    requires depth { slice_get (values_of (entries_in search.store)) index ≡ Some depth }
     ensures ready { OnOk result
         (IsReady board.now scratch.new.trial.matching scratch.new.trial.layout) }
     ensures tells { IfOk result

@@ -1,13 +1,14 @@
 //! A push is followed.
 
-ghost use Rattle.std.specs.Prelude.{◌≡◌, ◌<◌, IfOk, OnOk, Some, slice_get};
+ghost use Rattle.std.specs.Prelude.{◌≡◌, ◌<◌, ◌^◌, IfOk, OnOk, Some, length, slice_get};
 ghost use Rattle.std.specs.Map.{values_of};
 ghost use Rattle.sok_board.specs.Area.{IsAccepted};
 ghost use Rattle.sok_state.specs.Layouts.{IsLaidOut};
 ghost use Rattle.sok_state.specs.Pushes.{IsLegal};
 ghost use Rattle.sok_state.specs.Tables.{IsAt};
 ghost use Rattle.sok_search.specs.Searches.{IsSearch};
-ghost use Rattle.sok_search.specs.Steps.{holding, reopened};
+ghost use Rattle.sok_search.specs.Steps.{Nears, holding, reopened};
+ghost use Rattle.sok_search.specs.Stores.{entries_in};
 ghost use Rattle.sok_search.specs.Trials.{IsTrial};
 ghost use Rattle.sok_search.specs.Views.{progress_of, TellsReached};
 
@@ -40,13 +41,33 @@ fn reopened(standing: Standing) -> Standing
     }
 }
 
+/// Comes to a known state again, at a depth: it comes nearer, or stays.
+fn approach(
+    search: Search,
+    index: usize,
+    depth: u32,
+    origin: Option<Origin>,
+) -> Result<Search, Memory>
+    requires exists { index < length (entries_in search.store) }
+    requires small { index < 2 ^ 32 }
+    requires noted { index < length search.notes.items }
+    ensures { IfOk result (λ after.
+        Nears (progress_of search) index depth origin (progress_of after)) }
+{
+    if depth >= search.store.depth(index) {
+        return Ok(search);
+    }
+    let standing = reopened(search.notes[index].standing);
+    lower(search, index, depth, Note { origin, standing })
+}
+
 /// Follows a push from a state that was taken: the next state is added, comes nearer, or stays.
 pub(crate) fn reach(
     alloc: Global,
     board: &Board,
     tables: &Tables,
     limit: u32,
-    search: Search,
+    mut search: Search,
     trial: &mut Trial,
     index: usize,
     key: &Key,
@@ -58,8 +79,8 @@ pub(crate) fn reach(
     requires search { IsSearch board.now limit (holding index (progress_of search)) }
     requires trial { IsTrial board.now key.now.boxes trial.old.matching trial.old.matched }
     requires laid { IsLaidOut board.now key.now.boxes trial.old.layout }
-    requires there { IsAt search.table key.now index }
-    requires depth { slice_get (values_of search.table) index ≡ Some depth }
+    requires there { IsAt (entries_in search.store) key.now index }
+    requires depth { slice_get (values_of (entries_in search.store)) index ≡ Some depth }
     requires legal { IsLegal board.now key.now push }
     ensures trial { OnOk result
         (IsTrial board.now key.now.boxes trial.new.matching trial.new.matched) }
@@ -67,27 +88,21 @@ pub(crate) fn reach(
     ensures tells { IfOk result
         (TellsReached board.now limit (progress_of search) index key.now depth push) }
 {
-    let next = step(alloc, board, key, push, &mut trial.layout, &mut trial.seen)?;
+    let from = push.from;
+    let (to, least) = step(board, push, &mut trial.layout, &mut trial.seen);
     let origin = Some(Origin {
         parent: index as u32,
         push,
     });
-    match search.table.get(&next) {
-        Some(at) => {
-            if depth + 1 >= search.table.depth(at) {
-                return Ok(Reached::On(search));
-            }
-            let standing = reopened(search.notes[at].standing);
-            Ok(Reached::On(lower(search, at, depth + 1, Note { origin, standing })?))
-        }
-        None => {
-            if search.table.len() >= limit as usize {
-                return Ok(Reached::Full);
-            }
-            let from = push.from;
-            let to = board.neighbour(from, push.dir).unwrap();
-            let standing = judge_after(board, tables, trial, &key.boxes, from, to, &next.boxes);
-            Ok(Reached::On(add(search, next, depth + 1, Note { origin, standing })?))
-        }
+    let deeper = depth + 1;
+    let (at, is_new) = search.store.insert_next(index, from, to, least, deeper)?;
+    if !is_new {
+        return Ok(Reached::On(approach(search, at, deeper, origin)?));
     }
+    if at >= limit as usize {
+        return Ok(Reached::Full);
+    }
+    let after = key.boxes.moved(alloc, from, to)?;
+    let standing = judge_after(board, tables, trial, &key.boxes, from, to, &after);
+    Ok(Reached::On(add(search, at, deeper, Note { origin, standing })?))
 }

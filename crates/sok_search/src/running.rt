@@ -61,11 +61,11 @@ fn visit(
         (IsReady board.now scratch.new.trial.matching scratch.new.trial.layout) }
     ensures tells { IfOk result (TellsTurned board.now limit (holding index (progress_of search))) }
 {
-    let depth = search.table.depth(index);
+    let depth = search.store.depth(index);
     if is_beaten(search.best, depth, bound) {
         return Ok(Reached::On(search));
     }
-    let key = search.table.key(alloc, index)?;
+    let key = search.store.key(alloc, &mut scratch.squares, index)?;
     if is_solved(board, &key.boxes) {
         search.best = Some(depth);
         return Ok(Reached::On(search));

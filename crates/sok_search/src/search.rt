@@ -1,22 +1,21 @@
 //! What a search knows, and the two ways in which it learns of a state.
 
-ghost use Rattle.std.specs.Prelude.{◌<◌, ◌^◌, IfOk, Contains, length};
-ghost use Rattle.std.specs.Map.{keys_of};
+ghost use Rattle.std.specs.Prelude.{◌<◌, ◌^◌, IfOk, length};
 ghost use Rattle.sok_state.specs.Tables.{depth_at};
-ghost use Rattle.sok_search.specs.Steps.{IsAdded, IsChanged, Queues};
+ghost use Rattle.sok_search.specs.Steps.{IsChanged, IsListed, Queues};
+ghost use Rattle.sok_search.specs.Stores.{entries_in};
 ghost use Rattle.sok_search.specs.Views.{progress_of};
 
 use crate::note::{Note, Standing};
 use crate::queue::Queue;
+use crate::store::Store;
 use sok_rules::fault::Memory;
-use sok_state::key::Key;
-use sok_state::table::Table;
 
 /// The known states with a note of each, the indices of those that wait, and the least depth at
 /// which a solved state was taken.
 #[derive(Drop)]
 pub(crate) struct Search {
-    pub(crate) table: Table,
+    pub(crate) store: Store,
     pub(crate) notes: Vec<Note>,
     pub(crate) queue: Queue,
     pub(crate) best: Option<u32>,
@@ -36,14 +35,17 @@ fn wait(queue: &mut Queue, index: u32, depth: u32, standing: Standing) -> Result
     }
 }
 
-/// Adds a state that is not known.
-pub(crate) fn add(mut search: Search, key: Key, depth: u32, note: Note) -> Result<Search, Memory>
-    requires absent { Contains (keys_of search.table) key → ⊥ }
-    requires small { length search.table < 2 ^ 32 }
+/// Notes a state that went last into the store.
+pub(crate) fn add(
+    mut search: Search,
+    index: usize,
+    depth: u32,
+    note: Note,
+) -> Result<Search, Memory>
+    requires { index < 2 ^ 32 }
     ensures { IfOk result (λ after.
-        IsAdded (progress_of search) key depth note (progress_of after)) }
+        IsListed (progress_of search) index note (progress_of after)) }
 {
-    let index = search.table.insert(key, depth)?;
     search.notes.push(note)?;
     wait(&mut search.queue, index as u32, depth, note.standing)?;
     Ok(search)
@@ -56,14 +58,14 @@ pub(crate) fn lower(
     depth: u32,
     note: Note,
 ) -> Result<Search, Memory>
-    requires exists { index < length search.table }
+    requires exists { index < length (entries_in search.store) }
     requires small { index < 2 ^ 32 }
     requires noted { index < length search.notes.items }
-    requires smaller { depth < depth_at search.table index }
+    requires smaller { depth < depth_at (entries_in search.store) index }
     ensures { IfOk result (λ after.
         IsChanged (progress_of search) index depth note (progress_of after)) }
 {
-    let _lowered = search.table.lower_depth(index, depth);
+    let _lowered = search.store.lower_depth(index, depth);
     search.notes[index] = note;
     wait(&mut search.queue, index as u32, depth, note.standing)?;
     Ok(search)

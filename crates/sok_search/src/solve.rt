@@ -8,6 +8,7 @@ ghost use Rattle.sok_search.specs.Faults.{IsBadLimit, IsRefusal};
 ghost use Rattle.sok_search.specs.Limits.{state_limit};
 ghost use Rattle.sok_search.specs.Outcomes.{IsAnswer};
 ghost use Rattle.sok_search.specs.Searches.{IsSearch, IsSearching, IsSmallSearch};
+ghost use Rattle.sok_search.specs.Stores.{entries_in};
 ghost use Rattle.sok_search.specs.Trails.{IsSolvedWithin};
 ghost use Rattle.sok_search.specs.Views.{progress_of};
 ghost use Rattle.sok_search.specs.declared.fault.SolveFault.TheVariants as fault;
@@ -107,10 +108,11 @@ fn conclude(
 
 /// Letters that solve with no more than so many pushes.
 fn solution(alloc: Global, board: &Board, search: &Search, pushes: u32) -> Result<Vec<Dir>, Memory>
+    requires accepted { IsAccepted board.now }
     requires search { IsSearching board.now (progress_of search.now) }
     requires best { search.now.best ≡ Some pushes }
     ensures { IfOk result (λ dirs.
-        IsSolvedWithin board.now (length search.now.table) pushes dirs.items) }
+        IsSolvedWithin board.now (length (entries_in search.now.store)) pushes dirs.items) }
 {
     let index = find_solved(alloc, board, search, pushes)?;
     let trace = trace(alloc, search, index)?;

@@ -1,49 +1,38 @@
 //! The state that a push leads to, found over boxes that are laid out.
 
-ghost use Rattle.std.specs.Prelude.{ℕ, List, ◌≡◌, IfOk, OnOk, length};
-ghost use Rattle.sok_rules.specs.Play.{Position};
-ghost use Rattle.sok_board.specs.Area.{IsAccepted, position_of};
+ghost use Rattle.std.specs.Prelude.{ℕ, List, ◌≡◌, Some};
+ghost use Rattle.sok_board.specs.Area.{IsAccepted, beside, position_of};
 ghost use Rattle.sok_region.specs.Regions.{IsPlaced};
-ghost use Rattle.sok_state.specs.Keys.{IsKey, IsKeyOf};
+ghost use Rattle.sok_state.specs.declared.key.Key.{Key};
+ghost use Rattle.sok_state.specs.Keys.{IsKeyOf};
 ghost use Rattle.sok_state.specs.Layouts.{IsLaidOut};
-ghost use Rattle.sok_state.specs.Pushes.{IsLegal, LeadsTo};
+ghost use Rattle.sok_search.specs.Stores.{IsNext};
+ghost use Rattle.sok_search.specs.Trials.{IsLedTo, IsPushable};
 
 use sok_board::area::Sq;
 use sok_board::board::Board;
 use sok_field::drawing;
 use sok_field::field::Field;
-use sok_rules::fault::Memory;
-use sok_state::key::Key;
 use sok_state::layout::Layout;
 use sok_state::push::Push;
-use std::alloc::Global;
 
-/// The key of the state that a push leads to, as `sok_state::legal::after` gives it. The boxes that
-/// are laid out are shifted by the push and back, so that nothing is laid out anew.
-pub(crate) fn step(
-    alloc: Global,
-    board: &Board,
-    key: &Key,
-    push: Push,
-    layout: &mut Layout,
-    seen: &mut Field,
-) -> Result<Key, Memory>
+/// Where the box comes to that is pushed from a state, and the least square that the player can
+/// walk to then. The boxes that are laid out are shifted by the push and back, so that nothing is
+/// laid out anew.
+pub(crate) fn step(board: &Board, push: Push, layout: &mut Layout, seen: &mut Field) -> (Sq, Sq)
     requires accepted { IsAccepted board.now }
-    requires key { IsKey board.now key.now }
-    requires legal { IsLegal board.now key.now push }
-    requires laid { IsLaidOut board.now key.now.boxes layout.old }
-    ensures exact { IfOk result (λ next. (after : Position)
-        → LeadsTo board.now key.now push after → IsKeyOf board.now after next) }
-    ensures of_board { IfOk result (IsKey board.now) }
-    ensures as_many { IfOk result (λ next. length next.boxes ≡ length key.now.boxes) }
-    ensures laid { OnOk result (IsLaidOut board.now key.now.boxes layout.new) }
+    requires pushable { (key : Key) × IsPushable board.now push layout.old key }
+    ensures ahead { beside board.now push.from push.dir ≡ Some result.0 }
+    ensures laid { (key : Key) → IsPushable board.now push layout.old key
+        → IsLaidOut board.now key.boxes layout.new }
+    ensures next { (key next : Key) → IsPushable board.now push layout.old key
+        → IsNext key push.from result.0 result.1 next → IsLedTo board.now key push next }
 {
     let ahead = board.neighbour(push.from, push.dir).unwrap();
-    let boxes = key.boxes.moved(alloc, push.from, ahead)?;
     layout.shift(board, push.from, ahead);
     let least = least_square(board, layout, seen, push.from);
     layout.shift(board, ahead, push.from);
-    Ok(Key { boxes, least })
+    (ahead, least)
 }
 
 /// The least square to which the player walks from one, among boxes that are laid out.

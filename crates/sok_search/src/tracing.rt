@@ -1,12 +1,15 @@
 //! The pushes that lead to a solved state.
 
 ghost use Rattle.std.specs.Prelude.{◌≡◌, ◌<◌, ◌↔◌, IfOk, IsTrue, Some, length};
+ghost use Rattle.sok_board.specs.Area.{IsAccepted};
 ghost use Rattle.sok_search.specs.Searches.{IsSearching};
+ghost use Rattle.sok_search.specs.Stores.{entries_in};
 ghost use Rattle.sok_search.specs.Trails.{GoesBack, IsSolvedAt, TracesBack};
 ghost use Rattle.sok_search.specs.Views.{progress_of};
 
 use crate::judging::is_solved;
 use crate::search::Search;
+use sok_board::area::Sq;
 use sok_board::board::Board;
 use sok_rules::fault::Memory;
 use sok_state::push::Push;
@@ -19,12 +22,14 @@ pub(crate) fn find_solved(
     search: &Search,
     pushes: u32,
 ) -> Result<usize, Memory>
+    requires accepted { IsAccepted board.now }
     requires search { IsSearching board.now (progress_of search.now) }
     requires best { search.now.best ≡ Some pushes }
     ensures { IfOk result (IsSolvedAt board.now (progress_of search.now) pushes) }
 {
-    for index in 0..search.table.len() {
-        if is_solution(alloc, board, search, pushes, index)? {
+    let mut squares = Vec::new(alloc);
+    for index in 0..search.store.len() {
+        if is_solution(alloc, board, search, pushes, &mut squares, index)? {
             return Ok(index);
         }
     }
@@ -37,17 +42,19 @@ fn is_solution(
     board: &Board,
     search: &Search,
     pushes: u32,
+    squares: &mut Vec<Sq>,
     index: usize,
 ) -> Result<bool, Memory>
+    requires accepted { IsAccepted board.now }
     requires search { IsSearching board.now (progress_of search.now) }
-    requires within { index < length search.now.table }
+    requires within { index < length (entries_in search.now.store) }
     ensures { IfOk result (λ is.
         IsTrue is ↔ IsSolvedAt board.now (progress_of search.now) pushes index) }
 {
-    if search.table.depth(index) > pushes {
+    if search.store.depth(index) > pushes {
         return Ok(false);
     }
-    let key = search.table.key(alloc, index)?;
+    let key = search.store.key(alloc, squares, index)?;
     Ok(is_solved(board, &key.boxes))
 }
 

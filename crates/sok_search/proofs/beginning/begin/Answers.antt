@@ -1,19 +1,44 @@
-use Rattle.std.proofs.Common.{◌≡◌, None, refl, subst}
+use Rattle.std.proofs.Common.{◌≡◌, ◌<◌, [], None, arith, length, refl, subst}
+use Rattle.std.proofs.lemmas.List.Elements.{All-weaker}
 use Rattle.std.proofs.lemmas.Result.{IfOk-weaker}
+use Rattle.sok_state.specs.Tables.{GoesLast}
 use Rattle.sok_search.specs.declared.note.Note.{Note}
 use Rattle.sok_search.specs.Searches.{Progress}
-use Rattle.sok_search.specs.Steps.{IsAdded}
+use Rattle.sok_search.specs.Steps.{IsListed}
+use Rattle.sok_search.specs.Stores.{entries_in, room_of}
 use Rattle.sok_search.specs.Views.{progress_of}
+use Rattle.sok_search.proofs.Adding.{added-made, first-last}
 use Rattle.sok_search.proofs.Opening.{begun, nothing}
 use Rattle.sok_search.proofs.beginning.begin.Goals as goal
+
+pub insert-requires : goal.insert-requires
+insert-requires c =
+    let wide = c.new-store.ensures.wide in
+    let count = c.squares.ensures.count in
+    All-weaker (λ square. square < length c.args.board.now.area) (λ square. square < room_of c.new-store.result)
+    (λ square exists. omega (arith, wide, count, exists)) c.in_ok-key.key.boxes c.in_ok-key.ensures.of_board.is.placed.boxes_exist
 
 pub returns : goal.returns
 returns c = λ limit positive.
     let b = c.args.board.now in
     let key = c.in_ok-key.key in
     let note : Note = record { origin = None; standing = c.in_ok-standing.standing } in
-    let p : Progress = record { table = c.in_ok-table.table; notes = c.new-2.result.items; queue = c.new-3.result; best = None } in
-    let same : p ≡ nothing = λ i. record { table = c.in_ok-table.ensures i; notes = c.new-2.ensures.items i; queue = c.new-3.ensures i; best = None } in
-    IfOk-weaker c.add.result _ _ (λ after added. begun b limit positive key note (progress_of after)
-    (subst (λ x. IsAdded x key 0 note (progress_of after)) same added)
+    let room = room_of c.new-store.result in
+    let table = entries_in c.insert.new.self in
+    let same = c.in_ok-index.ensures.room in
+    let wide = c.new-store.ensures.wide in
+    let count = c.squares.ensures.count in
+    let last : GoesLast [] key 0 c.in_ok-index.index table = first-last (entries_in c.new-store.result) table key 0 c.in_ok-index.index c.in_ok-index._is_new
+    c.new-store.ensures.none c.in_ok-index.ensures.inserted in
+    let begins : Progress = record { room = room_of c.insert.new.self; table = table; notes = c.new.result.items; queue = c.new-2.result; best = None } in
+    let bare : begins ≡ record (nothing room) { room = room_of c.insert.new.self; table = table } = λ i. record {
+      room = room_of c.insert.new.self;
+      table = table;
+      notes = c.new.ensures.items i;
+      queue = c.new-2.ensures i;
+      best = None;
+    } in
+    IfOk-weaker c.add.result _ _ (λ after listed. begun b limit room positive (omega (arith, wide, count)) key note (progress_of after)
+    (added-made (nothing room) (room_of c.insert.new.self) table (progress_of after) key 0 c.in_ok-index.index note same last
+    (subst (λ x. IsListed x c.in_ok-index.index note (progress_of after)) bare listed))
     c.in_ok-key.ensures.of_board c.in_ok-key.ensures.key c.in_ok-key.ensures.as_many refl c.in_ok-standing.ensures) c.add.ensures

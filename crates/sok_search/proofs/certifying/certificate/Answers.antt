@@ -24,5 +24,5 @@ returns c =
     let count = c.len-index-end.ensures.count in
     let past = c.loop-index-test.false in
     let near = c.loop-index.auto.index-end in
-    let all : c.loop-index.index ≡ length c.args.search.now.table = omega (arith, count, past, near) in
+    let all : c.loop-index.index ≡ length (progress_of c.args.search.now).table = omega (arith, count, past, near) in
     subst (λ n. AreFirstEntries c.args.board.now c.args.claim (progress_of c.args.search.now) n c.loop-index.entries.items) all c.loop-index.invariant.first

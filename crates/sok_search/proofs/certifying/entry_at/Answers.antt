@@ -3,7 +3,12 @@ use Rattle.std.proofs.lemmas.Option.{slice_get-get_or}
 use Rattle.sok_search.specs.Searches.{IsState}
 use Rattle.sok_search.specs.Views.{progress_of}
 use Rattle.sok_search.proofs.Certified.{entry-made, is-done}
+use Rattle.sok_search.proofs.Knowing.{state-few}
 use Rattle.sok_search.proofs.certifying.entry_at.Goals as goal
+
+pub key-requires-clause-few : goal.key-requires-clause-few
+key-requires-clause-few c = state-few c.args.board.now c.requires.accepted c.requires.search.0
+    (progress_of c.args.search.now) c.requires.search.1 c.args.index
 
 pub index-note-requires : goal.index-note-requires
 index-note-requires c =

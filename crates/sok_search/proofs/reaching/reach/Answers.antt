@@ -1,121 +1,180 @@
-use Rattle.std.proofs.Common.{◌∙◌, sym, ap, refl, is_some, Some, arith, rules}
-use Rattle.std.specs.Map.{values_of}
-use Rattle.std.proofs.lemmas.Option.{get_or_from_slice_get, slice_get-get_or}
+use Rattle.std.proofs.Common.{◌+◌, ap, subst, refl, arith, length}
+use Rattle.sok_board.proofs.Beside.{beside-within}
 use Rattle.sok_cert.proofs.Starting.{at-within}
-use Rattle.sok_search.specs.Searches.{IsState}
-use Rattle.sok_search.specs.Views.{progress_of}
-use Rattle.sok_search.proofs.Adding.{note-within, taken, taken-deep, taken-key}
-use Rattle.sok_search.proofs.Filling.{full-more}
 use Rattle.sok_state.proofs.LegalPushes.{clear-legal}
+use Rattle.sok_state.specs.declared.key.Key.{Key}
+use Rattle.sok_state.specs.Tables.{Entries, Enters, GoesLast, Stays}
+use Rattle.sok_search.specs.Steps.{holding}
+use Rattle.sok_search.specs.Stores.{IsNext, entries_in, room_of}
+use Rattle.sok_search.specs.Views.{progress_of}
+use Rattle.sok_search.proofs.Adding.{added-made, note-within, taken, taken-deep, taken-pushable}
+use Rattle.sok_search.proofs.Filling.{full-more}
 use Rattle.sok_search.proofs.Moving.{moved-next}
-use Rattle.sok_search.proofs.Pushing.{pushed-added, pushed-changed}
+use Rattle.sok_search.proofs.Pushing.{pushed-added, pushed-known}
+use Rattle.sok_search.proofs.Stepped.{clear-after, comes-next, next_of}
 use Rattle.sok_search.proofs.reaching.reach.Goals as goal
 
-pub step-requires-clause-key : goal.step-requires-clause-key
-step-requires-clause-key c = taken-key c.args.board.now c.args.limit c.args.index
-    (progress_of c.args.search) c.args.key.now c.args.depth c.requires.search c.requires.there c.requires.depth
+pub step-to-requires-clause-pushable : goal.step-to-requires-clause-pushable
+step-to-requires-clause-pushable c =
+    let can = taken-pushable c.args.board.now c.requires.accepted c.args.limit c.args.index (progress_of c.args.search) c.args.key.now c.args.depth
+    c.requires.search c.requires.there c.requires.depth c.args.push c.requires.legal c.args.trial.now.layout c.requires.laid in
+    (c.args.key.now, can)
 
-pub overflow_add-depth : goal.overflow_add-depth
-overflow_add-depth c =
-    let deep = taken-deep c.args.board.now c.args.limit c.args.index
-    (progress_of c.args.search) c.args.key.now c.args.depth c.requires.search c.requires.there c.requires.depth in
-    omega (arith, deep, c.ranges.limit.fits)
+pub insert_next-requires-clause-exists : goal.insert_next-requires-clause-exists
+insert_next-requires-clause-exists c = at-within (entries_in c.args.search.store) c.args.key.now c.args.index c.requires.there
 
-pub overflow_add-depth-in-None : goal.overflow_add-depth-in-None
-overflow_add-depth-in-None c =
-    let deep = taken-deep c.args.board.now c.args.limit c.args.index
-    (progress_of c.args.search) c.args.key.now c.args.depth c.requires.search c.requires.there c.requires.depth in
-    omega (arith, deep, c.ranges.limit.fits)
-
-pub depth-requires : goal.depth-requires
-depth-requires c = at-within c.args.search.table c.in_ok-next.next c.in-Some.at c.in-Some.ensures
-
-pub index-requires : goal.index-requires
-index-requires c = let h = note-within c.args.board.now c.args.limit c.args.index
-    (progress_of c.args.search) c.requires.search c.in-Some.at c.in_ok-next.next c.in-Some.ensures in search (rules, h)
-
-pub lower-requires-clause-exists : goal.lower-requires-clause-exists
-lower-requires-clause-exists c = at-within c.args.search.table c.in_ok-next.next c.in-Some.at c.in-Some.ensures
-
-pub lower-requires-clause-noted : goal.lower-requires-clause-noted
-lower-requires-clause-noted c = note-within c.args.board.now c.args.limit c.args.index
-    (progress_of c.args.search) c.requires.search c.in-Some.at c.in_ok-next.next c.in-Some.ensures
-
-pub lower-requires-clause-smaller : goal.lower-requires-clause-smaller
-lower-requires-clause-smaller c =
-    let is = get_or_from_slice_get (values_of c.args.search.table) c.in-Some.at c.depth.result 0 c.depth.ensures in
-    let far = c.if-depth.false in
-    omega (arith, is, far)
-
-pub returns-then-len-limit-clause-tells : goal.returns-then-len-limit-clause-tells
-returns-then-len-limit-clause-tells c =
-    let full = c.if-len-limit.true in
-    let count = c.len.ensures.count in
-    full-more c.args.board.now c.requires.accepted c.args.limit _ c.args.index c.args.key.now c.in_ok-next.next c.args.push
-    c.requires.legal.after c.requires.search (omega (arith, full, count))
-    c.requires.there c.requires.legal.leads (c.in_ok-next.ensures.exact c.requires.legal.after c.requires.legal.leads) c.in-None.ensures
-
-pub returns-in_ok-lower-in-Some-clause-tells : goal.returns-in_ok-lower-in-Some-clause-tells
-returns-in_ok-lower-in-Some-clause-tells c =
-    let b = c.args.board.now in
-    let p = progress_of c.args.search in
-    let q = progress_of c.in_ok-lower-in-Some.field-0 in
-    let next = c.in_ok-next.next in
-    let at = c.in-Some.at in
-    let other = c.index.result.now in
-    let one = taken b c.args.limit c.args.index p c.args.key.now c.args.depth c.requires.search c.requires.there c.requires.depth in
-    let within = note-within b c.args.limit c.args.index p c.requires.search at next c.in-Some.ensures in
-    let state : IsState p at next c.depth.result other = record {
-      there = c.in-Some.ensures;
-      depth_is = c.depth.ensures;
-      note_is = slice_get-get_or
-          c.args.search.notes.items at other within ∙ ap Some (sym c.index.ensures);
-    } in
-    pushed-changed b c.args.limit c.args.index p c.requires.search c.args.key.now c.args.depth
-    c.requires.there c.requires.depth one.note one.note_is
-    c.args.push c.requires.legal next c.in_ok-next.ensures.exact c.in_ok-next.ensures.of_board c.in_ok-next.ensures.as_many
-    at c.depth.result other state c.if-depth.false _ refl
-    c.reopened-standing.ensures q c.in_ok-lower-in-Some.ensures
-
-pub returns-in_ok-add-in-None-clause-tells : goal.returns-in_ok-add-in-None-clause-tells
-returns-in_ok-add-in-None-clause-tells c =
-    let p = progress_of c.args.search in
-    let q = progress_of c.in_ok-add-in-None.field-0 in
-    let one = taken c.args.board.now c.args.limit c.args.index p c.args.key.now c.args.depth c.requires.search c.requires.there c.requires.depth in
-    let room = c.if-len-limit.false in
-    let count = c.len.ensures.count in
-    pushed-added c.args.board.now c.args.limit c.args.index p c.requires.search c.args.key.now
-    c.args.depth c.requires.there c.requires.depth one.note one.note_is
-    c.args.push c.requires.legal c.in_ok-next.next c.in_ok-next.ensures.exact c.in_ok-next.ensures.of_board c.in_ok-next.ensures.as_many c.in-None.ensures
-    (omega (arith, room, count)) _ refl c.judge_after-standing.ensures.judged q c.in_ok-add-in-None.ensures
+pub insert_next-requires-clause-to : goal.insert_next-requires-clause-to
+insert_next-requires-clause-to c =
+    let exists = beside-within c.args.board.now c.args.push.dir c.args.push.from c.step-to.result.0 c.step-to.ensures.ahead in
+    let wide = c.requires.search.wide in
+    omega (arith, exists, wide)
 
 pub overflow_cast-origin : goal.overflow_cast-origin
 overflow_cast-origin c =
-    let within = at-within c.args.search.table c.args.key.now c.args.index c.requires.there in
+    let within = at-within (entries_in c.args.search.store) c.args.key.now c.args.index c.requires.there in
     let few = c.requires.search.few in
     omega (arith, within, few, c.ranges.limit.fits)
 
-pub lower-requires-clause-small : goal.lower-requires-clause-small
-lower-requires-clause-small c =
-    let within = at-within c.args.search.table c.in_ok-next.next c.in-Some.at c.in-Some.ensures in
-    let few = c.requires.search.few in
-    omega (arith, within, few, c.ranges.limit.fits)
-
-pub unwrap-to-requires : goal.unwrap-to-requires
-unwrap-to-requires c =
-    let b = c.args.board.now in
-    let state = taken-key b c.args.limit c.args.index
+pub overflow_add-deeper : goal.overflow_add-deeper
+overflow_add-deeper c =
+    let deep = taken-deep c.args.board.now c.args.limit c.args.index
     (progress_of c.args.search) c.args.key.now c.args.depth c.requires.search c.requires.there c.requires.depth in
-    let (_, clear) = clear-legal b c.requires.accepted.numbered c.args.key.now state.is.placed c.args.push c.requires.legal in
-    ap is_some (c.neighbour.ensures.beside ∙ clear.ahead_is)
+    omega (arith, deep, c.ranges.limit.fits)
+
+-- the next state is known
+next_in : goal.Then-not-is_new → Key
+next_in c = next_of c.args.key.now c.args.push.from c.step-to.result.0 c.step-to.result.1
+
+stays_in : (c : goal.Then-not-is_new) → Stays (entries_in c.args.search.store) (next_in c) c.in_ok-at.at (entries_in c.insert_next.new.self)
+unfolding next_in
+stays_in c =
+    let can = taken-pushable c.args.board.now c.requires.accepted c.args.limit c.args.index (progress_of c.args.search) c.args.key.now c.args.depth
+    c.requires.search c.requires.there c.requires.depth c.args.push c.requires.legal c.args.trial.now.layout c.requires.laid in
+    let comes = comes-next c.args.board.now c.requires.accepted c.args.key.now c.args.push c.step-to.result.0 c.step-to.result.1
+    c.args.trial.now.layout can c.step-to.ensures.ahead c.step-to.ensures.next in
+    let next = next_of c.args.key.now c.args.push.from c.step-to.result.0 c.step-to.result.1 in
+    subst (λ t. Enters (entries_in c.args.search.store) next (c.args.depth + 1) c.in_ok-at.at t (entries_in c.insert_next.new.self))
+    c.if-not-is_new.true (c.in_ok-at.ensures.inserted.enters c.args.key.now next c.requires.there comes.is)
+
+pub approach-requires-clause-exists : goal.approach-requires-clause-exists
+approach-requires-clause-exists c =
+    let stays = stays_in c in
+    let within = at-within (entries_in c.args.search.store) (next_in c) c.in_ok-at.at stays.there in
+    let same = ap (λ (es : Entries). length es) stays.unchanged in
+    omega (arith, within, same)
+
+pub approach-requires-clause-small : goal.approach-requires-clause-small
+approach-requires-clause-small c =
+    let within = at-within (entries_in c.args.search.store) (next_in c) c.in_ok-at.at (stays_in c).there in
+    let few = c.requires.search.few in
+    omega (arith, within, few, c.ranges.limit.fits)
+
+pub approach-requires-clause-noted : goal.approach-requires-clause-noted
+approach-requires-clause-noted c = note-within c.args.board.now c.args.limit c.args.index
+    (progress_of c.args.search) c.requires.search c.in_ok-at.at (next_in c) (stays_in c).there
+
+pub returns-then-not-is_new-clause-laid : goal.returns-then-not-is_new-clause-laid
+returns-then-not-is_new-clause-laid c =
+    let can = taken-pushable c.args.board.now c.requires.accepted c.args.limit c.args.index (progress_of c.args.search) c.args.key.now c.args.depth
+    c.requires.search c.requires.there c.requires.depth c.args.push c.requires.legal c.args.trial.now.layout c.requires.laid in
+    c.step-to.ensures.laid c.args.key.now can
+
+pub returns-then-not-is_new-clause-tells : goal.returns-then-not-is_new-clause-tells
+returns-then-not-is_new-clause-tells c =
+    let p = progress_of c.args.search in
+    let one = taken c.args.board.now c.args.limit c.args.index p c.args.key.now c.args.depth c.requires.search c.requires.there c.requires.depth in
+    let can = taken-pushable c.args.board.now c.requires.accepted c.args.limit c.args.index (progress_of c.args.search) c.args.key.now c.args.depth
+    c.requires.search c.requires.there c.requires.depth c.args.push c.requires.legal c.args.trial.now.layout c.requires.laid in
+    let comes = comes-next c.args.board.now c.requires.accepted c.args.key.now c.args.push c.step-to.result.0 c.step-to.result.1
+    c.args.trial.now.layout can c.step-to.ensures.ahead c.step-to.ensures.next in
+    let next = next_of c.args.key.now c.args.push.from c.step-to.result.0 c.step-to.result.1 in
+    let stays : Stays p.table next c.in_ok-at.at (entries_in c.insert_next.new.self) = subst
+    (λ t. Enters p.table next (c.args.depth + 1) c.in_ok-at.at t (entries_in c.insert_next.new.self)) c.if-not-is_new.true
+    (c.in_ok-at.ensures.inserted.enters c.args.key.now next c.requires.there comes.is) in
+    pushed-known c.args.board.now c.args.limit c.args.index p c.requires.search c.args.key.now c.args.depth c.requires.there c.requires.depth
+    one.note one.note_is c.args.push c.requires.legal next comes.came.exact comes.came.state comes.as_many
+    c.in_ok-at.at (room_of c.insert_next.new.self) (entries_in c.insert_next.new.self) c.in_ok-at.ensures.room stays
+    (progress_of c.in_ok-approach.field-0) c.in_ok-approach.ensures
+
+-- it is new
+pub returns-then-at-limit-clause-laid : goal.returns-then-at-limit-clause-laid
+returns-then-at-limit-clause-laid c =
+    let can = taken-pushable c.args.board.now c.requires.accepted c.args.limit c.args.index (progress_of c.args.search) c.args.key.now c.args.depth
+    c.requires.search c.requires.there c.requires.depth c.args.push c.requires.legal c.args.trial.now.layout c.requires.laid in
+    c.step-to.ensures.laid c.args.key.now can
+
+pub returns-then-at-limit-clause-tells : goal.returns-then-at-limit-clause-tells
+returns-then-at-limit-clause-tells c =
+    let p = progress_of c.args.search in
+    let can = taken-pushable c.args.board.now c.requires.accepted c.args.limit c.args.index (progress_of c.args.search) c.args.key.now c.args.depth
+    c.requires.search c.requires.there c.requires.depth c.args.push c.requires.legal c.args.trial.now.layout c.requires.laid in
+    let comes = comes-next c.args.board.now c.requires.accepted c.args.key.now c.args.push c.step-to.result.0 c.step-to.result.1
+    c.args.trial.now.layout can c.step-to.ensures.ahead c.step-to.ensures.next in
+    let next = next_of c.args.key.now c.args.push.from c.step-to.result.0 c.step-to.result.1 in
+    let last : GoesLast p.table next (c.args.depth + 1) c.in_ok-at.at (entries_in c.insert_next.new.self) = subst
+    (λ t. Enters p.table next (c.args.depth + 1) c.in_ok-at.at t (entries_in c.insert_next.new.self)) c.if-not-is_new.false
+    (c.in_ok-at.ensures.inserted.enters c.args.key.now next c.requires.there comes.is) in
+    let full = c.if-at-limit.true in
+    let count = last.last in
+    full-more c.args.board.now c.requires.accepted c.args.limit (holding c.args.index p) c.args.index c.args.key.now next c.args.push
+    c.requires.legal.after c.requires.search (omega (arith, full, count))
+    c.requires.there c.requires.legal.leads (comes.came.exact c.requires.legal.after c.requires.legal.leads) last.absent
+
+pub moved-requires-clause-from : goal.moved-requires-clause-from
+moved-requires-clause-from c =
+    let can = taken-pushable c.args.board.now c.requires.accepted c.args.limit c.args.index (progress_of c.args.search) c.args.key.now c.args.depth
+    c.requires.search c.requires.there c.requires.depth c.args.push c.requires.legal c.args.trial.now.layout c.requires.laid in
+    (clear-legal c.args.board.now c.requires.accepted.numbered c.args.key.now can.state.is.placed c.args.push c.requires.legal).0
+
+pub moved-requires-clause-to : goal.moved-requires-clause-to
+moved-requires-clause-to c =
+    let can = taken-pushable c.args.board.now c.requires.accepted c.args.limit c.args.index (progress_of c.args.search) c.args.key.now c.args.depth
+    c.requires.search c.requires.there c.requires.depth c.args.push c.requires.legal c.args.trial.now.layout c.requires.laid in
+    clear-after c.args.board.now c.requires.accepted c.args.key.now c.args.push c.step-to.result.0 can.state c.requires.legal c.step-to.ensures.ahead
+
+pub judge_after-standing-requires-clause-laid : goal.judge_after-standing-requires-clause-laid
+judge_after-standing-requires-clause-laid c =
+    let can = taken-pushable c.args.board.now c.requires.accepted c.args.limit c.args.index (progress_of c.args.search) c.args.key.now c.args.depth
+    c.requires.search c.requires.there c.requires.depth c.args.push c.requires.legal c.args.trial.now.layout c.requires.laid in
+    c.step-to.ensures.laid c.args.key.now can
 
 pub judge_after-standing-requires-clause-moved : goal.judge_after-standing-requires-clause-moved
 judge_after-standing-requires-clause-moved c =
-    let b = c.args.board.now in
+    let can = taken-pushable c.args.board.now c.requires.accepted c.args.limit c.args.index (progress_of c.args.search) c.args.key.now c.args.depth
+    c.requires.search c.requires.there c.requires.depth c.args.push c.requires.legal c.args.trial.now.layout c.requires.laid in
+    let after : Key = record { boxes = c.in_ok-after.after; least = c.step-to.result.1 } in
+    let is : IsNext c.args.key.now c.args.push.from c.step-to.result.0 c.step-to.result.1 after = record {
+      moved = c.in_ok-after.ensures.moved;
+      rising = c.in_ok-after.ensures.rising;
+      least_is = refl;
+    } in
+    let came = c.step-to.ensures.next c.args.key.now after can is in
+    moved-next c.args.board.now c.requires.accepted c.args.key.now after c.args.push c.step-to.result.0 can.state can.few came.state c.requires.legal
+    came.exact c.step-to.ensures.ahead
+
+pub returns-clause-tells : goal.returns-clause-tells
+returns-clause-tells c =
     let p = progress_of c.args.search in
-    let one = taken b c.args.limit c.args.index p c.args.key.now c.args.depth c.requires.search c.requires.there c.requires.depth in
-    let many = one.noted.as_many in
-    let few = c.requires.accepted.few_boxes in
-    moved-next b c.requires.accepted c.args.key.now c.in_ok-next.next c.args.push c.unwrap-to.result one.noted.state (omega (arith, many, few))
-    c.in_ok-next.ensures.of_board c.requires.legal c.in_ok-next.ensures.exact
-    (sym c.neighbour.ensures.beside ∙ c.unwrap-to.ensures)
+    let q = progress_of c.in_ok-add.field-0 in
+    let at = c.in_ok-at.at in
+    let one = taken c.args.board.now c.args.limit c.args.index p c.args.key.now c.args.depth c.requires.search c.requires.there c.requires.depth in
+    let can = taken-pushable c.args.board.now c.requires.accepted c.args.limit c.args.index (progress_of c.args.search) c.args.key.now c.args.depth
+    c.requires.search c.requires.there c.requires.depth c.args.push c.requires.legal c.args.trial.now.layout c.requires.laid in
+    let next : Key = record { boxes = c.in_ok-after.after; least = c.step-to.result.1 } in
+    let is : IsNext c.args.key.now c.args.push.from c.step-to.result.0 c.step-to.result.1 next = record {
+      moved = c.in_ok-after.ensures.moved;
+      rising = c.in_ok-after.ensures.rising;
+      least_is = refl;
+    } in
+    let came = c.step-to.ensures.next c.args.key.now next can is in
+    let last : GoesLast p.table next (c.args.depth + 1) at (entries_in c.insert_next.new.self) = subst
+    (λ t. Enters p.table next (c.args.depth + 1) at t (entries_in c.insert_next.new.self)) c.if-not-is_new.false
+    (c.in_ok-at.ensures.inserted.enters c.args.key.now next c.requires.there is) in
+    let room = c.if-at-limit.false in
+    let count = last.last in
+    pushed-added c.args.board.now c.args.limit c.args.index p c.requires.search c.args.key.now
+    c.args.depth c.requires.there c.requires.depth one.note one.note_is
+    c.args.push c.requires.legal next came.exact came.state c.in_ok-after.ensures.as_many last.absent
+    (omega (arith, room, count)) _ refl c.judge_after-standing.ensures.judged q
+    (added-made p (room_of c.insert_next.new.self) (entries_in c.insert_next.new.self) q next (c.args.depth + 1) at _ c.in_ok-at.ensures.room last
+    c.in_ok-add.ensures)

@@ -1,16 +1,22 @@
 use Rattle.std.proofs.Common.{refl, sym, subst, true≢false}
 use Rattle.sok_search.specs.declared.reaching.Reached.TheVariants.{On}
 use Rattle.sok_search.specs.Searches.{IsState}
+use Rattle.sok_search.specs.Steps.{holding}
 use Rattle.sok_search.specs.Views.{TellsExpanded, progress_of}
 use Rattle.sok_search.proofs.Adding.{taken-key}
+use Rattle.sok_search.proofs.Knowing.{state-few}
 use Rattle.sok_search.proofs.Turning.{go-beaten, go-on, go-solved, held-noted, held-within}
 use Rattle.sok_search.proofs.running.visit.Goals as goal
 
 pub depth-depth-requires : goal.depth-depth-requires
 depth-depth-requires c = held-within c.args.board.now c.args.limit c.args.index (progress_of c.args.search) c.requires.search
 
-pub key-requires : goal.key-requires
-key-requires c = held-within c.args.board.now c.args.limit c.args.index (progress_of c.args.search) c.requires.search
+pub key-requires-clause-exists : goal.key-requires-clause-exists
+key-requires-clause-exists c = held-within c.args.board.now c.args.limit c.args.index (progress_of c.args.search) c.requires.search
+
+pub key-requires-clause-few : goal.key-requires-clause-few
+key-requires-clause-few c = state-few c.args.board.now c.requires.accepted c.args.limit (holding c.args.index
+    (progress_of c.args.search)) c.requires.search c.args.index
 
 pub returns-then-is_beaten-clause-tells : goal.returns-then-is_beaten-clause-tells
 returns-then-is_beaten-clause-tells c = go-beaten c.args.board.now c.args.limit c.args.index c.args.bound c.depth-depth.result

@@ -1,83 +1,62 @@
-use Rattle.std.proofs.Common.{◌∙◌, ap, inl, is_some, refl, sym}
+use Rattle.std.proofs.Common.{◌∙◌, ap, inl, is_some, refl, subst, sym}
+use Rattle.sok_board.specs.Area.{position_of}
+use Rattle.sok_state.specs.Keys.{IsKeyOf}
 use Rattle.sok_state.proofs.LegalPushes.{LeadsTo-position, clear-legal, key_after}
-use Rattle.sok_search.proofs.Stepped.{clear-after, moved-back, placed-after}
+use Rattle.sok_search.proofs.Stepped.{clear-after, moved-back, next-made, next_of, placed-after}
 use Rattle.sok_search.proofs.stepping.step.Goals as goal
 
 pub unwrap-ahead-requires : goal.unwrap-ahead-requires
 unwrap-ahead-requires c =
-    let legal = clear-legal c.args.board.now c.requires.accepted.numbered c.args.key.now c.requires.key.is.placed c.args.push c.requires.legal in
+    let (key, can) = c.requires.pushable in
+    let legal = clear-legal c.args.board.now c.requires.accepted.numbered key can.state.is.placed c.args.push can.legal in
     ap is_some (c.neighbour.ensures.beside ∙ legal.1.ahead_is)
-
-pub moved-requires-clause-from : goal.moved-requires-clause-from
-moved-requires-clause-from c =
-    (clear-legal c.args.board.now c.requires.accepted.numbered c.args.key.now c.requires.key.is.placed c.args.push c.requires.legal).0
-
-pub moved-requires-clause-to : goal.moved-requires-clause-to
-moved-requires-clause-to c = clear-after c.args.board.now c.requires.accepted c.args.key.now c.args.push c.unwrap-ahead.result c.requires.key c.requires.legal
-    (sym c.neighbour.ensures.beside ∙ c.unwrap-ahead.ensures)
 
 pub least_square-least-requires-clause-laid : goal.least_square-least-requires-clause-laid
 least_square-least-requires-clause-laid c =
     let b = c.args.board.now in
-    let key = c.args.key.now in
+    let (key, can) = c.requires.pushable in
     let push = c.args.push in
     let ahead = c.unwrap-ahead.result in
     let ahead_is = sym c.neighbour.ensures.beside ∙ c.unwrap-ahead.ensures in
-    let boxes = c.in_ok-boxes.boxes in
-    let moved = c.in_ok-boxes.ensures.moved in
-    let there = (clear-legal b c.requires.accepted.numbered key c.requires.key.is.placed push c.requires.legal).0 in (
+    let (next, as_many) = next-made b c.requires.accepted key push ahead 0 c.args.layout.now can ahead_is in
+    let boxes = (next_of key push.from ahead 0).boxes in (
       boxes,
-      placed-after b c.requires.accepted key push ahead boxes c.requires.key c.requires.legal ahead_is moved c.in_ok-boxes.ensures.rising,
-      c.shift.ensures key.boxes boxes c.requires.laid there
-          (clear-after b c.requires.accepted key push ahead c.requires.key c.requires.legal ahead_is) moved,
+      placed-after b c.requires.accepted key push ahead boxes can.state can.legal ahead_is next.moved next.rising,
+      c.shift.ensures key.boxes boxes can.laid (clear-legal b c.requires.accepted.numbered key can.state.is.placed push can.legal).0
+          (clear-after b c.requires.accepted key push ahead can.state can.legal ahead_is) next.moved,
     )
 
-pub returns-clause-exact : goal.returns-clause-exact
-returns-clause-exact c = λ after leads.
-    let b = c.args.board.now in
-    let key = c.args.key.now in
-    let push = c.args.push in
-    let ahead = c.unwrap-ahead.result in
-    let ahead_is = sym c.neighbour.ensures.beside ∙ c.unwrap-ahead.ensures in
-    let boxes = c.in_ok-boxes.boxes in
-    let moved = c.in_ok-boxes.ensures.moved in
-    let there = (clear-legal b c.requires.accepted.numbered key c.requires.key.is.placed push c.requires.legal).0 in
-    let free = clear-after b c.requires.accepted key push ahead c.requires.key c.requires.legal ahead_is in
-    let placed = placed-after b c.requires.accepted key push ahead boxes c.requires.key c.requires.legal ahead_is moved c.in_ok-boxes.ensures.rising in
-    key_after b (record { boxes = boxes; least = c.least_square-least.result }) push boxes after
-    (LeadsTo-position b c.requires.accepted.numbered key push ahead boxes after c.requires.key.is.placed ahead_is moved leads)
-    (c.least_square-least.ensures boxes placed (c.shift.ensures key.boxes boxes c.requires.laid there free moved))
-
-pub returns-clause-of_board : goal.returns-clause-of_board
-returns-clause-of_board c =
-    let b = c.args.board.now in
-    let key = c.args.key.now in
-    let push = c.args.push in
-    let ahead = c.unwrap-ahead.result in
-    let ahead_is = sym c.neighbour.ensures.beside ∙ c.unwrap-ahead.ensures in
-    let boxes = c.in_ok-boxes.boxes in
-    let moved = c.in_ok-boxes.ensures.moved in
-    let there = (clear-legal b c.requires.accepted.numbered key c.requires.key.is.placed push c.requires.legal).0 in
-    let free = clear-after b c.requires.accepted key push ahead c.requires.key c.requires.legal ahead_is in
-    let placed = placed-after b c.requires.accepted key push ahead boxes c.requires.key c.requires.legal ahead_is moved c.in_ok-boxes.ensures.rising in
-    record {
-      player = push.from;
-      boxes = boxes;
-      placed = placed;
-      is = c.least_square-least.ensures boxes placed (c.shift.ensures key.boxes boxes c.requires.laid there free moved);
-    }
+pub returns-clause-ahead : goal.returns-clause-ahead
+returns-clause-ahead c = sym c.neighbour.ensures.beside ∙ c.unwrap-ahead.ensures
 
 pub returns-clause-laid : goal.returns-clause-laid
-returns-clause-laid c =
+returns-clause-laid c = λ key can.
     let b = c.args.board.now in
-    let key = c.args.key.now in
     let push = c.args.push in
     let ahead = c.unwrap-ahead.result in
     let ahead_is = sym c.neighbour.ensures.beside ∙ c.unwrap-ahead.ensures in
-    let boxes = c.in_ok-boxes.boxes in
-    let moved = c.in_ok-boxes.ensures.moved in
-    let there = (clear-legal b c.requires.accepted.numbered key c.requires.key.is.placed push c.requires.legal).0 in
-    let free = clear-after b c.requires.accepted key push ahead c.requires.key c.requires.legal ahead_is in
-    let placed = placed-after b c.requires.accepted key push ahead boxes c.requires.key c.requires.legal ahead_is moved c.in_ok-boxes.ensures.rising in
-    c.shift-2.ensures boxes key.boxes (c.shift.ensures key.boxes boxes c.requires.laid there free moved) ((moved ahead).1 (inl refl)) placed.free
-    (moved-back key.boxes boxes push.from ahead there free moved)
+    let (next, as_many) = next-made b c.requires.accepted key push ahead 0 c.args.layout.now can ahead_is in
+    let boxes = (next_of key push.from ahead 0).boxes in
+    let there = (clear-legal b c.requires.accepted.numbered key can.state.is.placed push can.legal).0 in
+    let free = clear-after b c.requires.accepted key push ahead can.state can.legal ahead_is in
+    let placed = placed-after b c.requires.accepted key push ahead boxes can.state can.legal ahead_is next.moved next.rising in
+    c.shift-2.ensures boxes key.boxes (c.shift.ensures key.boxes boxes can.laid there free next.moved) ((next.moved ahead).1 (inl refl)) placed.free
+    (moved-back key.boxes boxes push.from ahead there free next.moved)
+
+pub returns-clause-next : goal.returns-clause-next
+returns-clause-next c = λ key next can is.
+    let b = c.args.board.now in
+    let push = c.args.push in
+    let ahead = c.unwrap-ahead.result in
+    let ahead_is = sym c.neighbour.ensures.beside ∙ c.unwrap-ahead.ensures in
+    let there = (clear-legal b c.requires.accepted.numbered key can.state.is.placed push can.legal).0 in
+    let free = clear-after b c.requires.accepted key push ahead can.state can.legal ahead_is in
+    let placed = placed-after b c.requires.accepted key push ahead next.boxes can.state can.legal ahead_is is.moved is.rising in
+    let found = c.least_square-least.ensures next.boxes placed (c.shift.ensures key.boxes next.boxes can.laid there free is.moved) in
+    let is_key : IsKeyOf b (position_of b push.from next.boxes) next = subst
+    (λ n. IsKeyOf b (position_of b push.from next.boxes) (record { boxes = next.boxes; least = n })) (sym is.least_is) found in
+    record {
+      state = record { player = push.from; boxes = next.boxes; placed = placed; is = is_key };
+      exact = λ after leads. key_after b next push next.boxes after
+          (LeadsTo-position b c.requires.accepted.numbered key push ahead next.boxes after can.state.is.placed ahead_is is.moved leads) is_key;
+    }

@@ -8,4 +8,4 @@ abbrev pub invariant-loop-origin : goal.invariant-loop-origin
 invariant-loop-origin l = IsTracing (progress_of l.search) l.index l.at l.trace.items
 
 abbrev pub decreases-loop-origin : goal.decreases-loop-origin
-decreases-loop-origin l = get_or (values_of l.search.table) l.at 0
+decreases-loop-origin l = get_or (values_of (progress_of l.search).table) l.at 0
