@@ -1,27 +1,109 @@
--- What a search for all boxes answers, in the words of the board.
-use Rattle.std.proofs.Common.{ℕ, ◌≡◌, ◌≢◌, ◌<◌, ◌≤◌, ◌+◌, ◌∙◌, refl, sym, subst, List, Option, Some, None}
-use Rattle.std.proofs.Common.{All, AllPairs, Contains, arith, length, get_or, sum}
-use Rattle.std.proofs.lemmas.Option.{slice_get_within, get_or_from_slice_get}
-use Rattle.std.proofs.lemmas.List.Elements.{All-weaker}
-use Rattle.std.proofs.lemmas.List.Sums.{sum_by-le}
-use Rattle.sok_board.specs.Area.{Numbered, goals_of}
-use Rattle.sok_push.specs.Distances.{goal_at}
-use Rattle.sok_push.specs.Pushing.{Chain, TellsDistance}
-use Rattle.sok_price.specs.Costs.{TellCosts}
-use Rattle.sok_price.specs.declared.assign.Match.{Match}
-use Rattle.sok_price.specs.declared.assign.Match.TheVariants.{Prices, Crowd}
-use Rattle.sok_price.specs.declared.search.Search.{Search}
-use Rattle.sok_price.specs.Matches.{ArePrices, HasPrices, IsMatch}
-use Rattle.sok_price.specs.Matchings.{AreFair, Costing, low}
-use Rattle.sok_price.specs.Prices.{IsAssignment, IsCrowd, Priced}
-use Rattle.sok_price.specs.Searches.{Growth, IsReady, IsSeen, ReachesNoOther}
-use Rattle.sok_price.specs.Trees.{branch_at, members_of}
-use Rattle.sok_price.proofs.AssignmentLaws.{IsCarrying-IsAssignment}
-use Rattle.sok_price.proofs.Branching.{member-within}
-use Rattle.sok_price.proofs.CrowdLaws.{Excludes-IsCrowd}
-use Rattle.sok_price.proofs.Crowding.{IsCrowd-closed}
-use Rattle.sok_price.proofs.Places.{listed}
-use Rattle.sok_price.proofs.Sums.{prices_of-all, sum-along}
+-- What a search for all boxes answers, in the words of the board: prices with an assignment, or a crowd.
+use Rattle.sok_price.proofs.Words.{ℕ, ◌≡◌, ◌≢◌, ◌<◌, ◌≤◌, ◌+◌, ◌-◌, ◌∙◌, inl, inr, refl, sym, ap, subst, List, AllPairs, Contains, Option, Some, None, Bool}
+use Rattle.sok_price.proofs.Words.{true, arith, length, get_or, map, drop, filter, range_with_len, cases_Bool, slice_get_within, get_or_from_slice_get}
+use Rattle.sok_price.proofs.Words.{get_or_default, get_or-drop, get_or-map, length-drop, length-map, All-from_get_or, get_or-range_with_len}
+use Rattle.sok_price.proofs.Words.{length-range_with_len, Numbered, goals_of, Contains-filter, Contains-from_filter, below-chosen, rising-chosen, goal_at}
+use Rattle.sok_price.proofs.Words.{Chain, TellsDistance, Branch, TellCosts, Costing, low, IsCrowd, Growth, IsSeen, ReachesNoOther, branch_at, is_marked, is_met}
+use Rattle.sok_price.proofs.Words.{All, sum, sum_by-le, Match, Prices, Crowd, Search, ArePrices, HasPrices, IsMatch, AreFair, IsAssignment, Priced, IsReady}
+use Rattle.sok_price.proofs.Words.{members_of, ◌*◌}
+use Rattle.sok_price.proofs.{Branching.box-at, Branching.boxes_of, Branching.boxes-apart, Branching.branch-met, Branching.few-branches}
+use Rattle.sok_price.proofs.{Branching.length-boxes_of, Branching.met-branch, Branching.no_branch, Branching.price-at, Branching.member-within}
+use Rattle.sok_price.proofs.{CostRows.short-some, Places.Contains-map, Places.pigeonhole, Places.listed, Places.prices_of-all, Places.sum-along}
+use Rattle.sok_price.proofs.{AssignmentLaws.IsCarrying-IsAssignment, CrowdLaws.Excludes-IsCrowd}
+
+chain-some : (b : Numbered) (goal square d : ℕ) (cost : Option ℕ) → TellsDistance b goal square cost → Chain b square goal d → (pushes : ℕ) ×
+    (cost ≡ Some pushes)
+chain-some b goal square d None tells chain = absurd (tells d chain)
+chain-some b goal square d (Some pushes) tells chain = (pushes, refl)
+
+-- a number that passes a test is chosen
+chosen-at : (met : ℕ → Bool) (n i : ℕ) → i < n → met i ≡ true → Contains (filter met (range_with_len 0 n)) i
+chosen-at met n i within passes =
+    let here : i < length (range_with_len 0 n) = omega (arith, within, length-range_with_len 0 n) in
+    Contains-filter met (range_with_len 0 n) i (i, here, omega (arith, get_or-range_with_len 0 n i i within)) passes
+
+-- different rows of chosen numbers are no more than these
+few-chosen : (met : ℕ → Bool) (row : ℕ → ℕ) (rows : List ℕ) (n : ℕ) → AllPairs ◌≢◌ rows
+    → ((at : ℕ) → at < length rows → (i : ℕ) × (i < n) × (row i ≡ get_or rows at 0) × (met i ≡ true)) → length rows ≤ length (filter met (range_with_len 0 n))
+few-chosen met row rows n apart own =
+    let chosen : List ℕ = filter met (range_with_len 0 n) in
+    let most = pigeonhole rows (map row chosen) apart (All-from_get_or (Contains (map row chosen)) rows 0 (λ at within.
+    let (i, i_in, i_is, passes) = own at within in
+    subst (Contains (map row chosen)) i_is (Contains-map row chosen i (chosen-at met n i i_in passes)))) in
+    omega (arith, most, length-map chosen row)
+
+-- the goals of a tree, one fewer than its boxes
+abbrev tree_goals : List Branch → List ℕ
+tree_goals branches = map (λ (b : Branch). b.goal) (drop 1 branches)
+
+length-tree_goals : (branches : List Branch) → length (tree_goals branches) ≡ length branches - 1
+length-tree_goals branches = length-map (drop 1 branches) (λ (b : Branch). b.goal) ∙ length-drop 1 branches
+
+module _ {cost : Costing} {members goals : ℕ} {g : Growth} (growing : IsSeen cost members goals g) (closed : ReachesNoOther g) where
+  -- a goal that a box of the tree reaches is one of the tree
+  goal-closed : (at goal pushes : ℕ) → at < length g.branches → goal < goals → cost (branch_at g.branches at).member goal ≡ Some pushes → pushes ≤ 1024
+      → Contains (tree_goals g.branches) goal
+  goal-closed at goal pushes within inside way short = elim (cases_Bool (is_marked g.taken goal)) [
+    | inl taken ↦
+        let (to, later, to_within, is) = growing.taken.of goal taken in
+        let place : to - 1 < length (drop 1 g.branches) = omega (arith, length-drop 1 g.branches, later, to_within) in
+        let next : 1 + (to - 1) ≡ to = omega (arith, later) in (
+          to - 1,
+          omega (arith, place, length-map (drop 1 g.branches) (λ (b : Branch). b.goal)),
+          get_or-map (λ (b : Branch). b.goal) (drop 1 g.branches) (to - 1) no_branch goal place
+              ∙ ap (λ (b : Branch). b.goal) (get_or-drop 1 g.branches (to - 1) no_branch ∙ ap (branch_at g.branches) next) ∙ is,
+        )
+    | inr free ↦
+        let bound = growing.bounds at goal within within inside free pushes way in
+        let far = closed goal (omega (arith, inside, growing.matched.a_price_a_goal)) free in
+        let price = price-at (low members g.floor) g.v goal growing.low.goals in
+        let few = few-branches g.goal_of g.branches members growing.tree growing.more in
+        absurd (omega (arith, bound, far, growing.rises.above at within, price, few, growing.few, growing.bounded, within, short))
+  ]
+
+  -- no box of the tree reaches all goals for nothing, where there are as many boxes as goals: all goals would be of the tree
+  pub none-free : (at : ℕ) → at < length g.branches → members ≡ goals
+      → ((goal : ℕ) → goal < goals → cost (branch_at g.branches at).member goal ≡ Some 0) → ⊥
+  none-free at within square free =
+      let all = range_with_len 0 goals in
+      let long = length-range_with_len 0 goals in
+      let apart : AllPairs ◌≢◌ all = λ i j d before inside same.
+      grind (arith, same, before, inside, long, get_or-range_with_len 0 goals i d, get_or-range_with_len 0 goals j d) in
+      let most = pigeonhole all (tree_goals g.branches) apart (All-from_get_or (Contains (tree_goals g.branches)) all 0 (λ i inside.
+      let here = get_or-range_with_len 0 goals i 0 (omega (arith, inside, long)) in
+      let below : get_or all i 0 < goals = omega (arith, here, inside, long) in
+      goal-closed at (get_or all i 0) 0 within below (free (get_or all i 0) below) (omega arith))) in
+      omega (arith, most, long, length-tree_goals g.branches, few-branches g.goal_of g.branches members growing.tree growing.more, square, growing.tree.some)
+
+  -- the boxes whose rows are in the tree, where each row of the tree is that of a box
+  pub IsCrowd-closed : (b : Numbered) (boxes : List ℕ) (row : ℕ → ℕ) → goals ≡ length (goals_of b) → TellCosts b boxes goals (λ i goal. cost (row i) goal)
+      → ((at : ℕ) → at < length g.branches → (i : ℕ) × (i < length boxes) × (row i ≡ (branch_at g.branches at).member))
+      → IsCrowd b boxes (filter (λ i. is_met g.branches (row i)) (range_with_len 0 (length boxes)))
+  IsCrowd-closed b boxes row goals_are told own =
+      let n = length boxes in
+      let met = λ (i : ℕ). is_met g.branches (row i) in
+      record {
+        listed = record { rising = rising-chosen met n; within = below-chosen met n };
+        goals = map (goal_at b) (tree_goals g.branches);
+        all_reached = λ x goal d (i, member, at) (j, j_within, j_is) chain.
+            let (_, is_met_) = Contains-from_filter met (range_with_len 0 n) i member in
+            let (to, to_in, to_is) = branch-met g.branches (row i) is_met_ in
+            let i_within = slice_get_within boxes i x at in
+            let x_is : x ≡ get_or boxes i 0 = sym (get_or_from_slice_get boxes i x 0 at) in
+            let goal_is : goal ≡ goal_at b j = sym j_is ∙ get_or_default (goals_of b) j goal 0 j_within in
+            let inside : j < goals = omega (arith, j_within, goals_are) in
+            let (pushes, way) = chain-some b (goal_at b j) (get_or boxes i 0) d (cost (row i) j) (told i j i_within inside).exact
+            (subst (λ k. Chain b k (goal_at b j) d) x_is (subst (λ k. Chain b x k d) goal_is chain)) in
+            let short = short-some (cost (row i) j) pushes (told i j i_within inside).short way in
+            subst (Contains (map (goal_at b) (tree_goals g.branches))) (sym goal_is)
+            (Contains-map (goal_at b) (tree_goals g.branches) j (goal-closed to j pushes to_in inside (ap (λ t. cost t j) to_is ∙ way) short));
+        fewer =
+            let most = few-chosen met row (boxes_of g.branches) n (boxes-apart g.goal_of g.branches growing.tree) (λ at within.
+            let inside : at < length g.branches = omega (arith, within, length-boxes_of g.branches) in
+            let (i, i_in, i_is) = own at inside in
+            (i, i_in, i_is ∙ sym (box-at g.branches at inside), ap (is_met g.branches) i_is ∙ met-branch g.branches at inside)) in
+            omega (arith, most, length-boxes_of g.branches, length-map (tree_goals g.branches) (goal_at b), length-tree_goals g.branches, growing.tree.some);
+      }
 
 -- the cost of the way of a box to its goal, and that its price is exact
 abbrev Exact : Costing → List ℕ → List ℕ → List ℕ → ℕ → ℕ → Type 0
@@ -39,22 +121,20 @@ pub record HasSums (cost : Costing) (u v goal_of : List ℕ) : Type 0 where
 abbrev pub AreIdle : ℕ → Growth → Type 0
 AreIdle goals g = (goal : ℕ) → goal < goals → (Contains g.goal_of goal → ⊥) → get_or g.v goal 0 ≡ 0
 
-pub idle-floor : (cost : Costing) (members goals : ℕ) (g : Growth) → IsReady cost members goals g → g.floor ≡ 0 → AreIdle goals g
-idle-floor cost members goals g ready none goal within free = let bound = ready.matched.idle goal within free in omega (arith, bound, none)
+pub idle-floor : {cost : Costing} {members goals : ℕ} {g : Growth} → IsReady cost members goals g → g.floor ≡ 0 → AreIdle goals g
+idle-floor ready none goal within free = let bound = ready.matched.idle goal within free in omega (arith, bound, none)
 
-pub HasSums-ready : (cost : Costing) (members goals : ℕ) (g : Growth) → IsReady cost members goals g → length g.goal_of ≡ members → AreIdle goals g
+pub HasSums-ready : {cost : Costing} {members goals : ℕ} {g : Growth} → IsReady cost members goals g → length g.goal_of ≡ members → AreIdle goals g
     → HasSums cost g.u g.v g.goal_of
-HasSums-ready cost members goals g ready all idle =
+HasSums-ready {cost = cost} {g = g} ready all idle =
     let matched = ready.matched in
     let (distances, whole, exact) = listed (length g.goal_of) (Exact cost g.u g.v g.goal_of)
     (λ member within. let tight = matched.exact member within in (tight.pushes, (tight.way, tight.exact))) in
-    let along = sum-along g.u g.v g.goal_of distances (omega (arith, all, matched.a_price_a_box)) (omega (arith, whole, all, matched.a_price_a_box))
-    (λ member within. (exact member (omega (arith, within, matched.a_price_a_box, all))).1) in
-    let others = prices_of-all g.goal_of g.v matched.apart (λ k d within. let exists = matched.exist k d within in omega (
-      arith,
-      exists,
-      matched.a_price_a_goal,
-    ))
+    let price : (member : ℕ) → member < length g.u → get_or g.u member 0 ≡ get_or g.v (get_or g.goal_of member 0) 0 + get_or distances member 0 =
+    λ member within. (exact member (omega (arith, within, matched.a_price_a_box, all))).1 in
+    let along = (sum-along g.u g.v g.goal_of distances (omega (arith, all, matched.a_price_a_box)) (omega (arith, whole, all, matched.a_price_a_box))
+    (λ member within. omega (arith, price member within))).1 price in
+    let others = prices_of-all g.goal_of g.v matched.apart (λ k d within. let there = matched.exist k d within in omega (arith, there, matched.a_price_a_goal))
     (λ goal within none. idle goal (omega (arith, within, matched.a_price_a_goal)) none) in
     record { distances = distances; whole = whole; exact = exact; sums = omega (arith, along, others) }
 
@@ -97,15 +177,12 @@ IsAssignment-told b boxes goals cost goal_of distances told goals_are goals_long
       subst (TellsDistance b (goal_at b goal) (get_or boxes i 0)) (way i within) (told i goal within (exist i 0 (omega (arith, within, goals_long)))).exact;
 }
 
-small : (limit : ℕ) (prices : List ℕ) → limit ≤ 1000000 → All (λ price. price ≤ limit) prices → All (λ price. price ≤ 1000000) prices
-small limit prices low within = All-weaker (λ price. price ≤ limit) (λ price. price ≤ 1000000) (λ price bound. omega (arith, bound, low)) prices within
-
 -- prices and goals of all boxes, on a board whose distances are told
 pub ArePrices-ready : (b : Numbered) (boxes : List ℕ) (goals : ℕ) (cost : Costing) (g : Growth) (total : ℕ) → TellCosts b boxes goals cost
     → goals ≡ length (goals_of b) → IsReady cost (length boxes) goals g
     → g.floor ≡ 0 → length boxes ≤ 128 → length g.goal_of ≡ length boxes → total + sum g.v ≡ sum g.u → ArePrices b boxes g.u g.v total g.goal_of
 ArePrices-ready b boxes goals cost g total told goals_are ready none few all equal =
-    let has = HasSums-ready cost (length boxes) goals g ready all (idle-floor cost (length boxes) goals g ready none) in
+    let has = HasSums-ready ready all (idle-floor ready none) in
     let limit : low (length boxes) g.floor ≤ 1000000 = omega (arith, none, few) in
     let assignment = IsAssignment-told b boxes goals cost g.goal_of has.distances told goals_are all (has.whole ∙ all) ready.matched.exist ready.matched.apart
     (λ i within. (has.exact i (omega (arith, within, all))).0) in
@@ -113,8 +190,8 @@ ArePrices-ready b boxes goals cost g total told goals_are ready none few all equ
       priced = Priced-told b boxes goals cost g.u g.v total told goals_are ready.matched.a_price_a_box ready.matched.a_price_a_goal ready.matched.fair
           (omega (arith, equal));
       equal = equal;
-      small_boxes = small (low (length boxes) g.floor) g.u limit ready.low.boxes;
-      small_goals = small (low (length boxes) g.floor) g.v limit ready.low.goals;
+      small_boxes = λ k d within. let here = ready.low.boxes k d within in omega (arith, here, limit);
+      small_goals = λ k d within. let here = ready.low.goals k d within in omega (arith, here, limit);
       distances = has.distances;
       assignment = assignment;
       cost = omega (arith, has.sums, equal);
@@ -122,13 +199,12 @@ ArePrices-ready b boxes goals cost g total told goals_are ready none few all equ
           (IsCarrying-IsAssignment b boxes g.goal_of has.distances assignment) crowd;
     }
 
--- the sums fit, and that of the goals is the smaller
-pub sum-small : (members floor : ℕ) (u v : List ℕ) → length u ≡ members → members ≤ 128 → floor ≡ 0 → All (λ price. price ≤ low members floor) u
-    → sum u ≤ 33554432
-sum-small members floor u v long few none within =
-    let bound = sum_by-le (λ price. price) 262144 u (All-weaker (λ price. price ≤ low members floor) (λ price. price ≤ 262144)
-    (λ price below. omega (arith, below, few, none)) u within) in
-    omega (arith, bound, long, few)
+-- the sum of the boxes' prices is not large
+pub sum-small : (limit : ℕ) {cost : Costing} {members goals : ℕ} {g : Growth} → IsReady cost members goals g → low members g.floor ≤ limit
+    → sum g.u ≤ members * limit
+sum-small limit {members = members} {g = g} ready low =
+    let bound = sum_by-le (λ price. price) limit g.u (λ k d within. let here = ready.low.boxes k d within in omega (arith, here, low)) in
+    subst (λ n. sum g.u ≤ n * limit) ready.matched.a_price_a_box bound
 
 -- the boxes of a tree that reaches no other goal are a crowd
 pub IsCrowd-members : (b : Numbered) (boxes : List ℕ) (goals : ℕ) (cost : Costing) (g : Growth) → TellCosts b boxes goals cost → goals ≡ length (goals_of b)
@@ -141,10 +217,5 @@ pub IsMatch-prices : (b : Numbered) (boxes : List ℕ) (search : Search) (answer
     → ((total : ℕ) → total + sum search.v.items ≡ sum search.u.items → ArePrices b boxes search.u.items search.v.items total search.goal_of.items)
     → IsMatch b boxes answer
 IsMatch-prices b boxes search (Prices u v total goal_of) (u_is, v_is, goals_are, equal) prices =
-    let u_items : u.items ≡ search.u.items = λ i. (u_is i).items in
-    let v_items : v.items ≡ search.v.items = λ i. (v_is i).items in
-    let goals_items : goal_of.items ≡ search.goal_of.items = λ i. (goals_are i).items in
-    subst (λ us. ArePrices b boxes us v.items total goal_of.items) (sym u_items)
-    (subst (λ vs. ArePrices b boxes search.u.items vs total goal_of.items) (sym v_items)
-    (subst (λ goals. ArePrices b boxes search.u.items search.v.items total goals) (sym goals_items) (prices total equal)))
+    subst (λ (T : Type 0). T) (λ i. ArePrices b boxes (sym u_is i).items (sym v_is i).items total (sym goals_are i).items) (prices total equal)
 IsMatch-prices b boxes search (Crowd members) none prices = absurd none

@@ -1,11 +1,7 @@
 -- Prices bound the cost of every assignment.
-use Rattle.std.proofs.Common.{ℕ, ◌≡◌, ◌≢◌, ◌≤◌, ◌<◌, List, All, AllPairs, arith, length, get_or, sum}
-use Rattle.std.proofs.lemmas.Option.{slice_get-get_or}
-use Rattle.sok_board.specs.Area.{Numbered, goals_of}
-use Rattle.sok_push.specs.Distances.{goal_at}
-use Rattle.sok_push.specs.Pushing.{Chain}
-use Rattle.sok_price.specs.Prices.{Priced, IsAssignment}
-use Rattle.sok_price.proofs.Sums.{prices_of-le, sum-along-le}
+use Rattle.sok_price.proofs.Words.{ℕ, ◌≡◌, ◌≢◌, ◌≤◌, ◌<◌, List, All, AllPairs, arith, length, get_or, sum, slice_get-get_or, Numbered, goals_of, goal_at, Chain}
+use Rattle.sok_price.proofs.Words.{Priced, IsAssignment}
+use Rattle.sok_price.proofs.Places.{prices_of-le, sum-along}
 
 -- a goal of its own for each box, by the goals' indices, and a chain to it, by its length
 pub record IsCarrying (b : Numbered) (boxes goal_of lengths : List ℕ) : Type 0 where
@@ -19,13 +15,13 @@ pub AtLeast-IsCarrying : (b : Numbered) (boxes u v goal_of lengths : List ℕ) (
     → n ≤ sum lengths
 AtLeast-IsCarrying b boxes u v goal_of lengths n priced carrying =
     let exist : All (λ goal. goal < length v) goal_of = λ k d within. let here = carrying.exist k d within in omega (arith, here, priced.a_price_a_goal) in
-    let along = sum-along-le u v goal_of lengths (omega (arith, priced.a_price_a_box, carrying.a_goal_a_box))
+    let along = (sum-along u v goal_of lengths (omega (arith, priced.a_price_a_box, carrying.a_goal_a_box))
     (omega (arith, priced.a_price_a_box, carrying.a_length_a_box)) (λ i within.
     let inside : i < length boxes = omega (arith, within, priced.a_price_a_box) in
     let goal = get_or goal_of i 0 in
     let there : goal < length (goals_of b) = carrying.exist i 0 (omega (arith, inside, carrying.a_goal_a_box)) in
     priced.fair i goal (get_or boxes i 0) (get_or (goals_of b) goal 0) (get_or lengths i 0) (slice_get-get_or boxes i 0 inside)
-    (slice_get-get_or (goals_of b) goal 0 there) (carrying.chain i inside)) in
+    (slice_get-get_or (goals_of b) goal 0 there) (carrying.chain i inside))).0 in
     omega (arith, along, prices_of-le goal_of v carrying.apart exist, priced.enough)
 
 -- an assignment carries, by its distances

@@ -1,16 +1,26 @@
--- The boxes and goals of a search's tree.
-use Rattle.std.proofs.Common.{ℕ, ◌≡◌, ◌≢◌, ◌<◌, ◌≤◌, ◌∙◌, ◌==◌, inl, inr, sym, ap, List, AllPairs, Contains, true, arith, length, get_or, map}
-use Rattle.std.specs.Cmp.{both_ways}
-use Rattle.std.proofs.lemmas.Bool.{cases_eq}
-use Rattle.std.proofs.lemmas.Bool.Decides.{nat_tests}
-use Rattle.std.proofs.lemmas.List.{get_or_default, get_or-map, length-map}
-use Rattle.std.proofs.lemmas.List.Elements.{All-from_get_or}
-use Rattle.std.proofs.lemmas.List.Folds.{Any-from_list_any, list_any_at}
-use Rattle.sok_price.specs.declared.search.Branch.{Branch}
-use Rattle.sok_price.specs.Matchings.{Costing}
-use Rattle.sok_price.specs.Searches.{Growth, IsGrowing}
-use Rattle.sok_price.specs.Trees.{branch_at, is_marked, is_met, IsTree}
+-- Marks of goals, limited prices, and the boxes and goals of a search's tree.
+use Rattle.sok_price.proofs.Words.{ℕ, ◌≡◌, ◌≢◌, ◌<◌, ◌≤◌, ◌⊎◌, List, Option, Some, None, Bool, true, false, All, arith, length, get_or, set, common_steps}
+use Rattle.sok_price.proofs.Words.{is_marked, ◌∙◌, ◌==◌, inl, inr, sym, ap, AllPairs, Contains, map, both_ways, cases_eq, nat_tests, get_or_default, get_or-map}
+use Rattle.sok_price.proofs.Words.{length-map, All-from_get_or, Any-from_list_any, list_any_at, Branch, Costing, Growth, IsGrowing, branch_at, is_met, IsTree}
 use Rattle.sok_price.proofs.Places.{few_below, same_place}
+
+-- where a list has something, the place is within
+pub some-within : {X : Type 0} (xs : List (Option X)) (k : ℕ) (x : X) → get_or xs k None ≡ Some x → k < length xs
+some-within xs k x there = grind (arith, common_steps)
+
+-- a mark more leaves the others
+pub marked-set_kept : (marks : List Bool) (k j : ℕ) → k < length marks → is_marked marks j ≡ true → is_marked (set marks k true) j ≡ true
+marked-set_kept marks k j within there = grind (arith, common_steps)
+
+pub marked-set_cases : (marks : List Bool) (k j : ℕ) → is_marked (set marks k true) j ≡ true → (j ≡ k) ⊎ ((j ≢ k) × (is_marked marks j ≡ true))
+marked-set_cases marks k j there = grind (arith, common_steps)
+
+pub marked-set_clear : (marks : List Bool) (k j : ℕ) → k < length marks → is_marked (set marks k true) j ≡ false → (j ≢ k) × (is_marked marks j ≡ false)
+marked-set_clear marks k j within clear = grind (arith, common_steps)
+
+-- a price that is limited, in the list or past its end
+pub price-at : (limit : ℕ) (prices : List ℕ) (k : ℕ) → All (λ price. price ≤ limit) prices → get_or prices k 0 ≤ limit
+price-at limit prices k low = grind (arith, common_steps, low k 0)
 
 abbrev pub no_branch : Branch
 no_branch = record { member = 0; goal = 0; parent = 0; rise = 0 }

@@ -1,18 +1,9 @@
 -- A crowd has no solution: each of its boxes would end on a goal of its own.
-use Rattle.std.proofs.Common.{ℕ, ◌≡◌, ◌≢◌, ◌<◌, ◌∙◌, sym, subst, List, All, AllPairs, Contains, arith, length, get_or, map}
-use Rattle.std.proofs.lemmas.List.{get_or-map, length-map}
-use Rattle.std.proofs.lemmas.List.Elements.{All-from_get_or, Contains-get_or}
-use Rattle.std.proofs.lemmas.Option.{slice_get-get_or}
-use Rattle.sok_rules.specs.declared.cell.Dir.{Dir}
-use Rattle.sok_rules.specs.Squares.{holds, is_goal}
-use Rattle.sok_rules.specs.Play.{Position, SolvesFrom}
-use Rattle.sok_board.specs.Area.{Numbered, IsArea, goals_of, spot_of}
-use Rattle.sok_board.proofs.Numbering.{rising-chosen}
-use Rattle.sok_push.specs.Distances.{goal_at}
-use Rattle.sok_price.specs.Prices.{IsCrowd}
-use Rattle.sok_price.proofs.AssignmentLaws.{IsCarrying}
-use Rattle.sok_price.proofs.CarriedLaws.{Stands, carried}
-use Rattle.sok_price.proofs.Places.{apart_from, apart_rising, pigeonhole, same_place}
+use Rattle.sok_price.proofs.Words.{ℕ, ◌≡◌, ◌≢◌, ◌<◌, ◌∙◌, sym, subst, List, All, AllPairs, Contains, arith, length, get_or, map, get_or-map, length-map}
+use Rattle.sok_price.proofs.Words.{All-from_get_or, Contains-get_or, slice_get-get_or, Dir, holds, is_goal, Position, SolvesFrom, Numbered, IsArea, goals_of}
+use Rattle.sok_price.proofs.Words.{spot_of, rising-chosen, goal_at, IsCrowd}
+use Rattle.sok_price.proofs.{AssignmentLaws.IsCarrying, CarriedLaws.Stands, CarriedLaws.carried, Places.apart_from, Places.apart_rising, Places.pigeonhole}
+use Rattle.sok_price.proofs.{Places.same_place}
 
 -- the goals of a board are apart
 goals_apart : (b : Numbered) → AllPairs ◌≢◌ (goals_of b)
@@ -27,11 +18,8 @@ Excludes-IsCrowd b boxes goal_of lengths members carrying crowd =
     let end_is : (k : ℕ) → k < length ends → get_or ends k 0 ≡ end (get_or members k 0) = λ k within.
     get_or-map end members k 0 0 (omega (arith, within, long)) in
     let box : (k : ℕ) → k < length ends → get_or members k 0 < length boxes = λ k within. crowd.listed.within k 0 (omega (arith, within, long)) in
-    let owns : (k : ℕ) → k < length ends → get_or members k 0 < length goal_of = λ k within. let here = box k within in omega (
-      arith,
-      here,
-      carrying.a_goal_a_box,
-    ) in
+    let owns : (k : ℕ) → k < length ends → get_or members k 0 < length goal_of = λ k within.
+    omega (arith, box k within, carrying.a_goal_a_box) in
     let exists : (k : ℕ) → k < length ends → get_or goal_of (get_or members k 0) 0 < length (goals_of b) = λ k within.
     carrying.exist (get_or members k 0) 0 (owns k within) in
     let apart = apart_from ends (λ i j i_in j_in same.

@@ -1,11 +1,6 @@
 -- Weak duality: prices bound the pushes of every list that solves, since it carries each box to a goal of its own.
-use Rattle.std.proofs.Common.{ℕ, ◌≤◌, List, arith}
-use Rattle.sok_rules.specs.declared.cell.Dir.{Dir}
-use Rattle.sok_rules.specs.Play.{Position, SolvesFrom, pushes}
-use Rattle.sok_board.specs.Area.{Numbered, IsArea}
-use Rattle.sok_price.specs.Prices.{Priced}
-use Rattle.sok_price.proofs.AssignmentLaws.{AtLeast-IsCarrying}
-use Rattle.sok_price.proofs.CarriedLaws.{Stands, carried}
+use Rattle.sok_price.proofs.Words.{ℕ, ◌≤◌, List, arith, Dir, Position, SolvesFrom, pushes, Numbered, IsArea, Priced}
+use Rattle.sok_price.proofs.{AssignmentLaws.AtLeast-IsCarrying, CarriedLaws.Stands, CarriedLaws.carried}
 
 -- what prices bound, whatever list solves
 pub AtLeast-Priced : (b : Numbered) → IsArea b.rows b.area → (x : Position) (ns u v : List ℕ) (n : ℕ) → Stands b x ns → Priced b ns u v n → (w : List Dir)

@@ -1,21 +1,10 @@
--- A goal that is reached joins the tree, with the box that has it.
-use Rattle.std.proofs.Common.{ℕ, ◌≡◌, ◌≢◌, ◌<◌, ◌≤◌, ◌+◌, ◌*◌, ◌-◌, ◌∙◌, ◌++◌, inl, inr, refl, sym, ap, subst, List, [], ◌∷◌, Some, true, true≢false}
-use Rattle.std.proofs.Common.{arith, length, get_or, set}
-use Rattle.std.proofs.lemmas.Bool.{cases_eq}
-use Rattle.std.proofs.lemmas.List.{get_or_append_left, get_or_push, length_push, length-set}
-use Rattle.sok_price.specs.declared.search.Branch.{Branch}
-use Rattle.sok_price.specs.declared.slacks.Slack.{Slack}
-use Rattle.sok_price.specs.declared.slacks.Near.{Near}
-use Rattle.sok_price.specs.Matchings.{Costing}
-use Rattle.sok_price.specs.Searches.{Growth, IsAhead, IsNext, IsSeen, joined}
-use Rattle.sok_price.specs.Slacks.{slack_at}
-use Rattle.sok_price.specs.Trees.{is_marked, branch_at, AreRises, AreTaken, IsBound, IsSlack, IsTree}
-use Rattle.sok_price.proofs.Branching.{few-branches, goal-within, no_branch}
-use Rattle.sok_price.proofs.Marks.{marked-set_same, marked-set_kept, marked-set_cases, marked-set_clear}
-
--- the costs are those of distances on a board
-abbrev pub AreShort : Costing → Type 0
-AreShort cost = (member goal pushes : ℕ) → cost member goal ≡ Some pushes → pushes ≤ 1024
+-- A goal that is reached joins the tree, with the box that has it; the goal that is next, and what is told of it.
+use Rattle.sok_price.proofs.Words.{ℕ, ◌≡◌, ◌≢◌, ◌<◌, ◌≤◌, ◌+◌, ◌*◌, ◌-◌, ◌∙◌, ◌++◌, inl, inr, refl, sym, ap, subst, List, [], ◌∷◌, Some, true, true≢false}
+use Rattle.sok_price.proofs.Words.{arith, length, get_or, set, cases_eq, get_or_append_left, get_or_push, length_push, length-set, Branch, Slack, Near, Costing}
+use Rattle.sok_price.proofs.Words.{Growth, IsAhead, IsNext, IsSeen, joined, slack_at, is_marked, branch_at, AreRises, AreTaken, IsBound, IsSlack, IsTree}
+use Rattle.sok_price.proofs.Words.{Option, None, get_or_default, TellsTaker, TellsNext, TellsNearest, false, get_or-set_same}
+use Rattle.sok_price.proofs.Branching.{few-branches, goal-within, no_branch, marked-set_kept, marked-set_cases, marked-set_clear}
+use Rattle.sok_price.proofs.CostRows.{AreShort}
 
 module _ {cost : Costing} {members goals : ℕ} {g : Growth} {near : Near} (growing : IsSeen cost members goals g) (next : IsNext cost g near) where
   -- the next goal exists
@@ -40,7 +29,7 @@ pub record IsJoining (cost : Costing) (members goals : ℕ) (g : Growth) (near :
   pub earlier : member < length g.goal_of
   pub has : get_or g.goal_of member 0 ≡ near.goal
 
-abbrev branch_of : Near → ℕ → Branch
+abbrev pub branch_of : Near → ℕ → Branch
 branch_of near member = record { member = member; goal = near.goal; parent = near.slack.from; rise = near.slack.rise }
 
 abbrev grown_by : Growth → Near → ℕ → List Branch
@@ -122,7 +111,7 @@ module _ {cost : Costing} {members goals : ℕ} {g : Growth} {near : Near} {memb
   taken-joined = record {
     marked = λ at later within. each_branch g near member (λ k b. 0 < k → is_marked (set g.taken near.goal true) b.goal ≡ true)
         (λ k inside after. marked-set_kept g.taken near.goal (branch_at g.branches k).goal taken-room (is.growing.taken.marked k after inside))
-        (λ _. marked-set_same g.taken near.goal taken-room) at within later;
+        (λ _. get_or-set_same g.taken near.goal true false taken-room) at within later;
     of = λ goal there. elim (marked-set_cases g.taken near.goal goal there) [
       | inl same ↦ (
         length g.branches,
@@ -212,3 +201,30 @@ module _ {cost : Costing} {members goals : ℕ} {g : Growth} {near : Near} {memb
             (marked-set_clear g.taken near.goal goal taken-room clear).1 in
             omega (arith, least, last_rise);
       }
+
+-- a nearest goal is next
+pub TellsNext-nearest : {cost : Costing} {members goals : ℕ} {g : Growth} (near : Option Near) → IsSeen cost members goals g
+    → TellsNearest g.taken g.slacks (length g.slacks) near → TellsNext cost g near
+TellsNext-nearest None growing none =
+    λ goal within free. none goal (omega (arith, within, growing.matched.a_price_a_goal, growing.roomy.slacks)) free
+TellsNext-nearest {cost = cost} {g = g} (Some near) growing nearest =
+    let rise = ap (λ (s : Slack). s.rise) nearest.slack in
+    record {
+      within = omega (arith, nearest.within, growing.matched.a_price_a_goal, growing.roomy.slacks);
+      outside = nearest.free;
+      slack = nearest.slack;
+      way = subst (IsSlack cost g.u g.v g.branches near.goal) nearest.slack
+          (growing.slack near.goal (omega (arith, nearest.within, growing.roomy.slacks)) nearest.free (omega (arith, nearest.reached, rise)));
+      least = λ goal inside free. nearest.least goal (omega (arith, inside, growing.matched.a_price_a_goal, growing.roomy.slacks)) free;
+    }
+
+-- a next goal that a box has joins, with the box, as the entry that is read tells
+pub IsJoining-next : {cost : Costing} {members goals : ℕ} {g : Growth} {near : Near} {member : ℕ} {found : Option Near} (entry : Option ℕ) → AreShort cost
+    → IsSeen cost members goals g → TellsNext cost g found → found ≡ Some near → entry ≡ get_or g.takers near.goal entry → entry ≡ Some member
+    → IsJoining cost members goals g near member
+IsJoining-next {cost = cost} {g = g} {near = near} entry short growing tells found read is =
+    let next = subst (TellsNext cost g) found tells in
+    let inside : near.goal < length g.takers = omega (arith, next-within growing next, growing.roomy.takers) in
+    let tells = subst (TellsTaker g.goal_of (length g.goal_of) near.goal) (get_or_default g.takers near.goal None entry inside ∙ sym read ∙ is)
+    (growing.tells near.goal inside) in
+    record { short = short; growing = growing; next = next; earlier = tells.0; has = tells.1 }

@@ -1,18 +1,68 @@
--- What slacks tell once one box more of the tree is looked at.
-use Rattle.std.proofs.Common.{ℕ, ◌≡◌, ◌<◌, ◌≤◌, ◌+◌, ◌-◌, ◌∙◌, ◌⊎◌, inl, inr, refl, sym, ap, subst, List, Bool, Option, Some, None, false}
-use Rattle.std.proofs.Common.{arith, length, get_or}
-use Rattle.std.proofs.lemmas.Bool.{cases_eq}
-use Rattle.std.proofs.lemmas.Bool.Decides.{nat_tests}
-use Rattle.std.proofs.lemmas.Option.{none-some, same_Some}
-use Rattle.std.proofs.lemmas.List.{get_or_default}
-use Rattle.sok_price.specs.declared.search.Branch.{Branch}
-use Rattle.sok_price.specs.declared.slacks.Slack.{Slack}
-use Rattle.sok_price.specs.Matchings.{Costing, low}
-use Rattle.sok_price.specs.Searches.{Growth, IsAhead, IsSeen}
-use Rattle.sok_price.specs.Slacks.{closer, slack_at, smaller, unreached}
-use Rattle.sok_price.specs.Trees.{branch_at, is_marked, IsBound, IsSlack}
-use Rattle.sok_price.proofs.Branching.{few-branches, member-within, no_branch}
-use Rattle.sok_price.proofs.Marks.{price-at}
+-- A search that has begun, and what slacks tell once one more box of the tree is looked at.
+use Rattle.sok_price.proofs.Words.{ℕ, ◌≡◌, ◌<◌, ◌≤◌, ◌+◌, ◌∙◌, refl, sym, ap, subst, List, [], ◌∷◌, false, true≢false, arith, length, get_or, replicate}
+use Rattle.sok_price.proofs.Words.{common_steps, length-replicate, Branch, Slack, Costing, Growth, IsAhead, IsBegun, IsReady, slack_at, unreached, branch_at}
+use Rattle.sok_price.proofs.Words.{AreRises, IsTree, ◌-◌, ◌⊎◌, inl, inr, Bool, Option, Some, None, nat_tests, none-some, same_Some, get_or_default, low, IsSeen}
+use Rattle.sok_price.proofs.Words.{closer, smaller, is_marked, IsBound, IsSlack}
+use Rattle.sok_price.proofs.Branching.{few-branches, member-within, no_branch, price-at}
+
+-- a list of one thing has it or nothing at each place
+same_everywhere : {X : Type 0} (n k : ℕ) (x : X) → get_or (replicate n x) k x ≡ x
+same_everywhere n k x = grind (arith, common_steps)
+
+-- a tree of the next box alone
+abbrev root_of : ℕ → List Branch
+root_of root = record { member = root; goal = 0; parent = 0; rise = 0 } ∷ []
+
+tree-fresh : (goal_of : List ℕ) → IsTree goal_of (root_of (length goal_of))
+tree-fresh goal_of = record {
+  some = omega arith;
+  root = refl;
+  before = λ at later within. absurd (omega (arith, later, within));
+  earlier = λ at later within. absurd (omega (arith, later, within));
+  has = λ at later within. absurd (omega (arith, later, within));
+  apart = λ at to before within. absurd (omega (arith, before, within));
+}
+
+rises-fresh : (cost : Costing) (u v : List ℕ) (root : ℕ) → AreRises cost u v (root_of root)
+rises-fresh cost u v root = record {
+  way = λ at later within. absurd (omega (arith, later, within));
+  bound = λ at to _ later within. absurd (omega (arith, later, within));
+  last = λ at within. grind (arith, common_steps);
+  above = λ at within. grind (arith, common_steps);
+  below = λ at within. grind (arith, common_steps);
+}
+
+-- what no box is looked at from
+abbrev unseen : Slack
+unseen = record { rise = unreached; from = 0 }
+
+pub IsAhead-begun : {cost : Costing} {members goals : ℕ} {g after : Growth} → IsReady cost members goals g → members ≤ 1024 → length g.goal_of < members
+    → IsBegun g after → IsAhead cost members goals after
+IsAhead-begun {cost = cost} {members = members} {goals = goals} {g = g} ready few more begun =
+    let far : (goal : ℕ) → unreached ≤ (slack_at (replicate (length g.slacks) unseen) goal).rise = λ goal.
+    omega (arith, ap (λ (s : Slack). s.rise) (same_everywhere (length g.slacks) goal unseen)) in
+    subst (IsAhead cost members goals) (sym begun.same) (record {
+      matched = ready.matched;
+      roomy = record {
+        taken = length-replicate (length g.taken) false ∙ ready.roomy.taken;
+        slacks = length-replicate {A = Slack} (length g.slacks) unseen ∙ ready.roomy.slacks;
+        takers = begun.whole ∙ ready.roomy.takers;
+      };
+      few = few;
+      bounded = ready.bounded;
+      low = ready.low;
+      more = more;
+      tells = begun.tells;
+      tree = tree-fresh g.goal_of;
+      taken = record {
+        marked = λ at later within. absurd (omega (arith, later, within));
+        of = λ goal there. absurd (true≢false (sym there ∙ same_everywhere (length g.taken) goal false));
+      };
+      rises = rises-fresh cost g.u g.v (length g.goal_of);
+      slack = λ goal _ _ reached. absurd (omega (arith, reached, far goal));
+      bounds = λ at goal seen _ _ _. absurd (omega (arith, seen));
+      ahead = λ goal _ _. omega (arith, far goal);
+    })
 
 -- the smaller of two is one of them, and no more than the other
 smaller-cases : (rise from : ℕ) (slack : Slack)
@@ -72,12 +122,9 @@ module _ {cost : Costing} {members goals : ℕ} {g : Growth} (growing : IsAhead 
             let rise = ap (λ (s : Slack). s.rise) same in
             record {
               way = λ reached. subst (IsSlack cost g.u g.v g.branches goal) (sym same) (growing.slack goal within free (omega (arith, reached, rise)));
-              bound = λ at here pushes way. elim (cases_eq at last) [
-                | inl at_last ↦
-                    let way' = ap (λ k. cost (branch_at g.branches k).member goal) (sym at_last) ∙ way in
-                    grind (arith, new pushes way', fair pushes way', at_last, rise)
-                | inr other ↦ omega (arith, growing.bounds at goal (omega (arith, here, other)) here within free pushes way, rise)
-              ];
+              bound = λ at here pushes way.
+                  let old = growing.bounds at goal in
+                  grind (arith, new pushes, fair pushes, rise, old, here, within, free, way);
               ahead = omega (arith, growing.ahead goal within free, rise);
             }
         | inr (pushes, way, new, less) ↦
@@ -92,12 +139,9 @@ module _ {cost : Costing} {members goals : ℕ} {g : Growth} (growing : IsAhead 
                 way = ap (λ k. cost (branch_at g.branches k).member goal) from ∙ way;
                 exact = grind (arith, from, rise, fair');
               };
-              bound = λ at here pushes' way'. elim (cases_eq at last) [
-                | inl at_last ↦
-                    let equal = same_Some pushes pushes' (sym way ∙ ap (λ k. cost (branch_at g.branches k).member goal) (sym at_last) ∙ way') in
-                    grind (arith, at_last, rise, fair', equal)
-                | inr other ↦ omega (arith, growing.bounds at goal (omega (arith, here, other)) here within free pushes' way', rise, less)
-              ];
+              bound = λ at here pushes' way'.
+                  let old = growing.bounds at goal in
+                  grind (arith, way, way', rise, fair', less, old, here, within, free);
               ahead = omega (arith, rise);
             }
       ]

@@ -1,29 +1,23 @@
--- Prices of a tree, raised until its next goal is reached, stay fair and exact.
-use Rattle.std.proofs.Common.{ℕ, ◌≡◌, ◌<◌, ◌≤◌, ◌∙◌, inl, inr, sym, ap, false, true≢false, arith}
-use Rattle.std.proofs.Common.{length, get_or}
-use Rattle.std.proofs.lemmas.Bool.{cases_Bool}
-use Rattle.std.proofs.lemmas.List.{get_or_default}
-use Rattle.sok_price.specs.declared.slacks.Near.{Near}
-use Rattle.sok_price.specs.Matchings.{AreFair, AreTight, Costing, IsMatched, IsTight, low}
-use Rattle.sok_price.specs.Searches.{Growth, IsNext, IsRaised, IsSeen}
-use Rattle.sok_price.specs.Trees.{branch_at, is_marked, is_met, GoesTight}
-use Rattle.sok_price.proofs.Branching.{branch-matched, branch-met, few-branches, held, met-branch, partner}
-use Rattle.sok_price.proofs.Joining.{AreShort, rises-next}
-use Rattle.sok_price.proofs.Marks.{price-at}
+-- Prices of a tree, raised until its next goal is reached, stay fair and exact; then the next box has a goal.
+use Rattle.sok_price.proofs.Words.{ℕ, ◌≡◌, ◌<◌, ◌≤◌, ◌∙◌, inl, inr, sym, ap, false, true≢false, arith, length, get_or, cases_Bool, get_or_default, Near}
+use Rattle.sok_price.proofs.Words.{AreFair, AreTight, Costing, IsMatched, IsTight, low, Growth, IsNext, IsRaised, IsSeen, branch_at, is_marked, is_met}
+use Rattle.sok_price.proofs.Words.{GoesTight, List, All-from_get_or, IsReady, IsRematched, Rematches}
+use Rattle.sok_price.proofs.{Branching.branch-matched, Branching.branch-met, Branching.few-branches, Branching.held, Branching.met-branch, Branching.partner}
+use Rattle.sok_price.proofs.{Branching.price-at, CostRows.AreShort, Joining.rises-next}
 
 -- a search before and after the prices of its tree are raised to its next goal
-pub record AreLifted (cost : Costing) (members goals : ℕ) (g : Growth) (near : Near) (after : Growth) : Type 0 where
+pub record AreLifted (cost : Costing) (members goals : ℕ) (g : Growth) (near : Near) (u v : List ℕ) : Type 0 where
   pub short : AreShort cost
   pub growing : IsSeen cost members goals g
   pub next : IsNext cost g near
-  pub raised : IsRaised near.slack.rise g after
+  pub raised : IsRaised near.slack.rise g u v
 
-module _ {cost : Costing} {members goals : ℕ} {g : Growth} {near : Near} {after : Growth} (are : AreLifted cost members goals g near after) where
-  u-unmet : (member : ℕ) → is_met g.branches member ≡ false → get_or after.u member 0 ≡ get_or g.u member 0
+module _ {cost : Costing} {members goals : ℕ} {g : Growth} {near : Near} {u v : List ℕ} (are : AreLifted cost members goals g near u v) where
+  u-unmet : (member : ℕ) → is_met g.branches member ≡ false → get_or u member 0 ≡ get_or g.u member 0
   u-unmet member unmet = are.raised.boxes.others member
       (λ at _ within same. true≢false (sym (met-branch g.branches at within) ∙ ap (is_met g.branches) same ∙ unmet))
 
-  v-free : (goal : ℕ) → is_marked g.taken goal ≡ false → get_or after.v goal 0 ≡ get_or g.v goal 0
+  v-free : (goal : ℕ) → is_marked g.taken goal ≡ false → get_or v goal 0 ≡ get_or g.v goal 0
   v-free goal free = are.raised.goals.others goal
       (λ at later within same. true≢false (sym (are.growing.taken.marked at later within) ∙ ap (is_marked g.taken) same ∙ free))
 
@@ -31,15 +25,15 @@ module _ {cost : Costing} {members goals : ℕ} {g : Growth} {near : Near} {afte
   rise-of at within = rises-next are.growing are.next at within
 
   -- no price falls
-  v-rises : (goal : ℕ) → get_or g.v goal 0 ≤ get_or after.v goal 0
+  v-rises : (goal : ℕ) → get_or g.v goal 0 ≤ get_or v goal 0
   v-rises goal = elim (cases_Bool (is_marked g.taken goal)) [
     | inr free ↦ omega (arith, v-free goal free)
     | inl taken ↦
         let (at, later, within, is) = are.growing.taken.of goal taken in
-        omega (arith, are.raised.goals.raised at later within, ap (λ k. get_or g.v k 0) is, ap (λ k. get_or after.v k 0) is)
+        omega (arith, are.raised.goals.raised at later within, ap (λ k. get_or g.v k 0) is, ap (λ k. get_or v k 0) is)
   ]
 
-  fair-raised : AreFair cost after.u after.v
+  fair-raised : AreFair cost u v
   fair-raised member goal pushes member_within goal_within way =
       let growing = are.growing in
       let fair = growing.matched.fair member goal pushes (omega (arith, member_within, are.raised.boxes.whole))
@@ -64,7 +58,7 @@ module _ {cost : Costing} {members goals : ℕ} {g : Growth} {near : Near} {afte
             ]
       ]
 
-  exact-raised : AreTight cost after.u after.v g.goal_of
+  exact-raised : AreTight cost u v g.goal_of
   exact-raised member has =
       let tight = are.growing.matched.exact member has in
       record {
@@ -81,7 +75,7 @@ module _ {cost : Costing} {members goals : ℕ} {g : Growth} {near : Near} {afte
       }
 
   -- each way of the tree becomes exact
-  pub tight-raised : GoesTight cost after.u after.v g.branches
+  pub tight-raised : GoesTight cost u v g.branches
   tight-raised at later within =
       let way = are.growing.rises.way at later within in
       let parent = (branch_at g.branches at).parent in
@@ -90,14 +84,14 @@ module _ {cost : Costing} {members goals : ℕ} {g : Growth} {near : Near} {afte
       record { pushes = way.pushes; way = way.way; exact = omega (arith, price, goal_price, way.exact, rise-of at within, rise-of parent way.within) }
 
   -- and so does that to the next goal
-  pub tight-next : IsTight cost after.u after.v (branch_at g.branches near.slack.from).member near.goal
+  pub tight-next : IsTight cost u v (branch_at g.branches near.slack.from).member near.goal
   tight-next =
       let way = are.next.way in
       let price = are.raised.boxes.raised near.slack.from (omega arith) way.within in
       let goal_price = v-free near.goal are.next.outside in
       record { pushes = way.pushes; way = way.way; exact = omega (arith, price, goal_price, way.exact, rise-of near.slack.from way.within) }
 
-  pub IsMatched-raised : IsMatched cost members goals g.floor after.u after.v g.goal_of
+  pub IsMatched-raised : IsMatched cost members goals g.floor u v g.goal_of
   IsMatched-raised = record {
     a_price_a_box = are.raised.boxes.whole ∙ are.growing.matched.a_price_a_box;
     a_price_a_goal = are.raised.goals.whole ∙ are.growing.matched.a_price_a_goal;
@@ -112,7 +106,7 @@ module _ {cost : Costing} {members goals : ℕ} {g : Growth} {near : Near} {afte
   }
 
   -- prices of the boxes of a tree are close to that of a goal that no box has
-  low-box : get_or g.v near.goal 0 ≤ g.floor → (member : ℕ) → get_or g.u member 0 ≤ low members g.floor → get_or after.u member 0 ≤ low members g.floor
+  low-box : get_or g.v near.goal 0 ≤ g.floor → (member : ℕ) → get_or g.u member 0 ≤ low members g.floor → get_or u member 0 ≤ low members g.floor
   low-box idle member old_low = elim (cases_Bool (is_met g.branches member)) [
     | inr unmet ↦ omega (arith, u-unmet member unmet, old_low)
     | inl met ↦
@@ -127,17 +121,17 @@ module _ {cost : Costing} {members goals : ℕ} {g : Growth} {near : Near} {afte
   ]
 
   -- after a raise to a goal that no box has prices are low
-  pub low-raised : get_or g.v near.goal 0 ≤ g.floor → ((member : ℕ) → get_or after.u member 0 ≤ low members g.floor)
-      × ((goal : ℕ) → get_or after.v goal 0 ≤ low members g.floor)
+  pub low-raised : get_or g.v near.goal 0 ≤ g.floor → ((member : ℕ) → get_or u member 0 ≤ low members g.floor)
+      × ((goal : ℕ) → get_or v goal 0 ≤ low members g.floor)
   low-raised idle =
-      let boxes : (member : ℕ) → get_or after.u member 0 ≤ low members g.floor = λ member.
+      let boxes : (member : ℕ) → get_or u member 0 ≤ low members g.floor = λ member.
       low-box idle member (price-at (low members g.floor) g.u member are.growing.low.boxes) in (
         boxes,
         λ goal. elim (cases_Bool (is_marked g.taken goal)) [
           | inr free ↦ omega (arith, v-free goal free, price-at (low members g.floor) g.v goal are.growing.low.goals)
           | inl taken ↦
               let (member, within, has) = held are.growing goal taken in
-              let goal_is = ap (λ k. get_or after.v k 0) (get_or_default g.goal_of member 0 goal within ∙ has) in
+              let goal_is = ap (λ k. get_or v k 0) (get_or_default g.goal_of member 0 goal within ∙ has) in
               omega (arith, (exact-raised member within).exact, goal_is, boxes member)
         ],
       )
@@ -152,3 +146,41 @@ rise-small {members = members} {g = g} {near = near} short growing next =
     let few = few-branches g.goal_of g.branches members growing.tree growing.more in
     let price = price-at (low members g.floor) g.v near.goal growing.low.goals in
     omega (arith, way.exact, way.within, pushes, above, few, growing.few, growing.bounded, price)
+
+-- all of a search after its prices are raised
+abbrev pub lifted : Growth → List ℕ → List ℕ → Growth
+lifted g u v = record g { u = u; v = v }
+
+module _ {cost : Costing} {members goals : ℕ} {g : Growth} {near : Near} {u v : List ℕ} (are : AreLifted cost members goals g near u v)
+    (free : (member : ℕ) → member < length g.goal_of → get_or g.goal_of member 0 ≡ near.goal → ⊥) where
+  -- the next goal, if no box has it, is reached
+  pub IsRematched-raised : (goal_of : List ℕ) → Rematches (lifted g u v) near goal_of → IsRematched cost (lifted g u v) goal_of
+  IsRematched-raised goal_of rematches = rematches cost members goals g.floor (IsMatched-raised are) (tight-raised are)
+      (record { within = omega (arith, are.next.within, are.raised.goals.whole); free = free; from = are.next.way.within; tight = tight-next are })
+
+  -- after it all is ready for the next box
+  pub IsReady-rematched : (goal_of : List ℕ) → IsRematched cost (lifted g u v) goal_of
+      → IsReady cost members goals (record (lifted g u v) { goal_of = goal_of })
+  IsReady-rematched goal_of rematched =
+      let growing = are.growing in
+      let matched = IsMatched-raised are in
+      let idle = growing.matched.idle near.goal (omega (arith, are.next.within, growing.matched.a_price_a_goal))
+      (λ (k, inside, has). free k inside (get_or_default g.goal_of k 0 near.goal inside ∙ has)) in
+      let (boxes, prices) = low-raised are idle in
+      record {
+        matched = record {
+          a_price_a_box = matched.a_price_a_box;
+          a_price_a_goal = matched.a_price_a_goal;
+          exist = λ k d inside. omega (arith, rematched.exist k d inside, matched.a_price_a_goal);
+          apart = rematched.apart;
+          fair = matched.fair;
+          exact = rematched.exact;
+          idle = λ goal inside none. matched.idle goal inside (λ among. none (rematched.kept goal among));
+        };
+        bounded = growing.bounded;
+        low = record {
+          boxes = All-from_get_or (λ price. price ≤ low members g.floor) u 0 (λ member _. boxes member);
+          goals = All-from_get_or (λ price. price ≤ low members g.floor) v 0 (λ goal _. prices goal);
+        };
+        roomy = record { taken = growing.roomy.taken; slacks = growing.roomy.slacks; takers = growing.roomy.takers };
+      }

@@ -1,42 +1,15 @@
 -- Goals that move up a path of a tree, each to the box before, so that the next box has one too.
-use Rattle.std.proofs.Common.{ℕ, ◌≡◌, ◌≢◌, ◌<◌, ◌≤◌, ◌+◌, ◌∙◌, ◌++◌, ◌⊎◌, inl, inr, refl, sym, ap, subst, List, [], ◌∷◌, All, AllPairs, Contains, arith, length}
-use Rattle.std.proofs.Common.{get_or}
-use Rattle.std.specs.List.{SwappedAt}
-use Rattle.std.specs.List.Sorted.{IsPermutation}
-use Rattle.std.proofs.lemmas.Bool.{cases_eq}
-use Rattle.std.proofs.lemmas.List.{get_or_append_left, get_or_push, get_or_default, length_push}
-use Rattle.std.proofs.lemmas.List.Elements.{All-push, Contains-append_left}
-use Rattle.std.proofs.lemmas.List.Quantifiers.{all_pairs_push}
-use Rattle.std.proofs.lemmas.List.Sorted.{All-permutation, Contains-permutation}
-use Rattle.sok_price.specs.declared.slacks.Near.{Near}
-use Rattle.sok_price.specs.Matchings.{Costing, IsTight, IsMatched}
-use Rattle.sok_price.specs.Searches.{Growth, IsReached, IsRematched}
-use Rattle.sok_price.specs.Trees.{branch_at, GoesTight, IsTree}
+use Rattle.sok_price.proofs.Words.{ℕ, ◌≡◌, ◌≢◌, ◌<◌, ◌≤◌, ◌+◌, ◌∙◌, ◌++◌, inl, inr, refl, sym, subst, List, [], ◌∷◌, All, AllPairs, Contains, arith, length}
+use Rattle.sok_price.proofs.Words.{get_or, SwappedAt, IsPermutation, cases_eq, get_or_append_left, get_or_push, get_or_default, length_push, All-push}
+use Rattle.sok_price.proofs.Words.{Contains-append_left, all_pairs_push, All-permutation, Contains-permutation, Near, Costing, IsTight, IsMatched, Growth}
+use Rattle.sok_price.proofs.Words.{IsReached, IsRematched, branch_at, GoesTight, IsTree}
 use Rattle.sok_price.proofs.Places.{apart_from, same_place}
-
--- where an element stood before an exchange
-abbrev Stood : ℕ → ℕ → ℕ → ℕ → Type 0
-Stood a b k before = ((k ≡ a) × (before ≡ b)) ⊎ (((k ≡ b) × (before ≡ a)) ⊎ ((k ≢ a) × (k ≢ b) × (before ≡ k)))
-
-stood_apart : (a b i j i' j' : ℕ) → Stood a b i i' → Stood a b j j' → i' ≡ j' → i ≡ j
-stood_apart a b i j i' j' before_i before_j same = omega arith
-
-stood : (xs ys : List ℕ) (a b d : ℕ) → a < length xs → b < length xs → SwappedAt xs ys a b → (k : ℕ) → k < length xs
-    → (before : ℕ) × (before < length xs) × (get_or ys k d ≡ get_or xs before d) × Stood a b k before
-stood xs ys a b d a_within b_within swapped k within = elim (cases_eq k a) [
-  | inl at_a ↦ (b, b_within, ap (λ t. get_or ys t d) at_a ∙ swapped.0 d, inl (at_a, refl))
-  | inr not_a ↦ elim (cases_eq k b) [
-    | inl at_b ↦ (a, a_within, ap (λ t. get_or ys t d) at_b ∙ swapped.1 d, inr (inl (at_b, refl)))
-    | inr not_b ↦ (k, within, swapped.2 k d not_a not_b, inr (inr (not_a, not_b, refl)))
-  ]
-]
 
 -- elements that are apart stay so when two are exchanged
 pub swapped-apart : (xs ys : List ℕ) (a b : ℕ) → length ys ≡ length xs → a < length xs → b < length xs → SwappedAt xs ys a b → AllPairs ◌≢◌ xs → AllPairs ◌≢◌ ys
 swapped-apart xs ys a b long a_within b_within swapped apart = apart_from ys (λ i j i_within j_within same.
-    let (i', i_in, i_is, i_stood) = stood xs ys a b 0 a_within b_within swapped i (omega (arith, i_within, long)) in
-    let (j', j_in, j_is, j_stood) = stood xs ys a b 0 a_within b_within swapped j (omega (arith, j_within, long)) in
-    stood_apart a b i j i' j' i_stood j_stood (same_place xs apart i' j' i_in j_in (sym i_is ∙ same ∙ j_is)))
+    let one = same_place xs apart in
+    grind (arith, long, swapped.0 0, swapped.1 0, swapped.2 i 0, swapped.2 j 0, one i j, one i a, one i b, one a j, one b j, one a b, one b a))
 
 -- goals of all boxes and the next, where only the next box's goal is not yet exact: it is for the box at a branch
 pub record IsPath (cost : Costing) (g : Growth) (at : ℕ) (goal_of : List ℕ) : Type 0 where

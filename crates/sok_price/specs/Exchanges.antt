@@ -1,9 +1,9 @@
 -- A row that is exchanged for another: the last takes its place, and a new one is the last.
-use Rattle.std.specs.Prelude.{ℕ, ◌≡◌, ◌<◌, ◌+◌, List, Bool, ◌==◌, if◌then◌else◌, length, slice_index}
+use Rattle.std.specs.Prelude.{ℕ, ◌≡◌, ◌<◌, ◌+◌, List, Bool, IsTrue, false, ◌==◌, if◌then◌else◌, length, slice_index}
 use Rattle.sok_price.specs.declared.costs.Costs.{Costs}
 use Rattle.sok_price.specs.declared.search.Search.{Search}
 use Rattle.sok_price.specs.Costs.{cost_of, AreCosts}
-use Rattle.sok_price.specs.Searches.{IsReady, TellsFound, growth_of}
+use Rattle.sok_price.specs.Searches.{IsReady, IsSeen, ReachesNoOther, growth_of}
 
 -- where the element of a place was before: the last one takes the place of the one that is exchanged
 unfoldable pub moved_from : ℕ → ℕ → ℕ → ℕ
@@ -18,16 +18,13 @@ pub record AreMoved (row value : ℕ) (before after : List ℕ) : Type 0 where
   pub new : slice_index after last ≡ value
 
 -- a matching of all rows, ready for one of them to be exchanged
-pub record IsWhole (costs : Costs) (search : Search) : Type 0 where
-  pub shaped : AreCosts costs
-  pub ready : IsReady (cost_of costs) costs.members costs.goals (growth_of search)
-  pub whole : length search.goal_of.items ≡ costs.members
+pub record IsWhole (costs : Costs) (rows : List ℕ) (search : Search) : Type 0 where
+  pub shaped : AreCosts costs rows
+  pub ready : IsReady (cost_of costs rows) (length rows) costs.goals (growth_of search)
+  pub whole : length search.goal_of.items ≡ length rows
 
--- costs of which one row is exchanged
-pub record AreExchanged (row entry : ℕ) (before after : Costs) : Type 0 where
-  pub same : after ≡ record before { rows = after.rows }
-  pub rows : AreMoved row entry before.rows.items after.rows.items
-
--- how a search ends, with no bound on prices told
-abbrev pub Tells : Costs → Search → Bool → Type 0
-Tells costs search whole = (floor : ℕ) × TellsFound (cost_of costs) costs.members costs.goals floor search whole
+-- how a search ends for all rows: with a goal for each, or with a tree of rows that reach too few
+pub record Tells (costs : Costs) (rows : List ℕ) (search : Search) (found : Bool) : Type 0 where
+  pub whole : IsTrue found → IsWhole costs rows search
+  pub tree : found ≡ false → IsSeen (cost_of costs rows) (length rows) costs.goals (growth_of search)
+  pub closed : found ≡ false → ReachesNoOther (growth_of search)

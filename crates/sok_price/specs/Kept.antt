@@ -1,10 +1,11 @@
 -- A matching with a row for each goal of a board: rows of boxes, and spare rows that cost nothing.
 use Rattle.std.specs.Prelude.{ℕ, ◌≡◌, ◌≢◌, ◌≤◌, ◌<◌, ◌+◌, ◌*◌, List, Option, Some, None, Bool, true, false}
 use Rattle.std.specs.Prelude.{All, Contains, length, slice_index, slice_index_or, sum}
+use Rattle.std.specs.List.Sorted.{IsStrictlyIncreasing}
 use Rattle.sok_board.specs.Area.{Numbered, goals_of}
 use Rattle.sok_price.specs.declared.costs.Costs.{Costs}
 use Rattle.sok_price.specs.declared.search.Search.{Search}
-use Rattle.sok_price.specs.Costs.{cost_in, TellsCost}
+use Rattle.sok_price.specs.Costs.{cost_in, AreCosts, AreSmall, TellsCost}
 use Rattle.sok_price.specs.Exchanges.{IsWhole}
 use Rattle.sok_price.specs.Searches.{growth_of, HasRoom, IsRoomy}
 use Rattle.sok_price.specs.Limits.{kept_floor_limit}
@@ -17,10 +18,11 @@ pub record AreTabled (b : Numbered) (goals : ℕ) (entries : List (Option ℕ)) 
   pub whole : length entries ≡ (length b.area + 1) * goals
   pub told : (square goal : ℕ) → square < length b.area → goal < goals → TellsCost b goal square (cost_in goals entries square goal)
   pub spare : (goal : ℕ) → goal < goals → cost_in goals entries (length b.area) goal ≡ Some 0
+  pub small : AreSmall entries
 
 -- rows of boxes on squares before an end, no two of them on one, and spare rows
 pub record AreRows (end : ℕ) (rows : List ℕ) : Type 0 where
-  pub within : (k : ℕ) → k < length rows → slice_index rows k ≤ end
+  pub within : All (λ row. row ≤ end) rows
   pub apart : (i j : ℕ) → i < j → j < length rows → slice_index rows i < end → slice_index rows i ≢ slice_index rows j
 
 -- each row that is not spare is that of a box of a list
@@ -49,11 +51,20 @@ pub record IsChange (end : ℕ) (rows : List ℕ) (row entry : ℕ) : Type 0 whe
   pub below : entry ≤ end
   pub fresh : entry < end → (k : ℕ) → k < length rows → slice_index rows k ≢ entry
 
--- costs with a row for each goal of a board
-pub record AreKept (b : Numbered) (costs : Costs) : Type 0 where
+-- other rows of boxes and spare rows, as many as there were
+pub record AreSet (end : ℕ) (costs : Costs) (before rows : List ℕ) : Type 0 where
+  pub whole : length rows ≡ length before
+  pub shaped : AreCosts costs rows
+  pub are_rows : AreRows end rows
+
+-- a row for each goal of a board, those of some boxes and spare rows
+pub record AreKept (b : Numbered) (costs : Costs) (rows boxes : List ℕ) : Type 0 where
   pub tabled : AreTabled b costs.goals costs.entries.items
-  pub square : costs.members ≡ costs.goals
-  pub rows : AreRows (length b.area) costs.rows.items
+  pub square : length rows ≡ costs.goals
+  pub are_rows : AreRows (length b.area) rows
+  pub exactly : AreExactly (length b.area) rows boxes
+  pub exist : All (λ square. square < length b.area) boxes
+  pub rising : IsStrictlyIncreasing boxes
 
 -- lists of prices and scratch lists with an entry for each row or goal, and room for a tree and the rows' goals
 pub record IsShaped (members goals : ℕ) (search : Search) : Type 0 where
@@ -63,10 +74,10 @@ pub record IsShaped (members goals : ℕ) (search : Search) : Type 0 where
   pub room : HasRoom members search
 
 -- a matching of the boxes of a list, whose prices are low enough for one more exchange
-pub record IsSettled (end : ℕ) (boxes : List ℕ) (costs : Costs) (search : Search) : Type 0 where
-  pub whole : IsWhole costs search
+pub record IsSettled (end : ℕ) (boxes : List ℕ) (costs : Costs) (rows : List ℕ) (search : Search) : Type 0 where
+  pub whole : IsWhole costs rows search
   pub low : search.floor ≤ kept_floor_limit
-  pub exactly : AreExactly end costs.rows.items boxes
+  pub exactly : AreExactly end rows boxes
 
 -- what is told of boxes: a number that some prices prove, and None where there is a crowd
 abbrev pub IsBounded : Numbered → List ℕ → Option ℕ → Type 0
@@ -77,11 +88,8 @@ IsBounded b boxes (Some n) = (u v : List ℕ) × Priced b boxes u v n
 abbrev pub IsCost : Numbered → List ℕ → ℕ → Type 0
 IsCost b boxes n = (goal_of distances : List ℕ) × IsAssignment b boxes goal_of distances × (sum distances ≡ n)
 
--- a box of a list that has the rows' boxes is moved, by its row, to a square where no box is
-pub record IsMovedTo (b : Numbered) (rows : List ℕ) (row to : ℕ) (boxes after : List ℕ) : Type 0 where
-  pub of : AreOf (length b.area) rows boxes
-  pub from : slice_index rows row < length b.area
-  pub within : to < length b.area
-  pub free : (k : ℕ) → k < length rows → slice_index rows k ≢ to
-  pub moved : IsMoved boxes (slice_index rows row) to after
-  pub exist : All (λ square. square < length b.area) after
+-- a box of a list that has the rows' boxes is moved, by its row
+pub record IsMovedTo (end : ℕ) (rows : List ℕ) (at to : ℕ) (boxes after : List ℕ) : Type 0 where
+  pub within : at < length rows
+  pub exactly : AreExactly end rows boxes
+  pub moved : IsMoved boxes (slice_index rows at) to after

@@ -6,7 +6,7 @@ use Rattle.sok_price.specs.declared.costs.Costs.{Costs}
 use Rattle.sok_price.specs.declared.search.Search.{Search}
 use Rattle.sok_price.specs.Costs.{AreCosts}
 use Rattle.sok_price.specs.Exchanges.{IsWhole}
-use Rattle.sok_price.specs.Kept.{AreExactly, AreKept, IsBounded, IsCost, IsShaped}
+use Rattle.sok_price.specs.Kept.{AreExactly, AreRows, AreTabled, IsBounded, IsCost, IsShaped}
 use Rattle.sok_price.specs.Limits.{kept_floor_limit}
 use Rattle.sok_price.specs.Searches.{KeepsRoom, growth_of}
 
@@ -14,32 +14,35 @@ use Rattle.sok_price.specs.Searches.{KeepsRoom, growth_of}
 pub record KeptMatching : Type 0 where
   pub squares : ℕ
   pub costs : Costs
+  pub rows : List ℕ
   pub search : Search
   pub matched : Bool
 
 -- what always holds of a matching: where all rows have goals, no price is near its limit
-pub record IsSound (squares : ℕ) (costs : Costs) (search : Search) (matched : Bool) (trial : Search) (rows : List ℕ) (marks : List Bool) : Type 0 where
-  pub shaped : AreCosts costs
-  pub square : costs.members ≡ costs.goals
+pub record IsSound (squares : ℕ) (costs : Costs) (rows : List ℕ) (search : Search) (matched : Bool) (trial : Search) (trial_rows : List ℕ)
+    (marks : List Bool) : Type 0 where
+  pub shaped : AreCosts costs rows
+  pub square : length rows ≡ costs.goals
+  pub are_rows : AreRows squares rows
   pub small : squares ≤ square_limit
   pub entries : (squares + 1) * costs.goals ≤ length costs.entries.items
-  pub search_shaped : IsShaped costs.members costs.goals search
-  pub trial_shaped : IsShaped costs.members costs.goals trial
-  pub as_many : length rows ≡ costs.members
+  pub search_shaped : IsShaped (length rows) costs.goals search
+  pub trial_shaped : IsShaped (length rows) costs.goals trial
+  pub as_many : length trial_rows ≡ length rows
   pub a_mark_a_square : length marks ≡ squares
-  pub whole : matched ≡ true → IsWhole costs search
+  pub whole : matched ≡ true → IsWhole costs rows search
   pub low : matched ≡ true → search.floor ≤ kept_floor_limit
 
 -- a matching is for the boxes of a board
 pub record Serves (b : Numbered) (kept : KeptMatching) : Type 0 where
   pub squares : kept.squares ≡ length b.area
-  pub costs : AreKept b kept.costs
+  pub tabled : AreTabled b kept.costs.goals kept.costs.entries.items
 
 -- a matching of some boxes of a board
 pub record Holds (b : Numbered) (boxes : List ℕ) (kept : KeptMatching) : Type 0 where
   pub serves : Serves b kept
   pub matched : kept.matched ≡ true
-  pub exactly : AreExactly (length b.area) kept.costs.rows.items boxes
+  pub exactly : AreExactly (length b.area) kept.rows boxes
 
 -- what is told of boxes: the least total, that prices prove and an assignment costs, and None where there is a crowd
 abbrev pub TellsLeast : Numbered → List ℕ → Option ℕ → Type 0

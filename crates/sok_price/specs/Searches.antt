@@ -9,7 +9,7 @@ use Rattle.sok_price.specs.declared.slacks.Near.{Near}
 use Rattle.sok_price.specs.Limits.{floor_limit}
 use Rattle.sok_price.specs.Matchings.{Costing, IsTight, AreTight, IsMatched, low, AreWithin, TellTakers}
 use Rattle.sok_price.specs.Slacks.{slack_at, unreached}
-use Rattle.sok_price.specs.Trees.{branch_at, is_marked, AreRaised, AreRises, AreTaken, IsBound, IsSlack, IsTree}
+use Rattle.sok_price.specs.Trees.{branch_at, is_marked, GoesTight, AreRaised, AreRises, AreTaken, IsBound, IsSlack, IsTree}
 
 -- prices of boxes and goals, the goals of the first boxes, and a search for a goal for the next box
 pub record Growth : Type 0 where
@@ -32,6 +32,19 @@ growth_of search = record {
   slacks = search.slacks.items;
   takers = search.takers.items;
   floor = search.floor;
+}
+
+-- a search of whose boxes none is matched
+abbrev pub unmatched : ℕ → ℕ → Growth
+unmatched members goals = record {
+  u = replicate members 0;
+  v = replicate goals 0;
+  goal_of = [];
+  branches = [];
+  taken = replicate goals false;
+  slacks = replicate goals (record { rise = unreached; from = 0 });
+  takers = replicate goals None;
+  floor = 0;
 }
 
 -- room for a tree of all boxes and for a goal for each
@@ -77,21 +90,19 @@ IsAhead cost members goals g = IsGrowing cost members goals (length g.branches -
 
 -- a search that has begun: a tree of the next box alone, of which nothing is looked at
 pub record IsBegun (g after : Growth) : Type 0 where
-  pub u : after.u ≡ g.u
-  pub v : after.v ≡ g.v
-  pub goal_of : after.goal_of ≡ g.goal_of
-  pub floor : after.floor ≡ g.floor
-  pub branches : after.branches ≡ record { member = length g.goal_of; goal = 0; parent = 0; rise = 0 } ∷ []
-  pub taken : after.taken ≡ replicate (length g.taken) false
-  pub slacks : after.slacks ≡ replicate (length g.slacks) (record { rise = unreached; from = 0 })
+  pub same : after ≡ record g {
+    branches = record { member = length g.goal_of; goal = 0; parent = 0; rise = 0 } ∷ [];
+    taken = replicate (length g.taken) false;
+    slacks = replicate (length g.slacks) (record { rise = unreached; from = 0 });
+    takers = after.takers;
+  }
   pub whole : length after.takers ≡ length g.takers
   pub tells : TellTakers g.goal_of after.takers
 
 -- a search after the prices of its tree are raised by what is left of a rise behind each branch
-pub record IsRaised (total : ℕ) (g after : Growth) : Type 0 where
-  pub same : after ≡ record g { u = after.u; v = after.v }
-  pub boxes : AreRaised (λ branch. branch.member) total g.branches 0 (length g.branches) g.u after.u
-  pub goals : AreRaised (λ branch. branch.goal) total g.branches 1 (length g.branches) g.v after.v
+pub record IsRaised (total : ℕ) (g : Growth) (u v : List ℕ) : Type 0 where
+  pub boxes : AreRaised (λ branch. branch.member) total g.branches 0 (length g.branches) g.u u
+  pub goals : AreRaised (λ branch. branch.goal) total g.branches 1 (length g.branches) g.v v
 
 -- a goal and the box that has it join a tree
 unfoldable pub joined : Near → ℕ → Growth → Growth
@@ -137,15 +148,14 @@ pub record IsRematched (cost : Costing) (g : Growth) (goal_of : List ℕ) : Type
   pub exist : All (λ goal. goal < length g.v) goal_of
   pub exact : AreTight cost g.u g.v goal_of
 
+-- goals that all boxes of a search have and the next, where a goal that was reached lies at an exact price
+abbrev pub Rematches : Growth → Near → List ℕ → Type 0
+Rematches g near goal_of = (cost : Costing) (members goals floor : ℕ) → IsMatched cost members goals floor g.u g.v g.goal_of
+    → GoesTight cost g.u g.v g.branches → IsReached cost g near → IsRematched cost g goal_of
+
 -- prices and goals of the first boxes, with room for a search for the next
 pub record IsReady (cost : Costing) (members goals : ℕ) (g : Growth) : Type 0 where
   pub matched : IsMatched cost members goals g.floor g.u g.v g.goal_of
   pub bounded : g.floor ≤ floor_limit
   pub low : AreWithin (low members g.floor) g.u g.v
   pub roomy : IsRoomy goals g
-
--- how it ends for all boxes: with a goal for each, or with a tree of boxes that reach too few
-abbrev pub TellsFound : Costing → ℕ → ℕ → ℕ → Search → Bool → Type 0
-TellsFound cost members goals floor search true = IsReady cost members goals (growth_of search) × (length search.goal_of.items ≡ members)
-    × (search.floor ≡ floor)
-TellsFound cost members goals floor search false = IsSeen cost members goals (growth_of search) × ReachesNoOther (growth_of search)

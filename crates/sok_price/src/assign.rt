@@ -7,7 +7,7 @@ ghost use Rattle.sok_price.specs.Costs.{AreCosts, AreOfBoxes};
 ghost use Rattle.sok_price.specs.Matches.{IsMatch, HasPrices};
 ghost use Rattle.sok_price.specs.Trees.{is_met, members_of};
 
-use crate::costs::Costs;
+use crate::costs::{Costs, places};
 use crate::search::{Branch, Search, match_all};
 use sok_board::area::Sq;
 use sok_push::tables::Tables;
@@ -86,22 +86,22 @@ fn assign_to(alloc: Global, tables: &Tables, goals: usize, boxes: &[Sq]) -> Resu
     ensures { IfOk result (IsMatch tables.now.board boxes.now) }
 {
     let costs = Costs::of(alloc, tables, goals, boxes)?;
-    assign_rows(alloc, &costs)
+    assign_rows(alloc, &costs, &places(alloc, boxes.len())?)
 }
 
-/// The least assignment of goals to the boxes that some costs are of, or a crowd of them.
-pub(crate) fn assign_rows(alloc: Global, costs: &Costs) -> Result<Match, Memory>
-    requires costs { AreCosts costs.now }
-    requires few { costs.now.members ≤ box_limit }
-    ensures { (b : Numbered) (boxes : List ℕ) → AreOfBoxes b boxes costs.now
+/// The least assignment of goals to the boxes that have some rows of costs, or a crowd of them.
+pub(crate) fn assign_rows(alloc: Global, costs: &Costs, rows: &[usize]) -> Result<Match, Memory>
+    requires costs { AreCosts costs.now rows.now }
+    requires few { length rows.now ≤ box_limit }
+    ensures { (b : Numbered) (boxes : List ℕ) → AreOfBoxes b boxes costs.now rows.now
         → IfOk result (IsMatch b boxes) }
 {
-    let mut search = Search::new(alloc, costs.members, costs.goals)?;
-    if match_all(costs, &mut search) {
+    let mut search = Search::new(alloc, rows.len(), costs.goals)?;
+    if match_all(costs, rows, &mut search) {
         return Ok(priced(search));
     }
     Ok(Match::Crowd {
-        members: members_in(alloc, &search.branches, costs.members)?,
+        members: members_in(alloc, &search.branches, rows.len())?,
     })
 }
 

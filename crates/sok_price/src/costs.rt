@@ -4,7 +4,6 @@ ghost use Rattle.std.specs.Prelude.{
   ℕ,
   ◌≡◌,
   ◌<◌,
-  ◌≤◌,
   ◌+◌,
   ◌*◌,
   ◌++◌,
@@ -18,22 +17,19 @@ ghost use Rattle.std.specs.Prelude.{
   None,
 };
 ghost use Rattle.sok_board.specs.Area.{IsAccepted, goals_of};
-ghost use Rattle.sok_board.specs.Limits.{box_limit, square_limit};
-ghost use Rattle.sok_price.specs.Kept.{AreKept};
-ghost use Rattle.sok_price.specs.Costs.{cost_of, AreCosts, TellCosts, IsRow};
+ghost use Rattle.sok_price.specs.Kept.{AreTabled};
+ghost use Rattle.sok_price.specs.Costs.{cost_of, AreCosts, AreTold, IsRow};
 
 use sok_board::area::Sq;
 use sok_push::tables::Tables;
 use sok_rules::fault::Memory;
 use std::alloc::Global;
 
-/// The costs of each box at each goal: the row of entries that it has, so that the goals of a box
-/// lie side by side.
+/// Costs at each goal, row by row, so that the goals of a box, which has one of the rows, lie side
+/// by side.
 #[derive(Drop)]
 pub(crate) struct Costs {
-    pub(crate) members: usize,
     pub(crate) goals: usize,
-    pub(crate) rows: Vec<usize>,
     pub(crate) entries: Vec<Option<u16>>,
 }
 
@@ -48,27 +44,18 @@ impl Costs {
         requires accepted { IsAccepted tables.now.board }
         requires goals { goals ≡ length (goals_of tables.now.board) }
         requires exist { All (λ square. square < length tables.now.board.area) boxes.now }
-        requires few { length boxes.now ≤ box_limit }
-        ensures members { IfOk result (λ costs. costs.members ≡ length boxes.now) }
         ensures goals { IfOk result (λ costs. costs.goals ≡ goals) }
-        ensures costs { IfOk result AreCosts }
-        ensures told { IfOk result
-            (λ costs. TellCosts tables.now.board boxes.now goals (cost_of costs)) }
+        ensures told { IfOk result (λ costs. AreTold tables.now.board
+            (λ k. slice_index boxes.now k) costs.goals (length boxes.now) costs.entries.items) }
     {
         let mut entries = Vec::new(alloc);
         for square in boxes {
             entries = with_row(tables, goals, *square, entries)?;
         }
-        Ok(Costs {
-            members: boxes.len(),
-            goals,
-            rows: places(alloc, boxes.len())?,
-            entries,
-        })
+        Ok(Costs { goals, entries })
     }
 
-    /// The distances of each square of a board to each goal, and a last row that costs nothing. All
-    /// boxes have the last row.
+    /// The distances of each square of a board to each goal, and a last row that costs nothing.
     pub(crate) fn tabled(
         alloc: Global,
         tables: &Tables,
@@ -77,39 +64,35 @@ impl Costs {
     ) -> Result<Costs, Memory>
         requires accepted { IsAccepted tables.now.board }
         requires goals { goals ≡ length (goals_of tables.now.board) }
-        requires few { goals ≤ square_limit }
         requires squares { squares ≡ length tables.now.board.area }
-        ensures costs { IfOk result AreCosts }
-        ensures kept { IfOk result (AreKept tables.now.board) }
+        ensures goals { IfOk result (λ costs. costs.goals ≡ goals) }
+        ensures tabled { IfOk result
+            (λ costs. AreTabled tables.now.board costs.goals costs.entries.items) }
     {
         let mut entries = Vec::new(alloc);
         for square in 0..squares {
             entries = with_row(tables, goals, square as Sq, entries)?;
         }
         let entries = with_spare(goals, entries)?;
-        Ok(Costs {
-            members: goals,
-            goals,
-            rows: spare_rows(alloc, goals, squares)?,
-            entries,
-        })
+        Ok(Costs { goals, entries })
     }
 
-    /// The costs of bringing a box to each goal. None where no pushes do.
-    pub(crate) fn row(&self, member: usize) -> &[Option<u16>]
-        requires costs { AreCosts self.now }
-        requires member { member < self.now.members }
+    /// The costs of bringing a box to each goal, by the rows that boxes have. None where no pushes
+    /// do.
+    pub(crate) fn row(&self, rows: &[usize], member: usize) -> &[Option<u16>]
+        requires costs { AreCosts self.now rows.now }
+        requires member { member < length rows.now }
         ensures whole { length result.now ≡ self.now.goals }
         ensures each { (goal : ℕ) → goal < self.now.goals
-            → slice_index_or result.now goal None ≡ cost_of self.now member goal }
+            → slice_index_or result.now goal None ≡ cost_of self.now rows.now member goal }
     {
-        let start = self.rows[member] * self.goals;
+        let start = rows[member] * self.goals;
         &self.entries[start..start + self.goals]
     }
 }
 
 /// The first numbers in order.
-fn places(alloc: Global, count: usize) -> Result<Vec<usize>, Memory>
+pub(crate) fn places(alloc: Global, count: usize) -> Result<Vec<usize>, Memory>
     ensures whole { IfOk result (λ rows. length rows.items ≡ count) }
     ensures each { IfOk result (λ rows. (k : ℕ) → k < count → slice_index rows.items k ≡ k) }
 {
@@ -136,13 +119,6 @@ fn with_row(
         entries.push(tables.dist(goal, square))?;
     }
     Ok(entries)
-}
-
-/// As many spare rows as there are goals.
-fn spare_rows(alloc: Global, goals: usize, squares: usize) -> Result<Vec<usize>, Memory>
-    ensures { IfOk result (λ rows. rows.items ≡ replicate goals squares) }
-{
-    Ok(vec![in alloc; squares; goals]?)
 }
 
 /// The entries with a row that costs nothing.

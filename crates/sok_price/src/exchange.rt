@@ -4,18 +4,17 @@ ghost use Rattle.std.specs.Prelude.{
   vec_capacity,
   ℕ,
   ◌≡◌,
-  ◌≢◌,
   ◌<◌,
   ◌≤◌,
   ◌+◌,
   ◌*◌,
   All,
-  AllPairs,
   length,
   slice_index,
 };
 ghost use Rattle.sok_price.specs.Costs.{cost_of, AreCosts};
-ghost use Rattle.sok_price.specs.Exchanges.{moved_from, AreMoved, AreExchanged, IsWhole, Tells};
+ghost use Rattle.sok_price.specs.Exchanges.{moved_from, AreMoved, IsWhole, Tells};
+ghost use Rattle.sok_price.specs.Kept.{IsShaped};
 ghost use Rattle.sok_price.specs.Limits.{kept_floor_limit};
 ghost use Rattle.sok_price.specs.Searches.{growth_of, HasRoom, IsReady, KeepsRoom};
 
@@ -23,6 +22,7 @@ use crate::costs::Costs;
 use crate::search::{Search, match_all};
 
 /// Exchanges a row: the last one takes its place, and a new one is the last.
+#[tactic(auto, using(crate::proofs::Exchanging::moved_set))]
 fn put_row(row: usize, entry: usize, rows: &mut Vec<usize>)
     requires { row < length rows.old.items }
     ensures { AreMoved row entry rows.old.items rows.new.items }
@@ -33,6 +33,7 @@ fn put_row(row: usize, entry: usize, rows: &mut Vec<usize>)
 }
 
 /// Exchanges a price: the last one takes its place, and 0 is the last.
+#[tactic(auto, using(crate::proofs::Exchanging::moved_set))]
 fn put_price(row: usize, prices: &mut Vec<u32>)
     requires { row < length prices.old.items }
     ensures { AreMoved row 0 prices.old.items prices.new.items }
@@ -50,7 +51,6 @@ fn free_goal(row: usize, goal_of: &mut Vec<usize>)
     ensures moved { (k : ℕ) → k < length goal_of.new.items
         → slice_index goal_of.new.items k ≡ slice_index goal_of.old.items
         (moved_from row (length goal_of.new.items) k) }
-    ensures apart { AllPairs ◌≢◌ goal_of.old.items → AllPairs ◌≢◌ goal_of.new.items }
 {
     let last = goal_of.len() - 1;
     goal_of.swap(row, last);
@@ -75,19 +75,19 @@ fn highest(floor: u32, prices: &[u32]) -> u32
 
 /// Exchanges a row of a matching, which has no goal yet. The floor rises to the highest price of a
 /// goal, since the goal that the old row had keeps its price.
-fn open_row(row: usize, entry: usize, costs: &mut Costs, search: &mut Search)
-    requires whole { IsWhole costs.old search.old }
-    requires row { row < costs.old.members }
-    requires entry { (entry + 1) * costs.old.goals ≤ length costs.old.entries.items }
+fn open_row(row: usize, entry: usize, costs: &Costs, rows: &mut Vec<usize>, search: &mut Search)
+    requires whole { IsWhole costs.now rows.old.items search.old }
+    requires row { row < length rows.old.items }
+    requires entry { (entry + 1) * costs.now.goals ≤ length costs.now.entries.items }
     requires low { search.old.floor ≤ kept_floor_limit }
-    ensures costs { AreCosts costs.new }
-    ensures exchanged { AreExchanged row entry costs.old costs.new }
-    ensures ready { IsReady (cost_of costs.new) costs.new.members costs.new.goals
-        (growth_of search.new) }
-    ensures fewer { length search.new.goal_of.items + 1 ≡ costs.new.members }
+    ensures costs { AreCosts costs.now rows.new.items }
+    ensures moved { AreMoved row entry rows.old.items rows.new.items }
+    ensures ready { IsReady (cost_of costs.now rows.new.items) (length rows.new.items)
+        costs.now.goals (growth_of search.new) }
+    ensures fewer { length search.new.goal_of.items + 1 ≡ length rows.new.items }
     ensures room { KeepsRoom search.old search.new }
 {
-    put_row(row, entry, &mut costs.rows);
+    put_row(row, entry, rows);
     put_price(row, &mut search.u);
     free_goal(row, &mut search.goal_of);
     search.floor = highest(search.floor, &search.v);
@@ -95,17 +95,23 @@ fn open_row(row: usize, entry: usize, costs: &mut Costs, search: &mut Search)
 
 /// Exchanges a row of a matching, and matches it anew by one augmenting path. False where there is
 /// none.
-pub(crate) fn exchange(row: usize, entry: usize, costs: &mut Costs, search: &mut Search) -> bool
-    requires whole { IsWhole costs.old search.old }
-    requires room { HasRoom costs.old.members search.old }
-    requires row { row < costs.old.members }
-    requires entry { (entry + 1) * costs.old.goals ≤ length costs.old.entries.items }
+pub(crate) fn exchange(
+    row: usize,
+    entry: usize,
+    costs: &Costs,
+    rows: &mut Vec<usize>,
+    search: &mut Search,
+) -> bool
+    requires whole { IsWhole costs.now rows.old.items search.old }
+    requires room { HasRoom (length rows.old.items) search.old }
+    requires row { row < length rows.old.items }
+    requires entry { (entry + 1) * costs.now.goals ≤ length costs.now.entries.items }
     requires low { search.old.floor ≤ kept_floor_limit }
-    ensures costs { AreCosts costs.new }
-    ensures exchanged { AreExchanged row entry costs.old costs.new }
-    ensures tells { Tells costs.new search.new result }
-    ensures room { HasRoom costs.old.members search.new }
+    ensures costs { AreCosts costs.now rows.new.items }
+    ensures moved { AreMoved row entry rows.old.items rows.new.items }
+    ensures tells { Tells costs.now rows.new.items search.new result }
+    ensures shaped { IsShaped (length rows.new.items) costs.now.goals search.new }
 {
-    open_row(row, entry, costs, search);
-    match_all(costs, search)
+    open_row(row, entry, costs, rows, search);
+    match_all(costs, rows, search)
 }

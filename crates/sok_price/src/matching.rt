@@ -14,6 +14,7 @@ ghost use Rattle.std.specs.Prelude.{
   IfOk,
   IfSome,
   length,
+  replicate,
   slice_index,
   sum,
 };
@@ -36,7 +37,6 @@ use sok_region::box_set::BoxSet;
 use sok_rules::fault::Memory;
 use std::alloc::Global;
 use std::marker::Model;
-use std::mem;
 
 /// Boxes matched to goals at the least total distance, with prices that prove it, kept from one set
 /// of boxes to the next: there is a row for each goal of the board, and the rows to which no box is
@@ -45,6 +45,7 @@ use std::mem;
 pub struct Matching {
     squares: usize,
     costs: Costs,
+    rows: Vec<usize>,
     search: Search,
     matched: bool,
     trial: Search,
@@ -60,12 +61,13 @@ impl Model for Matching {
     ghost view = { λ m. record {
       squares = m.squares;
       costs = m.costs;
+      rows = m.rows.items;
       search = m.search;
       matched = m.matched;
     } };
 
-    ghost invariant = { λ m. IsSound m.squares m.costs m.search m.matched m.trial
-        m.trial_rows.items m.marks.items };
+    ghost invariant = { λ m. IsSound m.squares m.costs m.rows.items m.search m.matched
+        m.trial m.trial_rows.items m.marks.items };
 }
 
 impl Matching {
@@ -80,6 +82,7 @@ impl Matching {
         Ok(Matching {
             squares,
             costs: Costs::tabled(alloc, tables, goals, squares)?,
+            rows: spare_rows(alloc, goals, squares)?,
             search: Search::new(alloc, goals, goals)?,
             matched: false,
             trial: Search::new(alloc, goals, goals)?,
@@ -99,7 +102,7 @@ impl Matching {
             → IfSome result (λ _. Holds b boxes.now self.new) }
     {
         let boxes = boxes.list();
-        if boxes.len() > self.costs.members {
+        if boxes.len() > self.rows.len() {
             return None;
         }
         self.matched = match_boxes(
@@ -107,7 +110,8 @@ impl Matching {
             boxes,
             self.matched,
             &mut self.marks,
-            &mut self.costs,
+            &self.costs,
+            &mut self.rows,
             &mut self.search,
         );
         if !self.matched {
@@ -125,12 +129,11 @@ impl Matching {
             → IsMoved boxes from to after → All (λ square. square < length b.area) after
             → IsStrictlyIncreasing after → TellsLeast b after result }
     {
-        let row = row_of(&self.costs.rows, from as usize);
-        self.trial_rows.copy_from_slice(&self.costs.rows);
+        let row = row_of(&self.rows, from as usize);
+        self.trial_rows.copy_from_slice(&self.rows);
         copy_matching(&self.search, &mut self.trial);
-        mem::swap(&mut self.costs.rows, &mut self.trial_rows);
-        let matched = exchange(row, to as usize, &mut self.costs, &mut self.trial);
-        mem::swap(&mut self.costs.rows, &mut self.trial_rows);
+        let rows = &mut self.trial_rows;
+        let matched = exchange(row, to as usize, &self.costs, rows, &mut self.trial);
         if matched {
             Some(worth(&self.trial))
         } else {
@@ -145,16 +148,15 @@ impl Matching {
         ensures same { self.new ≡ self.old }
         ensures least { (b : Numbered) → Serves b self.old → IfOk result (IsMatch b boxes.now) }
     {
-        let boxes = boxes.list();
-        let mut rows = rows_of(alloc, boxes)?;
-        let members = self.costs.members;
-        mem::swap(&mut self.costs.rows, &mut rows);
-        self.costs.members = boxes.len();
-        let found = assign_rows(alloc, &self.costs);
-        self.costs.members = members;
-        mem::swap(&mut self.costs.rows, &mut rows);
-        found
+        assign_rows(alloc, &self.costs, &rows_of(alloc, boxes.list())?)
     }
+}
+
+/// As many spare rows as there are goals.
+fn spare_rows(alloc: Global, goals: usize, squares: usize) -> Result<Vec<usize>, Memory>
+    ensures { IfOk result (λ rows. rows.items ≡ replicate goals squares) }
+{
+    Ok(vec![in alloc; squares; goals]?)
 }
 
 /// The squares of some boxes, as rows.
@@ -176,12 +178,10 @@ fn row_of(rows: &[usize], square: usize) -> usize
     ensures within { result < length rows.now }
     ensures row { slice_index rows.now result ≡ square }
 {
-    for (k, row) in rows.iter().enumerate() {
-        if *row == square {
-            return k;
-        }
+    match rows.iter().position(|row| *row == square) {
+        Some(row) => row,
+        None => unreachable!(),
     }
-    unreachable!()
 }
 
 /// Copies goals and prices to another search.
@@ -206,11 +206,7 @@ fn sum_of(prices: &[u32]) -> u64
     requires { sum prices.now < 2 ^ 64 }
     ensures { result ≡ sum prices.now }
 {
-    let mut all: u64 = 0;
-    for price in prices {
-        all += u64::from(*price);
-    }
-    all
+    prices.iter().map(|price| u64::from(*price)).sum()
 }
 
 /// What the rows cost less what the goals cost.

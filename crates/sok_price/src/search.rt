@@ -14,34 +14,30 @@ ghost use Rattle.std.specs.Prelude.{
   [],
   All,
   IfOk,
-  Some,
-  None,
-  false,
   length,
-  replicate,
 };
 ghost use Rattle.sok_price.specs.Costs.{cost_of, AreCosts};
+ghost use Rattle.sok_price.specs.Exchanges.{Tells};
+ghost use Rattle.sok_price.specs.Kept.{IsShaped};
 ghost use Rattle.sok_price.specs.Limits.{rise_limit, search_price_limit};
-ghost use Rattle.sok_price.specs.Matchings.{Costing, IsMatched, TellTakers};
+ghost use Rattle.sok_price.specs.Matchings.{TellTakers};
 ghost use Rattle.sok_price.specs.Searches.{
   growth_of,
   joined,
   HasRoom,
   KeepsRoom,
+  Rematches,
   IsAhead,
   IsBegun,
   IsNext,
   IsRaised,
-  IsReached,
-  IsRematched,
   IsSeen,
   TellsEnd,
   TellsNext,
+  unmatched,
   IsReady,
-  TellsFound,
 };
-ghost use Rattle.sok_price.specs.Slacks.{unreached};
-ghost use Rattle.sok_price.specs.Trees.{branch_at, AreRaised, GoesTight, IsTree};
+ghost use Rattle.sok_price.specs.Trees.{branch_at, AreRaised, IsTree};
 
 use crate::costs::Costs;
 use crate::slacks::{Near, Slack, UNREACHED, look, nearest};
@@ -82,16 +78,7 @@ pub(crate) struct Search {
 impl Search {
     /// Room for a search over some boxes and goals, with all prices 0 and no box matched.
     pub(crate) fn new(alloc: Global, members: usize, goals: usize) -> Result<Search, Memory>
-        ensures search { IfOk result (λ search. growth_of search ≡ record {
-          u = replicate members 0;
-          v = replicate goals 0;
-          goal_of = [];
-          branches = [];
-          taken = replicate goals false;
-          slacks = replicate goals (record { rise = unreached; from = 0 });
-          takers = replicate goals None;
-          floor = 0;
-        }) }
+        ensures search { IfOk result (λ search. growth_of search ≡ unmatched members goals) }
         ensures room { IfOk result (HasRoom members) }
     {
         Ok(Search {
@@ -192,18 +179,18 @@ pub(crate) fn begin(search: &mut Search)
 }
 
 /// Looks at the goals outside the tree from the box that joined it last.
-fn look_on(costs: &Costs, search: &mut Search)
-    requires costs { AreCosts costs.now }
-    requires growing { IsAhead (cost_of costs.now) costs.now.members costs.now.goals
+fn look_on(costs: &Costs, rows: &[usize], search: &mut Search)
+    requires costs { AreCosts costs.now rows.now }
+    requires growing { IsAhead (cost_of costs.now rows.now) (length rows.now) costs.now.goals
         (growth_of search.old) }
-    ensures growing { IsSeen (cost_of costs.now) costs.now.members costs.now.goals
+    ensures growing { IsSeen (cost_of costs.now rows.now) (length rows.now) costs.now.goals
         (growth_of search.new) }
     ensures same { search.new ≡ record search.old { slacks = search.new.slacks } }
 {
     let from = search.branches.len() - 1;
     let branch = search.branches[from];
     look(
-        costs.row(branch.member),
+        costs.row(rows, branch.member),
         search.u[branch.member],
         branch.rise,
         from,
@@ -215,16 +202,16 @@ fn look_on(costs: &Costs, search: &mut Search)
 
 /// Looks on from the tree, and tells the goal outside it that it reaches next. None where it
 /// reaches none.
-fn widen(costs: &Costs, search: &mut Search) -> Option<Near>
-    requires costs { AreCosts costs.now }
-    requires growing { IsAhead (cost_of costs.now) costs.now.members costs.now.goals
+fn widen(costs: &Costs, rows: &[usize], search: &mut Search) -> Option<Near>
+    requires costs { AreCosts costs.now rows.now }
+    requires growing { IsAhead (cost_of costs.now rows.now) (length rows.now) costs.now.goals
         (growth_of search.old) }
-    ensures growing { IsSeen (cost_of costs.now) costs.now.members costs.now.goals
+    ensures growing { IsSeen (cost_of costs.now rows.now) (length rows.now) costs.now.goals
         (growth_of search.new) }
-    ensures next { TellsNext (cost_of costs.now) (growth_of search.new) result }
+    ensures next { TellsNext (cost_of costs.now rows.now) (growth_of search.new) result }
     ensures same { search.new ≡ record search.old { slacks = search.new.slacks } }
 {
-    look_on(costs, search);
+    look_on(costs, rows, search);
     nearest(&search.taken, &search.slacks)
 }
 
@@ -250,20 +237,20 @@ fn join(near: Near, member: usize, search: &mut Search)
 
 /// Grows the tree goal by goal until it reaches one that no box has, and says which. None where
 /// its boxes reach no goal but those that its other boxes have. Prices stay.
-pub(crate) fn grow(costs: &Costs, search: &mut Search) -> Option<Near>
-    requires costs { AreCosts costs.now }
-    requires growing { IsAhead (cost_of costs.now) costs.now.members costs.now.goals
+pub(crate) fn grow(costs: &Costs, rows: &[usize], search: &mut Search) -> Option<Near>
+    requires costs { AreCosts costs.now rows.now }
+    requires growing { IsAhead (cost_of costs.now rows.now) (length rows.now) costs.now.goals
         (growth_of search.old) }
-    requires room { HasRoom costs.now.members search.old }
-    ensures growing { IsSeen (cost_of costs.now) costs.now.members costs.now.goals
+    requires room { HasRoom (length rows.now) search.old }
+    ensures growing { IsSeen (cost_of costs.now rows.now) (length rows.now) costs.now.goals
         (growth_of search.new) }
-    ensures end { TellsEnd (cost_of costs.now) (growth_of search.new) result }
+    ensures end { TellsEnd (cost_of costs.now rows.now) (growth_of search.new) result }
     ensures same { search.new.goal_of.items ≡ search.old.goal_of.items }
     ensures floor { search.new.floor ≡ search.old.floor }
-    ensures room { HasRoom costs.now.members search.new }
+    ensures room { HasRoom (length rows.now) search.new }
 {
     'growing: loop {
-        match widen(costs, search) {
+        match widen(costs, rows, search) {
             None => return None,
             Some(near) => match search.takers[near.goal] {
                 None => return Some(near),
@@ -274,12 +261,15 @@ pub(crate) fn grow(costs: &Costs, search: &mut Search) -> Option<Near>
 }
 
 /// Raises the prices of the tree until a goal lies at an exact price from its box.
-pub(crate) fn raise(near: Near, costs: &Costs, search: &mut Search)
-    requires costs { AreCosts costs.now }
-    requires growing { IsSeen (cost_of costs.now) costs.now.members costs.now.goals
+pub(crate) fn raise(near: Near, costs: &Costs, rows: &[usize], search: &mut Search)
+    requires costs { AreCosts costs.now rows.now }
+    requires growing { IsSeen (cost_of costs.now rows.now) (length rows.now) costs.now.goals
         (growth_of search.old) }
-    requires next { IsNext (cost_of costs.now) (growth_of search.old) near }
-    ensures raised { IsRaised near.slack.rise (growth_of search.old) (growth_of search.new) }
+    requires next { IsNext (cost_of costs.now rows.now) (growth_of search.old) near }
+    ensures same { growth_of search.new ≡ record (growth_of search.old)
+        { u = search.new.u.items; v = search.new.v.items } }
+    ensures raised { IsRaised near.slack.rise (growth_of search.old) search.new.u.items
+        search.new.v.items }
     ensures room { KeepsRoom search.old search.new }
 {
     raise_boxes(near.slack.rise, &search.branches, &mut search.u);
@@ -294,12 +284,7 @@ pub(crate) fn rematch(near: Near, search: &mut Search)
     requires room { length search.old.goal_of.items < vec_capacity search.old.goal_of }
     ensures same { growth_of search.new ≡ record (growth_of search.old)
         { goal_of = search.new.goal_of.items } }
-    ensures rematched { (cost : Costing) (members goals floor : ℕ)
-        → IsMatched cost members goals floor search.old.u.items search.old.v.items
-        search.old.goal_of.items
-        → GoesTight cost search.old.u.items search.old.v.items search.old.branches.items
-        → IsReached cost (growth_of search.old) near
-        → IsRematched cost (growth_of search.old) search.new.goal_of.items }
+    ensures rematched { Rematches (growth_of search.old) near search.new.goal_of.items }
     ensures room { KeepsRoom search.old search.new }
 {
     let root = search.goal_of.len();
@@ -315,22 +300,22 @@ pub(crate) fn rematch(near: Near, search: &mut Search)
 /// A goal of its own for each box that has none yet, by the shortest augmenting path method, box by
 /// box. False where there is none: then the tree is one of boxes that reach no goals but those that
 /// the others of them have.
-pub(crate) fn match_all(costs: &Costs, search: &mut Search) -> bool
-    requires costs { AreCosts costs.now }
-    requires ready { IsReady (cost_of costs.now) costs.now.members costs.now.goals
+pub(crate) fn match_all(costs: &Costs, rows: &[usize], search: &mut Search) -> bool
+    requires costs { AreCosts costs.now rows.now }
+    requires ready { IsReady (cost_of costs.now rows.now) (length rows.now) costs.now.goals
         (growth_of search.old) }
-    requires few { length search.old.goal_of.items ≤ costs.now.members }
-    requires room { HasRoom costs.now.members search.old }
-    ensures tells { TellsFound (cost_of costs.now) costs.now.members costs.now.goals
-        search.old.floor search.new result }
-    ensures room { HasRoom costs.now.members search.new }
+    requires few { length search.old.goal_of.items ≤ length rows.now }
+    requires room { HasRoom (length rows.now) search.old }
+    ensures tells { Tells costs.now rows.now search.new result }
+    ensures floor { search.new.floor ≡ search.old.floor }
+    ensures shaped { IsShaped (length rows.now) costs.now.goals search.new }
 {
-    for _ in search.goal_of.len()..costs.members {
+    for _ in search.goal_of.len()..rows.len() {
         begin(search);
-        match grow(costs, search) {
+        match grow(costs, rows, search) {
             None => return false,
             Some(near) => {
-                raise(near, costs, search);
+                raise(near, costs, rows, search);
                 rematch(near, search);
             }
         }

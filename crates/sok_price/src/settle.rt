@@ -22,10 +22,12 @@ ghost use Rattle.sok_price.specs.Costs.{AreCosts};
 ghost use Rattle.sok_price.specs.Exchanges.{IsWhole};
 ghost use Rattle.sok_price.specs.Kept.{
   AreExactly,
-  AreKept,
   AreListed,
   AreMarksOf,
   AreOf,
+  AreRows,
+  AreSet,
+  AreTabled,
   IsBounded,
   IsChange,
   IsSettled,
@@ -128,8 +130,8 @@ fn change(
     }
 }
 
-/// Puts the rows of some boxes in order, and then spare rows.
-fn fill_rows(squares: usize, boxes: &[Sq], rows: &mut Vec<usize>)
+/// The rows of some boxes in order, and then spare rows.
+fn list_rows(squares: usize, boxes: &[Sq], rows: &mut Vec<usize>)
     requires { length boxes.now ≤ length rows.old.items }
     ensures { AreListed squares (length rows.old.items) boxes.now rows.new.items }
 {
@@ -137,22 +139,6 @@ fn fill_rows(squares: usize, boxes: &[Sq], rows: &mut Vec<usize>)
     for (k, square) in boxes.iter().enumerate() {
         rows[k] = *square as usize;
     }
-}
-
-/// The rows of some boxes in order, and then spare rows.
-fn list_rows(squares: usize, boxes: &[Sq], costs: &mut Costs)
-    requires costs { AreCosts costs.old }
-    requires entries { (squares + 1) * costs.old.goals ≤ length costs.old.entries.items }
-    requires enough { length boxes.now ≤ costs.old.members }
-    requires exist { All (λ square. square < squares) boxes.now }
-    requires rising { IsStrictlyIncreasing boxes.now }
-    ensures costs { AreCosts costs.new }
-    ensures same { costs.new ≡ record costs.old { rows = costs.new.rows } }
-    ensures kept { (b : Numbered) → length b.area ≡ squares → AreKept b costs.old
-        → AreKept b costs.new }
-    ensures exactly { AreExactly squares costs.new.rows.items boxes.now }
-{
-    fill_rows(squares, boxes, &mut costs.rows);
 }
 
 /// Forgets the goals of all rows, and all prices.
@@ -172,26 +158,30 @@ fn clear(search: &mut Search)
 }
 
 /// Matches some boxes from nothing. False where they have a crowd.
-fn match_anew(squares: usize, boxes: &[Sq], costs: &mut Costs, search: &mut Search) -> bool
-    requires costs { AreCosts costs.old }
-    requires square { costs.old.members ≡ costs.old.goals }
-    requires entries { (squares + 1) * costs.old.goals ≤ length costs.old.entries.items }
-    requires shaped { IsShaped costs.old.members costs.old.goals search.old }
-    requires enough { length boxes.now ≤ costs.old.members }
+fn match_anew(
+    squares: usize,
+    boxes: &[Sq],
+    costs: &Costs,
+    rows: &mut Vec<usize>,
+    search: &mut Search,
+) -> bool
+    requires costs { AreCosts costs.now rows.old.items }
+    requires square { length rows.old.items ≡ costs.now.goals }
+    requires entries { (squares + 1) * costs.now.goals ≤ length costs.now.entries.items }
+    requires shaped { IsShaped (length rows.old.items) costs.now.goals search.old }
+    requires enough { length boxes.now ≤ length rows.old.items }
     requires exist { All (λ square. square < squares) boxes.now }
     requires rising { IsStrictlyIncreasing boxes.now }
-    ensures costs { AreCosts costs.new }
-    ensures same { costs.new ≡ record costs.old { rows = costs.new.rows } }
-    ensures kept { (b : Numbered) → length b.area ≡ squares → AreKept b costs.old
-        → AreKept b costs.new }
-    ensures shaped { IsShaped costs.old.members costs.old.goals search.new }
-    ensures settled { IsTrue result → IsSettled squares boxes.now costs.new search.new }
-    ensures crowd { result ≡ false → (b : Numbered) → length b.area ≡ squares → AreKept b costs.old
-        → IsBounded b boxes.now None }
+    ensures kept { AreSet squares costs.now rows.old.items rows.new.items }
+    ensures shaped { IsShaped (length rows.new.items) costs.now.goals search.new }
+    ensures settled { IsTrue result
+        → IsSettled squares boxes.now costs.now rows.new.items search.new }
+    ensures crowd { result ≡ false → (b : Numbered) → length b.area ≡ squares
+        → AreTabled b costs.now.goals costs.now.entries.items → IsBounded b boxes.now None }
 {
-    list_rows(squares, boxes, costs);
+    list_rows(squares, boxes, rows);
     clear(search);
-    match_all(costs, search)
+    match_all(costs, rows, search)
 }
 
 /// Exchanges the rows of a matching until they are those of some boxes. False where there is no
@@ -201,33 +191,33 @@ fn settle(
     boxes: &[Sq],
     matched: bool,
     marks: &mut [bool],
-    costs: &mut Costs,
+    costs: &Costs,
+    rows: &mut Vec<usize>,
     search: &mut Search,
 ) -> bool
-    requires costs { AreCosts costs.old }
-    requires whole { IsTrue matched → IsWhole costs.old search.old }
-    requires shaped { IsShaped costs.old.members costs.old.goals search.old }
+    requires costs { AreCosts costs.now rows.old.items }
+    requires rows { AreRows squares rows.old.items }
+    requires whole { IsTrue matched → IsWhole costs.now rows.old.items search.old }
+    requires shaped { IsShaped (length rows.old.items) costs.now.goals search.old }
     requires marks { length marks.old ≡ squares }
-    requires entries { (squares + 1) * costs.old.goals ≤ length costs.old.entries.items }
+    requires entries { (squares + 1) * costs.now.goals ≤ length costs.now.entries.items }
     requires exist { All (λ square. square < squares) boxes.now }
-    ensures costs { AreCosts costs.new }
-    ensures same { costs.new ≡ record costs.old { rows = costs.new.rows } }
-    ensures kept { (b : Numbered) → length b.area ≡ squares → AreKept b costs.old
-        → AreKept b costs.new }
-    ensures shaped { IsShaped costs.old.members costs.old.goals search.new }
-    ensures settled { IsTrue result → IsSettled squares boxes.now costs.new search.new }
+    ensures kept { AreSet squares costs.now rows.old.items rows.new.items }
+    ensures shaped { IsShaped (length rows.new.items) costs.now.goals search.new }
+    ensures settled { IsTrue result
+        → IsSettled squares boxes.now costs.now rows.new.items search.new }
 {
-    if !matched || costs.members == 0 {
+    if !matched || rows.is_empty() {
         return false;
     }
-    'setting: for _ in 0..costs.members + 1 {
+    'setting: for _ in 0..rows.len() + 1 {
         if search.floor > FLOOR_LIMIT {
             return false;
         }
-        match change(&costs.rows, boxes, squares, marks) {
+        match change(rows, boxes, squares, marks) {
             None => return true,
             Some((row, entry)) => {
-                if !exchange(row, entry, costs, search) {
+                if !exchange(row, entry, costs, rows, search) {
                     return false;
                 }
             }
@@ -244,29 +234,29 @@ pub(crate) fn match_boxes(
     boxes: &[Sq],
     matched: bool,
     marks: &mut [bool],
-    costs: &mut Costs,
+    costs: &Costs,
+    rows: &mut Vec<usize>,
     search: &mut Search,
 ) -> bool
-    requires costs { AreCosts costs.old }
-    requires whole { IsTrue matched → IsWhole costs.old search.old }
-    requires shaped { IsShaped costs.old.members costs.old.goals search.old }
-    requires square { costs.old.members ≡ costs.old.goals }
+    requires costs { AreCosts costs.now rows.old.items }
+    requires rows { AreRows squares rows.old.items }
+    requires whole { IsTrue matched → IsWhole costs.now rows.old.items search.old }
+    requires shaped { IsShaped (length rows.old.items) costs.now.goals search.old }
+    requires square { length rows.old.items ≡ costs.now.goals }
     requires marks { length marks.old ≡ squares }
-    requires entries { (squares + 1) * costs.old.goals ≤ length costs.old.entries.items }
-    requires enough { length boxes.now ≤ costs.old.members }
+    requires entries { (squares + 1) * costs.now.goals ≤ length costs.now.entries.items }
+    requires enough { length boxes.now ≤ length rows.old.items }
     requires exist { All (λ square. square < squares) boxes.now }
     requires rising { IsStrictlyIncreasing boxes.now }
-    ensures costs { AreCosts costs.new }
-    ensures same { costs.new ≡ record costs.old { rows = costs.new.rows } }
-    ensures kept { (b : Numbered) → length b.area ≡ squares → AreKept b costs.old
-        → AreKept b costs.new }
-    ensures shaped { IsShaped costs.old.members costs.old.goals search.new }
-    ensures settled { IsTrue result → IsSettled squares boxes.now costs.new search.new }
-    ensures crowd { result ≡ false → (b : Numbered) → length b.area ≡ squares → AreKept b costs.old
-        → IsBounded b boxes.now None }
+    ensures kept { AreSet squares costs.now rows.old.items rows.new.items }
+    ensures shaped { IsShaped (length rows.new.items) costs.now.goals search.new }
+    ensures settled { IsTrue result
+        → IsSettled squares boxes.now costs.now rows.new.items search.new }
+    ensures crowd { result ≡ false → (b : Numbered) → length b.area ≡ squares
+        → AreTabled b costs.now.goals costs.now.entries.items → IsBounded b boxes.now None }
 {
-    if settle(squares, boxes, matched, marks, costs, search) {
+    if settle(squares, boxes, matched, marks, costs, rows, search) {
         return true;
     }
-    match_anew(squares, boxes, costs, search)
+    match_anew(squares, boxes, costs, rows, search)
 }

@@ -1,8 +1,5 @@
-use Rattle.std.proofs.Common.{◌≡◌, ◌+◌, ◌∙◌, ◌++◌, ◌∷◌, [], cond, sym, ap, Bool, List, ℕ, true, false, filter}
-use Rattle.std.specs.List.{range_with_len}
-use Rattle.std.proofs.lemmas.List.{append-nil}
-use Rattle.sok_board.proofs.Numbering.{filter-range_more}
-use Rattle.sok_price.specs.Trees.{is_met, members_of}
+use Rattle.sok_price.proofs.Words.{◌≡◌, ◌+◌, ◌∙◌, ◌++◌, ◌∷◌, [], cond, sym, ap, Bool, List, ℕ, true, false, filter, range_with_len, append-nil}
+use Rattle.sok_price.proofs.Words.{filter-range_more, is_met, members_of}
 use Rattle.sok_price.proofs.assign.members_in.Goals as goal
 use Rattle.sok_price.proofs.assign.members_in.Goals.{then-is_in+in_ok-push, else-is_in}
 

@@ -1,5 +1,4 @@
-use Rattle.std.proofs.Common.{◌≡◌}
-use Rattle.sok_price.specs.Trees.{members_of}
+use Rattle.sok_price.proofs.Words.{◌≡◌, members_of}
 use Rattle.sok_price.proofs.assign.members_in.Given as goal
 
 abbrev pub invariant-loop-member : goal.invariant-loop-member

@@ -1,4 +1,4 @@
-use Rattle.std.proofs.Common.{ℕ, ◌<◌, ◌≤◌, All, get_or}
+use Rattle.sok_price.proofs.Words.{ℕ, ◌<◌, ◌≤◌, All, get_or}
 use Rattle.sok_price.proofs.exchange.highest.Given as goal
 
 abbrev pub invariant-loop-price : goal.invariant-loop-price

@@ -1,4 +1,4 @@
-use Rattle.std.proofs.Common.{ℕ, ◌≡◌, ◌<◌, length, get_or}
+use Rattle.sok_price.proofs.Words.{ℕ, ◌≡◌, ◌<◌, length, get_or}
 use Rattle.sok_price.proofs.matching.rows_of.Given as goal
 
 abbrev pub invariant-loop-square : goal.invariant-loop-square

@@ -1,4 +1,4 @@
-use Rattle.sok_price.specs.Trees.{AreRaised}
+use Rattle.sok_price.proofs.Words.{AreRaised}
 use Rattle.sok_price.proofs.search.raise_goals.Given as goal
 
 abbrev pub invariant-loop-at : goal.invariant-loop-at

@@ -1,11 +1,5 @@
-use Rattle.std.proofs.Common.{◌≡◌, ◌<◌, ◌∙◌, refl, sym, ap, subst, List, arith, length, get_or}
-use Rattle.std.specs.List.{SwappedAt}
-use Rattle.std.specs.List.Sorted.{IsPermutation}
-use Rattle.std.proofs.lemmas.List.{get_or_default, length_push}
-use Rattle.std.proofs.lemmas.List.Sorted.{IsPermutation-swap}
-use Rattle.sok_price.specs.declared.search.Branch.{Branch}
-use Rattle.sok_price.specs.Searches.{Growth, growth_of}
-use Rattle.sok_price.specs.Trees.{branch_at}
+use Rattle.sok_price.proofs.Words.{◌≡◌, ◌<◌, ◌∙◌, refl, sym, ap, subst, List, arith, length, get_or, SwappedAt, IsPermutation, get_or_default, length_push}
+use Rattle.sok_price.proofs.Words.{IsPermutation-swap, Branch, Growth, growth_of, branch_at}
 use Rattle.sok_price.proofs.Rematching.{IsPath, IsPath-begun, IsPath-swapped, IsRematched-path}
 use Rattle.sok_price.proofs.search.rematch.Goals as goal
 

@@ -1,7 +1,4 @@
-use Rattle.std.proofs.Common.{ℕ, ◌≡◌, ◌<◌, ◌+◌, length}
-use Rattle.sok_price.specs.Matchings.{Costing, IsMatched}
-use Rattle.sok_price.specs.Searches.{growth_of, IsReached, KeepsRoom}
-use Rattle.sok_price.specs.Trees.{GoesTight}
+use Rattle.sok_price.proofs.Words.{ℕ, ◌≡◌, ◌<◌, ◌+◌, length, Costing, IsMatched, growth_of, IsReached, KeepsRoom, GoesTight}
 use Rattle.sok_price.proofs.Rematching.{IsPath}
 use Rattle.sok_price.proofs.search.rematch.Given as goal
 

@@ -1,4 +1,4 @@
-use Rattle.sok_price.specs.Kept.{AreMarksOf}
+use Rattle.sok_price.proofs.Words.{AreMarksOf}
 use Rattle.sok_price.proofs.settle.mark_boxes.Given as goal
 
 abbrev pub invariant-loop-square : goal.invariant-loop-square

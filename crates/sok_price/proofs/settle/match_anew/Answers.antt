@@ -1,26 +1,30 @@
-use Rattle.std.proofs.Common.{◌<◌, sym, subst, ap, All, arith}
-use Rattle.sok_price.specs.Costs.{cost_of}
-use Rattle.sok_price.specs.Kept.{AreExactly}
-use Rattle.sok_price.specs.Searches.{Growth, growth_of, TellsFound}
-use Rattle.sok_price.proofs.Sparing.{IsBounded-closed}
+use Rattle.sok_price.proofs.Words.{All, AreExactly, AreRows, Growth, ap, arith, refl, subst, sym, ◌<◌, AreCosts, IsWhole, Tells}
+use Rattle.sok_price.proofs.{Exchanging.AreExactly-listed, Exchanging.AreRows-listed, Exchanging.AreSet-listed, Sparing.IsBounded-closed}
 use Rattle.sok_price.proofs.settle.match_anew.Goals as goal
 
+pub returns-clause-kept : goal.returns-clause-kept
+returns-clause-kept c = AreSet-listed c.requires.exist c.list_rows.ensures refl c.requires.costs c.requires.rising c.requires.entries
+
+pub match_all-requires-clause-costs : goal.match_all-requires-clause-costs
+match_all-requires-clause-costs c = subst (AreCosts c.args.costs.now) (sym c.deref.ensures.value)
+    (AreSet-listed c.requires.exist c.list_rows.ensures refl c.requires.costs c.requires.rising c.requires.entries).shaped
+
 pub returns-clause-settled : goal.returns-clause-settled
-returns-clause-settled c = λ yes.
-    let after = c.list_rows.new.costs in
-    let (ready, all, floor) =
-    subst (TellsFound (cost_of after) after.members after.goals c.clear.new.search.floor c.match_all.new.search) yes c.match_all.ensures.tells in
-    record {
-      whole = record { shaped = c.list_rows.ensures.costs; ready = ready; whole = all };
-      low = omega (arith, floor, ap (λ (g : Growth). g.floor) c.clear.ensures.cleared);
-      exactly = c.list_rows.ensures.exactly;
-    }
+returns-clause-settled c = λ yes. record {
+  whole = subst (λ rows. IsWhole c.args.costs.now rows c.match_all.new.search) c.deref.ensures.value (c.match_all.ensures.tells.whole yes);
+  low = omega (arith, c.match_all.ensures.floor, ap (λ (g : Growth). g.floor) c.clear.ensures.cleared);
+  exactly = AreExactly-listed c.requires.exist c.list_rows.ensures c.requires.enough;
+}
 
 pub returns-clause-crowd : goal.returns-clause-crowd
-returns-clause-crowd c = λ no b area kept.
-    let after = c.list_rows.new.costs in
-    let (growing, closed) =
-    subst (TellsFound (cost_of after) after.members after.goals c.clear.new.search.floor c.match_all.new.search) no c.match_all.ensures.tells in
-    IsBounded-closed b after (growth_of c.match_all.new.search) c.args.boxes.now (c.list_rows.ensures.kept b area kept) c.list_rows.ensures.costs growing closed
-    (subst (λ n. AreExactly n after.rows.items c.args.boxes.now) (sym area) c.list_rows.ensures.exactly)
-    (subst (λ n. All (λ square. square < n) c.args.boxes.now) (sym area) c.requires.exist) c.requires.rising
+returns-clause-crowd c = λ no b area tabled.
+    let boxes = c.args.boxes.now in
+    let rows = c.list_rows.new.rows.items in
+    IsBounded-closed b c.args.costs.now rows c.match_all.new.search boxes (record {
+      tabled = tabled;
+      square = omega (arith, c.list_rows.ensures.whole, c.requires.square);
+      are_rows = subst (λ n. AreRows n rows) (sym area) (AreRows-listed c.requires.exist c.list_rows.ensures c.requires.rising);
+      exactly = subst (λ n. AreExactly n rows boxes) (sym area) (AreExactly-listed c.requires.exist c.list_rows.ensures c.requires.enough);
+      exist = subst (λ n. All (λ square. square < n) boxes) (sym area) c.requires.exist;
+      rising = c.requires.rising;
+    }) (subst (λ rows. Tells c.args.costs.now rows c.match_all.new.search c.match_all.result) c.deref.ensures.value c.match_all.ensures.tells) no

@@ -1,5 +1,4 @@
-use Rattle.std.proofs.Common.{◌≤◌, ◌∙◌, subst, Contains, arith, length, below_more}
-use Rattle.std.proofs.lemmas.List.{get_or_default}
+use Rattle.sok_price.proofs.Words.{◌≤◌, ◌∙◌, subst, Contains, arith, length, below_more, get_or_default}
 use Rattle.sok_price.proofs.settle.missing.Goals as goal
 
 pub loop-square-preserved : goal.loop-square-preserved

@@ -1,4 +1,4 @@
-use Rattle.std.proofs.Common.{ℕ, ◌<◌, Contains, get_or}
+use Rattle.sok_price.proofs.Words.{ℕ, ◌<◌, Contains, get_or}
 use Rattle.sok_price.proofs.settle.missing.Given as goal
 
 abbrev pub invariant-loop-square : goal.invariant-loop-square

@@ -1,4 +1,4 @@
-use Rattle.std.proofs.Common.{ℕ, ◌<◌, Contains, get_or, length}
+use Rattle.sok_price.proofs.Words.{ℕ, ◌<◌, Contains, get_or, length}
 use Rattle.sok_price.proofs.settle.stale.Given as goal
 
 abbrev pub invariant-loop-k : goal.invariant-loop-k

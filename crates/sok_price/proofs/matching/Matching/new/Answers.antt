@@ -1,7 +1,32 @@
-use Rattle.std.proofs.Common.{arith}
-use Rattle.sok_price.proofs.Tabling.{goals-few}
+use Rattle.sok_price.proofs.Words.{rules, AreRows, Numbered, ap, arith, length, subst, sym, ◌≡◌, ◌≤◌, ◌+◌, ◌*◌, ◌∙◌, List, length-replicate, ℕ}
+use Rattle.sok_price.proofs.{CostRows.AreCosts-below, CostRows.AreRows-spare, CostRows.goals-few, Sparing.IsShaped-new}
 use Rattle.sok_price.proofs.matching.Matching.new.Goals as goal
 
-pub tabled-requires-clause-few : goal.tabled-requires-clause-few
-tabled-requires-clause-few c =
-    omega (arith, goals-few c.args.tables.now.board, c.goals-goals.ensures.count, c.goals-goals.ensures.accepted.few_squares)
+pub invariant_of-result : goal.invariant_of-result
+invariant_of-result c =
+    let b = c.args.tables.now.board in
+    let costs = c.in_ok-tabled.field-0 in
+    let squares = c.squares-squares.result in
+    let tabled = c.in_ok-tabled.ensures.tabled in
+    let area : squares ≡ length b.area = c.squares-squares.ensures.count ∙ sym (ap (λ (h : Numbered). length h.area) c.requires.tables) in
+    let are = subst (AreRows squares) (sym c.in_ok-spare_rows.ensures) (AreRows-spare squares c.goals-goals.result) in
+    let room : (squares + 1) * costs.goals ≤ length costs.entries.items =
+    subst (λ n. (n + 1) * costs.goals ≤ length costs.entries.items) (sym area) (omega (arith, tabled.whole)) in
+    let few = goals-few b in
+    let goals = c.goals-goals.result in
+    let rows = ap (λ (rows : List ℕ). length rows) c.in_ok-spare_rows.ensures ∙ length-replicate goals squares in
+    let of = c.in_ok-tabled.ensures.goals in
+    record {
+      shaped = AreCosts-below costs (squares + 1) c.in_ok-spare_rows.field-0.items (λ k d within. omega (arith, are.within k d within))
+          (omega (arith, few, rows, c.goals-goals.ensures.count, c.goals-goals.ensures.accepted.few_squares)) tabled.small room;
+      square = rows ∙ sym of;
+      are_rows = are;
+      small = search rules;
+      entries = room;
+      search_shaped = IsShaped-new goals goals c.in_ok-new.field-0 c.in_ok-new.ensures.search c.in_ok-new.ensures.room (sym rows) (sym of);
+      trial_shaped = IsShaped-new goals goals c.in_ok-new-2.field-0 c.in_ok-new-2.ensures.search c.in_ok-new-2.ensures.room (sym rows) (sym of);
+      as_many = search rules;
+      a_mark_a_square = search rules;
+      whole = search rules;
+      low = search rules;
+    }

@@ -1,5 +1,5 @@
-use Rattle.std.proofs.Common.{ℕ, ◌≡◌, ◌<◌, ◌≤◌, length, get_or}
-use Rattle.sok_price.proofs.settle.fill_rows.Given as goal
+use Rattle.sok_price.proofs.Words.{get_or, length, ◌≡◌, ◌≤◌, ◌<◌, ℕ}
+use Rattle.sok_price.proofs.settle.list_rows.Given as goal
 
 abbrev pub invariant-loop-k : goal.invariant-loop-k
 invariant-loop-k l =
