@@ -98,11 +98,11 @@ module _ (s : State) (leaves : List Leaf) (was : Shows s leaves) (db : Trees) wh
 abbrev pub best_params : List ℕ → ℕ → ℕ → Row
 best_params lurd pushes moves = Words lurd ∷ Int (pos pushes) ∷ Int (pos moves) ∷ []
 
-abbrev best_out : List ℕ → ℕ → ℕ → Row → Row
+abbrev pub best_out : List ℕ → ℕ → ℕ → Row → Row
 best_out lurd pushes moves row =
     column row 0 ∷ column row 0 ∷ Null ∷ column row 1 ∷ column row 2 ∷ Words lurd ∷ Int (pos pushes) ∷ Int (pos moves) ∷ Int (pos 0) ∷ []
 
-abbrev verdict_out : ℕ → Row → Row
+abbrev pub verdict_out : ℕ → Row → Row
 verdict_out verdict row =
     column row 0 ∷ column row 0 ∷ Null ∷ column row 1 ∷ column row 2 ∷ column row 3 ∷ column row 4 ∷ column row 5 ∷ Int (pos verdict) ∷ []
 

@@ -6,3 +6,7 @@ pub mod Writes
 pub mod Calls
 pub mod Answering
 pub mod Changing
+pub mod Refused
+pub mod Standing
+pub mod Unwritten
+pub mod Unmade

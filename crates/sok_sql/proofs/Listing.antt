@@ -109,7 +109,7 @@ lists_table db rows a = record { same = all_are db rows a; sorted = rows_rise db
 abbrev has_text : List ℕ → Row → Bool
 has_text words row = is_true (binary (Compare Eq Binary) (column row 1) (Text words))
 
-equal_texts : (s t : List ℕ) → is_true (binary (Compare Eq Binary) (Text s) (Text t)) ≡ bytes_eq s t
+pub equal_texts : (s t : List ℕ) → is_true (binary (Compare Eq Binary) (Text s) (Text t)) ≡ bytes_eq s t
 unfolding binary
 equal_texts s t = truth_is (is_eq (value_cmp (Text s) (Text t))) ∙ ap is_eq (value_cmp-Text s t) ∙ is_eq-slice_cmp s t
 

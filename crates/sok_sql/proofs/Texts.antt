@@ -1,5 +1,5 @@
 -- What the texts mean under the schema.
-use Rattle.std.proofs.Common.{◌≡◌, ℕ, pos, negsuc, List, [], ◌∷◌, ◌++◌, codes, true, false, Ok, Err, None, refl, is_ok}
+use Rattle.std.proofs.Common.{◌≡◌, ℕ, pos, negsuc, List, [], ◌∷◌, ◌++◌, codes, true, false, Ok, Err, Result, None, refl, is_ok, length, nat_le}
 use Rattle.sqlite.specs.declared.types.Value.TheVariants.{Null, Int}
 use Rattle.sqlite.specs.Term.{Term, lit, col, op1, op2}
 use Rattle.sqlite_sql.specs.declared.ops.BinaryOp.TheVariants.{Compare}
@@ -11,6 +11,8 @@ use Rattle.sqlite.specs.Query.{Query, inner, end}
 use Rattle.sqlite.specs.Source.TheVariants.{Values}
 use Rattle.sqlite.specs.Compile.{table_defined_by}
 use Rattle.sqlite.specs.Command.TheVariants.{Insert, Select, Update, CreateTable}
+use Rattle.sqlite_resolve.specs.declared.compiled.Compiled.{Compiled}
+use Rattle.sqlite_resolve.specs.declared.error.CompileError.{CompileError}
 use Rattle.sqlite_resolve.specs.declared.error.CompileError.TheVariants.{NoSuchTable}
 use Rattle.std.specs.Fmt.{digits}
 use Rattle.sqlite.specs.Change.{created}
@@ -93,6 +95,11 @@ last_query = record (pick_query (col 1 0 ∷ [])) {
 }
 
 -- ---- what the texts mean
+
+-- a text is one statement with so many parameters
+abbrev pub IsPosed : List ℕ → ℕ → Result Compiled CompileError → Type 0
+IsPosed sql count (Ok c) = (nat_le (length sql) c.tail ≡ true) × (count ≡ length c.names)
+IsPosed sql count (Err e) = ⊥
 
 abbrev pub insert_terms : List Term
 insert_terms = col 0 0 ∷ lit Null ∷ col 0 1 ∷ col 0 2 ∷ lit Null ∷ lit Null ∷ lit Null ∷ lit (Int (pos 0)) ∷ []
@@ -205,3 +212,35 @@ last_plain = (refl, refl)
 pub last_unlisted : reads_listing level_schema last_text ≡ false
 unfolding understood everything
 last_unlisted = refl
+
+pub one_posed : IsPosed one_text 1 (understood level_schema one_text)
+unfolding understood everything
+one_posed = (refl, refl)
+
+pub all_posed : IsPosed all_text 0 (understood level_schema all_text)
+unfolding understood everything
+all_posed = (refl, refl)
+
+pub find_posed : IsPosed find_text 1 (understood level_schema find_text)
+unfolding understood everything
+find_posed = (refl, refl)
+
+pub last_posed : IsPosed last_text 0 (understood level_schema last_text)
+unfolding understood everything
+last_posed = (refl, refl)
+
+pub insert_posed : IsPosed insert_text 3 (understood level_schema insert_text)
+unfolding understood everything
+insert_posed = (refl, refl)
+
+pub best_posed : IsPosed best_text 4 (understood level_schema best_text)
+unfolding understood everything
+best_posed = (refl, refl)
+
+pub verdict_posed : IsPosed verdict_text 2 (understood level_schema verdict_text)
+unfolding understood everything
+verdict_posed = (refl, refl)
+
+pub create_posed : IsPosed create_text 0 (understood no_schema create_text)
+unfolding understood everything
+create_posed = (refl, refl)

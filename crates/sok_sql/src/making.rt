@@ -1,9 +1,10 @@
 //! Making the table of levels.
 
-ghost use Rattle.std.specs.Prelude.{◌≡◌, ◌≤◌, [], false, IsTrue, OnOk, OnErr};
+ghost use Rattle.std.specs.Prelude.{⊤, ◌≡◌, ◌≤◌, [], false, IfErr, IsTrue, OnOk, OnErr};
 ghost use Rattle.sqlite.specs.Held.{state};
-ghost use Rattle.sqlite.specs.State.{HasCleanDisk};
+ghost use Rattle.sqlite.specs.State.{HasCleanDisk, Survives};
 ghost use Rattle.sqlite.specs.View.{doubt};
+ghost use Rattle.sok_sql.specs.Causes.{IsEmpty, IsExcused};
 ghost use Rattle.sok_sql.specs.Connections.{Holds, IsSame, IsSettled};
 ghost use Rattle.sok_sql.specs.Leaves.{level_schema, no_schema};
 
@@ -22,6 +23,9 @@ pub fn create<S: Alter>(conn: &mut Connection<S>) -> Result<(), Error>
         → OnOk result (IsTrue (state S.Store conn.new).is_open → ⊥) }
     ensures same { HasCleanDisk (state S.Store conn.new) → IsSettled (state S.Store conn.old)
         → OnErr result (IsSame (state S.Store conn.old) (state S.Store conn.new)) }
+    ensures cause { HasCleanDisk (state S.Store conn.new) → IsEmpty (state S.Store conn.old)
+        → IfErr result (IsExcused (state S.Store conn.old) (state S.Store conn.new)) }
+    ensures survives { Survives (state S.Store conn.old) (state S.Store conn.new) (λ _. ⊤) }
     ensures clean { doubt (state S.Store conn.old).is_clean
         ≤ doubt (state S.Store conn.new).is_clean }
 {

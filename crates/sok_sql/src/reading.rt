@@ -1,9 +1,10 @@
 //! Statements that read rows.
 
-ghost use Rattle.std.specs.Prelude.{◌≡◌, ◌+◌, ℕ, List, length, map, option_map, slice_get};
-ghost use Rattle.std.specs.Prelude.{IfOk, OnOk, OnErr};
+ghost use Rattle.std.specs.Prelude.{◌≡◌, ◌⊎◌, ◌+◌, ◌<◌, ◌^◌, ℕ, List, length, map, slice_get};
+ghost use Rattle.std.specs.Prelude.{option_map, IfErr, IfOk, IfSome, OnOk, OnErr};
 ghost use Rattle.sqlite.specs.Held.{state};
 ghost use Rattle.sqlite.specs.State.{HasCleanDisk};
+ghost use Rattle.sok_sql.specs.Causes.{HasTable, IsEmpty, IsExcused, IsMemory, IsMissing};
 ghost use Rattle.sok_sql.specs.Connections.{Holds, IsSame, IsSettled, Rests, Shows};
 ghost use Rattle.sok_sql.specs.Leaves.{Leaf, ListsTable, level_schema, no_schema, shown_from};
 ghost use Rattle.sok_sql.specs.Leaves.{id_row, ids_with, last_ids, row_at, shown};
@@ -25,6 +26,11 @@ pub fn all_rows<S: Alter>(conn: &mut Connection<S>) -> Result<Vec<Row>, Error>
         → (state S.Store conn.old).now.schema ≡ no_schema → OnOk result ⊥ }
     ensures same { HasCleanDisk (state S.Store conn.new) → IsSettled (state S.Store conn.old)
         → OnErr result (IsSame (state S.Store conn.old) (state S.Store conn.new)) }
+    ensures cause { HasCleanDisk (state S.Store conn.new) → HasTable (state S.Store conn.old)
+        → IfErr result (IsExcused (state S.Store conn.old) (state S.Store conn.new)) }
+    ensures missing { HasCleanDisk (state S.Store conn.new) → IsEmpty (state S.Store conn.old)
+        → IfErr result (λ e. IsMissing e
+        ⊎ IsExcused (state S.Store conn.old) (state S.Store conn.new) e) }
 {
     match conn.query_all(
         "SELECT id, text, title, lurd, pushes, moves, verdict FROM level ORDER BY id",
@@ -43,6 +49,8 @@ pub fn row_at<S: Alter>(conn: &mut Connection<S>, id: u32) -> Result<Option<Row>
         → id ≡ 1 + place
         → IfOk result (λ row. Shows (state S.Store conn.new) leaves
         × (row ≡ option_map (shown id) (slice_get leaves place))) }
+    ensures cause { HasCleanDisk (state S.Store conn.new) → HasTable (state S.Store conn.old)
+        → IfErr result (IsExcused (state S.Store conn.old) (state S.Store conn.new)) }
 {
     match rows_at(conn, id) {
         Ok(mut rows) => Ok(rows.pop()),
@@ -57,6 +65,9 @@ pub fn find<S: Alter>(conn: &mut Connection<S>, text: &str) -> Result<Option<u32
         → (leaves : List Leaf) → Holds (state S.Store conn.old) leaves
         → IfOk result (λ id. Shows (state S.Store conn.new) leaves
         × (id ≡ slice_get (ids_with text.now 1 leaves) 0)) }
+    ensures cause { HasCleanDisk (state S.Store conn.new)
+        → (leaves : List Leaf) → Holds (state S.Store conn.old) leaves → length leaves < 2 ^ 32
+        → IfErr result (IsExcused (state S.Store conn.old) (state S.Store conn.new)) }
 {
     match ids_of(conn, text) {
         Ok(rows) => first_id(&rows),
@@ -71,6 +82,9 @@ pub fn count<S: Alter>(conn: &mut Connection<S>) -> Result<u32, Error>
         → (leaves : List Leaf) → Holds (state S.Store conn.old) leaves
         → IfOk result (λ count. Shows (state S.Store conn.new) leaves
         × (count ≡ length leaves)) }
+    ensures cause { HasCleanDisk (state S.Store conn.new)
+        → (leaves : List Leaf) → Holds (state S.Store conn.old) leaves → length leaves < 2 ^ 32
+        → IfErr result (IsExcused (state S.Store conn.old) (state S.Store conn.new)) }
 {
     match last_rows(conn) {
         Ok(rows) => match first_id(&rows) {
@@ -84,8 +98,10 @@ pub fn count<S: Alter>(conn: &mut Connection<S>) -> Result<u32, Error>
 
 /// The id in the first row, if there is one.
 fn first_id(rows: &[Row]) -> Result<Option<u32>, Error>
-    ensures { (ids : List ℕ) → rows.now ≡ map id_row ids
+    ensures first { (ids : List ℕ) → rows.now ≡ map id_row ids
         → IfOk result (λ id. id ≡ slice_get ids 0) }
+    ensures cause { (ids : List ℕ) → rows.now ≡ map id_row ids
+        → IfSome (slice_get ids 0) (λ id. id < 2 ^ 32) → IfErr result IsMemory }
 {
     match rows.first() {
         Some(row) => match row.get(0) {
@@ -104,6 +120,8 @@ fn rows_at<S: Alter>(conn: &mut Connection<S>, id: u32) -> Result<Vec<Row>, Erro
         → id ≡ 1 + place
         → IfOk result (λ rows. Shows (state S.Store conn.new) leaves
         × (rows.items ≡ row_at id (slice_get leaves place))) }
+    ensures cause { HasCleanDisk (state S.Store conn.new) → HasTable (state S.Store conn.old)
+        → IfErr result (IsExcused (state S.Store conn.old) (state S.Store conn.new)) }
 {
     match conn.query_all(
         "SELECT id, text, title, lurd, pushes, moves, verdict FROM level WHERE id = ?1",
@@ -121,6 +139,8 @@ fn ids_of<S: Alter>(conn: &mut Connection<S>, text: &str) -> Result<Vec<Row>, Er
         → (leaves : List Leaf) → Holds (state S.Store conn.old) leaves
         → IfOk result (λ rows. Shows (state S.Store conn.new) leaves
         × (rows.items ≡ map id_row (ids_with text.now 1 leaves))) }
+    ensures cause { HasCleanDisk (state S.Store conn.new) → HasTable (state S.Store conn.old)
+        → IfErr result (IsExcused (state S.Store conn.old) (state S.Store conn.new)) }
 {
     match conn.query_all(
         "SELECT id FROM level WHERE text = ?1 ORDER BY id",
@@ -138,6 +158,8 @@ fn last_rows<S: Alter>(conn: &mut Connection<S>) -> Result<Vec<Row>, Error>
         → (leaves : List Leaf) → Holds (state S.Store conn.old) leaves
         → IfOk result (λ rows. Shows (state S.Store conn.new) leaves
         × (rows.items ≡ map id_row (last_ids leaves))) }
+    ensures cause { HasCleanDisk (state S.Store conn.new) → HasTable (state S.Store conn.old)
+        → IfErr result (IsExcused (state S.Store conn.old) (state S.Store conn.new)) }
 {
     match conn.query_all("SELECT id FROM level ORDER BY id DESC LIMIT 1", &[]) {
         Ok(rows) => Ok(rows),

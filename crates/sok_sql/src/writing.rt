@@ -1,9 +1,10 @@
 //! Statements that write a row.
 
-ghost use Rattle.std.specs.Prelude.{◌≡◌, ◌+◌, [], ◌∷◌, ◌++◌, List, length, slice_get, slice_set};
-ghost use Rattle.std.specs.Prelude.{Some, OnOk, OnErr, option_map};
+ghost use Rattle.std.specs.Prelude.{◌≡◌, ◌⊎◌, ◌+◌, [], ◌∷◌, ◌++◌, List, length, slice_get};
+ghost use Rattle.std.specs.Prelude.{slice_set, Some, IfErr, OnOk, OnErr, option_map};
 ghost use Rattle.sqlite.specs.Held.{state};
 ghost use Rattle.sqlite.specs.State.{HasCleanDisk, Survives};
+ghost use Rattle.sok_sql.specs.Causes.{AreApart, IsExcused, IsTooBig};
 ghost use Rattle.sok_sql.specs.Connections.{Holds, Shows};
 ghost use Rattle.sok_sql.specs.Leaves.{Leaf, HasLeaves, new_leaf, with_best, with_verdict};
 
@@ -28,6 +29,12 @@ pub fn insert<S: Alter>(
         → id ≡ 1 + length leaves
         → HasLeaves db
         (leaves ++ new_leaf text.now (option_map (λ bytes. bytes.now) title.entry) ∷ [])) }
+    ensures cause { HasCleanDisk (state S.Store conn.new)
+        → (leaves : List Leaf) → Holds (state S.Store conn.old) leaves → id ≡ 1 + length leaves
+        → AreApart (leaves ++ new_leaf text.now (option_map (λ bytes. bytes.now) title.entry) ∷ [])
+        → IfErr result (λ e. IsTooBig id
+        (new_leaf text.now (option_map (λ bytes. bytes.now) title.entry))
+        ⊎ IsExcused (state S.Store conn.old) (state S.Store conn.new) e) }
 {
     match conn.execute(
         "INSERT INTO level (id, text, title, verdict) VALUES (?1, ?2, ?3, 0)",
@@ -59,6 +66,12 @@ pub fn set_best<S: Alter>(
         → Shows (state S.Store conn.old) leaves → id ≡ 1 + place
         → slice_get leaves place ≡ Some leaf
         → HasLeaves db (slice_set leaves place (with_best lurd.now pushes moves leaf))) }
+    ensures cause { HasCleanDisk (state S.Store conn.new)
+        → (leaves : List Leaf) (place : _) (leaf : Leaf) → Holds (state S.Store conn.old) leaves
+        → id ≡ 1 + place → slice_get leaves place ≡ Some leaf
+        → AreApart (slice_set leaves place (with_best lurd.now pushes moves leaf))
+        → IfErr result (λ e. IsTooBig id (with_best lurd.now pushes moves leaf)
+        ⊎ IsExcused (state S.Store conn.old) (state S.Store conn.new) e) }
 {
     match conn.execute(
         "UPDATE level SET lurd = ?2, pushes = ?3, moves = ?4, verdict = 0 WHERE id = ?1",
@@ -84,6 +97,12 @@ pub fn set_verdict<S: Alter>(conn: &mut Connection<S>, id: u32, verdict: u32) ->
         → Shows (state S.Store conn.old) leaves → id ≡ 1 + place
         → slice_get leaves place ≡ Some leaf
         → HasLeaves db (slice_set leaves place (with_verdict verdict leaf))) }
+    ensures cause { HasCleanDisk (state S.Store conn.new)
+        → (leaves : List Leaf) (place : _) (leaf : Leaf) → Holds (state S.Store conn.old) leaves
+        → id ≡ 1 + place → slice_get leaves place ≡ Some leaf
+        → AreApart (slice_set leaves place (with_verdict verdict leaf))
+        → IfErr result (λ e. IsTooBig id (with_verdict verdict leaf)
+        ⊎ IsExcused (state S.Store conn.old) (state S.Store conn.new) e) }
 {
     match conn.execute(
         "UPDATE level SET verdict = ?2 WHERE id = ?1",

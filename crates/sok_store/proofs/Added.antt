@@ -1,6 +1,8 @@
 -- A page more at the end of a book.
 use Rattle.std.proofs.Common.{◌≡◌, ◌⊎◌, inl, inr, refl, sym, ap, subst, ◌∙◌, ℕ, ℤ, pos, ◌+◌, ◌<◌, ◌≤◌, List, [], ◌∷◌, ◌++◌, Option, Some, None, arith}
 use Rattle.std.proofs.Common.{Result, Ok, Err, IfErr, IfOk, IfSome, length, slice_get}
+use Rattle.sqlite.specs.declared.error.Error.{Error}
+use Rattle.sqlite.specs.Tree.{Trees}
 use Rattle.sqlite.specs.State.{State, HasCleanDisk, Survives}
 use Rattle.sqlite.proofs.StateLemmas.{survives_then, survives_weaker}
 use Rattle.sok_rules.specs.Squares.{Rows}
@@ -11,13 +13,14 @@ use Rattle.sok_board.specs.Area.{IsAccepted, Numbered}
 use Rattle.sok_board.specs.Refusals.{IsAcceptable, IsRefused}
 use Rattle.sok_text.specs.Canonical.{level_text}
 use Rattle.sok_book.specs.declared.fault.BookFault.{BookFault}
-use Rattle.sok_book.specs.declared.fault.BookFault.TheVariants.{BookFull}
+use Rattle.sok_book.specs.declared.fault.BookFault.TheVariants.{BookFull, Memory}
 use Rattle.sok_book.specs.Books.{Book, Page}
 use Rattle.sok_book.specs.Commands.{Adds, IsUnknown, is_known, is_new, level_limit, new_page}
 use Rattle.sok_book.specs.Faults.{of_board}
 use Rattle.sok_book.specs.Refusals.{IsNotAdded}
 use Rattle.sok_page.specs.Titles.{IsTitle}
 use Rattle.sok_page.proofs.Titles.{kept-are-titles}
+use Rattle.sok_sql.specs.Causes.{AreApart, IsExcused, IsMemory, IsTooBig}
 use Rattle.sok_sql.specs.Connections.{Holds, Rests, Shows}
 use Rattle.sok_sql.specs.Leaves.{Leaf, HasLeaves, ids_with, new_leaf}
 use Rattle.sok_row.specs.Faults.{IsOutside}
@@ -25,9 +28,10 @@ use Rattle.sok_row.specs.Kept.{HoldsBook, IsKeptBook, ShowsBook, leaves_of}
 use Rattle.sok_row.proofs.Finding.{stands_found, unknown_unfound}
 use Rattle.sok_row.proofs.Changes.{IsKeptPage-new}
 use Rattle.sok_row.proofs.Books.{IsKeptBook-push, leaves_of-push, length-leaves_of}
-use Rattle.sok_store.specs.Calls.{Keeps, MakesNone, Stops, Turns, id_number, title_kept}
-use Rattle.sok_store.specs.Entries.{AddsPage, IsFull, IsNewPage, StopsAdding}
+use Rattle.sok_store.specs.Calls.{IsCaused, Keeps, MakesNone, Stops, Turns, id_number, title_kept}
+use Rattle.sok_store.specs.Entries.{AddsPage, IsCausedAdding, IsFull, IsNewPage, StopsAdding}
 use Rattle.sok_store.proofs.Calls.{held, rests_stops, stops_later}
+use Rattle.sok_store.proofs.Caused.{cause_before, kept_apart, last_get}
 
 title_is : (title : Option (List ℕ)) → IfSome (title_kept title) IsTitle
 title_is None = tt
@@ -91,6 +95,28 @@ module _ (old mid : State) (text : List ℕ) (count : ℕ)
         → Keeps old new (λ book. IsOutside fault ⊎ IsFull book fault)
     page_failed fault outside kept clean book holds =
         let (shows, is) = counted_pages (early clean) book holds in (inl outside, (holds.0, kept clean (leaves_of book) (λ _. shows.1)))
+
+    pub page_caused : (error : Error) (fault : BookFault) → (IsMemory error → fault ≡ Memory)
+        → (HasCleanDisk new → (leaves : List Leaf) → Holds mid leaves → count + 1 ≡ 1 + length leaves → AreApart (with_leaf leaves)
+        → IsTooBig (count + 1) (new_leaf text title) ⊎ IsExcused mid new error)
+        → (P Q : Trees → Type 0) → Survives old mid P → Survives mid new Q → IsCausedAdding old new text title fault
+    page_caused error fault memory why P Q one two database clean book page holds new_is =
+        let (shows, is) = counted_pages (early clean) book holds in
+        let space : length book < level_limit = omega (arith, room, is) in
+        let place = length-leaves_of book in
+        let leaf = new_leaf text title in
+        let leaves = pushed_leaves book text title page new_is holds.0 space in
+        let apart = subst AreApart (sym leaves) (kept_apart (book ++ page ∷ []) (pushed_kept book text title page new_is holds.0 space)) in
+        elim (why clean (leaves_of book) (λ _. shows.1) (omega (arith, is, place)) apart) [
+          | inl big ↦
+              let there = subst (λ l. slice_get l (length (leaves_of book)) ≡ Some leaf) leaves (last_get (leaves_of book) leaf) in
+              let same : count + 1 ≡ 1 + length (leaves_of book) = omega (arith, is, place) in
+              inl (space, (length (leaves_of book), leaf, there, subst (λ i. IsTooBig i leaf) same big))
+          | inr excused ↦ elim excused [
+            | inl none ↦ absurd (let e = memory none in cc)
+            | inr cause ↦ inr (cause_before old mid new P Q one two clean cause)
+          ]
+        ]
 
     pub page_stops : Rests old mid
         → Survives mid new (λ db. (leaves : List Leaf) → Shows mid leaves → count + 1 ≡ 1 + length leaves → HasLeaves db (with_leaf leaves))
@@ -160,6 +186,17 @@ module _ (old mid : State) (rows : Rows) (text : List ℕ) (text_is : text ≡ l
             | inr full ↦ inr (subst (IsNotAdded book rows) (sym full.0) (accepted, unknown, full.1))
           ] in
           (cause, after)
+
+      pub level_caused : (result : Result ℤ BookFault) → IfErr result (IsCausedAdding mid new text (title_kept title))
+          → (P Q : Trees → Type 0) → Survives old mid P → Survives mid new Q
+          → IfErr result (IsCaused old new (λ book after. (id : ℕ) × Adds book rows (title_kept title) id after))
+      level_caused (Ok id) caused P Q one two = tt
+      level_caused (Err fault) caused P Q one two = λ database clean book holds.
+          let (shows, unknown) = not_there (early clean) book holds in
+          elim (caused database clean book added_page (held mid book shows) (page_is book unknown)) [
+            | inl (room, big) ↦ inl (book ++ added_page ∷ [], (length book + 1, is_new unknown room refl refl), big)
+            | inr cause ↦ inr (cause_before old mid new P Q one two clean cause)
+          ]
 
       pub level_stops : Rests old mid → StopsAdding mid new text (title_kept title)
           → Stops old new (λ book after. (id : ℕ) × Adds book rows (title_kept title) id after)

@@ -19,7 +19,7 @@ use Rattle.sok_page.proofs.Rows.{one_level}
 use Rattle.sok_row.specs.Faults.{IsOutside}
 use Rattle.sok_row.specs.Told.{IsRecordOf, Told}
 use Rattle.sok_store.specs.declared.entry.Entry.{Entry}
-use Rattle.sok_store.specs.Calls.{Keeps}
+use Rattle.sok_store.specs.Calls.{IsCaused, Keeps, MakesNone}
 use Rattle.sok_store.specs.Entries.{Finds, IsEntryOf}
 use Rattle.sok_store.proofs.Calls.{held}
 use Rattle.sok_store.proofs.Found.{kept_at, some_and, some_of}
@@ -70,3 +70,12 @@ module _ (old new : State) (id : ℕ) (r : Record)
       let (some, shows) = found clean book holds in
       let (page, at, told) = some_of (page_at book id) (λ page. IsRecordOf id page r) some in
       (inl (inl (refused id page (kept_at book id page holds.0 at) told)), held new book shows)
+
+  pub entry_caused : (result : Result Entry BookFault)
+      → IfErr result (λ fault. (n : ℕ) (page : Page) → IsKeptPage page → IsRecordOf n page r → fault ≡ Memory)
+      → IfErr result (IsCaused old new MakesNone)
+  entry_caused (Ok entry) refused = tt
+  entry_caused (Err fault) refused = λ database clean book holds.
+      let (some, shows) = found clean book holds in
+      let (page, at, told) = some_of (page_at book id) (λ page. IsRecordOf id page r) some in
+      absurd (let memory = refused id page (kept_at book id page holds.0 at) told in cc)

@@ -1,5 +1,6 @@
 pub mod Added
 pub mod Calls
+pub mod Caused
 pub mod Found
 pub mod Known
 pub mod Offered

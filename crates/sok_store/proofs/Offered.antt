@@ -1,7 +1,8 @@
 -- What becomes of letters that are offered, by what is known of the page.
 use Rattle.std.proofs.Common.{◌≡◌, ◌⊎◌, inl, inr, refl, sym, ap, subst, ◌∙◌, ℕ, ◌≤◌, List}
 use Rattle.std.proofs.Common.{Some, Bool, true, false, IsSomeAnd, if◌then◌else◌, length}
-use Rattle.sqlite.specs.State.{State, HasCleanDisk}
+use Rattle.sqlite.specs.Tree.{Trees}
+use Rattle.sqlite.specs.State.{State, HasCleanDisk, Survives}
 use Rattle.sok_rules.specs.declared.cell.Dir.{Dir}
 use Rattle.sok_rules.specs.Limits.{letter_limit}
 use Rattle.sok_rules.specs.Play.{start, pushes, Solves}
@@ -19,9 +20,10 @@ use Rattle.sok_page.specs.Texts.{SolutionText, best_text, solution_text}
 use Rattle.sok_row.specs.Faults.{IsOutside}
 use Rattle.sok_row.specs.Kept.{HoldsBook, ShowsBook}
 use Rattle.sok_store.specs.declared.entry.Entry.{Entry}
-use Rattle.sok_store.specs.Calls.{Keeps, MakesNone, Stops, Turns}
-use Rattle.sok_store.specs.Entries.{Finds, HasBest, IsEntryOf, Sets, StopsSetting}
+use Rattle.sok_store.specs.Calls.{IsCaused, Keeps, MakesNone, Stops, Turns}
+use Rattle.sok_store.specs.Entries.{Finds, HasBest, IsCausedSetting, IsEntryOf, Sets, StopsSetting}
 use Rattle.sok_store.proofs.Calls.{held, stops_later}
+use Rattle.sok_store.proofs.Caused.{cause_before}
 use Rattle.sok_store.proofs.Found.{some_of}
 use Rattle.sok_store.proofs.Refusing.{not_offered}
 use Rattle.sok_store.proofs.Setting.{with_same_page}
@@ -82,6 +84,11 @@ module _ (old mid : State) (id : ℕ) (letters : List Dir) (entry : Entry)
   page_of clean book holds =
       let (some, shows) = found clean book holds in (some_of (page_at book id) (λ page. IsEntryOf page entry) some, shows)
 
+  pub offer_inside : (fault : BookFault) (Makes : Book → Book → Type 0) → (fault ≡ Memory) ⊎ IsNoSolution entry.level letters fault
+      → IsCaused old mid Makes fault
+  offer_inside fault Makes why database =
+      absurd (elim why [ inl memory ↦ absurd (let e = memory in cc) | inr none ↦ subst (IsNoSolution entry.level letters) database none ])
+
   pub offer_refused : (fault : BookFault) → (fault ≡ Memory) ⊎ IsNoSolution entry.level letters fault
       → Keeps old mid (λ book. IsOutside fault ⊎ IsNotOffered book id letters fault)
   offer_refused fault why clean book holds =
@@ -109,6 +116,21 @@ module _ (old mid : State) (id : ℕ) (letters : List Dir) (entry : Entry)
             offers book id page letters true at (judged_by page entry is letters best text kept true test),
             set clean book page (improved page letters) (held mid book shows) at (improves page entry is letters best text kept),
           )
+
+      pub offer_caused : (fault : BookFault) → (HasCleanDisk new → HasCleanDisk mid) → IsCausedSetting mid new id (HasBest best) fault
+          → (P Q : Trees → Type 0) → Survives old mid P → Survives mid new Q
+          → IsCaused old new (λ book after. (answer : Offer) × Offers book id letters answer after) fault
+      offer_caused fault early caused P Q one two database clean book holds =
+          let (known, shows) = page_of (early clean) book holds in let (page, at, is) = known in
+          elim (caused database clean book page (improved page letters) (held mid book shows) at (improves page entry is letters best text kept)) [
+            | inl big ↦
+                inl (
+                  with_page book id (improved page letters),
+                  (Stored, offers book id page letters true at (judged_by page entry is letters best text kept true test)),
+                  big,
+                )
+            | inr cause ↦ inr (cause_before old mid new P Q one two clean cause)
+          ]
 
       pub offer_stops : Stops old mid MakesNone → (HasCleanDisk new → HasCleanDisk mid) → StopsSetting mid new id (HasBest best)
           → Stops old new (λ book after. (answer : Offer) × Offers book id letters answer after)

@@ -1,14 +1,21 @@
 -- A table that is read is that of a book.
-use Rattle.std.proofs.Common.{◌≡◌, sym, ap, subst, ◌∙◌, List, map}
+use Rattle.std.proofs.Common.{◌≡◌, ◌⊎◌, inl, inr, sym, ap, subst, ◌∙◌, List, map, IsTrue, arith}
 use Rattle.std.specs.List.Sorted.{IsPermutation}
 use Rattle.sqlite.specs.Order.{Row}
 use Rattle.sqlite.specs.Effect.{Database}
-use Rattle.sqlite.specs.State.{State, HasCleanDisk}
+use Rattle.sqlite.specs.declared.error.Error.{Error}
+use Rattle.sqlite.specs.Tree.{Trees}
+use Rattle.sqlite.specs.State.{State, HasCleanDisk, Survives}
+use Rattle.sok_book.specs.declared.fault.BookFault.{BookFault}
+use Rattle.sok_book.specs.declared.fault.BookFault.TheVariants.{Memory}
+use Rattle.sok_book.specs.declared.fault.BookFault.TheVariants as told
+use Rattle.sok_sql.specs.Causes.{HasCause, HasTable, IsEmpty, IsExcused, IsMemory, IsMissing}
 use Rattle.sok_book.specs.Books.{Book}
 use Rattle.sok_sql.specs.Connections.{IsSame, IsSettled}
 use Rattle.sok_sql.specs.Leaves.{HasLeaves, ListsTable, level_schema, no_schema, seen, shown_from}
 use Rattle.sok_row.specs.Kept.{IsKeptBook, leaves_of}
-use Rattle.sok_store.specs.Opening.{Opens}
+use Rattle.sok_store.specs.Opening.{IsCausedOpening, Opens}
+use Rattle.sok_store.proofs.Caused.{cause_after, cause_before}
 
 module _ (old new : State) (rows : List Row) (settled : IsSettled old)
     (found : HasCleanDisk new → old.now.schema ≡ level_schema → ListsTable (old.now.trees 0) rows × IsSame old new)
@@ -33,3 +40,32 @@ module _ (old new : State) (rows : List Row) (settled : IsSettled old)
           ),
         );
   }
+
+-- ---- why nothing was opened
+
+caused : (old new : State) (error : Error) (fault : BookFault) → (IsMemory error → fault ≡ Memory) → fault ≡ told.Database → IsExcused old new error
+    → HasCause old new
+caused old new error fault memory database (inl none) = absurd (let e = memory none in cc)
+caused old new error fault memory database (inr why) = why
+
+-- the rows were not read
+pub unread_caused : (old new : State) (error : Error) (fault : BookFault) → (IsMemory error → fault ≡ Memory)
+    → (HasCleanDisk new → HasTable old → IsExcused old new error) → (HasCleanDisk new → IsEmpty old → IsMissing error ⊎ IsExcused old new error)
+    → (IsMissing error → ⊥) → IsCausedOpening old new fault
+unread_caused old new error fault memory table empty there database clean (inl none) =
+    elim (empty clean (λ _. none)) [ inl missing ↦ absurd (there missing) | inr why ↦ caused old new error fault memory database why ]
+unread_caused old new error fault memory table empty there database clean (inr has) =
+    caused old new error fault memory database (table clean (λ _. has))
+
+-- the table was not made
+pub unmade_caused : (old mid new : State) (missing error : Error) (fault : BookFault) → IsSettled old → IsMissing missing
+    → (IsMemory error → fault ≡ Memory) → (HasCleanDisk mid → HasTable old → IsExcused old mid missing)
+    → (HasCleanDisk mid → IsSettled old → IsSame old mid) → (HasCleanDisk new → IsEmpty mid → IsExcused mid new error)
+    → (P Q : Trees → Type 0) → Survives old mid P → Survives mid new Q → IsCausedOpening old new fault
+unmade_caused old mid new missing error fault settled is memory table same made P Q one two database clean (inl none) =
+    let early : HasCleanDisk mid = omega (arith, clean, two.clean) in
+    let empty = λ (up : IsTrue mid.is_open). ap (λ (d : Database). d.schema) (same early settled up).1 ∙ none in
+    cause_before old mid new P Q one two clean (caused mid new error fault memory database (made clean empty))
+unmade_caused old mid new missing error fault settled is memory table same made P Q one two database clean (inr has) =
+    let early : HasCleanDisk mid = omega (arith, clean, two.clean) in
+    elim (table early (λ _. has)) [ inl none ↦ absurd (let e = sym is ∙ none in cc) | inr why ↦ cause_after old mid new Q two why ]

@@ -1,6 +1,7 @@
 -- What becomes of a certificate, by what is known of the page.
 use Rattle.std.proofs.Common.{◌≡◌, ◌⊎◌, inl, inr, refl, subst, ◌∙◌, ℕ, List, Some, IsSomeAnd}
-use Rattle.sqlite.specs.State.{State, HasCleanDisk}
+use Rattle.sqlite.specs.Tree.{Trees}
+use Rattle.sqlite.specs.State.{State, HasCleanDisk, Survives}
 use Rattle.sok_rules.specs.Squares.{Rows}
 use Rattle.sok_board.specs.declared.fault.BoardFault.{BoardFault}
 use Rattle.sok_board.specs.declared.fault.BoardFault.TheVariants as board
@@ -19,11 +20,12 @@ use Rattle.sok_row.specs.Faults.{IsOutside}
 use Rattle.sok_row.specs.Kept.{HoldsBook, ShowsBook}
 use Rattle.sok_row.proofs.Changes.{IsKeptPage-judged, judged}
 use Rattle.sok_store.specs.declared.entry.Entry.{Entry}
-use Rattle.sok_store.specs.Calls.{Keeps, MakesNone, Stops, Turns}
-use Rattle.sok_store.specs.Entries.{Finds, HasVerdict, IsEntryOf, Sets, StopsSetting}
+use Rattle.sok_store.specs.Calls.{IsCaused, Keeps, MakesNone, Stops, Turns}
+use Rattle.sok_store.specs.Entries.{Finds, HasVerdict, IsCausedSetting, IsEntryOf, Sets, StopsSetting}
 use Rattle.sok_store.proofs.Calls.{held, stops_later}
+use Rattle.sok_store.proofs.Caused.{cause_before}
 use Rattle.sok_store.proofs.Found.{kept_at, some_of}
-use Rattle.sok_store.proofs.Refusing.{not_proved}
+use Rattle.sok_store.proofs.Refusing.{no_database, not_proved}
 
 -- ---- of the page
 
@@ -65,6 +67,15 @@ module _ (old mid : State) (id : ℕ) (bytes : List ℕ) (entry : Entry)
   page_of clean book holds =
       let (some, shows) = found clean book holds in (some_of (page_at book id) (λ page. IsEntryOf page entry) some, shows)
 
+  pub proof_inside : (fault : BookFault) (Makes : Book → Book → Type 0)
+      → ((page : Page) → IsKeptPage page → IsEntryOf page entry → (fault ≡ Memory) ⊎ IsUnproved page bytes fault) → IsCaused old mid Makes fault
+  proof_inside fault Makes why database clean book holds =
+      let (known, shows) = page_of clean book holds in let (page, at, is) = known in
+      absurd (elim (why page (kept_at book id page holds.0 at) is) [
+        | inl memory ↦ absurd (let e = memory in cc)
+        | inr none ↦ no_database page bytes (subst (IsUnproved page bytes) database none)
+      ])
+
   pub proof_refused : (fault : BookFault)
       → ((page : Page) → IsKeptPage page → IsEntryOf page entry → (fault ≡ Memory) ⊎ IsUnproved page bytes fault)
       → Keeps old mid (λ book. IsOutside fault ⊎ IsNotProved book id bytes fault)
@@ -86,6 +97,18 @@ module _ (old mid : State) (id : ℕ) (bytes : List ℕ) (entry : Entry)
           set clean book page (judged page (verdict_of shown)) (held mid book shows) at
               (has_verdict page entry shown (kept_at book id page holds.0 at) is meets),
         )
+
+    pub proof_caused : (fault : BookFault) → IsCausedSetting mid new id (HasVerdict (verdict_of shown)) fault
+        → (P Q : Trees → Type 0) → Survives old mid P → Survives mid new Q
+        → IsCaused old new (λ book after. (claim : Claim) × Proves book id bytes claim after) fault
+    proof_caused fault caused P Q one two database clean book holds =
+        let (known, shows) = page_of (early clean) book holds in let (page, at, is) = known in
+        elim (caused database clean book page (judged page (verdict_of shown)) (held mid book shows) at
+        (has_verdict page entry shown (kept_at book id page holds.0 at) is meets)) [
+          | inl big ↦
+              inl (with_page book id (judged page (verdict_of shown)), (shown, proves book id page entry bytes shown at is certificate meets), big)
+          | inr cause ↦ inr (cause_before old mid new P Q one two clean cause)
+        ]
 
     pub proof_stops : Stops old mid MakesNone → StopsSetting mid new id (HasVerdict (verdict_of shown))
         → Stops old new (λ book after. (claim : Claim) × Proves book id bytes claim after)

@@ -4,7 +4,7 @@ use Rattle.sok_rules.specs.declared.cell.Dir.{Dir}
 use Rattle.sok_cert.specs.Claim.{Claim}
 use Rattle.sok_cert.specs.Claim.TheVariants as claim
 use Rattle.sok_book.specs.declared.fault.BookFault.{BookFault}
-use Rattle.sok_book.specs.declared.fault.BookFault.TheVariants.{Blocked, NotSolved, TooLong, NoLevel}
+use Rattle.sok_book.specs.declared.fault.BookFault.TheVariants.{Blocked, Database, NotSolved, TooLong, NoLevel}
 use Rattle.sok_book.specs.Books.{Book, Page, page_at}
 use Rattle.sok_book.specs.Commands.{best_pushes}
 use Rattle.sok_book.specs.Refusals.{Differs, IsNoSolution, IsNotOffered, IsNotProved, IsUnproved}
@@ -24,6 +24,13 @@ never claim.Unsolvable best differs = differs
 
 no_level : (page : Page) (bytes : List ℕ) → IsUnproved page bytes NoLevel → ⊥
 no_level page bytes (b, rows, accepted, none) = let (shown, entries, spells, differs) = none in never shown (best_pushes page) differs
+
+untold : (shown : Claim) (best : Option ℕ) → Differs shown best Database → ⊥
+untold (claim.Pushes k) best differs = differs
+untold claim.Unsolvable best differs = differs
+
+pub no_database : (page : Page) (bytes : List ℕ) → IsUnproved page bytes Database → ⊥
+no_database page bytes (b, rows, accepted, none) = let (shown, entries, spells, differs) = none in untold shown (best_pushes page) differs
 
 pub not_proved : (book : Book) (id : ℕ) (page : Page) (bytes : List ℕ) (fault : BookFault) → page_at book id ≡ Some page
     → IsUnproved page bytes fault → IsNotProved book id bytes fault

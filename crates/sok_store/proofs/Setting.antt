@@ -1,23 +1,28 @@
 -- Another page of the same level in the place of one.
-use Rattle.std.proofs.Common.{◌≡◌, refl, sym, ap, subst, ◌∙◌, ℕ, zero, suc, ◌+◌, ◌-◌, List, [], ◌∷◌, Some, arith}
+use Rattle.std.proofs.Common.{◌≡◌, ◌⊎◌, inl, inr, refl, sym, ap, subst, ◌∙◌, ℕ, zero, suc, ◌+◌, ◌-◌, List, [], ◌∷◌, Some, arith}
 use Rattle.std.proofs.Common.{option_map, slice_get}
 use Rattle.std.specs.List.{slice_set}
 use Rattle.std.proofs.lemmas.Option.{none-some, same_Some}
+use Rattle.sqlite.specs.declared.error.Error.{Error}
 use Rattle.sqlite.specs.State.{State, HasCleanDisk, Survives}
 use Rattle.sqlite.proofs.StateLemmas.{survives_weaker}
 use Rattle.sok_book.specs.declared.record.Verdict.{Verdict}
+use Rattle.sok_book.specs.declared.fault.BookFault.{BookFault}
+use Rattle.sok_book.specs.declared.fault.BookFault.TheVariants.{Memory}
 use Rattle.sok_book.specs.Books.{Book, Page, page_at}
 use Rattle.sok_book.specs.Commands.{with_page}
 use Rattle.sok_page.specs.declared.record.Best.{Best}
 use Rattle.sok_page.specs.Kept.{IsKeptPage}
 use Rattle.sok_page.specs.Rows.{verdict_number}
 use Rattle.sok_page.specs.Texts.{SolutionText, best_text}
+use Rattle.sok_sql.specs.Causes.{AreApart, IsExcused, IsMemory, IsTooBig}
 use Rattle.sok_sql.specs.Connections.{Holds, Shows}
 use Rattle.sok_sql.specs.Leaves.{Leaf, HasLeaves, with_best, with_verdict}
 use Rattle.sok_row.specs.Kept.{IsKeptBook, leaf_of, leaves_of}
 use Rattle.sok_row.proofs.Changes.{IsKeptPage-solved, solved}
 use Rattle.sok_row.proofs.Books.{IsKeptBook-set, leaves_of-set, slice_get-leaves_of}
-use Rattle.sok_store.specs.Entries.{HasBest, HasVerdict, Sets, StopsSetting}
+use Rattle.sok_store.specs.Entries.{HasBest, HasVerdict, IsCausedSetting, Sets, StopsSetting}
+use Rattle.sok_store.proofs.Caused.{kept_apart, set_get}
 use Rattle.sok_store.proofs.Found.{kept_at, one_less}
 
 -- a page of the same level that may be kept, whose leaf is made of the leaf of the one before
@@ -85,6 +90,21 @@ module _ (old new : State) (id : ℕ) (change : Leaf → Leaf) (Makes : Page →
   sets done clean book page after holds at made =
       let (n, place) = place_of book page after holds.0 at made in
       (place.keeps, subst (Holds new) place.leaves (done clean (leaves_of book) n (leaf_of page) holds.1 place.id_is place.leaf_at))
+
+  pub set_caused : (error : Error) (fault : BookFault) → (IsMemory error → fault ≡ Memory)
+      → (HasCleanDisk new → (leaves : List Leaf) (place : ℕ) (leaf : Leaf) → Holds old leaves → id ≡ 1 + place → slice_get leaves place ≡ Some leaf
+      → AreApart (slice_set leaves place (change leaf)) → IsTooBig id (change leaf) ⊎ IsExcused old new error)
+      → IsCausedSetting old new id Makes fault
+  set_caused error fault memory why database clean book page after holds at made =
+      let (n, place) = place_of book page after holds.0 at made in
+      let leaf = change (leaf_of page) in
+      let apart = subst AreApart (sym place.leaves) (kept_apart (with_page book id after) place.keeps) in
+      elim (why clean (leaves_of book) n (leaf_of page) holds.1 place.id_is place.leaf_at apart) [
+        | inl big ↦
+            let there = subst (λ l. slice_get l n ≡ Some leaf) place.leaves (set_get (leaves_of book) n (leaf_of page) leaf place.leaf_at) in
+            inl (n, leaf, there, subst (λ i. IsTooBig i leaf) place.id_is big)
+        | inr excused ↦ elim excused [ inl none ↦ absurd (let e = memory none in cc) | inr cause ↦ inr cause ]
+      ]
 
   pub stops_setting : Survives old new (λ db. SetsLeaf (Shows old) (HasLeaves db) id change) → StopsSetting old new id Makes
   stops_setting one = survives_weaker old new _ _ (λ _ db done book page after shows at made.

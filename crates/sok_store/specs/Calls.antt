@@ -1,9 +1,13 @@
 -- What a call makes of the book that a connection holds.
-use Rattle.std.specs.Prelude.{ℕ, ℤ, pos, negsuc, List, Option, Some, None}
+use Rattle.std.specs.Prelude.{ℕ, ℤ, pos, negsuc, ◌≡◌, ◌+◌, ◌⊎◌, List, Option, Some, None, slice_get}
 use Rattle.sqlite.specs.State.{State, HasCleanDisk, Survives}
+use Rattle.sok_book.specs.declared.fault.BookFault.{BookFault}
+use Rattle.sok_book.specs.declared.fault.BookFault.TheVariants.{Database}
 use Rattle.sok_book.specs.Books.{Book}
 use Rattle.sok_page.specs.Titles.{kept_title}
-use Rattle.sok_row.specs.Kept.{HasBook, HoldsBook, ShowsBook}
+use Rattle.sok_sql.specs.Causes.{HasCause, IsTooBig}
+use Rattle.sok_sql.specs.Leaves.{Leaf}
+use Rattle.sok_row.specs.Kept.{HasBook, HoldsBook, ShowsBook, leaves_of}
 
 -- an id as a number: 0, which is the id of no page, where it is negative
 abbrev pub id_number : ℤ → ℕ
@@ -30,3 +34,12 @@ Stops old new Makes = Survives old new (λ db. (book : Book) → ShowsBook old b
 -- no other book is made
 abbrev pub MakesNone : Book → Book → Type 0
 MakesNone book after = ⊥
+
+-- a row of the book is too big to be stored
+abbrev pub HasTooBig : Book → Type 0
+HasTooBig book = (n : ℕ) × (leaf : Leaf) × (slice_get (leaves_of book) n ≡ Some leaf) × IsTooBig (1 + n) leaf
+
+-- `Database` is answered only where the connection gave a cause, or where the book that would be made so has a row that is too big
+abbrev pub IsCaused : State → State → (Book → Book → Type 0) → BookFault → Type 0
+IsCaused old new Makes fault =
+    fault ≡ Database → HasCleanDisk new → (book : Book) → HoldsBook old book → ((after : Book) × Makes book after × HasTooBig after) ⊎ HasCause old new

@@ -1,8 +1,8 @@
 -- What is read of a page for a command, and what a command writes of it.
-use Rattle.std.specs.Prelude.{ℕ, ℤ, pos, ◌≡◌, ◌+◌, ◌<◌, ◌≤◌, List, [], ◌∷◌, ◌++◌, Option, Some, length}
+use Rattle.std.specs.Prelude.{ℕ, ℤ, pos, ◌≡◌, ◌⊎◌, ◌+◌, ◌<◌, ◌≤◌, List, [], ◌∷◌, ◌++◌, Option, Some, length}
 use Rattle.sqlite.specs.State.{State, HasCleanDisk, Survives}
 use Rattle.sok_book.specs.declared.fault.BookFault.{BookFault}
-use Rattle.sok_book.specs.declared.fault.BookFault.TheVariants.{BookFull}
+use Rattle.sok_book.specs.declared.fault.BookFault.TheVariants.{BookFull, Database}
 use Rattle.sok_book.specs.declared.record.Verdict.{Verdict}
 use Rattle.sok_book.specs.declared.record.Verdict.TheVariants.{Untested}
 use Rattle.sok_book.specs.Books.{Book, Page, Solution, page_at}
@@ -10,8 +10,10 @@ use Rattle.sok_book.specs.Commands.{IsUnknown, best_pushes, level_limit, with_pa
 use Rattle.sok_page.specs.declared.record.Best.{Best}
 use Rattle.sok_page.specs.Kept.{IsKeptPage, IsKeptSolution}
 use Rattle.sok_page.specs.Texts.{best_text, solution_text}
+use Rattle.sok_sql.specs.Causes.{HasCause}
 use Rattle.sok_sql.specs.Leaves.{new_leaf}
 use Rattle.sok_row.specs.Kept.{HasBook, HoldsBook, ShowsBook, leaf_of}
+use Rattle.sok_store.specs.Calls.{HasTooBig}
 use Rattle.sok_store.specs.declared.entry.Entry.{Entry}
 
 -- the level of a page, and the pushes of its best solution
@@ -66,3 +68,15 @@ StopsAdding old new text title = Survives old new (λ db.
 
 abbrev pub IsFull : Book → BookFault → Type 0
 IsFull book fault = (fault ≡ BookFull) × (level_limit ≤ length book)
+
+-- why the page at an id was not replaced
+abbrev pub IsCausedSetting : State → State → ℕ → (Page → Page → Type 0) → BookFault → Type 0
+IsCausedSetting old new id Makes fault =
+    fault ≡ Database → HasCleanDisk new → (book : Book) (page after : Page) → HoldsBook old book → page_at book id ≡ Some page → Makes page after
+    → HasTooBig (with_page book id after) ⊎ HasCause old new
+
+-- why a page was not added
+abbrev pub IsCausedAdding : State → State → List ℕ → Option (List ℕ) → BookFault → Type 0
+IsCausedAdding old new text title fault =
+    fault ≡ Database → HasCleanDisk new → (book : Book) (page : Page) → HoldsBook old book → IsNewPage book text title page
+    → ((length book < level_limit) × HasTooBig (book ++ page ∷ [])) ⊎ HasCause old new

@@ -1,10 +1,11 @@
 -- What is opened as a book, and why something is not.
 use Rattle.std.specs.Prelude.{ℤ, ◌≡◌, ◌⊎◌, [], IsTrue}
 use Rattle.sqlite.specs.State.{State, HasCleanDisk}
+use Rattle.sok_sql.specs.Causes.{HasCause}
 use Rattle.sok_sql.specs.Connections.{IsKnown}
 use Rattle.sok_sql.specs.Leaves.{level_schema, no_schema}
 use Rattle.sok_book.specs.declared.fault.BookFault.{BookFault}
-use Rattle.sok_book.specs.declared.fault.BookFault.TheVariants.{BadBook}
+use Rattle.sok_book.specs.declared.fault.BookFault.TheVariants.{BadBook, Database}
 use Rattle.sok_book.specs.Books.{Book}
 use Rattle.sok_row.specs.Faults.{IsOutside}
 use Rattle.sok_row.specs.Kept.{HasBook, HoldsBook, ShowsBook}
@@ -18,3 +19,7 @@ pub record Opens (old new : State) : Type 0 where
 -- memory was refused, or the database refused; or a row breaks a rule of books, and the fault names the first such row
 abbrev pub IsUnopened : State → State → BookFault → Type 0
 IsUnopened old new fault = IsOutside fault ⊎ ((id : ℤ) × (fault ≡ BadBook id) × (HasCleanDisk new → IsKnown old → IsBadTable (old.now.trees 0) id))
+
+-- of a database that was empty or had the table alone `Database` is answered only where the connection gave a cause
+abbrev pub IsCausedOpening : State → State → BookFault → Type 0
+IsCausedOpening old new fault = fault ≡ Database → HasCleanDisk new → IsKnown old → HasCause old new

@@ -1,13 +1,13 @@
 //! A level is added.
 
-ghost use Rattle.std.specs.Prelude.{◌≡◌, ◌⊎◌, IfErr, IfOk, OnOk, option_map};
+ghost use Rattle.std.specs.Prelude.{◌≡◌, ◌≢◌, ◌⊎◌, IfErr, IfOk, OnOk, option_map};
 ghost use Rattle.sqlite.specs.Held.{state};
 ghost use Rattle.sok_board.specs.Refusals.{IsAcceptable};
 ghost use Rattle.sok_book.specs.Books.{Book};
 ghost use Rattle.sok_book.specs.Commands.{Adds};
 ghost use Rattle.sok_book.specs.Refusals.{IsNotAdded};
 ghost use Rattle.sok_row.specs.Faults.{IsOutside};
-ghost use Rattle.sok_store.specs.Calls.{Keeps, Stops, Turns, id_number, title_kept};
+ghost use Rattle.sok_store.specs.Calls.{IsCaused, Keeps, Stops, Turns, id_number, title_kept};
 
 use sok_board::board::Board;
 use sok_book::fault::BookFault;
@@ -38,6 +38,9 @@ pub(crate) fn add_to<S: Alter>(
     ensures stop { Stops (state S.Store conn.old) (state S.Store conn.new)
         (λ book after. (id : _) × Adds book level.now
         (title_kept (option_map (λ bytes. bytes.now) title.entry)) id after) }
+    ensures cause { IfErr result (IsCaused (state S.Store conn.old) (state S.Store conn.new)
+        (λ book after. (id : _) × Adds book level.now
+        (title_kept (option_map (λ bytes. bytes.now) title.entry)) id after)) }
 {
     match judge_level(alloc, level) {
         Ok(()) => add_accepted(conn, alloc, level, title),
@@ -50,6 +53,7 @@ fn judge_level(alloc: Global, level: &Level) -> Result<(), BookFault>
     ensures accepted { OnOk result (IsAcceptable level.now) }
     ensures refused { IfErr result
         (λ fault. (book : Book) → IsOutside fault ⊎ IsNotAdded book level.now fault) }
+    ensures inside { IfErr result (λ fault. fault ≢ BookFault.Database) }
 {
     match Board::new(alloc, level) {
         Ok(_board) => Ok(()),
@@ -74,6 +78,9 @@ fn add_accepted<S: Alter>(
     ensures stop { Stops (state S.Store conn.old) (state S.Store conn.new)
         (λ book after. (id : _) × Adds book level.now
         (title_kept (option_map (λ bytes. bytes.now) title.entry)) id after) }
+    ensures cause { IfErr result (IsCaused (state S.Store conn.old) (state S.Store conn.new)
+        (λ book after. (id : _) × Adds book level.now
+        (title_kept (option_map (λ bytes. bytes.now) title.entry)) id after)) }
 {
     // A level tells with its rows that it is one.
     let _rows = level.rows();
@@ -89,7 +96,7 @@ fn add_accepted<S: Alter>(
     }
 }
 
-ghost use Rattle.sok_store.specs.Entries.{AddsPage, IsFull, StopsAdding};
+ghost use Rattle.sok_store.specs.Entries.{AddsPage, IsCausedAdding, IsFull, StopsAdding};
 
 /// Adds the page of a level that is not in the book.
 fn add_new<S: Alter>(
@@ -104,6 +111,8 @@ fn add_new<S: Alter>(
         (λ book. IsOutside fault ⊎ IsFull book fault)) }
     ensures stop { StopsAdding (state S.Store conn.old) (state S.Store conn.new)
         text.now (option_map (λ bytes. bytes.now) title.entry) }
+    ensures cause { IfErr result (IsCausedAdding (state S.Store conn.old) (state S.Store conn.new)
+        text.now (option_map (λ bytes. bytes.now) title.entry)) }
 {
     let count = match count(conn) {
         Ok(count) => count,

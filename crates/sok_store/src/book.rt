@@ -13,8 +13,9 @@ ghost use Rattle.sok_book.specs.declared.record.Offer.{Offer};
 ghost use Rattle.sok_cert.specs.Claim.{Claim};
 ghost use Rattle.sok_row.specs.Faults.{IsOutside};
 ghost use Rattle.sok_row.specs.Told.{AreRecordsOf, IsRecordOf};
-ghost use Rattle.sok_store.specs.Calls.{Keeps, MakesNone, Stops, Turns, id_number, title_kept};
-ghost use Rattle.sok_store.specs.Opening.{IsUnopened, Opens};
+ghost use Rattle.sok_store.specs.Calls.{IsCaused, Keeps, MakesNone, Stops, Turns};
+ghost use Rattle.sok_store.specs.Calls.{id_number, title_kept};
+ghost use Rattle.sok_store.specs.Opening.{IsCausedOpening, IsUnopened, Opens};
 
 use crate::adding::add_to;
 use crate::listing::records_in;
@@ -77,6 +78,9 @@ impl<S: Alter> Book<S> {
         ensures same { IfErr result (λ refused. HasCleanDisk (state S.Store refused.connection)
             → IsKnown (state S.Store connection)
             → IsSame (state S.Store connection) (state S.Store refused.connection)) }
+        ensures cause { IfErr result (λ refused.
+            IsCausedOpening (state S.Store connection) (state S.Store refused.connection)
+            refused.fault) }
     {
         let mut connection = connection;
         let _autocommit = connection.is_autocommit();
@@ -107,6 +111,8 @@ impl<S: Alter> Book<S> {
             (λ book. IsOutside fault
             ⊎ ((fault ≡ BookFault.NoLevel) × IsNone (page_at book (id_number id))))) }
         ensures stop { Stops (state S.Store self.old) (state S.Store self.new) MakesNone }
+        ensures cause { IfErr result
+            (IsCaused (state S.Store self.old) (state S.Store self.new) MakesNone) }
     {
         record_at(&mut self.connection, self.alloc, id)
     }
@@ -119,6 +125,8 @@ impl<S: Alter> Book<S> {
         ensures refused { IfErr result (λ fault.
             Keeps (state S.Store self.old) (state S.Store self.new) (λ _. IsOutside fault)) }
         ensures stop { Stops (state S.Store self.old) (state S.Store self.new) MakesNone }
+        ensures cause { IfErr result
+            (IsCaused (state S.Store self.old) (state S.Store self.new) MakesNone) }
     {
         records_in(&mut self.connection, self.alloc)
     }
@@ -138,6 +146,9 @@ impl<S: Alter> Book<S> {
         ensures stop { Stops (state S.Store self.old) (state S.Store self.new)
             (λ book after. (id : _) × Adds book level.now
             (title_kept (option_map (λ bytes. bytes.now) title.entry)) id after) }
+        ensures cause { IfErr result (IsCaused (state S.Store self.old) (state S.Store self.new)
+            (λ book after. (id : _) × Adds book level.now
+            (title_kept (option_map (λ bytes. bytes.now) title.entry)) id after)) }
     {
         add_to(&mut self.connection, self.alloc, level, title)
     }
@@ -156,6 +167,9 @@ impl<S: Alter> Book<S> {
         ensures stop { Stops (state S.Store self.old) (state S.Store self.new)
             (λ book after. (answer : Offer)
             × Offers book (id_number id) letters.now answer after) }
+        ensures cause { IfErr result (IsCaused (state S.Store self.old) (state S.Store self.new)
+            (λ book after. (answer : Offer)
+            × Offers book (id_number id) letters.now answer after)) }
     {
         offer_to(&mut self.connection, self.alloc, id, letters)
     }
@@ -176,6 +190,9 @@ impl<S: Alter> Book<S> {
         ensures stop { Stops (state S.Store self.old) (state S.Store self.new)
             (λ book after. (shown : Claim)
             × Proves book (id_number id) certificate.now shown after) }
+        ensures cause { IfErr result (IsCaused (state S.Store self.old) (state S.Store self.new)
+            (λ book after. (shown : Claim)
+            × Proves book (id_number id) certificate.now shown after)) }
     {
         prove_to(&mut self.connection, self.alloc, id, certificate)
     }

@@ -6,7 +6,7 @@ ghost use Rattle.sok_book.specs.Books.{Page, page_at};
 ghost use Rattle.sok_page.specs.Kept.{IsKeptPage};
 ghost use Rattle.sok_row.specs.Faults.{IsOutside};
 ghost use Rattle.sok_row.specs.Told.{IsRecordOf};
-ghost use Rattle.sok_store.specs.Calls.{Keeps, MakesNone, Stops};
+ghost use Rattle.sok_store.specs.Calls.{IsCaused, Keeps, MakesNone, Stops};
 ghost use Rattle.sok_store.specs.Entries.{Finds, IsEntryOf};
 
 use crate::reading::record_of;
@@ -37,6 +37,8 @@ pub(crate) fn entry_at<S: Alter>(
         Keeps (state S.Store conn.old) (state S.Store conn.new) (λ book. IsOutside fault
         ⊎ ((fault ≡ BookFault.NoLevel) × IsNone (page_at book id)))) }
     ensures stop { Stops (state S.Store conn.old) (state S.Store conn.new) MakesNone }
+    ensures cause { IfErr result
+        (IsCaused (state S.Store conn.old) (state S.Store conn.new) MakesNone) }
 {
     match record_of(conn, alloc, id) {
         Ok(kept) => entry_of(alloc, &kept),

@@ -4,7 +4,7 @@ ghost use Rattle.std.specs.Prelude.{IfErr, IfOk};
 ghost use Rattle.sqlite.specs.Held.{state};
 ghost use Rattle.sok_row.specs.Faults.{IsOutside};
 ghost use Rattle.sok_row.specs.Told.{AreRecordsOf};
-ghost use Rattle.sok_store.specs.Calls.{Keeps, MakesNone, Stops};
+ghost use Rattle.sok_store.specs.Calls.{IsCaused, Keeps, MakesNone, Stops};
 
 use sok_book::fault::BookFault;
 use sok_page::record::Record;
@@ -25,6 +25,8 @@ pub(crate) fn records_in<S: Alter>(
     ensures refused { IfErr result (λ fault.
         Keeps (state S.Store conn.old) (state S.Store conn.new) (λ _. IsOutside fault)) }
     ensures stop { Stops (state S.Store conn.old) (state S.Store conn.new) MakesNone }
+    ensures cause { IfErr result
+        (IsCaused (state S.Store conn.old) (state S.Store conn.new) MakesNone) }
 {
     match all_rows(conn) {
         Ok(rows) => match records_of(alloc, &rows) {

@@ -6,7 +6,7 @@ ghost use Rattle.sok_book.specs.Commands.{Offers};
 ghost use Rattle.sok_book.specs.Refusals.{IsNotOffered};
 ghost use Rattle.sok_book.specs.declared.record.Offer.{Offer};
 ghost use Rattle.sok_row.specs.Faults.{IsOutside};
-ghost use Rattle.sok_store.specs.Calls.{Keeps, Stops, Turns, id_number};
+ghost use Rattle.sok_store.specs.Calls.{IsCaused, Keeps, Stops, Turns, id_number};
 
 use crate::entry::entry_at;
 use crate::reading::place_of;
@@ -34,6 +34,8 @@ pub(crate) fn offer_to<S: Alter>(
         (λ book. IsOutside fault ⊎ IsNotOffered book (id_number id) letters.now fault)) }
     ensures stop { Stops (state S.Store conn.old) (state S.Store conn.new)
         (λ book after. (answer : Offer) × Offers book (id_number id) letters.now answer after) }
+    ensures cause { IfErr result (IsCaused (state S.Store conn.old) (state S.Store conn.new)
+        (λ book after. (answer : Offer) × Offers book (id_number id) letters.now answer after)) }
 {
     match place_of(id) {
         Some(place) => offer_at(conn, alloc, place, letters),
@@ -57,6 +59,8 @@ fn offer_at<S: Alter>(
         (λ book. IsOutside fault ⊎ IsNotOffered book id letters.now fault)) }
     ensures stop { Stops (state S.Store conn.old) (state S.Store conn.new)
         (λ book after. (answer : Offer) × Offers book id letters.now answer after) }
+    ensures cause { IfErr result (IsCaused (state S.Store conn.old) (state S.Store conn.new)
+        (λ book after. (answer : Offer) × Offers book id letters.now answer after)) }
 {
     let entry = match entry_at(conn, alloc, id) {
         Ok(entry) => entry,

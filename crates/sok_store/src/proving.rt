@@ -6,7 +6,7 @@ ghost use Rattle.sok_book.specs.Commands.{IsCertificate, Meets, Proves, verdict_
 ghost use Rattle.sok_book.specs.Refusals.{IsNotProved};
 ghost use Rattle.sok_cert.specs.Claim.{Claim};
 ghost use Rattle.sok_row.specs.Faults.{IsOutside};
-ghost use Rattle.sok_store.specs.Calls.{Keeps, Stops, Turns, id_number};
+ghost use Rattle.sok_store.specs.Calls.{IsCaused, Keeps, Stops, Turns, id_number};
 
 use crate::entry::{Entry, entry_at};
 use crate::reading::place_of;
@@ -34,6 +34,8 @@ pub(crate) fn prove_to<S: Alter>(
         (λ book. IsOutside fault ⊎ IsNotProved book (id_number id) bytes.now fault)) }
     ensures stop { Stops (state S.Store conn.old) (state S.Store conn.new)
         (λ book after. (shown : Claim) × Proves book (id_number id) bytes.now shown after) }
+    ensures cause { IfErr result (IsCaused (state S.Store conn.old) (state S.Store conn.new)
+        (λ book after. (shown : Claim) × Proves book (id_number id) bytes.now shown after)) }
 {
     match place_of(id) {
         Some(place) => prove_at(conn, alloc, place, bytes),
@@ -57,6 +59,8 @@ fn prove_at<S: Alter>(
         (λ book. IsOutside fault ⊎ IsNotProved book id bytes.now fault)) }
     ensures stop { Stops (state S.Store conn.old) (state S.Store conn.new)
         (λ book after. (shown : Claim) × Proves book id bytes.now shown after) }
+    ensures cause { IfErr result (IsCaused (state S.Store conn.old) (state S.Store conn.new)
+        (λ book after. (shown : Claim) × Proves book id bytes.now shown after)) }
 {
     let entry = match entry_at(conn, alloc, id) {
         Ok(entry) => entry,

@@ -7,7 +7,7 @@ ghost use Rattle.sok_book.specs.Books.{Book, page_at};
 ghost use Rattle.sok_book.specs.Commands.{level_limit};
 ghost use Rattle.sok_row.specs.Faults.{IsOutside};
 ghost use Rattle.sok_row.specs.Told.{IsRecordOf};
-ghost use Rattle.sok_store.specs.Calls.{Keeps, MakesNone, Stops, id_number};
+ghost use Rattle.sok_store.specs.Calls.{IsCaused, Keeps, MakesNone, Stops, id_number};
 ghost use Rattle.sok_store.specs.Entries.{Finds};
 
 use sok_book::fault::BookFault;
@@ -31,6 +31,8 @@ pub(crate) fn record_at<S: Alter>(
         Keeps (state S.Store conn.old) (state S.Store conn.new) (λ book. IsOutside fault
         ⊎ ((fault ≡ BookFault.NoLevel) × IsNone (page_at book (id_number id))))) }
     ensures stop { Stops (state S.Store conn.old) (state S.Store conn.new) MakesNone }
+    ensures cause { IfErr result
+        (IsCaused (state S.Store conn.old) (state S.Store conn.new) MakesNone) }
 {
     match place_of(id) {
         Some(place) => record_of(conn, alloc, place),
@@ -63,6 +65,8 @@ pub(crate) fn record_of<S: Alter>(
         Keeps (state S.Store conn.old) (state S.Store conn.new) (λ book. IsOutside fault
         ⊎ ((fault ≡ BookFault.NoLevel) × IsNone (page_at book id)))) }
     ensures stop { Stops (state S.Store conn.old) (state S.Store conn.new) MakesNone }
+    ensures cause { IfErr result
+        (IsCaused (state S.Store conn.old) (state S.Store conn.new) MakesNone) }
 {
     match row_at(conn, id) {
         Ok(Some(row)) => record_in(alloc, id, &row),

@@ -5,7 +5,7 @@ ghost use Rattle.sqlite.specs.Held.{state};
 ghost use Rattle.sok_book.specs.Books.{Book};
 ghost use Rattle.sok_row.specs.Faults.{IsOutside};
 ghost use Rattle.sok_store.specs.Calls.{Keeps};
-ghost use Rattle.sok_store.specs.Entries.{HasBest, HasVerdict, Sets, StopsSetting};
+ghost use Rattle.sok_store.specs.Entries.{HasBest, HasVerdict, IsCausedSetting, Sets, StopsSetting};
 ghost use Rattle.std.specs.Prelude.{⊤};
 
 use sok_book::fault::BookFault;
@@ -29,6 +29,8 @@ pub(crate) fn store_best<S: Alter>(
     ensures outside { IfErr result IsOutside }
     ensures stop { StopsSetting (state S.Store conn.old) (state S.Store conn.new) id
         (HasBest best.now) }
+    ensures cause { IfErr result (IsCausedSetting (state S.Store conn.old) (state S.Store conn.new)
+        id (HasBest best.now)) }
 {
     match set_best(conn, id, best.lurd.as_str(), best.pushes, best.moves) {
         Ok(()) => Ok(()),
@@ -49,6 +51,8 @@ pub(crate) fn store_verdict<S: Alter>(
     ensures outside { IfErr result IsOutside }
     ensures stop { StopsSetting (state S.Store conn.old) (state S.Store conn.new) id
         (HasVerdict verdict) }
+    ensures cause { IfErr result (IsCausedSetting (state S.Store conn.old) (state S.Store conn.new)
+        id (HasVerdict verdict)) }
 {
     match set_verdict(conn, id, verdict_number(verdict)) {
         Ok(()) => Ok(()),

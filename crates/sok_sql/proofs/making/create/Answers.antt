@@ -1,6 +1,8 @@
 use Rattle.sqlite.specs.Held.{state}
 use Rattle.sok_sql.proofs.Calls.{refused_same}
 use Rattle.sok_sql.proofs.Changing.{create_holds, create_refuses}
+use Rattle.sqlite.proofs.StateLemmas.{survives_weaker}
+use Rattle.sok_sql.proofs.Unmade.{create_refused}
 use Rattle.sok_sql.proofs.making.create.Goals as goal
 
 pub returns-in-Ok-clause-made : goal.returns-in-Ok-clause-made
@@ -14,3 +16,15 @@ returns-in-Ok-clause-there g c clean was up =
 pub returns-in-Err-clause-same : goal.returns-in-Err-clause-same
 returns-in-Err-clause-same g c clean settled =
     refused_same (state g.S.Store c.args.conn.now) (state g.S.Store c.execute.new.self) settled _ _ c.in-Err.error (c.in-Err.ensures.runs clean)
+
+pub returns-in-Err-clause-cause : goal.returns-in-Err-clause-cause
+returns-in-Err-clause-cause g c clean empty =
+    create_refused (state g.S.Store c.args.conn.now) (state g.S.Store c.execute.new.self) c.in-Err.error empty (c.in-Err.ensures.runs clean)
+
+pub returns-in-Ok-clause-survives : goal.returns-in-Ok-clause-survives
+returns-in-Ok-clause-survives g c =
+    survives_weaker (state g.S.Store c.args.conn.now) (state g.S.Store c.execute.new.self) _ _ (λ _ db h. tt) c.execute.ensures.survives
+
+pub returns-in-Err-clause-survives : goal.returns-in-Err-clause-survives
+returns-in-Err-clause-survives g c =
+    survives_weaker (state g.S.Store c.args.conn.now) (state g.S.Store c.execute.new.self) _ _ (λ _ db h. tt) c.execute.ensures.survives

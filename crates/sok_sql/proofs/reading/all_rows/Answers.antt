@@ -2,6 +2,7 @@ use Rattle.sqlite.specs.Held.{state}
 use Rattle.sok_sql.proofs.Texts.{all_plain}
 use Rattle.sok_sql.proofs.Calls.{unread_same}
 use Rattle.sok_sql.proofs.Answering.{all_answers, answered_rests, refused_rests, found_rows, none_found}
+use Rattle.sok_sql.proofs.Refused.{all_refused, missing_refused}
 use Rattle.sok_sql.proofs.reading.all_rows.Goals as goal
 
 pub returns-in-Ok-clause-rests : goal.returns-in-Ok-clause-rests
@@ -31,3 +32,11 @@ returns-in-Ok-clause-none g c clean has =
 pub returns-in-Err-clause-same : goal.returns-in-Err-clause-same
 returns-in-Err-clause-same g c clean settled =
     unread_same (state g.S.Store c.args.conn.now) (state g.S.Store c.query_all.new.self) settled _ _ c.in-Err.error (c.in-Err.ensures.err clean)
+
+pub returns-in-Err-clause-cause : goal.returns-in-Err-clause-cause
+returns-in-Err-clause-cause g c clean table =
+    all_refused (state g.S.Store c.args.conn.now) (state g.S.Store c.query_all.new.self) table c.in-Err.error ((c.in-Err.ensures.err clean))
+
+pub returns-in-Err-clause-missing : goal.returns-in-Err-clause-missing
+returns-in-Err-clause-missing g c clean empty =
+    missing_refused (state g.S.Store c.args.conn.now) (state g.S.Store c.query_all.new.self) empty c.in-Err.error (c.in-Err.ensures.err clean)

@@ -6,6 +6,7 @@ use Rattle.sqlite.specs.Held.{state}
 use Rattle.sqlite.proofs.StateLemmas.{survives_weaker}
 use Rattle.sok_sql.proofs.Calls.{refused_holds}
 use Rattle.sok_sql.proofs.Changing.{insert_holds, insert_commits}
+use Rattle.sok_sql.proofs.Unwritten.{insert_refused}
 use Rattle.sok_sql.proofs.writing.insert.Goals as goal
 
 -- borrowed bytes are bound as what they are
@@ -37,3 +38,9 @@ returns-in-Err-clause-stop g c =
     survives_weaker old (state g.S.Store c.execute.new.self) _ _ (λ _ db h leaves was is.
     insert_commits old leaves was db c.args.id c.args.text.now (option_map (λ b. b.now) c.args.title) is
     (rw (c.params-to_sql.ensures, c.params-to_sql-2.ensures, c.params-to_sql-3.ensures, bound_bytes (λ b. b.now) c.args.title) at h)) c.execute.ensures.survives
+
+pub returns-in-Err-clause-cause : goal.returns-in-Err-clause-cause
+returns-in-Err-clause-cause g c clean leaves holds is apart =
+    insert_refused (state g.S.Store c.args.conn.now) (state g.S.Store c.execute.new.self) c.in-Err.error leaves holds c.args.id c.ranges.id.fits
+    c.args.text.now (option_map (λ b. b.now) c.args.title) is apart
+    (rw (c.params-to_sql.ensures, c.params-to_sql-2.ensures, c.params-to_sql-3.ensures, bound_bytes (λ b. b.now) c.args.title) at (c.in-Err.ensures.runs clean))

@@ -6,8 +6,10 @@ use Rattle.sok_text.specs.Canonical.{level_text}
 use Rattle.sok_book.specs.Commands.{Adds}
 use Rattle.sok_store.specs.Calls.{Turns, id_number, title_kept}
 use Rattle.sok_store.proofs.Calls.{rests_holds, rests_stops, stops_same}
-use Rattle.sok_store.proofs.Added.{is_there, level_added, level_refused, level_stops}
+use Rattle.sok_store.proofs.Added.{is_there, level_added, level_refused, level_stops, level_caused}
 use Rattle.sok_store.proofs.Wide.{wide}
+use Rattle.sok_store.proofs.Caused.{few_leaves, told}
+use Rattle.sok_row.specs.Kept.{leaves_of}
 use Rattle.sok_store.proofs.adding.add_accepted.Goals as goal
 
 pub returns-in-Err-clause-refused : goal.returns-in-Err-clause-refused
@@ -69,3 +71,20 @@ returns-clause-refused g c clean book holds =
 
 pub returns-clause-stop : goal.returns-clause-stop
 returns-clause-stop g c = rests_stops (state g.S.Store c.args.conn.now) (state g.S.Store c.find.new.conn) c.find.ensures.rests _
+
+pub returns-in-Ok-None-clause-cause : goal.returns-in-Ok-None-clause-cause
+returns-in-Ok-None-clause-cause g c =
+    let old = state g.S.Store c.args.conn.now in
+    let mid = state g.S.Store c.find.new.conn in
+    let new = state g.S.Store c.add_new.new.conn in
+    let early : HasCleanDisk new → HasCleanDisk mid = λ clean. omega (arith, clean, c.add_new.ensures.stop.clean) in
+    let level : IsLevel c.args.level.now = record { proper = c.rows-rows.ensures.proper; trimmed = c.rows-rows.ensures.trimmed } in
+    let text : c.as_str-text.result.now ≡ level_text c.args.level.now = c.as_str-text.ensures.value ∙ c.in-Ok.ensures in
+    level_caused old mid c.args.level.now c.as_str-text.result.now text level (option_map (λ bytes. bytes.now) c.args.title) c.requires
+    (rw c.in-Ok-None.field-0-is at c.in-Ok-None.ensures.found) new early c.add_new.result (rw (← c.kept.ensures) c.add_new.ensures.cause)
+    _ _ c.find.ensures.rests.stop c.add_new.ensures.stop
+
+pub returns-clause-cause : goal.returns-clause-cause
+returns-clause-cause g c =
+    told (state g.S.Store c.args.conn.now) (state g.S.Store c.find.new.conn) _ c.in-Err-find.error c.fault_of.result c.fault_of.ensures.memory
+    (λ clean book holds. c.in-Err-find.ensures.cause clean (leaves_of book) holds.1 (few_leaves book holds.0))

@@ -1,10 +1,12 @@
-use Rattle.std.proofs.Common.{inl, arith, option_map, subst, sym, ◌+◌}
+use Rattle.std.proofs.Common.{inl, arith, option_map, subst, sym, ◌+◌, inr}
 use Rattle.sqlite.specs.Held.{state}
 use Rattle.sqlite.specs.State.{HasCleanDisk}
 use Rattle.sok_store.specs.Entries.{AddsPage}
 use Rattle.sok_store.proofs.Calls.{rests_holds}
-use Rattle.sok_store.proofs.Added.{book_full, page_added, page_failed, page_rests, page_stops}
+use Rattle.sok_store.proofs.Added.{book_full, page_added, page_failed, page_rests, page_stops, page_caused}
 use Rattle.sok_store.proofs.Wide.{wide}
+use Rattle.sok_store.proofs.Caused.{few_leaves}
+use Rattle.sok_row.specs.Kept.{leaves_of}
 use Rattle.sok_store.proofs.adding.add_new.Goals as goal
 
 pub returns-in-Err-clause-refused : goal.returns-in-Err-clause-refused
@@ -59,3 +61,19 @@ returns-in-Err-insert-clause-stop g c =
     let early : HasCleanDisk new → HasCleanDisk mid = λ clean. omega (arith, clean, c.insert.ensures.stop.clean) in
     page_stops (state g.S.Store c.args.conn.now) mid c.args.text.now c.in-Ok.count c.in-Ok.ensures.count
     new early (option_map (λ bytes. bytes.now) c.args.title) (omega arith) c.count.ensures.rests c.insert.ensures.stop
+
+pub returns-in-Err-clause-cause : goal.returns-in-Err-clause-cause
+returns-in-Err-clause-cause g c database clean book page holds new_is =
+    elim (c.in-Err.ensures.cause clean (leaves_of book) holds.1 (few_leaves book holds.0)) [
+      | inl none ↦ absurd (let e = c.fault_of.ensures.memory none in cc)
+      | inr cause ↦ inr cause
+    ]
+
+pub returns-in-Err-insert-clause-cause : goal.returns-in-Err-insert-clause-cause
+returns-in-Err-insert-clause-cause g c =
+    let mid = state g.S.Store c.count.new.conn in
+    let new = state g.S.Store c.insert.new.conn in
+    let early : HasCleanDisk new → HasCleanDisk mid = λ clean. omega (arith, clean, c.insert.ensures.stop.clean) in
+    page_caused (state g.S.Store c.args.conn.now) mid c.args.text.now c.in-Ok.count c.in-Ok.ensures.count
+    new early (option_map (λ bytes. bytes.now) c.args.title) (omega arith) c.in-Err-insert.error c.fault_of-in-Err-insert.result
+    c.fault_of-in-Err-insert.ensures.memory c.in-Err-insert.ensures.cause _ _ c.count.ensures.rests.stop c.insert.ensures.stop

@@ -3,6 +3,9 @@ use Rattle.sok_row.specs.Faults.{IsOutside}
 use Rattle.sok_row.specs.Told.{AreRecordsOf}
 use Rattle.sok_row.specs.Kept.{leaves_of}
 use Rattle.sok_row.proofs.Laws.{bad-rows-have-no-book, rows-have-one-book}
+use Rattle.sok_store.proofs.Caused.{told}
+use Rattle.sqlite.specs.Held.{state}
+use Rattle.sok_store.specs.Calls.{MakesNone}
 use Rattle.sok_store.proofs.listing.records_in.Goals as goal
 
 pub returns-in-Ok-records_of-clause-listed : goal.returns-in-Ok-records_of-clause-listed
@@ -21,3 +24,8 @@ returns-in-Ok-clause-refused g c clean book holds =
       | inr (id, named, first) ↦ absurd (bad-rows-have-no-book _ id book first (record { kept = holds.0; rows_are = c.deref.ensures.value ∙ rows }))
     ] in
     (outside, (holds.0, λ _. shows))
+
+pub returns-clause-cause : goal.returns-clause-cause
+returns-clause-cause g c =
+    told (state g.S.Store c.args.conn.now) (state g.S.Store c.all_rows.new.conn) MakesNone c.in-Err.error c.fault_of.result c.fault_of.ensures.memory
+    (λ clean book holds. c.in-Err.ensures.cause clean (λ up. (holds.1 up).schema))

@@ -6,7 +6,7 @@ use Rattle.sok_book.specs.Commands.{Offers}
 use Rattle.sok_book.specs.Refusals.{IsNotOffered}
 use Rattle.sok_book.specs.Books.{page_at}
 use Rattle.sok_row.specs.Faults.{IsOutside}
-use Rattle.sok_store.specs.Calls.{Keeps, Stops, Turns, id_number}
+use Rattle.sok_store.specs.Calls.{Keeps, Stops, Turns, id_number, IsCaused}
 use Rattle.sok_store.proofs.Calls.{stops_same}
 use Rattle.sok_store.proofs.offering.offer_to.Goals as goal
 
@@ -35,3 +35,9 @@ returns-in-None-clause-refused g c clean book holds =
 
 pub returns-in-None-clause-stop : goal.returns-in-None-clause-stop
 returns-in-None-clause-stop g c = stops_same (state g.S.Store c.args.conn.now) _
+
+pub returns-in-Some-clause-cause : goal.returns-in-Some-clause-cause
+returns-in-Some-clause-cause g c =
+    let same = c.in-Some.ensures.0 ∙ ap id_number (to_z-of_z w64 c.args.id c.ranges.id) in
+    subst (λ n. IfErr c.offer_at.result (IsCaused (state g.S.Store c.args.conn.now) (state g.S.Store c.offer_at.new.conn)
+    (λ book after. (answer : Offer) × Offers book n c.args.letters.now answer after))) same c.offer_at.ensures.cause

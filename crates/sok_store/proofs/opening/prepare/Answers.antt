@@ -1,6 +1,8 @@
-use Rattle.std.proofs.Common.{◌∙◌, sym}
+use Rattle.std.proofs.Common.{◌∙◌, ap, sym}
+use Rattle.sqlite.specs.declared.error.Error.TheVariants.{SqlInputError}
 use Rattle.sqlite.specs.Held.{state}
-use Rattle.sok_store.proofs.Opened.{opens_read}
+use Rattle.sok_sql.specs.Causes.{IsMissing}
+use Rattle.sok_store.proofs.Opened.{opens_read, unmade_caused}
 use Rattle.sok_store.proofs.opening.prepare.Goals as goal
 
 pub returns-in-Ok-records_of-clause-opens : goal.returns-in-Ok-records_of-clause-opens
@@ -8,3 +10,11 @@ returns-in-Ok-records_of-clause-opens g c clean settled =
     let (book, kept, are, records) = c.in-Ok-records_of.ensures.read in
     opens_read (state g.S.Store c.args.conn.now) (state g.S.Store c.all_rows.new.conn) c.in-Ok.rows.items settled
     (λ k. c.in-Ok.ensures.found k settled) c.in-Ok.ensures.none clean book kept (sym c.deref.ensures.value ∙ are)
+
+pub returns-in-Err-SqlInputError-NoSuchTable-clause-cause : goal.returns-in-Err-SqlInputError-NoSuchTable-clause-cause
+returns-in-Err-SqlInputError-NoSuchTable-clause-cause g c settled =
+    let read = c.in-Err-SqlInputError-NoSuchTable in
+    let missing : IsMissing read.field-0 = read.field-0-is ∙ ap SqlInputError (rw read.field-0-is at read.field-0-0-is) in
+    unmade_caused (state g.S.Store c.args.conn.now) (state g.S.Store c.all_rows.new.conn) (state g.S.Store c.create.new.conn) read.field-0
+    c.in-Err-create.error c.fault_of.result settled missing c.fault_of.ensures.memory read.ensures.cause
+    read.ensures.same c.in-Err-create.ensures.cause _ _ c.all_rows.ensures.rests.stop c.create.ensures.survives

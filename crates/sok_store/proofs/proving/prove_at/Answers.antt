@@ -2,10 +2,11 @@ use Rattle.std.proofs.Common.{arith, subst}
 use Rattle.sqlite.specs.Held.{state}
 use Rattle.sqlite.specs.State.{HasCleanDisk}
 use Rattle.sok_book.specs.Refusals.{IsNotProved}
-use Rattle.sok_store.specs.Entries.{HasVerdict, Sets, StopsSetting}
+use Rattle.sok_store.specs.Entries.{HasVerdict, Sets, StopsSetting, IsCausedSetting}
 use Rattle.sok_store.proofs.Calls.{fails_later, stops_none}
-use Rattle.sok_store.proofs.Proved.{proof_refused, proof_stops, proof_stored}
+use Rattle.sok_store.proofs.Proved.{proof_refused, proof_stops, proof_stored, proof_caused, proof_inside}
 use Rattle.sok_store.proofs.Refusing.{none_proved}
+use Rattle.sok_store.proofs.Caused.{caused_none}
 use Rattle.sok_store.proofs.proving.prove_at.Goals as goal
 
 pub returns-in-Err-clause-refused : goal.returns-in-Err-clause-refused
@@ -60,3 +61,21 @@ returns-clause-stop g c =
     proof_stops (state g.S.Store c.args.conn.now) mid c.args.id c.args.bytes.now c.in-Ok.entry c.in-Ok.ensures.found
     new c.in-Ok-judge_entry.claim c.in-Ok-judge_entry.ensures.certificate c.in-Ok-judge_entry.ensures.meets early c.entry_at.ensures.stop
     (subst (λ v. StopsSetting mid new c.args.id (HasVerdict v)) c.verdict_of.ensures c.store_verdict.ensures.stop)
+
+pub returns-in-Err-clause-cause : goal.returns-in-Err-clause-cause
+returns-in-Err-clause-cause g c = caused_none (state g.S.Store c.args.conn.now) (state g.S.Store c.entry_at.new.conn) _ c.in-Err.fault c.in-Err.ensures.cause
+
+pub returns-in-Err-judge_entry-clause-cause : goal.returns-in-Err-judge_entry-clause-cause
+returns-in-Err-judge_entry-clause-cause g c =
+    proof_inside (state g.S.Store c.args.conn.now) (state g.S.Store c.entry_at.new.conn) c.args.id c.args.bytes.now c.in-Ok.entry c.in-Ok.ensures.found
+    c.in-Err-judge_entry.fault _ c.in-Err-judge_entry.ensures.refused
+
+pub returns-clause-cause : goal.returns-clause-cause
+returns-clause-cause g c =
+    let mid = state g.S.Store c.entry_at.new.conn in
+    let new = state g.S.Store c.store_verdict.new.conn in
+    let early : HasCleanDisk new → HasCleanDisk mid = λ clean. omega (arith, clean, c.store_verdict.ensures.stop.clean) in
+    proof_caused (state g.S.Store c.args.conn.now) mid c.args.id c.args.bytes.now c.in-Ok.entry c.in-Ok.ensures.found
+    new c.in-Ok-judge_entry.claim c.in-Ok-judge_entry.ensures.certificate c.in-Ok-judge_entry.ensures.meets early c.in-Err-store_verdict.fault
+    (subst (λ v. IsCausedSetting mid new c.args.id (HasVerdict v) c.in-Err-store_verdict.fault) c.verdict_of.ensures c.in-Err-store_verdict.ensures.cause)
+    _ _ c.entry_at.ensures.stop c.store_verdict.ensures.stop

@@ -3,6 +3,7 @@ use Rattle.sqlite.specs.Held.{state}
 use Rattle.sok_store.specs.Calls.{MakesNone}
 use Rattle.sok_store.proofs.Calls.{rests_holds, rests_stops}
 use Rattle.sok_store.proofs.Found.{record_found, record_missing, record_unfound}
+use Rattle.sok_store.proofs.Caused.{told}
 use Rattle.sok_store.proofs.reading.record_of.Goals as goal
 
 pub returns-in-Ok-Some-clause-found : goal.returns-in-Ok-Some-clause-found
@@ -35,3 +36,8 @@ returns-in-Err-clause-refused g c clean book holds =
 pub returns-in-Err-clause-stop : goal.returns-in-Err-clause-stop
 returns-in-Err-clause-stop g c =
     rests_stops (state g.S.Store c.args.conn.now) (state g.S.Store c.row_at.new.conn) c.row_at.ensures.rests MakesNone
+
+pub returns-in-Err-clause-cause : goal.returns-in-Err-clause-cause
+returns-in-Err-clause-cause g c =
+    told (state g.S.Store c.args.conn.now) (state g.S.Store c.row_at.new.conn) MakesNone c.in-Err.error c.fault_of.result c.fault_of.ensures.memory
+    (λ clean book holds. c.in-Err.ensures.cause clean (λ up. (holds.1 up).schema))

@@ -5,3 +5,6 @@ returns-clause-added g c = rw (← c.self.view_is) c.add_to.ensures.added
 
 pub returns-clause-refused : goal.returns-clause-refused
 returns-clause-refused g c = rw (← c.self.view_is) c.add_to.ensures.refused
+
+pub returns-clause-cause : goal.returns-clause-cause
+returns-clause-cause g c = rw (← c.self.view_is) c.add_to.ensures.cause

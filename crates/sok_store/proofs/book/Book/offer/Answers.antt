@@ -10,3 +10,6 @@ returns-clause-refused g c = rw (← c.self.view_is) (rw (to_z-of_z w64 c.args.i
 
 pub returns-clause-stop : goal.returns-clause-stop
 returns-clause-stop g c = rw (← c.self.view_is) (rw (to_z-of_z w64 c.args.id c.ranges.id) at c.offer_to.ensures.stop)
+
+pub returns-clause-cause : goal.returns-clause-cause
+returns-clause-cause g c = rw (← c.self.view_is) (rw (to_z-of_z w64 c.args.id c.ranges.id) at c.offer_to.ensures.cause)

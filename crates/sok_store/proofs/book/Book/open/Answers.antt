@@ -8,3 +8,9 @@ returns-in-Err-clause-unopened g c =
     let auto : IsTrue c.is_autocommit-autocommit.result = c.is_autocommit-autocommit.ensures.value ∙ ap not c.requires in
     let settled : IsSettled (state g.S.Store c.args.connection) = λ up. (c.is_autocommit-autocommit.ensures.settled auto up, c.requires) in
     c.in-Err.ensures.unopened settled
+
+pub returns-in-Err-clause-cause : goal.returns-in-Err-clause-cause
+returns-in-Err-clause-cause g c =
+    let auto : IsTrue c.is_autocommit-autocommit.result = c.is_autocommit-autocommit.ensures.value ∙ ap not c.requires in
+    let settled : IsSettled (state g.S.Store c.args.connection) = λ up. (c.is_autocommit-autocommit.ensures.settled auto up, c.requires) in
+    c.in-Err.ensures.cause settled
