@@ -16,7 +16,6 @@ use sok_entry::claim::Claim;
 use sok_entry::entry::{Cert, Entry};
 use sok_entry::fault::CertFault;
 use sok_push::tables::Tables;
-use sok_region::box_set::BoxSet;
 use sok_rules::fault::Memory;
 use sok_state::key::Key;
 use sok_state::table::Table;
@@ -82,9 +81,7 @@ fn has_start(alloc: Global, board: &Board, table: &Table) -> Result<bool, Memory
     ensures { (entries : List Entry) → IsLooking board.now entries table.now
         → IfOk result (λ starts. IsTrue starts ↔ ((e : Entry) × IsStarter board.now entries e)) }
 {
-    let (player, boxes) = board.start();
-    let boxes = BoxSet::of(alloc, boxes)?;
-    let start = Key::of(alloc, board, &boxes, player)?;
+    let start = Key::start(alloc, board)?;
     match table.get(&start) {
         Some(index) => Ok(table.depth(index) == 0),
         None => Ok(false),

@@ -5,7 +5,7 @@ use Rattle.std.specs.Fmt.{WritesText, with_newline}
 use Rattle.std.specs.Io.KnownBytes.{Appends}
 use Rattle.std.specs.List.{FoldsTo, concat}
 use Rattle.sok_engine.specs.Written.{AppendsFront}
-use Rattle.sok_files.specs.Endings.{Tells}
+use Rattle.sok_files.specs.Endings.{AppendsUpTo}
 
 -- a step appends its part to the contents of a good writer, and leaves it good
 abbrev AppendsIf : {W : Type 0} → (W → Type 0) → (W → List ℕ) → W → List ℕ → W → Type 0
@@ -27,7 +27,7 @@ line-of IsGood contents text a b (Ok _) good empty ok wrote =
 line-of IsGood contents text a b (Err _) good empty ok wrote = absurd (true≢false (sym ok))
 
 -- a text is told where all of it was written, or a front of it where that failed
-pub Tells-written : {E : Type 0} (old new : Option (List ℕ)) (bytes text : List ℕ) (result : Result (Unit {0}) E) → bytes ≡ text
-    → OnOk result (Appends old new bytes) → OnErr result (AppendsFront old new bytes) → Tells old new text
-Tells-written old new bytes text (Ok _) same ok err = inl (subst (Appends old new) same ok)
-Tells-written old new bytes text (Err _) same ok err = inr (subst (AppendsFront old new) same err)
+pub AppendsUpTo-written : {E : Type 0} (old new : Option (List ℕ)) (bytes text : List ℕ) (result : Result (Unit {0}) E) → bytes ≡ text
+    → OnOk result (Appends old new bytes) → OnErr result (AppendsFront old new bytes) → AppendsUpTo old new text
+AppendsUpTo-written old new bytes text (Ok _) same ok err = inl (subst (Appends old new) same ok)
+AppendsUpTo-written old new bytes text (Err _) same ok err = inr (subst (AppendsFront old new) same err)

@@ -7,8 +7,8 @@ use Rattle.sok_engine.specs.Faults.{tool_fault_status}
 use Rattle.sok_engine.specs.Written.{Answers, AppendsFront, Writes}
 
 -- a text was told as far as the stream took it: the known bytes grow by it, or by a front of it
-abbrev pub Tells : Option (List ℕ) → Option (List ℕ) → List ℕ → Type 0
-Tells old new text = Appends old new text ⊎ AppendsFront old new text
+abbrev pub AppendsUpTo : Option (List ℕ) → Option (List ℕ) → List ℕ → Type 0
+AppendsUpTo old new text = Appends old new text ⊎ AppendsFront old new text
 
 -- how a fault is told in a line of its own
 abbrev pub fault_line : ToolFault → List ℕ
@@ -17,7 +17,7 @@ fault_line fault = fault_words fault ++ codes "\n"
 -- the exit status: that of the answer, with nothing on the error stream, or that of the fault, whose line is told there
 abbrev pub Ends : Result ℕ ToolFault → Option (List ℕ) → Option (List ℕ) → ℕ → Type 0
 Ends (Ok status) old new exit = (exit ≡ status) × Keeps old new
-Ends (Err fault) old new exit = (exit ≡ tool_fault_status fault) × Tells old new (fault_line fault)
+Ends (Err fault) old new exit = (exit ≡ tool_fault_status fault) × AppendsUpTo old new (fault_line fault)
 
 -- one of the answers is written to the output, and the program ends with its status, or that of the fault
 abbrev pub Runs : Answers → Option (List ℕ) → Option (List ℕ) → Option (List ℕ) → Option (List ℕ) → ℕ → Type 0

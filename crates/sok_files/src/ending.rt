@@ -3,7 +3,7 @@
 ghost use Rattle.std.specs.Prelude.{◌≡◌, ◌≢◌, Err, Ok, string_bytes};
 ghost use Rattle.std.specs.Io.KnownBytes.{Keeps};
 ghost use Rattle.sok_engine.specs.declared.fault.ToolFault.TheVariants as tool;
-ghost use Rattle.sok_files.specs.Endings.{Ends, Runs, Tells, fault_line};
+ghost use Rattle.sok_files.specs.Endings.{Ends, Runs, AppendsUpTo, fault_line};
 
 use sok_engine::answer::Answer;
 use sok_engine::fault::ToolFault;
@@ -28,9 +28,9 @@ pub fn ended<E: Write>(outcome: Result<u8, ToolFault>, err: &mut E) -> u8
 
 /// Tells a fault in its line, by one write where the stream takes it whole.
 fn tell<E: Write>(fault: ToolFault, err: &mut E)
-    ensures { Tells (E.contents err.old) (E.contents err.new) (fault_line fault) }
+    ensures { AppendsUpTo (E.contents err.old) (E.contents err.new) (fault_line fault) }
 {
-    // the longest line has 41 bytes
+    // the longest line has 42 bytes
     let mut line = InlineText::<64>::new();
     if line.writeln(fault).is_ok() {
         let _ = write_whole(err, line.as_str().as_bytes());
@@ -46,7 +46,7 @@ pub fn refused<W: Write, E: Write>(refusal: JobRefused, out: &mut W, err: &mut E
     ensures memory { refusal.status ≡ 6
         → Ends (Err tool.Memory) (E.contents err.old) (E.contents err.new) result }
     ensures wrong { refusal.status ≢ 0 → refusal.status ≢ 6 → (result ≡ refusal.status)
-        × Tells (E.contents err.old) (E.contents err.new) (string_bytes refusal.text) }
+        × AppendsUpTo (E.contents err.old) (E.contents err.new) (string_bytes refusal.text) }
     ensures silent { refusal.status ≢ 0 → Keeps (W.contents out.old) (W.contents out.new) }
 {
     let JobRefused { text, status } = refusal;

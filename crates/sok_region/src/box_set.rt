@@ -2,6 +2,7 @@
 
 ghost use Rattle.std.specs.Prelude.{◌≡◌, ◌≤◌, ◌↔◌, IfOk, IsTrue, Contains, length};
 ghost use Rattle.std.specs.List.Sorted.{IsStrictlyIncreasing};
+ghost use Rattle.sok_board.specs.Limits.{box_limit};
 ghost use Rattle.sok_region.specs.BoxSets.{IsMoved, put_in_order};
 
 use smallvec::SmallVec;
@@ -31,7 +32,7 @@ impl BoxSet {
     /// The set of some squares. It refuses only for want of memory.
     pub fn of(alloc: Global, squares: &[Sq]) -> Result<BoxSet, Memory>
         requires rising { IsStrictlyIncreasing squares.now }
-        requires few { length squares.now ≤ 128 }
+        requires few { length squares.now ≤ box_limit }
         ensures list { IfOk result (λ set. set ≡ squares.now) }
     {
         let squares = SmallVec::from_slice(alloc, squares)?;
@@ -49,7 +50,7 @@ impl BoxSet {
     pub fn list(&self) -> &[Sq]
         ensures list { result.now ≡ self.now }
         ensures rising { IsStrictlyIncreasing self.now }
-        ensures few { length self.now ≤ 128 }
+        ensures few { length self.now ≤ box_limit }
     {
         self.squares.as_slice()
     }

@@ -1,11 +1,9 @@
 //! The pushes of a state whose region is at hand, and the state behind one.
 
-ghost use Rattle.std.specs.Prelude.{IfOk};
 ghost use Rattle.sok_state.specs.Keys.{IsKey};
 
 use sok_board::area::Sq;
 use sok_board::board::Board;
-use sok_region::box_set::BoxSet;
 use sok_region::region::Region;
 use sok_rules::cell::Dir;
 use sok_sketch::sets::board;
@@ -14,7 +12,6 @@ use sok_state::key::Key;
 use sok_state::legal::{follow, list_pushes};
 use sok_state::push::Push;
 use std::alloc::Global;
-use std::process::Abort;
 use std::test::Fail;
 
 /// The pushes of a box on 4 that the player comes around.
@@ -36,16 +33,6 @@ const EACH_PUSH: [Push; 4] = [
         dir: Dir::Down,
     },
 ];
-
-/// The key of a board's start.
-fn start_key(rt: &impl Abort, alloc: Global, board: &Board) -> Result<Key, Fail>
-    ensures { IfOk result (IsKey board.now) }
-{
-    let (player, squares) = board.start();
-    let boxes = BoxSet::of(alloc, squares)?;
-    assert!(rt; !boxes.has(player));
-    Ok(Key::of(alloc, board, &boxes, player)?)
-}
 
 /// Whether a kept list is made the pushes of a state, and these are the ones told.
 fn lists(
@@ -85,7 +72,7 @@ fn leads_to(alloc: Global, board: &Board, key: &Key, boxes: &[Sq], least: Sq) ->
 fn pushes_over_kept_lists(rt: HostRuntime) -> Result<(), Fail> {
     let alloc = rt.alloc();
     let board = board(alloc, sketch::BOX_IN_THE_OPEN)?;
-    let key = start_key(&rt, alloc, &board)?;
+    let key = Key::start(alloc, &board)?;
     let mut pushes = Vec::new(alloc);
     for _ in 0..2 {
         assert!(rt; lists(alloc, &board, &key, &mut pushes, &EACH_PUSH)?);

@@ -14,7 +14,12 @@ use std::process::Abort;
 use std::test::Fail;
 
 /// The region of a player among the boxes of a board's start.
-pub fn region(rt: &impl Abort, alloc: Global, board: &Board, player: Sq) -> Result<Region, Fail>
+pub(crate) fn region(
+    rt: &impl Abort,
+    alloc: Global,
+    board: &Board,
+    player: Sq,
+) -> Result<Region, Fail>
     ensures { IfOk result (IsRegionOf board.now) }
 {
     let (_, boxes) = board.start();

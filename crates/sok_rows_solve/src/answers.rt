@@ -11,14 +11,14 @@ use std::test::Fail;
 
 /// What solving a level leaves behind.
 #[derive(Drop)]
-pub struct Reply {
+pub(crate) struct Reply {
     pub status: u8,
     pub out: Vec<u8>,
     pub cert: Vec<u8>,
 }
 
 /// Solves the second level of a collection, of which the first is at fault.
-pub fn answered(alloc: Global, board: &str, limit: u32) -> Result<Reply, Fail> {
+pub(crate) fn answered(alloc: Global, board: &str, limit: u32) -> Result<Reply, Fail> {
     let mut boards = String::from_str(alloc, "#####\n#$ .#\n#####\n\n")?;
     boards.push_str(board)?;
     let mut out = Vec::new(alloc);

@@ -7,14 +7,14 @@ use std::io::{Read, Write};
 /// Gives the same bytes at each read, counts the reads, and fails at the read of one number,
 /// counted from 1. With 0 it never fails.
 #[derive(Drop)]
-pub struct Source {
+pub(crate) struct Source {
     pub bytes: &'static [u8],
     pub reads: u32,
     pub fails_at: u32,
 }
 
 impl Source {
-    pub fn new(bytes: &'static [u8], fails_at: u32) -> Source {
+    pub(crate) fn new(bytes: &'static [u8], fails_at: u32) -> Source {
         Source {
             bytes,
             reads: 0,
@@ -37,7 +37,7 @@ impl Read for Source {
 
 /// How a write goes wrong.
 #[derive(Clone, Copy)]
-pub enum Failure {
+pub(crate) enum Failure {
     /// It fails.
     Error,
     /// It takes no byte.
@@ -47,7 +47,7 @@ pub enum Failure {
 /// Takes one byte at each write, and counts the writes. The write of one number, counted from 1,
 /// goes wrong, and those after it go well again.
 #[derive(Drop)]
-pub struct Sink {
+pub(crate) struct Sink {
     pub taken: Vec<u8>,
     pub writes: usize,
     pub fails_at: usize,
@@ -55,7 +55,7 @@ pub struct Sink {
 }
 
 impl Sink {
-    pub fn new(alloc: Global, fails_at: usize, failure: Failure) -> Sink {
+    pub(crate) fn new(alloc: Global, fails_at: usize, failure: Failure) -> Sink {
         Sink {
             taken: Vec::new(alloc),
             writes: 0,

@@ -3,6 +3,7 @@ use Rattle.std.specs.Prelude.{ℕ, ◌≡◌, ◌<◌, ◌≤◌, List, Bool, tr
 use Rattle.std.specs.List.Sorted.{IsStrictlyIncreasing}
 use Rattle.sok_rules.specs.Play.{Position}
 use Rattle.sok_board.specs.Area.{Numbered}
+use Rattle.sok_board.specs.Limits.{box_limit}
 use Rattle.sok_price.specs.Matched.{Holds, KeptMatching, Serves}
 use Rattle.sok_region.specs.BoxSets.{IsMoved}
 use Rattle.sok_state.specs.declared.key.Key.{Key}
@@ -35,7 +36,7 @@ pub record AreMoved (b : Numbered) (boxes : List ℕ) (from to : ℕ) (after : L
 -- a state of the board that is laid out, and a push from it
 pub record IsPushable (b : Numbered) (push : Push) (layout : Laid) (key : Key) : Type 0 where
   pub state : IsKey b key
-  pub few : length key.boxes ≤ 128
+  pub few : length key.boxes ≤ box_limit
   pub legal : IsLegal b key push
   pub laid : IsLaidOut b key.boxes layout
 

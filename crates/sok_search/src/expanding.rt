@@ -12,7 +12,6 @@ ghost use Rattle.sok_search.specs.Stores.{entries_in};
 ghost use Rattle.sok_search.specs.Trials.{IsReady, IsTrial};
 ghost use Rattle.sok_search.specs.Views.{progress_of, TellsFollowed, TellsExpanded};
 
-use crate::beginning::start_key;
 use crate::reaching::{Reached, reach};
 use crate::search::Search;
 use crate::trial::Trial;
@@ -46,7 +45,7 @@ impl Scratch {
         ensures { IfOk result
             (λ scratch. IsReady board.now scratch.trial.matching scratch.trial.layout) }
     {
-        let key = start_key(alloc, board)?;
+        let key = Key::start(alloc, board)?;
         let trial = Trial {
             layout: Layout::new(alloc, board),
             seen: Field::new(),

@@ -2,6 +2,7 @@
 
 ghost use Rattle.std.specs.Prelude.{◌≡◌, ◌<◌, ◌≤◌, ◌*◌, [], Some, All, IfOk, length, slice_get};
 ghost use Rattle.std.specs.Map.{values_of};
+ghost use Rattle.sok_board.specs.Limits.{box_limit, square_limit};
 ghost use Rattle.sok_state.specs.declared.key.Key.{Key};
 ghost use Rattle.sok_state.specs.Tables.{Enters, HasDistinctKeys, IsAt, Lowers};
 ghost use Rattle.sok_search.specs.Stores.{EntersNext, entries_in, room_of};
@@ -27,7 +28,7 @@ pub(crate) enum Store {
 impl Store {
     /// No states, and room for so many squares.
     pub(crate) fn new(alloc: Global, squares: usize) -> Store
-        requires { squares ≤ 1024 }
+        requires { squares ≤ square_limit }
         ensures none { entries_in result ≡ [] }
         ensures wide { squares ≤ room_of result }
     {
@@ -106,7 +107,7 @@ impl Store {
     ) -> Result<Key, Memory>
         requires exists { index < length (entries_in self.now) }
         requires few { (key : Key) → IsAt (entries_in self.now) key index
-            → length key.boxes ≤ 128 }
+            → length key.boxes ≤ box_limit }
         ensures { IfOk result (λ key. IsAt (entries_in self.now) key index) }
     {
         match self {
@@ -189,7 +190,7 @@ fn key_in<const N: usize>(
 ) -> Result<Key, Memory>
     requires small { N ≤ 16 }
     requires exists { index < length table.now }
-    requires few { (key : Key) → IsAt table.now key index → length key.boxes ≤ 128 }
+    requires few { (key : Key) → IsAt table.now key index → length key.boxes ≤ box_limit }
     ensures { IfOk result (λ key. IsAt table.now key index) }
 {
     let packed = table.key(index);

@@ -8,7 +8,6 @@ ghost use Rattle.sok_state.specs.Pushes.{IsLegal};
 ghost use Rattle.sok_search.specs.Trails.{GoesOn, IsBegun, IsFollowed, IsTrail};
 ghost use Rattle.sok_search.specs.Trails.{IsSolvedWith, IsSolvingTrace};
 
-use crate::beginning::start_key;
 use sok_board::area::Sq;
 use sok_board::board::Board;
 use sok_region::region::Region;
@@ -52,7 +51,7 @@ pub(crate) fn letters(alloc: Global, board: &Board, trace: Vec<Push>) -> Result<
 fn begin(alloc: Global, board: &Board) -> Result<Trail, Memory>
     ensures { IfOk result (IsBegun board.now) }
 {
-    let key = start_key(alloc, board)?;
+    let key = Key::start(alloc, board)?;
     let (player, _boxes) = board.start();
     Ok(Trail {
         key,

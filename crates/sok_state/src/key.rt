@@ -1,7 +1,8 @@
 //! The key of a state.
 
-ghost use Rattle.std.specs.Prelude.{◌≡◌, ◌==◌, ◌&&◌, ◌++◌, IfOk};
-ghost use Rattle.sok_board.specs.Area.{position_of};
+ghost use Rattle.std.specs.Prelude.{◌≡◌, ◌==◌, ◌&&◌, ◌++◌, IfOk, length};
+ghost use Rattle.sok_rules.specs.Play.{start};
+ghost use Rattle.sok_board.specs.Area.{boxes_of, position_of};
 ghost use Rattle.sok_region.specs.Regions.{IsPlaced};
 ghost use Rattle.sok_state.specs.Keys.{IsKey, IsKeyOf, TellsState};
 ghost use Rattle.std.specs.Hash as fed;
@@ -36,6 +37,17 @@ impl Key {
         ensures tells { IfOk result (TellsState board.now player boxes.now) }
     {
         key_of(alloc, board, boxes.copy(alloc)?, player)
+    }
+
+    /// The key of the start. It refuses only for want of memory.
+    pub fn start(alloc: Global, board: &Board) -> Result<Key, Memory>
+        ensures key { IfOk result (IsKeyOf board.now (start board.now.rows)) }
+        ensures of_board { IfOk result (IsKey board.now) }
+        ensures as_many { IfOk result (λ key. length key.boxes ≡ length (boxes_of board.now)) }
+    {
+        let (player, boxes) = board.start();
+        let boxes = BoxSet::of(alloc, boxes)?;
+        key_of(alloc, board, boxes, player)
     }
 
     /// A copy of the key.

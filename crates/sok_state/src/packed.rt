@@ -2,6 +2,7 @@
 
 ghost use Rattle.std.specs.Prelude.{ℕ, ◌≡◌, ◌<◌, ◌≤◌, ◌*◌, ◌↔◌, IsTrue, IfOk, OnOk, All};
 ghost use Rattle.std.specs.Prelude.{Contains, length};
+ghost use Rattle.sok_board.specs.Limits.{box_limit};
 ghost use Rattle.sok_region.specs.BoxSets.{IsMoved};
 ghost use Rattle.sok_region.specs.Regions.{squares_of};
 ghost use Rattle.sok_state.specs.PackedKeys.{state_of};
@@ -42,7 +43,7 @@ impl<const N: usize> PackedKey<N> {
     /// The key of the state. It refuses only for want of memory.
     pub fn key(&self, alloc: Global) -> Result<Key, Memory>
         requires small { N ≤ 16 }
-        requires few { length (squares_of self.now.boxes) ≤ 128 }
+        requires few { length (squares_of self.now.boxes) ≤ box_limit }
         ensures { IfOk result (λ key. key ≡ state_of self.now) }
     {
         let mut squares = Vec::new(alloc);

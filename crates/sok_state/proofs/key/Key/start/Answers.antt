@@ -6,10 +6,10 @@ use Rattle.sok_board.specs.Area.{position_of}
 use Rattle.sok_region.specs.Regions.{IsPlaced}
 use Rattle.sok_region.proofs.Walks.{not_listed}
 use Rattle.sok_state.specs.Keys.{IsKeyOf}
-use Rattle.sok_search.proofs.beginning.start_key.Goals as goal
+use Rattle.sok_state.proofs.key.Key.start.Goals as goal
 
-pub of-requires-2 : goal.of-requires-2
-of-requires-2 c =
+pub key_of-requires : goal.key_of-requires
+key_of-requires c =
     let b = c.args.board.now in
     let told = c.start-player.ensures in
     let player = c.start-player.result.0 in
@@ -24,9 +24,9 @@ of-requires-2 c =
 pub returns-clause-key : goal.returns-clause-key
 returns-clause-key c =
     let b = c.args.board.now in
-    IfOk-weaker c.of-2.result _ _ (λ key is. subst (λ x. IsKeyOf b x key) (ap (position_of b c.start-player.result.0) c.in_ok-boxes.ensures.list
-    ∙ c.start-player.ensures.position) is) c.of-2.ensures.key
+    IfOk-weaker c.key_of.result _ _ (λ key is. subst (λ x. IsKeyOf b x key) (ap (position_of b c.start-player.result.0) c.in_ok-boxes.ensures.list
+    ∙ c.start-player.ensures.position) is) c.key_of.ensures.key
 
 pub returns-clause-as_many : goal.returns-clause-as_many
-returns-clause-as_many c = IfOk-weaker c.of-2.result _ _ (λ key is. ap length is ∙ ap length c.in_ok-boxes.ensures.list
-    ∙ ap length c.start-player.ensures.boxes) c.of-2.ensures.boxes
+returns-clause-as_many c = IfOk-weaker c.key_of.result _ _ (λ key is. ap length is ∙ ap length c.in_ok-boxes.ensures.list
+    ∙ ap length c.start-player.ensures.boxes) c.key_of.ensures.boxes
