@@ -5,11 +5,11 @@ use Rattle.sok_price.proofs.Words.{get_or_default, get_or-drop, get_or-map, leng
 use Rattle.sok_price.proofs.Words.{length-range_with_len, Numbered, goals_of, Contains-filter, Contains-from_filter, below-chosen, rising-chosen, goal_at}
 use Rattle.sok_price.proofs.Words.{Chain, TellsDistance, Branch, TellCosts, Costing, low, IsCrowd, Growth, IsSeen, ReachesNoOther, branch_at, is_marked, is_met}
 use Rattle.sok_price.proofs.Words.{All, sum, sum_by-le, Match, Prices, Crowd, Search, ArePrices, HasPrices, IsMatch, AreFair, IsAssignment, Priced, IsReady}
-use Rattle.sok_price.proofs.Words.{members_of, ◌*◌}
+use Rattle.sok_price.proofs.Words.{members_of, Costs, cost_of, growth_of, HasWorth, IsWhole}
 use Rattle.sok_price.proofs.{Branching.box-at, Branching.boxes_of, Branching.boxes-apart, Branching.branch-met, Branching.few-branches}
 use Rattle.sok_price.proofs.{Branching.length-boxes_of, Branching.met-branch, Branching.no_branch, Branching.price-at, Branching.member-within}
-use Rattle.sok_price.proofs.{CostRows.short-some, Places.Contains-map, Places.pigeonhole, Places.listed, Places.prices_of-all, Places.sum-along}
-use Rattle.sok_price.proofs.{AssignmentLaws.IsCarrying-IsAssignment, CrowdLaws.Excludes-IsCrowd}
+use Rattle.sok_price.proofs.{CostRows.AreShort-costs, CostRows.short-some, Places.Contains-map, Places.pigeonhole, Places.listed, Places.prices_of-all}
+use Rattle.sok_price.proofs.{Places.sum-along, AssignmentLaws.IsCarrying-IsAssignment, CrowdLaws.Excludes-IsCrowd}
 
 chain-some : (b : Numbered) (goal square d : ℕ) (cost : Option ℕ) → TellsDistance b goal square cost → Chain b square goal d → (pushes : ℕ) ×
     (cost ≡ Some pushes)
@@ -199,12 +199,24 @@ ArePrices-ready b boxes goals cost g total told goals_are ready none few all equ
           (IsCarrying-IsAssignment b boxes g.goal_of has.distances assignment) crowd;
     }
 
--- the sum of the boxes' prices is not large
-pub sum-small : (limit : ℕ) {cost : Costing} {members goals : ℕ} {g : Growth} → IsReady cost members goals g → low members g.floor ≤ limit
-    → sum g.u ≤ members * limit
-sum-small limit {members = members} {g = g} ready low =
-    let bound = sum_by-le (λ price. price) limit g.u (λ k d within. let here = ready.low.boxes k d within in omega (arith, here, low)) in
-    subst (λ n. sum g.u ≤ n * limit) ready.matched.a_price_a_box bound
+-- a matching of all rows has a worth
+pub HasWorth-sums : (costs : Costs) (rows : List ℕ) (search : Search) → IsWhole costs rows search
+    → HasSums (cost_of costs rows) search.u.items search.v.items search.goal_of.items → HasWorth search
+HasWorth-sums costs rows search whole has =
+    let g = growth_of search in
+    let few = whole.shaped.few in
+    let fits = sum_by-le (λ price. price) 1073741824 g.u (λ k d within.
+    let here = whole.ready.low.boxes k d within in omega (arith, here, few, whole.ready.bounded)) in
+    let bound = sum_by-le (λ d. d) 1024 has.distances (λ k d within.
+    let exact = has.exact k (omega (arith, within, has.whole)) in
+    let short = AreShort-costs whole.shaped k (get_or g.goal_of k 0) (get_or has.distances k 0) exact.0 in
+    let same = get_or_default has.distances k d 0 within in
+    omega (arith, short, same)) in
+    record {
+      fits = omega (arith, fits, few, whole.ready.matched.a_price_a_box);
+      covered = omega (arith, has.sums);
+      small = omega (arith, bound, has.sums, has.whole, few, whole.whole);
+    }
 
 -- the boxes of a tree that reaches no other goal are a crowd
 pub IsCrowd-members : (b : Numbered) (boxes : List ℕ) (goals : ℕ) (cost : Costing) (g : Growth) → TellCosts b boxes goals cost → goals ≡ length (goals_of b)

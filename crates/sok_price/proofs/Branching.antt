@@ -2,7 +2,7 @@
 use Rattle.sok_price.proofs.Words.{ℕ, ◌≡◌, ◌≢◌, ◌<◌, ◌≤◌, ◌⊎◌, List, Option, Some, None, Bool, true, false, All, arith, length, get_or, set, common_steps}
 use Rattle.sok_price.proofs.Words.{is_marked, ◌∙◌, ◌==◌, inl, inr, sym, ap, AllPairs, Contains, map, both_ways, cases_eq, nat_tests, get_or_default, get_or-map}
 use Rattle.sok_price.proofs.Words.{length-map, All-from_get_or, Any-from_list_any, list_any_at, Branch, Costing, Growth, IsGrowing, branch_at, is_met, IsTree}
-use Rattle.sok_price.proofs.Places.{few_below, same_place}
+use Rattle.sok_price.proofs.Places.{apart_from, few_below, same_place}
 
 -- where a list has something, the place is within
 pub some-within : {X : Type 0} (xs : List (Option X)) (k : ℕ) (x : X) → get_or xs k None ≡ Some x → k < length xs
@@ -51,21 +51,15 @@ box-at branches at within = get_or-map (λ (b : Branch). b.member) branches at n
 
 -- the boxes of a tree are apart
 pub boxes-apart : (goal_of : List ℕ) (branches : List Branch) → IsTree goal_of branches → AllPairs ◌≢◌ (boxes_of branches)
-boxes-apart goal_of branches tree = λ i j d before within same.
-    let long = length-boxes_of branches in
-    let i_in : i < length branches = omega (arith, before, within, long) in
-    let j_in : j < length branches = omega (arith, within, long) in
-    let i_within : i < length (boxes_of branches) = omega (arith, before, within) in
-    tree.apart i j before j_in (sym (get_or_default (boxes_of branches) i d 0 i_within ∙ box-at branches i i_in) ∙ same
-    ∙ get_or_default (boxes_of branches) j d 0 within ∙ box-at branches j j_in)
+boxes-apart goal_of branches tree = apart_from (boxes_of branches) (λ i j i_within j_within same.
+    let one = tree.apart i j in
+    let other = tree.apart j i in
+    grind (arith, one, other, box-at branches i, box-at branches j, length-boxes_of branches, i_within, j_within, same))
 
 -- the box of a branch exists
 pub member-within : (goal_of : List ℕ) (branches : List Branch) (members : ℕ) → IsTree goal_of branches → length goal_of < members → (at : ℕ)
     → at < length branches → (branch_at branches at).member < members
-member-within goal_of branches members tree more at within = elim (cases_eq at 0) [
-  | inl first ↦ let root = ap (λ k. (branch_at branches k).member) first in omega (arith, root, tree.root, more)
-  | inr later ↦ omega (arith, tree.earlier at (omega (arith, later)) within, more)
-]
+member-within goal_of branches members tree more at within = let earlier = tree.earlier at in grind (arith, earlier, tree.root, more, within)
 
 -- a tree has no more branches than there are boxes
 pub few-branches : (goal_of : List ℕ) (branches : List Branch) (members : ℕ) → IsTree goal_of branches → length goal_of < members
@@ -73,8 +67,7 @@ pub few-branches : (goal_of : List ℕ) (branches : List Branch) (members : ℕ)
 few-branches goal_of branches members tree more =
     let long = length-boxes_of branches in
     let few = few_below members (boxes_of branches) (boxes-apart goal_of branches tree) (All-from_get_or (λ k. k < members) (boxes_of branches) 0 (λ at within.
-    let inside : at < length branches = omega (arith, within, long) in
-    omega (arith, box-at branches at inside, member-within goal_of branches members tree more at inside))) in
+    grind (arith, box-at branches at, member-within goal_of branches members tree more at, long, within))) in
     omega (arith, few, long)
 
 module _ {cost : Costing} {members goals seen : ℕ} {g : Growth} (growing : IsGrowing cost members goals seen g) where
@@ -87,11 +80,9 @@ module _ {cost : Costing} {members goals seen : ℕ} {g : Growth} (growing : IsG
   -- goals of different branches differ, since those of different boxes do
   pub goals-apart : (at to : ℕ) → 0 < at → at < to → to < length g.branches → (branch_at g.branches at).goal ≢ (branch_at g.branches to).goal
   goals-apart at to later before within same =
-      let at_in : at < length g.branches = omega (arith, before, within) in
-      let to_later : 0 < to = omega (arith, later, before) in
-      growing.tree.apart at to before within
-      (same_place g.goal_of growing.matched.apart (branch_at g.branches at).member (branch_at g.branches to).member (growing.tree.earlier at later at_in)
-      (growing.tree.earlier to to_later within) (growing.tree.has at later at_in ∙ same ∙ sym (growing.tree.has to to_later within)))
+      let one = same_place g.goal_of growing.matched.apart (branch_at g.branches at).member (branch_at g.branches to).member in
+      let tree = growing.tree in
+      grind (arith, one, tree.apart at to, tree.earlier at, tree.earlier to, tree.has at, tree.has to, later, before, within, same)
 
   -- a box that is met and has a goal is that of a branch behind the root
   pub branch-matched : (member : ℕ) → member < length g.goal_of → is_met g.branches member ≡ true

@@ -1,5 +1,5 @@
 use Rattle.sok_price.proofs.Words.{AreCosts, AreTold, IsRow, TellsCost, AreTabled, append_assoc, get_or_append_left, get_or-append_right, get_or_push, Numbered}
-use Rattle.sok_price.proofs.Words.{Costs, cost_in, cost_of, length, get_or, mul-le-mul_left, cases_lt, none-some, same_Some, length-append, length_push}
+use Rattle.sok_price.proofs.Words.{Costs, cost_in, cost_of, length, get_or, mul-le-mul_left, none-some, same_Some, length-append, length_push}
 use Rattle.sok_price.proofs.Words.{length-range_with_len, count_by-le-length, length-filter, holds, is_goal, goals_of, spot_of, range_with_len, common_steps}
 use Rattle.sok_price.proofs.Words.{get_or-replicate, length-replicate, ℕ, ◌≡◌, ◌<◌, ◌≤◌, ◌+◌, ◌*◌, ◌++◌, ◌∙◌, sym, ap, subst, List, Option, Some, None, arith}
 use Rattle.sok_price.proofs.Words.{replicate, ◌-◌, inl, inr, refl, [], ◌∷◌, IfSome, All, All-weaker, AreRows, AreSmall, Costing, cases_eq}
@@ -64,13 +64,11 @@ AreTold-more {b = b} {square_of = square_of} {goals = goals} {members = members}
           let old = told.told member goal in
           let new = is.told goal within in
           grind (arith, old, new, last, before);
-      small = λ k pushes there. elim (cases_lt k (length entries)) [
-        | inl before ↦ told.small k pushes (sym (get_or_append_left entries is.row None k before) ∙ there)
-        | inr past ↦
-            let in_row = sym (get_or-append_right entries is.row (length entries) k None refl past) ∙ there in
-            let within = some-within is.row (k - length entries) pushes in_row in
-            short-some (get_or is.row (k - length entries) None) pushes (is.told (k - length entries) (omega (arith, within, is.whole))).short in_row
-      ];
+      small = λ k pushes there.
+          let place = k - length entries in
+          let short = λ (inside : place < goals). short-some (get_or is.row place None) pushes (is.told place inside).short in
+          let past = get_or-append_right entries is.row (length entries) k None refl in
+          grind (arith, common_steps, told.small k pushes, some-within is.row place pushes, short, past, is.whole, there);
     })
 
 -- rows before an end, up to which there are entries

@@ -203,9 +203,8 @@ module _ {end members : ℕ} {boxes rows : List ℕ} (exist : All (λ square. sq
   AreRows-listed rising = record {
     within = All-from_get_or (λ row. row ≤ end) rows 0 (λ k within. grind (arith, listed.whole, listed.back k, listed.front k, exist k 0));
     apart = λ i j before within below same.
-        let i_box = listed-below i (omega (arith, before, within, listed.whole)) below in
-        let j_box = listed-below j (omega (arith, within, listed.whole)) (omega (arith, same, below)) in
-        omega (arith, same, listed.front i i_box, listed.front j j_box, AllPairs-from_increasing boxes rising i j 0 before j_box);
+        let rises = AllPairs-from_increasing boxes rising i j 0 before in
+        grind (arith, listed-below i, listed-below j, listed.front i, listed.front j, rises, listed.whole, before, within, below, same);
   }
 
   pub AreExactly-listed : length boxes ≤ members → AreExactly end rows boxes

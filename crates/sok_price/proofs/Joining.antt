@@ -1,5 +1,5 @@
 -- A goal that is reached joins the tree, with the box that has it; the goal that is next, and what is told of it.
-use Rattle.sok_price.proofs.Words.{ℕ, ◌≡◌, ◌≢◌, ◌<◌, ◌≤◌, ◌+◌, ◌*◌, ◌-◌, ◌∙◌, ◌++◌, inl, inr, refl, sym, ap, subst, List, [], ◌∷◌, Some, true, true≢false}
+use Rattle.sok_price.proofs.Words.{ℕ, ◌≡◌, ◌≢◌, ◌<◌, ◌≤◌, ◌+◌, ◌*◌, ◌-◌, ◌∙◌, ◌++◌, inl, inr, refl, sym, ap, subst, List, [], ◌∷◌, Some, true}
 use Rattle.sok_price.proofs.Words.{arith, length, get_or, set, cases_eq, get_or_append_left, get_or_push, length_push, length-set, Branch, Slack, Near, Costing}
 use Rattle.sok_price.proofs.Words.{Growth, IsAhead, IsNext, IsSeen, joined, slack_at, is_marked, branch_at, AreRises, AreTaken, IsBound, IsSlack, IsTree}
 use Rattle.sok_price.proofs.Words.{Option, None, get_or_default, TellsTaker, TellsNext, TellsNearest, false, get_or-set_same}
@@ -70,15 +70,10 @@ module _ (g : Growth) (near : Near) (member : ℕ) where
 module _ {cost : Costing} {members goals : ℕ} {g : Growth} {near : Near} {member : ℕ} (is : IsJoining cost members goals g near member) where
   -- the box is not in the tree yet, since its goal is not
   unmet : (at : ℕ) → at < length g.branches → (branch_at g.branches at).member ≢ member
-  unmet at within same = elim (cases_eq at 0) [
-    | inl first ↦
-        let root = ap (λ k. (branch_at g.branches k).member) first in
-        absurd (omega (arith, root, is.growing.tree.root, same, is.earlier))
-    | inr later ↦
-        let after : 0 < at = omega (arith, later) in
-        let goal_is = sym (is.growing.tree.has at after within) ∙ ap (λ k. get_or g.goal_of k 0) same ∙ is.has in
-        true≢false (sym (is.growing.taken.marked at after within) ∙ ap (is_marked g.taken) goal_is ∙ is.next.outside)
-  ]
+  unmet at within same =
+      let marked = is.growing.taken.marked at in
+      let has = is.growing.tree.has at in
+      grind (arith, marked, has, is.growing.tree.root, is.next.outside, is.earlier, is.has, same, within)
 
   tree-joined : IsTree g.goal_of (grown_by g near member)
   tree-joined =

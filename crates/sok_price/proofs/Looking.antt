@@ -105,6 +105,15 @@ AreCloser cost g slacks = (goal : ℕ) → goal < length slacks → is_marked g.
     ≡ closer (cost (newest g).member goal) (get_or g.u (newest g).member 0) (get_or g.v goal 0) (newest g).rise (last_of g) (slack_at g.slacks goal)
 
 module _ {cost : Costing} {members goals : ℕ} {g : Growth} (growing : IsAhead cost members goals g) where
+  -- what is asked where a goal is looked at from the newest box: that its price is fair
+  pub look-fair : (branch : Branch) → newest g ≡ branch → (goal pushes : ℕ) → goal < goals → cost branch.member goal ≡ Some pushes
+      → get_or g.u branch.member 0 ≤ get_or g.v goal 0 + pushes
+  look-fair branch is goal pushes inside way =
+      let last : last_of g < length g.branches = omega (arith, growing.tree.some) in
+      let exists = member-within g.goal_of g.branches members growing.tree growing.more (last_of g) last in
+      growing.matched.fair branch.member goal pushes (omega (arith, exists, ap (λ (b : Branch). b.member) is, growing.matched.a_price_a_box))
+      (omega (arith, inside, growing.matched.a_price_a_goal)) way
+
   looked : (goal : ℕ) (slack : Slack) → goal < goals → is_marked g.taken goal ≡ false
       → slack ≡ closer (cost (newest g).member goal) (get_or g.u (newest g).member 0) (get_or g.v goal 0) (newest g).rise (last_of g) (slack_at g.slacks goal)
       → IsLooked cost g goal slack
@@ -113,9 +122,7 @@ module _ {cost : Costing} {members goals : ℕ} {g : Growth} (growing : IsAhead 
       let inside : last < length g.branches = omega (arith, growing.tree.some) in
       let price = get_or g.u (newest g).member 0 in
       let fair : (pushes : ℕ) → cost (newest g).member goal ≡ Some pushes → price ≤ get_or g.v goal 0 + pushes = λ pushes way.
-      let exists = member-within g.goal_of g.branches members growing.tree growing.more last inside in
-      growing.matched.fair (newest g).member goal pushes (omega (arith, exists, growing.matched.a_price_a_box))
-      (omega (arith, within, growing.matched.a_price_a_goal)) way in
+      look-fair (newest g) refl goal pushes within way in
       elim (closer-cases (cost (newest g).member goal) price (get_or g.v goal 0) (newest g).rise last (slack_at g.slacks goal)) [
         | inl (kept, new) ↦
             let same : slack ≡ slack_at g.slacks goal = is ∙ kept in
@@ -159,15 +166,7 @@ module _ {cost : Costing} {members goals : ℕ} {g : Growth} (growing : IsAhead 
       let exists = member-within g.goal_of g.branches members growing.tree growing.more (last_of g) last in
       get_or_default g.u branch.member 0 price (omega (arith, exists, ap (λ (b : Branch). b.member) is, growing.matched.a_price_a_box)) ∙ sym read
 
-  -- what is asked where a goal is looked at from the newest box: its price is fair, and the rise and the goal's price are not large
-  pub look-fair : (branch : Branch) → newest g ≡ branch → (goal pushes : ℕ) → goal < goals → cost branch.member goal ≡ Some pushes
-      → get_or g.u branch.member 0 ≤ get_or g.v goal 0 + pushes
-  look-fair branch is goal pushes inside way =
-      let last : last_of g < length g.branches = omega (arith, growing.tree.some) in
-      let exists = member-within g.goal_of g.branches members growing.tree growing.more (last_of g) last in
-      growing.matched.fair branch.member goal pushes (omega (arith, exists, ap (λ (b : Branch). b.member) is, growing.matched.a_price_a_box))
-      (omega (arith, inside, growing.matched.a_price_a_goal)) way
-
+  -- and that the rise and the goal's price are not large
   pub look-small : (branch : Branch) → newest g ≡ branch → (price : ℕ) → price ≤ low members g.floor → branch.rise + price ≤ 2147483648
   look-small branch is price bound =
       let last : last_of g < length g.branches = omega (arith, growing.tree.some) in

@@ -108,8 +108,7 @@ same_place xs apart i j i_within j_within same = grind (arith, apart i j 0, apar
 -- and where that is so, they are apart
 pub apart_from : (xs : List ℕ) → ((i j : ℕ) → i < length xs → j < length xs → get_or xs i 0 ≡ get_or xs j 0 → i ≡ j) → AllPairs ◌≢◌ xs
 apart_from xs one i j d before within same =
-    let i_within : i < length xs = omega (arith, before, within) in
-    omega (arith, one i j i_within within (get_or_default xs i 0 d i_within ∙ same ∙ get_or_default xs j d 0 within), before)
+    grind (arith, one i j, get_or_default xs i 0 d, get_or_default xs j d 0, before, within, same)
 
 pub apart_rising : (xs : List ℕ) → IsStrictlyIncreasing xs → AllPairs ◌≢◌ xs
 apart_rising xs rising i j d before within same = let rises = AllPairs-from_increasing xs rising i j d before within in omega (arith, rises, same)
@@ -132,9 +131,8 @@ places_within xs ys places are = All-from_get_or (λ k. k < length ys) places 0 
 
 pub places_apart : (xs ys places : List ℕ) → ArePlaces xs ys places → AllPairs ◌≢◌ xs → AllPairs ◌≢◌ places
 places_apart xs ys places are apart = apart_from places (λ i j i_within j_within same.
-    let i_in : i < length xs = omega (arith, i_within, are.whole) in
-    let j_in : j < length xs = omega (arith, j_within, are.whole) in
-    same_place xs apart i j i_in j_in (sym (are.there i i_in) ∙ ap (λ k. get_or ys k 0) same ∙ are.there j j_in))
+    let one = same_place xs apart i j in
+    grind (arith, one, are.there i, are.there j, are.whole, i_within, j_within, same))
 
 -- different numbers below an end are no more than there are
 pub few_below : (n : ℕ) (xs : List ℕ) → AllPairs ◌≢◌ xs → All (λ x. x < n) xs → length xs ≤ n

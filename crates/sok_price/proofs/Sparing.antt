@@ -3,13 +3,12 @@ use Rattle.sok_price.proofs.Words.{ℕ, ◌≡◌, ◌≢◌, ◌<◌, ◌≤◌
 use Rattle.sok_price.proofs.Words.{AllPairs, Contains, arith, filter, length, get_or, map, min, sum, zero, suc, cases_eq, cases_lt, same_Some, get_or_default}
 use Rattle.sok_price.proofs.Words.{get_or-map, length-map, All-from_get_or, sum_by-cons, sum-map, Numbered, goals_of, Costs, cost_in, cost_of, TellCosts}
 use Rattle.sok_price.proofs.Words.{TellsCost, AreKept, IsBounded, IsCost, TellsLeast, Costing, Growth, IsReady, branch_at, is_met, IsWhole, Search, growth_of}
-use Rattle.sok_price.proofs.Words.{Bool, Tells, false, sum_by-le, get_or-range_with_len, length-range_with_len, AreOfBoxes, IsShaped, CanMove, HasWorth}
-use Rattle.sok_price.proofs.Words.{IsCopied, KeptMatching, IsCrowd, AreTabled, IsChange, AreMoved, AreRows, Holds, IsMoved, IsStrictlyIncreasing, HasRoom}
-use Rattle.sok_price.proofs.Words.{Option, Slack, length-replicate, unmatched, unreached}
+use Rattle.sok_price.proofs.Words.{Bool, Tells, false, get_or-range_with_len, length-range_with_len, AreOfBoxes, IsShaped, CanMove}
+use Rattle.sok_price.proofs.Words.{IsCopied, KeptMatching, IsCrowd, AreTabled, IsChange, AreMoved, AreRows, Holds, IsMoved, IsStrictlyIncreasing}
 use Rattle.sok_price.proofs.{Answering.HasSums, Answering.HasSums-ready, Answering.IsAssignment-told, Answering.Priced-told, Answering.IsCrowd-closed}
-use Rattle.sok_price.proofs.{Answering.none-free, Answering.sum-small, Branching.member-within, Exchanging.rows-apart, Exchanging.AreExactly-moved}
+use Rattle.sok_price.proofs.{Answering.none-free, Branching.member-within, Exchanging.rows-apart, Exchanging.AreExactly-moved}
 use Rattle.sok_price.proofs.{Exchanging.AreRows-moved, Places.all_below, Places.apart_from, Places.apart_rising, Places.places_apart, Places.places_in}
-use Rattle.sok_price.proofs.{Places.same_place, Places.prices_of-all, CostRows.AreShort-costs}
+use Rattle.sok_price.proofs.{Places.same_place, Places.prices_of-all}
 
 -- where each goal has a row, what the rows cost less what the goals cost is the sum of the costs
 pub sums-whole : {cost : Costing} {members goals : ℕ} {g : Growth} → IsReady cost members goals g → members ≡ goals → length g.goal_of ≡ members
@@ -86,10 +85,7 @@ least-of f first zero = (first, λ j within. absurd (omega (arith, within)), λ 
 least-of f first (suc n) =
     let (m, below, greatest) = least-of f first n in (
       min m (f n),
-      λ j within. elim (cases_eq j n) [
-        | inl same ↦ omega (arith, ap f same)
-        | inr other ↦ let old = below j (omega (arith, within, other)) in omega (arith, old)
-      ],
+      λ j within. let old = below j in grind (arith, old, within),
       λ c start each. let rest = greatest c start (λ j within. each j (omega (arith, within))) in omega (arith, rest, each n (omega arith)),
     )
 
@@ -143,14 +139,13 @@ module _ {b : Numbered} {boxes : List ℕ} {costs : Costs} {rows places : List �
             (bs_long ∙ is.whole) (vs_long ∙ v_long)
             (λ i j pushes i_within j_within way.
             let k = get_or places i 0 in
-            let place : i < length places = omega (arith, i_within, bs_long) in
-            let inside = is.within i (omega (arith, place, is.whole)) in
-            let there : j < length g.v = omega (arith, j_within, vs_long) in
-            let box = of_boxes-at us places i place in
-            let row = get_or-map less g.u k 0 0 (omega (arith, inside, u_long)) in
-            let goal = get_or-map less g.v j 0 0 there in
-            let bound = ready.matched.fair k j pushes (omega (arith, inside, u_long)) there way in
-            omega (arith, box, row, goal, bound)) (omega (arith, boxes_sum, u_sum, v_sum, shifts, equal)),
+            let inside = is.within i in
+            let box = of_boxes-at us places i in
+            let row = get_or-map less g.u k 0 0 in
+            let goal = get_or-map less g.v j 0 0 in
+            let bound = ready.matched.fair k j pushes in
+            grind (arith, box, row, goal, bound, inside, way, i_within, j_within, bs_long, vs_long, u_long, is.whole))
+            (omega (arith, boxes_sum, u_sum, v_sum, shifts, equal)),
       )
 
   -- the goals of the boxes of its rows cost as much
@@ -164,15 +159,13 @@ module _ {b : Numbered} {boxes : List ℕ} {costs : Costs} {rows places : List �
       let own : (i : ℕ) → i < length places → get_or places i 0 < length goal_of = λ i within. let here = is.within i (omega (arith, within, is.whole)) in
       omega (arith, here, all) in
       let exist = All-from_get_or (λ goal. goal < costs.goals) (of_boxes goal_of places) 0 (λ i within.
-      let place : i < length places = omega (arith, within, goals_long) in
-      let here = ready.matched.exist (get_or places i 0) 0 (own i place) in
-      let same = of_boxes-at goal_of places i place in
-      omega (arith, here, same)) in
+      let here = ready.matched.exist (get_or places i 0) 0 in
+      let same = of_boxes-at goal_of places i in
+      grind (arith, own i, here, same, goals_long, within)) in
       let apart = apart_from (of_boxes goal_of places) (λ i j i_within j_within same.
-      let i_in : i < length places = omega (arith, i_within, goals_long) in
-      let j_in : j < length places = omega (arith, j_within, goals_long) in
-      same_place places is.apart i j i_in j_in (same_place goal_of ready.matched.apart (get_or places i 0) (get_or places j 0) (own i i_in) (own j j_in)
-      (sym (of_boxes-at goal_of places i i_in) ∙ same ∙ of_boxes-at goal_of places j j_in))) in
+      let one = same_place places is.apart i j in
+      let goal = same_place goal_of ready.matched.apart (get_or places i 0) (get_or places j 0) in
+      grind (arith, one, goal, own i, own j, of_boxes-at goal_of places i, of_boxes-at goal_of places j, i_within, j_within, goals_long, same)) in
       let way : (i : ℕ) → i < length boxes
       → cost_of costs rows (get_or places i 0) (get_or (of_boxes goal_of places) i 0) ≡ Some (get_or (of_boxes far places) i 0) = λ i within.
       let place : i < length places = omega (arith, within, is.whole) in
@@ -212,35 +205,6 @@ IsBounded-closed b costs rows search boxes kept tells none =
             | inr spare ↦ absurd (none-free growing (tells.closed none) at within is.square spare)
           ]),
     )
-
--- a matching of all rows has a worth
-pub HasWorth-whole : (costs : Costs) (rows : List ℕ) (search : Search) → IsWhole costs rows search → length rows ≡ costs.goals → HasWorth search
-HasWorth-whole costs rows search whole square =
-    let g = growth_of search in
-    let fits = sum-small 1073741824 whole.ready (omega (arith, whole.shaped.few, whole.ready.bounded)) in
-    let has = sums-whole whole.ready square whole.whole in
-    let bound = sum_by-le (λ d. d) 1024 has.distances (λ k d within.
-    let exact = has.exact k (omega (arith, within, has.whole)) in
-    let short = AreShort-costs whole.shaped k (get_or g.goal_of k 0) (get_or has.distances k 0) exact.0 in
-    let same = get_or_default has.distances k d 0 within in
-    omega (arith, short, same)) in
-    let few = whole.shaped.few in
-    record { fits = omega (arith, fits, few); covered = omega (arith, has.sums); small = omega (arith, bound, has.sums, has.whole, few, whole.whole) }
-
--- a search that was made has lists of their lengths
-pub IsShaped-new : (members goals : ℕ) (search : Search) {count all : ℕ} → growth_of search ≡ unmatched members goals → HasRoom members search
-    → members ≡ count → goals ≡ all → IsShaped count all search
-IsShaped-new members goals search {count = count} {all = all} is room rows costs =
-    subst (λ n. IsShaped n all search) rows (subst (λ n. IsShaped members n search) costs (record {
-      a_price_a_box = ap (λ (g : Growth). length g.u) is ∙ length-replicate members 0;
-      a_price_a_goal = ap (λ (g : Growth). length g.v) is ∙ length-replicate goals 0;
-      roomy = record {
-        taken = ap (λ (g : Growth). length g.taken) is ∙ length-replicate goals false;
-        slacks = ap (λ (g : Growth). length g.slacks) is ∙ length-replicate {A = Slack} goals (record { rise = unreached; from = 0 });
-        takers = ap (λ (g : Growth). length g.takers) is ∙ length-replicate {A = Option ℕ} goals None;
-      };
-      room = room;
-    }))
 
 -- a matching's prices and goals in other scratch lists
 pub IsWhole-copied : (costs : Costs) (rows : List ℕ) (search scratch copy : Search) → IsWhole costs rows search → IsShaped (length rows) costs.goals scratch

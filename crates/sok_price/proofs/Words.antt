@@ -37,7 +37,7 @@ pub use Rattle.sok_price.specs.Matched.{CanMove, HasWorth, Holds, IsCopied, Kept
 pub use Rattle.sok_price.specs.Matchings.{AreFair, AreTight, Costing, IsMatched, IsTight, TellsTaker, low}
 unfoldable pub use Rattle.sok_price.specs.Searches.{joined}
 pub use Rattle.sok_price.specs.Searches.{Growth, HasRoom, IsAhead, IsBegun, IsGrowing, IsNext, IsRaised, IsReached, IsReady, IsRematched, IsSeen, KeepsRoom}
-pub use Rattle.sok_price.specs.Searches.{ReachesNoOther, Rematches, TellsEnd, TellsNext, growth_of, unmatched}
+pub use Rattle.sok_price.specs.Searches.{ReachesNoOther, Rematches, TellsEnd, TellsNext, growth_of}
 unfoldable pub use Rattle.sok_price.specs.Slacks.{closer, smaller}
 pub use Rattle.sok_price.specs.Trees.{AreRaised, AreRises, AreTaken, GoesTight, IsBound, IsSlack, IsTree, branch_at, is_marked, is_met, members_of}
 pub use Rattle.sok_price.specs.{Exchanges.AreMoved, Exchanges.IsWhole, Exchanges.Tells, Laws.ArePlaced, Matches.ArePrices, Matches.HasPrices, Matches.IsMatch}

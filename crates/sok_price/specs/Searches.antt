@@ -34,19 +34,6 @@ growth_of search = record {
   floor = search.floor;
 }
 
--- a search of whose boxes none is matched
-abbrev pub unmatched : ℕ → ℕ → Growth
-unmatched members goals = record {
-  u = replicate members 0;
-  v = replicate goals 0;
-  goal_of = [];
-  branches = [];
-  taken = replicate goals false;
-  slacks = replicate goals (record { rise = unreached; from = 0 });
-  takers = replicate goals None;
-  floor = 0;
-}
-
 -- room for a tree of all boxes and for a goal for each
 pub record HasRoom (members : ℕ) (search : Search) : Type 0 where
   pub tree : members ≤ vec_capacity search.branches

@@ -1,15 +1,15 @@
 //! The least assignment of goals to boxes.
 
-ghost use Rattle.std.specs.Prelude.{ℕ, List, ◌≡◌, ◌<◌, ◌≤◌, ◌+◌, ◌^◌, All, IfOk, length, sum};
-ghost use Rattle.sok_board.specs.Area.{IsAccepted, Numbered, goals_of};
+ghost use Rattle.std.specs.Prelude.{ℕ, List, ◌≡◌, ◌<◌, ◌≤◌, All, IfOk, length};
+ghost use Rattle.sok_board.specs.Area.{Numbered};
 ghost use Rattle.sok_board.specs.Limits.{box_limit, square_limit};
 ghost use Rattle.sok_price.specs.Costs.{AreCosts, AreOfBoxes};
+ghost use Rattle.sok_price.specs.Matched.{HasWorth};
 ghost use Rattle.sok_price.specs.Matches.{IsMatch, HasPrices};
 ghost use Rattle.sok_price.specs.Trees.{is_met, members_of};
 
 use crate::costs::{Costs, places};
-use crate::search::{Branch, Search, match_all};
-use sok_board::area::Sq;
+use crate::search::{Branch, Search, match_anew, worth};
 use sok_push::tables::Tables;
 use sok_region::box_set::BoxSet;
 use sok_rules::fault::Memory;
@@ -44,16 +44,9 @@ pub fn assign(alloc: Global, tables: &Tables, boxes: &BoxSet) -> Result<Match, M
     requires { All (λ square. square < length tables.now.board.area) boxes.now }
     ensures { IfOk result (IsMatch tables.now.board boxes.now) }
 {
-    assign_to(alloc, tables, tables.goals(), boxes.list())
-}
-
-/// What the boxes cost less what the goals cost.
-fn total(u: &[u32], v: &[u32]) -> u32
-    requires small { sum u.now < 2 ^ 32 }
-    requires covered { sum v.now ≤ sum u.now }
-    ensures { result + sum v.now ≡ sum u.now }
-{
-    u.iter().sum::<u32>() - v.iter().sum::<u32>()
+    let boxes = boxes.list();
+    let costs = Costs::of(alloc, tables, tables.goals(), boxes)?;
+    assign_rows(alloc, &costs, &places(alloc, boxes.len())?)
 }
 
 /// Whether a box is in a tree.
@@ -77,18 +70,6 @@ fn members_in(alloc: Global, branches: &[Branch], end: usize) -> Result<Vec<u32>
     Ok(members)
 }
 
-/// The least assignment of the goals of a board to boxes on some squares, or a crowd of them.
-fn assign_to(alloc: Global, tables: &Tables, goals: usize, boxes: &[Sq]) -> Result<Match, Memory>
-    requires accepted { IsAccepted tables.now.board }
-    requires goals { goals ≡ length (goals_of tables.now.board) }
-    requires exist { All (λ square. square < length tables.now.board.area) boxes.now }
-    requires few { length boxes.now ≤ box_limit }
-    ensures { IfOk result (IsMatch tables.now.board boxes.now) }
-{
-    let costs = Costs::of(alloc, tables, goals, boxes)?;
-    assign_rows(alloc, &costs, &places(alloc, boxes.len())?)
-}
-
 /// The least assignment of goals to the boxes that have some rows of costs, or a crowd of them.
 pub(crate) fn assign_rows(alloc: Global, costs: &Costs, rows: &[usize]) -> Result<Match, Memory>
     requires costs { AreCosts costs.now rows.now }
@@ -97,7 +78,7 @@ pub(crate) fn assign_rows(alloc: Global, costs: &Costs, rows: &[usize]) -> Resul
         → IfOk result (IsMatch b boxes) }
 {
     let mut search = Search::new(alloc, rows.len(), costs.goals)?;
-    if match_all(costs, rows, &mut search) {
+    if match_anew(costs, rows, &mut search) {
         return Ok(priced(search));
     }
     Ok(Match::Crowd {
@@ -107,11 +88,10 @@ pub(crate) fn assign_rows(alloc: Global, costs: &Costs, rows: &[usize]) -> Resul
 
 /// The prices and goals of a search that has a goal for each box.
 fn priced(search: Search) -> Match
-    requires small { sum search.u.items < 2 ^ 32 }
-    requires covered { sum search.v.items ≤ sum search.u.items }
+    requires { HasWorth search }
     ensures { HasPrices search result }
 {
-    let total = total(&search.u, &search.v);
+    let total = worth(&search);
     let Search {
         u,
         v,

@@ -6,12 +6,9 @@ ghost use Rattle.std.specs.Prelude.{
   ◌<◌,
   ◌+◌,
   ◌*◌,
-  ◌++◌,
   All,
   IfOk,
-  Some,
   length,
-  replicate,
   slice_index,
   slice_index_or,
   None,
@@ -73,7 +70,7 @@ impl Costs {
         for square in 0..squares {
             entries = with_row(tables, goals, square as Sq, entries)?;
         }
-        let entries = with_spare(goals, entries)?;
+        entries.extend_from_slice(&vec![in alloc; Some(0); goals]?)?;
         Ok(Costs { goals, entries })
     }
 
@@ -96,11 +93,7 @@ pub(crate) fn places(alloc: Global, count: usize) -> Result<Vec<usize>, Memory>
     ensures whole { IfOk result (λ rows. length rows.items ≡ count) }
     ensures each { IfOk result (λ rows. (k : ℕ) → k < count → slice_index rows.items k ≡ k) }
 {
-    let mut rows = Vec::with_capacity(alloc, count)?;
-    for k in 0..count {
-        rows.push(k)?;
-    }
-    Ok(rows)
+    Ok((0..count).collect(alloc)?)
 }
 
 /// The entries with the distances of one more square.
@@ -117,16 +110,6 @@ fn with_row(
 {
     for goal in 0..goals {
         entries.push(tables.dist(goal, square))?;
-    }
-    Ok(entries)
-}
-
-/// The entries with a row that costs nothing.
-fn with_spare(goals: usize, mut entries: Vec<Option<u16>>) -> Result<Vec<Option<u16>>, Memory>
-    ensures { IfOk result (λ after. after.items ≡ entries.items ++ replicate goals (Some 0)) }
-{
-    for _ in 0..goals {
-        entries.push(Some(0))?;
     }
     Ok(entries)
 }

@@ -6,8 +6,6 @@ ghost use Rattle.std.specs.Prelude.{
   ◌≡◌,
   ◌<◌,
   ◌≤◌,
-  ◌+◌,
-  ◌^◌,
   vec_capacity,
   All,
   Contains,
@@ -16,19 +14,18 @@ ghost use Rattle.std.specs.Prelude.{
   length,
   replicate,
   slice_index,
-  sum,
 };
 ghost use Rattle.std.specs.List.Sorted.{IsStrictlyIncreasing};
 ghost use Rattle.sok_board.specs.Area.{Numbered};
 ghost use Rattle.sok_region.specs.BoxSets.{IsMoved};
 ghost use Rattle.sok_price.specs.Searches.{growth_of};
 ghost use Rattle.sok_price.specs.Matches.{IsMatch};
-ghost use Rattle.sok_price.specs.Matched.{CanMove, HasWorth, Holds, IsCopied, Serves, TellsLeast};
+ghost use Rattle.sok_price.specs.Matched.{CanMove, Holds, IsCopied, Serves, TellsLeast};
 
 use crate::assign::{Match, assign_rows};
 use crate::costs::Costs;
 use crate::exchange::exchange;
-use crate::search::Search;
+use crate::search::{Search, worth};
 use crate::settle::match_boxes;
 use sok_board::area::Sq;
 use sok_board::board::Board;
@@ -165,11 +162,7 @@ fn rows_of(alloc: Global, boxes: &[Sq]) -> Result<Vec<usize>, Memory>
     ensures each { IfOk result (λ rows. (k : ℕ) → k < length boxes.now
         → slice_index rows.items k ≡ slice_index boxes.now k) }
 {
-    let mut rows = Vec::with_capacity(alloc, boxes.len())?;
-    for square in boxes {
-        rows.push(*square as usize)?;
-    }
-    Ok(rows)
+    Ok(boxes.iter().map(|square| *square as usize).collect(alloc)?)
 }
 
 /// The row of a box.
@@ -199,20 +192,4 @@ fn copy_matching(from: &Search, to: &mut Search)
         Err(_) => unreachable!(),
     }
     to.floor = from.floor;
-}
-
-/// The sum of some prices.
-fn sum_of(prices: &[u32]) -> u64
-    requires { sum prices.now < 2 ^ 64 }
-    ensures { result ≡ sum prices.now }
-{
-    prices.iter().map(|price| u64::from(*price)).sum()
-}
-
-/// What the rows cost less what the goals cost.
-fn worth(search: &Search) -> u32
-    requires { HasWorth search.now }
-    ensures { result + sum search.now.v.items ≡ sum search.now.u.items }
-{
-    (sum_of(&search.u) - sum_of(&search.v)) as u32
 }

@@ -11,15 +11,19 @@ ghost use Rattle.std.specs.Prelude.{
   ◌+◌,
   ◌++◌,
   ◌∷◌,
+  ◌^◌,
   [],
   All,
   IfOk,
   length,
+  replicate,
+  sum,
 };
 ghost use Rattle.sok_price.specs.Costs.{cost_of, AreCosts};
 ghost use Rattle.sok_price.specs.Exchanges.{Tells};
 ghost use Rattle.sok_price.specs.Kept.{IsShaped};
 ghost use Rattle.sok_price.specs.Limits.{rise_limit, search_price_limit};
+ghost use Rattle.sok_price.specs.Matched.{HasWorth};
 ghost use Rattle.sok_price.specs.Matchings.{TellTakers};
 ghost use Rattle.sok_price.specs.Searches.{
   growth_of,
@@ -34,13 +38,12 @@ ghost use Rattle.sok_price.specs.Searches.{
   IsSeen,
   TellsEnd,
   TellsNext,
-  unmatched,
   IsReady,
 };
 ghost use Rattle.sok_price.specs.Trees.{branch_at, AreRaised, IsTree};
 
 use crate::costs::Costs;
-use crate::slacks::{Near, Slack, UNREACHED, look, nearest};
+use crate::slacks::{Near, Slack, UNREACHED, look};
 use sok_rules::fault::Memory;
 use std::alloc::Global;
 
@@ -76,10 +79,9 @@ pub(crate) struct Search {
 }
 
 impl Search {
-    /// Room for a search over some boxes and goals, with all prices 0 and no box matched.
+    /// Room for a search over some boxes and goals.
     pub(crate) fn new(alloc: Global, members: usize, goals: usize) -> Result<Search, Memory>
-        ensures search { IfOk result (λ search. growth_of search ≡ unmatched members goals) }
-        ensures room { IfOk result (HasRoom members) }
+        ensures { IfOk result (IsShaped members goals) }
     {
         Ok(Search {
             u: vec![in alloc; 0; members]?,
@@ -178,13 +180,15 @@ pub(crate) fn begin(search: &mut Search)
     find_takers(&search.goal_of, &mut search.takers);
 }
 
-/// Looks at the goals outside the tree from the box that joined it last.
-fn look_on(costs: &Costs, rows: &[usize], search: &mut Search)
+/// Looks on from the box that joined the tree last, and tells the goal outside the tree that it
+/// reaches next. None where it reaches none.
+fn look_on(costs: &Costs, rows: &[usize], search: &mut Search) -> Option<Near>
     requires costs { AreCosts costs.now rows.now }
     requires growing { IsAhead (cost_of costs.now rows.now) (length rows.now) costs.now.goals
         (growth_of search.old) }
     ensures growing { IsSeen (cost_of costs.now rows.now) (length rows.now) costs.now.goals
         (growth_of search.new) }
+    ensures next { TellsNext (cost_of costs.now rows.now) (growth_of search.new) result }
     ensures same { search.new ≡ record search.old { slacks = search.new.slacks } }
 {
     let from = search.branches.len() - 1;
@@ -196,23 +200,9 @@ fn look_on(costs: &Costs, rows: &[usize], search: &mut Search)
         from,
         &search.v,
         &search.taken,
+        &search.takers,
         &mut search.slacks,
-    );
-}
-
-/// Looks on from the tree, and tells the goal outside it that it reaches next. None where it
-/// reaches none.
-fn widen(costs: &Costs, rows: &[usize], search: &mut Search) -> Option<Near>
-    requires costs { AreCosts costs.now rows.now }
-    requires growing { IsAhead (cost_of costs.now rows.now) (length rows.now) costs.now.goals
-        (growth_of search.old) }
-    ensures growing { IsSeen (cost_of costs.now rows.now) (length rows.now) costs.now.goals
-        (growth_of search.new) }
-    ensures next { TellsNext (cost_of costs.now rows.now) (growth_of search.new) result }
-    ensures same { search.new ≡ record search.old { slacks = search.new.slacks } }
-{
-    look_on(costs, rows, search);
-    nearest(&search.taken, &search.slacks)
+    )
 }
 
 /// Takes a goal that was reached, and the box that has it, into the tree.
@@ -250,7 +240,7 @@ pub(crate) fn grow(costs: &Costs, rows: &[usize], search: &mut Search) -> Option
     ensures room { HasRoom (length rows.now) search.new }
 {
     'growing: loop {
-        match widen(costs, rows, search) {
+        match look_on(costs, rows, search) {
             None => return None,
             Some(near) => match search.takers[near.goal] {
                 None => return Some(near),
@@ -321,4 +311,49 @@ pub(crate) fn match_all(costs: &Costs, rows: &[usize], search: &mut Search) -> b
         }
     }
     true
+}
+
+/// Forgets the goals of all boxes, and all prices.
+fn clear(search: &mut Search)
+    ensures cleared { growth_of search.new ≡ record (growth_of search.old) {
+      u = replicate (length search.old.u.items) 0;
+      v = replicate (length search.old.v.items) 0;
+      goal_of = [];
+      floor = 0;
+    } }
+    ensures room { KeepsRoom search.old search.new }
+{
+    search.u.fill(0);
+    search.v.fill(0);
+    search.goal_of.clear();
+    search.floor = 0;
+}
+
+/// A goal of its own for each box, found from nothing, for `assign` and where a matching begins
+/// anew. False where there is none, as for `match_all`.
+pub(crate) fn match_anew(costs: &Costs, rows: &[usize], search: &mut Search) -> bool
+    requires costs { AreCosts costs.now rows.now }
+    requires shaped { IsShaped (length rows.now) costs.now.goals search.old }
+    ensures tells { Tells costs.now rows.now search.new result }
+    ensures floor { search.new.floor ≡ 0 }
+    ensures shaped { IsShaped (length rows.now) costs.now.goals search.new }
+{
+    clear(search);
+    match_all(costs, rows, search)
+}
+
+/// The sum of some prices.
+fn sum_of(prices: &[u32]) -> u64
+    requires { sum prices.now < 2 ^ 64 }
+    ensures { result ≡ sum prices.now }
+{
+    prices.iter().map(|price| u64::from(*price)).sum()
+}
+
+/// What the boxes cost less what the goals cost.
+pub(crate) fn worth(search: &Search) -> u32
+    requires { HasWorth search.now }
+    ensures { result + sum search.now.v.items ≡ sum search.now.u.items }
+{
+    (sum_of(&search.u) - sum_of(&search.v)) as u32
 }

@@ -6,7 +6,6 @@ ghost use Rattle.std.specs.Prelude.{
   ◌≤◌,
   ◌+◌,
   ◌*◌,
-  [],
   None,
   All,
   Contains,
@@ -14,7 +13,6 @@ ghost use Rattle.std.specs.Prelude.{
   false,
   MatchOption,
   length,
-  replicate,
 };
 ghost use Rattle.std.specs.List.Sorted.{IsStrictlyIncreasing};
 ghost use Rattle.sok_board.specs.Area.{Numbered};
@@ -33,11 +31,10 @@ ghost use Rattle.sok_price.specs.Kept.{
   IsSettled,
   IsShaped,
 };
-ghost use Rattle.sok_price.specs.Searches.{growth_of, KeepsRoom};
 
 use crate::costs::Costs;
 use crate::exchange::exchange;
-use crate::search::{Search, match_all};
+use crate::search::{Search, match_anew};
 use sok_board::area::Sq;
 
 /// The highest floor from which a row is exchanged.
@@ -141,24 +138,8 @@ fn list_rows(squares: usize, boxes: &[Sq], rows: &mut Vec<usize>)
     }
 }
 
-/// Forgets the goals of all rows, and all prices.
-fn clear(search: &mut Search)
-    ensures cleared { growth_of search.new ≡ record (growth_of search.old) {
-      u = replicate (length search.old.u.items) 0;
-      v = replicate (length search.old.v.items) 0;
-      goal_of = [];
-      floor = 0;
-    } }
-    ensures room { KeepsRoom search.old search.new }
-{
-    search.u.fill(0);
-    search.v.fill(0);
-    search.goal_of.clear();
-    search.floor = 0;
-}
-
 /// Matches some boxes from nothing. False where they have a crowd.
-fn match_anew(
+fn set_anew(
     squares: usize,
     boxes: &[Sq],
     costs: &Costs,
@@ -180,8 +161,7 @@ fn match_anew(
         → AreTabled b costs.now.goals costs.now.entries.items → IsBounded b boxes.now None }
 {
     list_rows(squares, boxes, rows);
-    clear(search);
-    match_all(costs, rows, search)
+    match_anew(costs, rows, search)
 }
 
 /// Exchanges the rows of a matching until they are those of some boxes. False where there is no
@@ -258,5 +238,5 @@ pub(crate) fn match_boxes(
     if settle(squares, boxes, matched, marks, costs, rows, search) {
         return true;
     }
-    match_anew(squares, boxes, costs, rows, search)
+    set_anew(squares, boxes, costs, rows, search)
 }

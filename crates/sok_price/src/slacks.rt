@@ -10,6 +10,7 @@ ghost use Rattle.std.specs.Prelude.{
   Bool,
   All,
   IfSome,
+  IsTrue,
   None,
   Some,
   false,
@@ -71,8 +72,19 @@ fn closer(
     }
 }
 
+/// Whether a goal is nearer than the least slack so far, or as near and no box has it: there the
+/// search ends, with a smaller tree.
+fn is_nearer(rise: u32, least: u32, goal: usize, takers: &[Option<usize>]) -> bool
+    requires { goal < length takers.now }
+    ensures nearer { IsTrue result → rise ≤ least }
+    ensures farther { result ≡ false → least ≤ rise }
+{
+    rise < least || rise == least && takers[goal].is_none()
+}
+
 /// Looks at the goals outside the tree from a box of it, with the box's costs, its price, and its
-/// branch, which joined at some rise.
+/// branch, which joined at some rise, and tells the goal with the least slack. None where none is
+/// reached.
 pub(crate) fn look(
     row: &[Option<u16>],
     price: u32,
@@ -80,10 +92,12 @@ pub(crate) fn look(
     from: usize,
     prices: &[u32],
     taken: &[bool],
+    takers: &[Option<usize>],
     slacks: &mut [Slack],
-)
+) -> Option<Near>
     requires row { length row.now ≡ length prices.now }
     requires taken { length taken.now ≡ length prices.now }
+    requires takers { length takers.now ≡ length prices.now }
     requires slacks { length slacks.old ≡ length prices.now }
     requires small { All (λ goal_price. rise + goal_price ≤ rise_limit) prices.now }
     requires fair { (goal pushes : ℕ) → goal < length prices.now
@@ -93,25 +107,18 @@ pub(crate) fn look(
         → slice_index_or taken.now goal false ≡ false
         → slack_at slacks.new goal ≡ closer (slice_index_or row.now goal None) price
         (slice_index prices.now goal) rise from (slack_at slacks.old goal) }
-{
-    for goal in 0..prices.len() {
-        if !taken[goal] {
-            slacks[goal] = closer(row[goal], price, prices[goal], rise, from, slacks[goal]);
-        }
-    }
-}
-
-/// The goal outside the tree with the least slack, None where none is reached.
-pub(crate) fn nearest(taken: &[bool], slacks: &[Slack]) -> Option<Near>
-    requires { length taken.now ≡ length slacks.now }
-    ensures { TellsNearest taken.now slacks.now (length slacks.now) result }
+    ensures nearest { TellsNearest taken.now slacks.new (length slacks.new) result }
 {
     let mut least = UNREACHED;
     let mut at = 0;
-    for goal in 0..slacks.len() {
-        if !taken[goal] && slacks[goal].rise < least {
-            least = slacks[goal].rise;
-            at = goal;
+    for goal in 0..prices.len() {
+        if !taken[goal] {
+            let slack = closer(row[goal], price, prices[goal], rise, from, slacks[goal]);
+            slacks[goal] = slack;
+            if is_nearer(slack.rise, least, goal, takers) {
+                least = slack.rise;
+                at = goal;
+            }
         }
     }
     if least == UNREACHED {

@@ -1,5 +1,5 @@
 use Rattle.sok_price.proofs.Words.{rules, AreRows, Numbered, ap, arith, length, subst, sym, ◌≡◌, ◌≤◌, ◌+◌, ◌*◌, ◌∙◌, List, length-replicate, ℕ}
-use Rattle.sok_price.proofs.{CostRows.AreCosts-below, CostRows.AreRows-spare, CostRows.goals-few, Sparing.IsShaped-new}
+use Rattle.sok_price.proofs.{CostRows.AreCosts-below, CostRows.AreRows-spare, CostRows.goals-few}
 use Rattle.sok_price.proofs.matching.Matching.new.Goals as goal
 
 pub invariant_of-result : goal.invariant_of-result
@@ -23,8 +23,8 @@ invariant_of-result c =
       are_rows = are;
       small = search rules;
       entries = room;
-      search_shaped = IsShaped-new goals goals c.in_ok-new.field-0 c.in_ok-new.ensures.search c.in_ok-new.ensures.room (sym rows) (sym of);
-      trial_shaped = IsShaped-new goals goals c.in_ok-new-2.field-0 c.in_ok-new-2.ensures.search c.in_ok-new-2.ensures.room (sym rows) (sym of);
+      search_shaped = search rules;
+      trial_shaped = search rules;
       as_many = search rules;
       a_mark_a_square = search rules;
       whole = search rules;

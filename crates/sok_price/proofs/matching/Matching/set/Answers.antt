@@ -1,12 +1,13 @@
 use Rattle.sok_price.proofs.Words.{All, AreExactly, AreRows, Serves, length, subst, sym, ◌<◌, ◌∙◌, List, ap, arith, range_with_len, ℕ}
-use Rattle.sok_price.proofs.Sparing.{HasWorth-whole, IsCrowd-many, TellsLeast-whole}
+use Rattle.sok_price.proofs.{Answering.HasWorth-sums, Sparing.IsCrowd-many, Sparing.TellsLeast-whole, Sparing.sums-whole}
 use Rattle.sok_price.proofs.matching.Matching.set.Goals as goal
 
 pub worth-requires : goal.worth-requires
 worth-requires c =
     let found = c.match_boxes-self-inside in
-    HasWorth-whole c.self.inside.costs found.new.rows.items found.new.search (found.ensures.settled c.if-not-self.false).whole
-    (found.ensures.kept.whole ∙ c.self.invariant.square)
+    let is = (found.ensures.settled c.if-not-self.false).whole in
+    HasWorth-sums c.self.inside.costs found.new.rows.items found.new.search is
+    (sums-whole is.ready (found.ensures.kept.whole ∙ c.self.invariant.square) is.whole)
 
 pub returns-clause-least : goal.returns-clause-least
 returns-clause-least c = λ b serves.

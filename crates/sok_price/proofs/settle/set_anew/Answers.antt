@@ -1,18 +1,18 @@
-use Rattle.sok_price.proofs.Words.{All, AreExactly, AreRows, Growth, ap, arith, refl, subst, sym, ◌<◌, AreCosts, IsWhole, Tells}
+use Rattle.sok_price.proofs.Words.{All, AreExactly, AreRows, arith, refl, subst, sym, ◌<◌, AreCosts, IsWhole, Tells}
 use Rattle.sok_price.proofs.{Exchanging.AreExactly-listed, Exchanging.AreRows-listed, Exchanging.AreSet-listed, Sparing.IsBounded-closed}
-use Rattle.sok_price.proofs.settle.match_anew.Goals as goal
+use Rattle.sok_price.proofs.settle.set_anew.Goals as goal
 
 pub returns-clause-kept : goal.returns-clause-kept
 returns-clause-kept c = AreSet-listed c.requires.exist c.list_rows.ensures refl c.requires.costs c.requires.rising c.requires.entries
 
-pub match_all-requires-clause-costs : goal.match_all-requires-clause-costs
-match_all-requires-clause-costs c = subst (AreCosts c.args.costs.now) (sym c.deref.ensures.value)
+pub match_anew-requires-clause-costs : goal.match_anew-requires-clause-costs
+match_anew-requires-clause-costs c = subst (AreCosts c.args.costs.now) (sym c.deref.ensures.value)
     (AreSet-listed c.requires.exist c.list_rows.ensures refl c.requires.costs c.requires.rising c.requires.entries).shaped
 
 pub returns-clause-settled : goal.returns-clause-settled
 returns-clause-settled c = λ yes. record {
-  whole = subst (λ rows. IsWhole c.args.costs.now rows c.match_all.new.search) c.deref.ensures.value (c.match_all.ensures.tells.whole yes);
-  low = omega (arith, c.match_all.ensures.floor, ap (λ (g : Growth). g.floor) c.clear.ensures.cleared);
+  whole = subst (λ rows. IsWhole c.args.costs.now rows c.match_anew.new.search) c.deref.ensures.value (c.match_anew.ensures.tells.whole yes);
+  low = omega (arith, c.match_anew.ensures.floor);
   exactly = AreExactly-listed c.requires.exist c.list_rows.ensures c.requires.enough;
 }
 
@@ -20,11 +20,11 @@ pub returns-clause-crowd : goal.returns-clause-crowd
 returns-clause-crowd c = λ no b area tabled.
     let boxes = c.args.boxes.now in
     let rows = c.list_rows.new.rows.items in
-    IsBounded-closed b c.args.costs.now rows c.match_all.new.search boxes (record {
+    IsBounded-closed b c.args.costs.now rows c.match_anew.new.search boxes (record {
       tabled = tabled;
       square = omega (arith, c.list_rows.ensures.whole, c.requires.square);
       are_rows = subst (λ n. AreRows n rows) (sym area) (AreRows-listed c.requires.exist c.list_rows.ensures c.requires.rising);
       exactly = subst (λ n. AreExactly n rows boxes) (sym area) (AreExactly-listed c.requires.exist c.list_rows.ensures c.requires.enough);
       exist = subst (λ n. All (λ square. square < n) boxes) (sym area) c.requires.exist;
       rising = c.requires.rising;
-    }) (subst (λ rows. Tells c.args.costs.now rows c.match_all.new.search c.match_all.result) c.deref.ensures.value c.match_all.ensures.tells) no
+    }) (subst (λ rows. Tells c.args.costs.now rows c.match_anew.new.search c.match_anew.result) c.deref.ensures.value c.match_anew.ensures.tells) no
