@@ -1,5 +1,5 @@
 -- How many goals are reached: as many as the shortest list that has them all.
-use Rattle.std.proofs.Common.{ℕ, ◌≡◌, ◌≢◌, true, true≢false, Option, Some, None, is_some, ◌<◌, ◌≤◌, ◌+◌, inl, inr, refl, sym, ap, ◌∙◌, subst, List, [], ◌∷◌}
+use Rattle.std.proofs.Common.{ℕ, ◌≡◌, ◌≢◌, true, true≢false, Option, Some, None, is_some, ◌<◌, ◌≤◌, ◌+◌, inl, inr, refl, sym, ap, ◌∙◌, subst, List, ◌∷◌}
 use Rattle.std.proofs.Common.{Contains, arith, length, get_or}
 use Rattle.std.specs.List.{remove}
 use Rattle.std.specs.List.Sorted.{IsStrictlyIncreasing}

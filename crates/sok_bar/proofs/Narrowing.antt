@@ -15,7 +15,7 @@ use Rattle.sok_field.specs.Fields.{has}
 use Rattle.sok_price.specs.Prices.{AreMembers, IsMember}
 use Rattle.sok_state.specs.Layouts.{IsLaidOut, Laid}
 use Rattle.sok_bar.specs.Jam.{HasJamWith, IsGoalSquare, IsHeld}
-use Rattle.sok_bar.specs.Narrowed.{HasDrawnOffGoal, IsLeft, IsNarrowed, IsTaken, KeepsJams, TellsPass, TellsTaken}
+use Rattle.sok_bar.specs.Narrowed.{HasDrawnOffGoal, IsLeft, IsLeftHeld, IsNarrowed, IsTaken, KeepsJams, TellsPass, TellsTaken}
 use Rattle.sok_bar.specs.Settings.{IsDrawn}
 use Rattle.sok_bar.proofs.Removal.{IsHeld-more}
 use Rattle.sok_bar.proofs.Rising.{Contains-member, index_of}
@@ -190,27 +190,28 @@ module _ (b : Numbered) (boxes rows : List ℕ) (exist : (s : ℕ) → Contains 
     drawn-member s here,
   )
 
-module _ (b : Numbered) (area : IsArea b.rows b.area) (boxes : List ℕ) (laid : Laid) (out : IsLaidOut b boxes laid) (held : List ℕ)
-    (narrowed : IsNarrowed b laid.boxes laid.boxed held) where
+module _ (b : Numbered) (area : IsArea b.rows b.area) (boxes : List ℕ) (laid : Laid) (out : IsLaidOut b boxes laid) (held : List ℕ) (s : ℕ) (stays : Bool)
+    (narrowed : IsNarrowed b laid.boxes s laid.boxed held stays) where
   left : KeepsJams b boxes held
   left = narrowed.jams boxes (KeepsJams-laid b area boxes laid out)
 
-  each_held : (t : ℕ) → IsDrawn b held t → IsHeld b (IsDrawn b held) t
-  each_held t drawn =
+  each_held : IsLeftHeld b laid.boxes s held → (t : ℕ) → IsDrawn b held t → IsHeld b (IsDrawn b held) t
+  each_held all t drawn =
       let (k, within, is) = (out.listed t).1 (left.among t drawn) in
       let at : get_or laid.boxes k 0 ≡ t = get_or_default laid.boxes k 0 t within ∙ is in
-      subst (IsHeld b (IsDrawn b held)) at (narrowed.held k within (subst (IsDrawn b held) (sym at) drawn))
+      subst (IsHeld b (IsDrawn b held)) at (all.held k within (subst (IsDrawn b held) (sym at) drawn))
 
   -- what is left of a layout is a jam
-  pub HasJamWith-narrowed : (s : ℕ) → IsDrawn b held s → HasDrawnOffGoal b laid.boxes held → HasJamWith b boxes s
-  HasJamWith-narrowed s drawn (off, one, off_drawn, off_goal) =
-      HasJamWith-left b boxes held (λ t listed. All-contains (λ n. n < length b.area) laid.boxes t out.exist ((out.listed t).1 listed)) left s each_held drawn
-      off off_drawn off_goal
+  pub HasJamWith-narrowed : stays ≡ true → HasDrawnOffGoal b laid.boxes held → HasJamWith b boxes s
+  HasJamWith-narrowed stayed (off, one, off_drawn, off_goal) =
+      let all = narrowed.left stayed in
+      HasJamWith-left b boxes held (λ t listed. All-contains (λ n. n < length b.area) laid.boxes t out.exist ((out.listed t).1 listed)) left s (each_held all)
+      all.drawn off off_drawn off_goal
 
   -- and each jam is left
-  pub narrowed-jam : (s : ℕ) → HasJamWith b boxes s → IsDrawn b held s × HasDrawnOffGoal b laid.boxes held
-  narrowed-jam s (members, jam, member) =
+  pub narrowed-jam : HasJamWith b boxes s → (stays ≡ true) × HasDrawnOffGoal b laid.boxes held
+  narrowed-jam (members, jam, member) =
       let (off, one, off_goal) = jam.off_goal in (
-        left.most members jam s member,
+        elim (cases_Bool stays) [ inl stayed ↦ stayed | inr taken ↦ absurd (narrowed.gone taken (left.most members jam s member)) ],
         (off, (out.listed off).1 (Contains-member boxes members off one), left.most members jam off one, off_goal),
       )

@@ -38,10 +38,16 @@ pub record TellsPass (b : Numbered) (boxes : List ℕ) (n : ℕ) (old new : List
   pub some : taken ≡ true → drawn_of b boxes new < drawn_of b boxes old
   pub none : taken ≡ false → (new ≡ old) × ((k : ℕ) → k < n → IsDrawn b old (slice_index boxes k) → IsHeld b (IsDrawn b old) (slice_index boxes k))
 
--- until each that is left is held by those that are left
-pub record IsNarrowed (b : Numbered) (boxes old new : List ℕ) : Type 0 where
+-- a box is left, and each that is left is held by those that are left
+pub record IsLeftHeld (b : Numbered) (boxes : List ℕ) (s : ℕ) (rows : List ℕ) : Type 0 where
+  pub drawn : IsDrawn b rows s
+  pub held : (k : ℕ) → k < length boxes → IsDrawn b rows (slice_index boxes k) → IsHeld b (IsDrawn b rows) (slice_index boxes k)
+
+-- until that is so, or until the box is taken
+pub record IsNarrowed (b : Numbered) (boxes : List ℕ) (s : ℕ) (old new : List ℕ) (stays : Bool) : Type 0 where
   pub jams : (others : List ℕ) → KeepsJams b others old → KeepsJams b others new
-  pub held : (k : ℕ) → k < length boxes → IsDrawn b new (slice_index boxes k) → IsHeld b (IsDrawn b new) (slice_index boxes k)
+  pub left : stays ≡ true → IsLeftHeld b boxes s new
+  pub gone : stays ≡ false → IsDrawn b new s → ⊥
 
 -- one of them stands off a goal
 abbrev pub HasDrawnOffGoal : Numbered → List ℕ → List ℕ → Type 0

@@ -29,20 +29,25 @@ pub fn has_jam(board: &Board, tables: &Tables, layout: &Layout, square: Sq) -> b
     }
     let mut held = Field::new();
     held.copy_from(layout.boxed());
-    narrow(board, tables, layout.boxes(), &mut held);
-    is_drawn(board, &held, square) && has_off_goal(board, layout.boxes(), &held)
+    narrow(board, tables, layout.boxes(), square, &mut held)
+        && has_off_goal(board, layout.boxes(), &held)
 }
 
-/// Takes boxes away that are not held by those that are left, until there is none.
-fn narrow(board: &Board, tables: &Tables, boxes: &[Sq], held: &mut Field)
+/// Takes boxes away that are not held by those that are left, until there is none, or until the one
+/// on a square is taken. Tells whether that one stays.
+fn narrow(board: &Board, tables: &Tables, boxes: &[Sq], square: Sq, held: &mut Field) -> bool
     requires accepted { IsAccepted board.now }
     requires tables { tables.now.board ≡ board.now }
     requires exist { All (λ square. square < length board.now.area) boxes.now }
-    ensures { IsNarrowed board.now boxes.now held.old held.new }
+    requires exists { square < length board.now.area }
+    ensures { IsNarrowed board.now boxes.now square held.old held.new result }
 {
     'passes: loop {
+        if !is_drawn(board, held, square) {
+            return false;
+        }
         if !take_loose(board, tables, boxes, held) {
-            return;
+            return true;
         }
     }
 }

@@ -1,9 +1,9 @@
 -- Sets of which no square lies in a row from one on.
-use Rattle.std.proofs.Common.{ℕ, ◌≡◌, ◌<◌, ◌+◌, ◌-◌, ◌⊎◌, ◌↔◌, inl, inr, List, ◌++◌, sym, ap, ◌∙◌, arith, true, false, eqb, get_or, max, length, refl}
-use Rattle.std.proofs.Common.{take, drop}
+use Rattle.std.proofs.Common.{ℕ, ◌≡◌, ◌<◌, ◌≤◌, ◌+◌, ◌-◌, ◌⊎◌, ◌↔◌, inl, inr, List, ◌++◌, sym, ap, ◌∙◌, arith, true, false, eqb, get_or, max, length, refl}
+use Rattle.std.proofs.Common.{take, drop, true≢false}
 use Rattle.std.specs.Int.{bit_at}
 use Rattle.std.proofs.lemmas.Bool.{cases_Bool, cases_lt}
-use Rattle.std.proofs.lemmas.List.{get_or-take, get_or-drop, get_or_append_left, get_or-append_right, length-append, length-take-le}
+use Rattle.std.proofs.lemmas.List.{get_or-take, get_or-drop, get_or_append_left, get_or-append_right, length-append, length-take, length-take-le}
 use Rattle.sok_rules.specs.declared.cell.Spot.{Spot}
 use Rattle.sok_field.specs.Fields.{has, IsHigh}
 use Rattle.sok_field.specs.Ways.{way, Joined}
@@ -14,6 +14,12 @@ unfolding has
 has-row a b s r same t row col =
     ap (λ n. eqb (bit_at n s.col) 1) (same ∙ ap (λ k. get_or b k 0) (sym row)) ∙ ap (λ c. eqb (bit_at (get_or b t.row 0) c) 1) (sym col)
 
+none-past : (rows : List ℕ) (height : ℕ) → IsHigh rows height → (s : Spot) → height ≤ s.row → has rows s ≡ false
+none-past rows height high s past = elim (cases_Bool (has rows s)) [
+  | inl there ↦ let below = high.below s there in absurd (omega (arith, below, past))
+  | inr none ↦ none
+]
+
 -- the rows that have squares
 pub has-take : (rows : List ℕ) (height : ℕ) → IsHigh rows height → (s : Spot) → has (take height rows) s ≡ has rows s
 has-take rows height high s = elim (cases_lt s.row height) [
@@ -21,14 +27,17 @@ has-take rows height high s = elim (cases_lt s.row height) [
   | inr past ↦
       let within = high.within in
       let long = length-take-le height rows within in
-      has-past (take height rows) s (omega (arith, long, past)) ∙ sym (elim (cases_Bool (has rows s)) [
-        | inl there ↦ let below = high.below s there in absurd (omega (arith, below, past))
-        | inr none ↦ none
-      ])
+      has-past (take height rows) s (omega (arith, long, past)) ∙ sym (none-past rows height high s past)
+]
+
+pub none-take : (rows : List ℕ) (height : ℕ) → ((s : Spot) → has rows s ≡ false) → (s : Spot) → has (take height rows) s ≡ false
+none-take rows height none s = elim (cases_lt s.row height) [
+  | inl below ↦ has-row (take height rows) rows s s.row (get_or-take height rows s.row 0 below) s refl refl ∙ none s
+  | inr past ↦ let long = length-take height rows in has-past (take height rows) s (omega (arith, long, past))
 ]
 
 -- rows with blank ones below them
-pub has-blank : (seen blank : List ℕ) (height : ℕ) → length seen ≡ height → ((s : Spot) → has blank s ≡ false) → (s : Spot)
+pub has-blank : (seen blank : List ℕ) (height : ℕ) → length seen ≡ height → ((s : Spot) → height ≤ s.row → has blank s ≡ false) → (s : Spot)
     → has (seen ++ drop height blank) s ≡ has seen s
 has-blank seen blank height long none s = elim (cases_lt s.row (length seen)) [
   | inl below ↦ has-row (seen ++ drop height blank) seen s s.row (get_or_append_left seen (drop height blank) 0 s.row below) s refl refl
@@ -37,8 +46,16 @@ has-blank seen blank height long none s = elim (cases_lt s.row (length seen)) [
       let right = get_or-append_right seen (drop height blank) (length seen) s.row 0 refl past in
       has-row (seen ++ drop height blank) blank s s.row
       (right ∙ get_or-drop height blank (s.row - length seen) 0 ∙ ap (λ k. get_or blank k 0) back) s refl refl
-      ∙ none s ∙ sym (has-past seen s past)
+      ∙ none s (omega (arith, long, past)) ∙ sym (has-past seen s past)
 ]
+
+-- rows of which those that have squares are cleared
+pub has-cleared : (blank old : List ℕ) (height : ℕ) → IsHigh old height → length blank ≡ height → ((s : Spot) → has blank s ≡ false) → (s : Spot)
+    → has (blank ++ drop height old) s ≡ false
+has-cleared blank old height high long none s = has-blank blank old height long (none-past old height high) s ∙ none s
+
+pub IsHigh-none : (rows : List ℕ) → ((s : Spot) → has rows s ≡ false) → IsHigh rows 0
+IsHigh-none rows none = record { within = omega arith; below = λ s e. absurd (true≢false (sym e ∙ none s)) }
 
 -- a row more may have squares
 pub IsHigh-more : (old new : List ℕ) (height more row : ℕ) → IsHigh old height → length new ≡ length old → row < length old → more ≡ max height (row + 1)
@@ -58,7 +75,7 @@ pub flooded-low : (free seen blank : List ℕ) (height : ℕ) (from : Spot) → 
     → ((s : Spot) → (has seen s ≡ true) ↔ Joined (has (take height free)) from s)
     → (s : Spot) → (has (seen ++ drop height blank) s ≡ true) ↔ Joined (has free) from s
 flooded-low free seen blank height from high long none joined s =
-    let is = has-blank seen blank height long none s in
+    let is = has-blank seen blank height long (λ t _. none t) s in
     let lets : has (take height free) ≡ has free = λ i t. has-take free height high t i in (
       λ e. let (w, leads) = (joined s).0 (sym is ∙ e) in (w, ap (λ through. way through from w) (sym lets) ∙ leads),
       λ (w, leads). is ∙ (joined s).1 (w, ap (λ through. way through from w) lets ∙ leads),
@@ -69,5 +86,5 @@ IsHigh-low seen blank height long none =
     let more = length-append seen (drop height blank) in
     record {
       within = omega (arith, more, long);
-      below = λ s e. let within = has-within seen s (sym (has-blank seen blank height long none s) ∙ e) in omega (arith, within, long);
+      below = λ s e. let within = has-within seen s (sym (has-blank seen blank height long (λ t _. none t) s) ∙ e) in omega (arith, within, long);
     }

@@ -9,7 +9,7 @@ use Rattle.sok_field.specs.Rounds.{spread_row}
 use Rattle.sok_field.proofs.Rounds.{above-later, spread_row-of}
 
 -- what one lane of a vector has
-record IsLane (j : ℕ) (xs : List ℕ) (x : ℕ) : Type 0 where
+pub record IsLane (j : ℕ) (xs : List ℕ) (x : ℕ) : Type 0 where
   pub long : length xs ≡ 4
   pub is : get_or xs j 0 ≡ x
 
@@ -46,7 +46,7 @@ lane-widened j xs x within row =
     let shr = lane-zip2 (λ a k. a / 2 ^ k) j xs ones x 1 within row (lane-ones j within) in
     lane-zip2 bit_or j _ _ _ _ within (lane-zip2 bit_or j _ _ _ _ within row shl) shr
 
-lane-spread : (seen free : List ℕ) (r j : ℕ) → 0 < r → r + 4 < length seen → length free ≡ length seen → j < 4
+pub lane-spread : (seen free : List ℕ) (r j : ℕ) → 0 < r → r + 4 < length seen → length free ≡ length seen → j < 4
     → IsLane j (spread_lanes seen free r) (spread_row seen free (r + j))
 lane-spread seen free r j begun room long within =
     let row = lane-widened j (chunk r 4 seen) (get_or seen (r + j) 0) within (lane-chunk r j seen within (omega arith)) in
@@ -63,17 +63,16 @@ lane-spread seen free r j begun room long within =
     }
 
 -- with four rows more the rows are those of the round
-pub done-lanes : (seen free out : List ℕ) (r : ℕ) → 0 < r → r + 4 < length seen → length free ≡ length seen → length out ≡ length seen
+pub done-lanes : (seen free out four : List ℕ) (r : ℕ) → length four ≡ 4 → r + 4 ≤ length out
+    → ((j : ℕ) → j < 4 → get_or four j 0 ≡ spread_row seen free (r + j))
     → ((k : ℕ) → k < r → get_or out k 0 ≡ spread_row seen free k) → (k : ℕ) → k < r + 4
-    → get_or (put_chunk r out (spread_lanes seen free r)) k 0 ≡ spread_row seen free k
-done-lanes seen free out r begun room long whole done k within = elim (cases_lt k r) [
-  | inl before ↦ get_or-put_chunk_below r out (spread_lanes seen free r) k 0 before ∙ done k before
+    → get_or (put_chunk r out four) k 0 ≡ spread_row seen free k
+done-lanes seen free out four r long room lanes done k within = elim (cases_lt k r) [
+  | inl before ↦ get_or-put_chunk_below r out four k 0 before ∙ done k before
   | inr past ↦
       let below : k - r < 4 = omega arith in
       let at : k ≡ r + (k - r) = omega arith in
-      let lane = lane-spread seen free r (k - r) begun room long below in
-      let four = lane.long in
-      ap (λ n. get_or (put_chunk r out (spread_lanes seen free r)) n 0) at
-      ∙ get_or-put_chunk_at r out (spread_lanes seen free r) (k - r) 0 (omega (arith, four, below)) (omega (arith, four, room, whole)) ∙ lane.is ∙ ap
+      ap (λ n. get_or (put_chunk r out four) n 0) at
+      ∙ get_or-put_chunk_at r out four (k - r) 0 (omega (arith, long, below)) (omega (arith, long, room)) ∙ lanes (k - r) below ∙ ap
       (spread_row seen free) (sym at)
 ]

@@ -2,6 +2,7 @@ pub mod Flooding
 pub mod Lanes
 pub mod ByNumber
 pub mod ByRuns
+pub mod Closed
 pub mod Drawings
 pub mod Heights
 pub mod OneSquare

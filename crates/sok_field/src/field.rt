@@ -117,20 +117,22 @@ impl Field {
         bits::first(&self.rows)
     }
 
+    /// Takes all squares out of the set. The rows from its height on have none.
+    fn clear(&mut self)
+        ensures { (s : Spot) → has self.new s ≡ false }
+    {
+        bits::clear(&mut self.rows[..self.height]);
+        self.height = 0;
+    }
+
     /// Makes it the squares that are joined to one over free squares, itself among them.
     pub fn flood(&mut self, free: &Field, from: Spot)
         requires { IsTrue (has free.now from) }
         ensures { (s : Spot) → IsTrue (has self.new s) ↔ Joined (has free.now) from s }
     {
+        self.clear();
         let height = free.height;
-        let mut next = [0; ROWS];
-        bits::clear(&mut self.rows);
-        flood(
-            &free.rows[..height],
-            &mut self.rows[..height],
-            &mut next[..height],
-            from,
-        );
+        flood(&free.rows[..height], &mut self.rows[..height], from);
         self.height = height;
     }
 }

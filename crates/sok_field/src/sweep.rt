@@ -6,8 +6,6 @@ ghost use Rattle.sok_field.specs.Floods.{IsSpreading};
 ghost use Rattle.sok_field.specs.Rounds.{above};
 ghost use Rattle.sok_field.specs.Sweeps.{IsStepped, GoesOn};
 
-use sok_rules::cell::Spot;
-
 /// The squares of a row that are joined to seeds within the row.
 fn stepped(seeds: u64, free: u64) -> u64
     requires { bit_and seeds free ≡ seeds }
@@ -24,7 +22,7 @@ fn stepped(seeds: u64, free: u64) -> u64
 }
 
 /// Has a row meet what is joined within it to its squares.
-fn step_row(free: &[u64], seen: &mut [u64], r: usize)
+pub(crate) fn step_row(free: &[u64], seen: &mut [u64], r: usize)
     requires row { r < length seen.old }
     requires whole { length free.now ≡ length seen.old }
     requires inside { bit_and (slice_index seen.old r) (slice_index free.now r)
@@ -36,25 +34,28 @@ fn step_row(free: &[u64], seen: &mut [u64], r: usize)
 }
 
 /// Has a row meet the squares beside those of a row beside it, and what is joined to them within
-/// the row. Tells whether it has met any.
-fn meet_row(free: &[u64], seen: &mut [u64], r: usize, beside: u64) -> bool
+/// the row. Tells the row, and whether it has met any.
+fn meet_row(free: &[u64], seen: &mut [u64], r: usize, beside: u64) -> (u64, bool)
     requires row { r < length seen.old }
     requires whole { length free.now ≡ length seen.old }
     requires beside { (beside ≡ above seen.old r) ⊎ (beside ≡ slice_index seen.old (r + 1)) }
-    ensures { (from : Spot) → IsSpreading free.now from seen.old
-        → GoesOn free.now from seen.old seen.new result }
+    ensures row { result.0 ≡ slice_index seen.new r }
+    ensures goes_on { (from : Spot) → IsSpreading free.now from seen.old
+        → GoesOn free.now from seen.old seen.new result.1 }
 {
     let row = seen[r];
-    let seeds = free[r] & (row | beside);
+    let free_row = free[r];
+    let seeds = free_row & (row | beside);
     if seeds == row {
-        return false;
+        return (row, false);
     }
-    seen[r] = stepped(seeds, free[r]);
-    true
+    let word = stepped(seeds, free_row);
+    seen[r] = word;
+    (word, true)
 }
 
 /// Goes down from a row as far as squares are met. Tells the last row.
-fn sweep_down(free: &[u64], seen: &mut [u64], low: usize) -> usize
+pub(crate) fn sweep_down(free: &[u64], seen: &mut [u64], low: usize) -> usize
     requires row { low < length seen.old }
     requires whole { length free.now ≡ length seen.old }
     ensures within { result < length seen.old }
@@ -62,20 +63,21 @@ fn sweep_down(free: &[u64], seen: &mut [u64], low: usize) -> usize
         → GoesOn free.now from seen.old seen.new false }
 {
     let mut r = low;
+    let mut above = seen[low];
     while r + 1 < seen.len() {
-        let above = seen[r];
         r += 1;
-        let met = meet_row(free, seen, r, above);
-        if !met && seen[r] == 0 {
+        let (row, _) = meet_row(free, seen, r, above);
+        if row == 0 {
             break;
         }
+        above = row;
     }
     r
 }
 
 /// Goes up from a row as far as squares are met, and at least to a second row. Tells the last row,
 /// and whether any were met.
-fn sweep_up(free: &[u64], seen: &mut [u64], high: usize, low: usize) -> (usize, bool)
+pub(crate) fn sweep_up(free: &[u64], seen: &mut [u64], high: usize, low: usize) -> (usize, bool)
     requires row { high < length seen.old }
     requires whole { length free.now ≡ length seen.old }
     ensures within { result.0 < length seen.old }
@@ -83,42 +85,17 @@ fn sweep_up(free: &[u64], seen: &mut [u64], high: usize, low: usize) -> (usize, 
         → GoesOn free.now from seen.old seen.new result.1 }
 {
     let mut r = high;
+    let mut below = seen[high];
     let mut grown = false;
     while r > 0 {
-        let below = seen[r];
         r -= 1;
-        let met = meet_row(free, seen, r, below);
+        let (row, met) = meet_row(free, seen, r, below);
         if met {
             grown = true;
-        } else if seen[r] == 0 && r < low {
+        } else if row == 0 && r < low {
             break;
         }
+        below = row;
     }
     (r, grown)
-}
-
-/// Sweeps down and up over the rows that are met, from the row of the start, until a sweep up
-/// meets nothing.
-pub(crate) fn sweep(free: &[u64], seen: &mut [u64], from: Spot)
-    requires whole { length free.now ≡ length seen.old }
-    requires flooding { IsSpreading free.now from seen.old }
-    ensures { GoesOn free.now from seen.old seen.new false }
-{
-    let row = from.row as usize;
-    step_row(free, seen, row);
-    let mut low = row;
-    let mut high = row;
-    loop {
-        let end = sweep_down(free, seen, low);
-        if end > high {
-            high = end;
-        }
-        let (end, grown) = sweep_up(free, seen, high, low);
-        if end < low {
-            low = end;
-        }
-        if !grown {
-            return;
-        }
-    }
 }

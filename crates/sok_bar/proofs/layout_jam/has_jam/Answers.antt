@@ -14,30 +14,29 @@ returns-then-not-is_held c = λ boxes laid. (
       (sym c.boxed.ensures) held)) ∙ c.if-not-is_held.true)) jam),
 )
 
-pub returns-then-is_drawn : goal.returns-then-is_drawn
-returns-then-is_drawn c = λ boxes laid.
+pub returns-then-narrow : goal.returns-then-narrow
+returns-then-narrow c = λ boxes laid.
     let b = c.args.board.now in
     let layout = c.args.layout.now in
-    let narrowed : IsNarrowed b layout.boxes layout.boxed c.narrow.new.held =
-    subst (λ (squares : List ℕ). IsNarrowed b squares layout.boxed c.narrow.new.held) c.boxes.ensures
-    (subst (λ (rows : List ℕ). IsNarrowed b c.boxes.result.now rows c.narrow.new.held) (c.copy_from.ensures ∙ c.boxed-2.ensures) c.narrow.ensures) in (
-      λ off. HasJamWith-narrowed b c.requires.accepted.numbered boxes layout laid c.narrow.new.held narrowed c.args.square
-          (c.is_drawn.ensures.0 c.if-is_drawn.true)
-          (subst (λ (squares : List ℕ). HasDrawnOffGoal b squares c.narrow.new.held) c.boxes-then-is_drawn.ensures (c.has_off_goal.ensures.0 off)),
+    let narrowed : IsNarrowed b layout.boxes c.args.square layout.boxed c.narrow.new.held c.narrow.result =
+    subst (λ (squares : List ℕ). IsNarrowed b squares c.args.square layout.boxed c.narrow.new.held c.narrow.result) c.boxes.ensures
+    (subst (λ (rows : List ℕ). IsNarrowed b c.boxes.result.now c.args.square rows c.narrow.new.held c.narrow.result) (c.copy_from.ensures ∙ c.boxed-2.ensures)
+    c.narrow.ensures) in (
+      λ off. HasJamWith-narrowed b c.requires.accepted.numbered boxes layout laid c.narrow.new.held c.args.square c.narrow.result narrowed c.if-narrow.true
+          (subst (λ (squares : List ℕ). HasDrawnOffGoal b squares c.narrow.new.held) c.boxes-then-narrow.ensures (c.has_off_goal.ensures.0 off)),
       λ jam.
-          let (_, off) = narrowed-jam b c.requires.accepted.numbered boxes layout laid c.narrow.new.held narrowed c.args.square jam in
-          c.has_off_goal.ensures.1 (subst (λ (squares : List ℕ). HasDrawnOffGoal b squares c.narrow.new.held) (sym c.boxes-then-is_drawn.ensures) off),
+          let (_, off) = narrowed-jam b c.requires.accepted.numbered boxes layout laid c.narrow.new.held c.args.square c.narrow.result narrowed jam in
+          c.has_off_goal.ensures.1 (subst (λ (squares : List ℕ). HasDrawnOffGoal b squares c.narrow.new.held) (sym c.boxes-then-narrow.ensures) off),
     )
 
-pub returns-else-is_drawn : goal.returns-else-is_drawn
-returns-else-is_drawn c = λ boxes laid.
+pub returns-else-narrow : goal.returns-else-narrow
+returns-else-narrow c = λ boxes laid.
     let b = c.args.board.now in
     let layout = c.args.layout.now in
-    let narrowed : IsNarrowed b layout.boxes layout.boxed c.narrow.new.held =
-    subst (λ (squares : List ℕ). IsNarrowed b squares layout.boxed c.narrow.new.held) c.boxes.ensures
-    (subst (λ (rows : List ℕ). IsNarrowed b c.boxes.result.now rows c.narrow.new.held) (c.copy_from.ensures ∙ c.boxed-2.ensures) c.narrow.ensures) in (
-      λ drawn. absurd (true≢false (sym drawn ∙ c.if-is_drawn.false)),
-      λ jam.
-          let (drawn, _) = narrowed-jam b c.requires.accepted.numbered boxes layout laid c.narrow.new.held narrowed c.args.square jam in
-          c.is_drawn.ensures.1 drawn,
+    let narrowed : IsNarrowed b layout.boxes c.args.square layout.boxed c.narrow.new.held c.narrow.result =
+    subst (λ (squares : List ℕ). IsNarrowed b squares c.args.square layout.boxed c.narrow.new.held c.narrow.result) c.boxes.ensures
+    (subst (λ (rows : List ℕ). IsNarrowed b c.boxes.result.now c.args.square rows c.narrow.new.held c.narrow.result) (c.copy_from.ensures ∙ c.boxed-2.ensures)
+    c.narrow.ensures) in (
+      λ stayed. absurd (true≢false (sym stayed ∙ c.if-narrow.false)),
+      λ jam. (narrowed-jam b c.requires.accepted.numbered boxes layout laid c.narrow.new.held c.args.square c.narrow.result narrowed jam).0,
     )

@@ -1,9 +1,13 @@
-use Rattle.std.proofs.Common.{◌≡◌, ◌-◌, length, sum}
+use Rattle.std.proofs.Common.{◌<◌, ◌-◌, length, sum}
 use Rattle.sok_field.specs.Floods.{IsSpreading}
 use Rattle.sok_field.proofs.flood.flood.Given as goal
 
-abbrev pub invariant-loop-from : goal.invariant-loop-from
-invariant-loop-from l = record { flooding : IsSpreading l.free l.fn.from l.seen; next : length l.next ≡ length l.free }
+abbrev pub invariant-loop-high : goal.invariant-loop-high
+invariant-loop-high l = record {
+  low : l.low < length l.fn.seen;
+  high : l.high < length l.fn.seen;
+  flooding : IsSpreading l.free l.fn.from l.seen;
+}
 
-abbrev pub decreases-loop-from : goal.decreases-loop-from
-decreases-loop-from l = sum l.free - sum l.seen
+abbrev pub decreases-loop-high : goal.decreases-loop-high
+decreases-loop-high l = sum l.free - sum l.seen

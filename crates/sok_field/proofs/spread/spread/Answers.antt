@@ -8,8 +8,8 @@ pub loop-r-preserved : goal.loop-r-preserved
 loop-r-preserved c = record {
   begun = omega arith;
   within = omega arith;
-  done = done-lanes c.args.seen.now c.args.free.now c.loop-r.out c.loop-r.r c.loop-r.invariant.begun c.loop-r-test.true c.requires.free
-      (omega (arith, length-set {A = ℕ})) c.loop-r.invariant.done;
+  done = done-lanes c.args.seen.now c.args.free.now c.loop-r.out c.spread_rows.result c.loop-r.r c.spread_rows.ensures.long
+      (omega (arith, length-set {A = ℕ})) c.spread_rows.ensures.rows c.loop-r.invariant.done;
 }
 
 pub returns-then-rows-eq0 : goal.returns-then-rows-eq0

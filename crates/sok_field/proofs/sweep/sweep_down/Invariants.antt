@@ -1,4 +1,4 @@
-use Rattle.std.proofs.Common.{◌<◌, ◌-◌, false, length}
+use Rattle.std.proofs.Common.{◌<◌, ◌-◌, false, length, get_or, ◌≡◌}
 use Rattle.sok_rules.specs.declared.cell.Spot.{Spot}
 use Rattle.sok_field.specs.Floods.{IsSpreading}
 use Rattle.sok_field.specs.Sweeps.{GoesOn}
@@ -7,6 +7,7 @@ use Rattle.sok_field.proofs.sweep.sweep_down.Given as goal
 abbrev pub invariant-loop-r : goal.invariant-loop-r
 invariant-loop-r l = record {
   within : l.r < length l.initial.seen;
+  above : l.above ≡ get_or l.seen l.r 0;
   goes_on : (from : Spot) → IsSpreading l.free from l.initial.seen → GoesOn l.free from l.initial.seen l.seen false;
 }
 
