@@ -4,14 +4,12 @@
 //! | Module | What it holds |
 //! |---|---|
 //! | `answer` | what is answered, and writing it |
-//! | `certified` | an answer with a certificate, and writing them to two writers |
 //! | `fault` | why there is no answer |
 //! | `input` | how long inputs may be, and reading all of one |
 //! | `output` | writing all of a text |
 #![tactic(auto)]
 
 pub mod answer;
-pub mod certified;
 pub mod fault;
 pub mod input;
 pub mod output;

@@ -6,7 +6,6 @@ pub mod Headers
 pub mod LineEnds
 pub mod Numbers
 pub mod Printable
-pub mod Printing
 pub mod Reaching
 pub mod Readings
 pub mod Words

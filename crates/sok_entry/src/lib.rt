@@ -9,7 +9,7 @@
 //! | `limits` | which certificates have a text |
 //! | `number` | numbers of a text (private) |
 //! | `reading` | certificates, read from their text |
-//! | `writing` | the text of a certificate |
+//! | `writing` | the text of a certificate, whole or line by line |
 #![tactic(auto)]
 
 pub mod claim;

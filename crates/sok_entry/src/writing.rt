@@ -1,14 +1,17 @@
-//! The text of a certificate.
+//! The text of a certificate, whole or line by line. Where memory is refused in a line, a front of
+//! the line may be appended.
 
-ghost use Rattle.std.specs.Prelude.{◌≡◌, ◌++◌, ◌∷◌, [], IfOk, OnOk, length, string_bytes, decimal};
-ghost use Rattle.sok_entry.specs.Text.{claim_line, entry_line, letter_of, numbers_of_reason};
-ghost use Rattle.sok_entry.specs.Text.{spaced, ended, text_of, Fits, Spells};
+ghost use Rattle.std.specs.Prelude.{◌≡◌, ◌+◌, ◌<◌, ◌≤◌, ◌++◌, ◌∷◌, [], IfOk, OnErr, OnOk, length};
+ghost use Rattle.std.specs.Prelude.{vec_capacity, vec_len, decimal};
+ghost use Rattle.sok_entry.specs.Text.{header, claim_line, entry_line, last_line};
+ghost use Rattle.sok_entry.specs.Text.{letter_of, numbers_of_reason, spaced, ended};
+ghost use Rattle.sok_entry.specs.Text.{text_of, Fits, Spells};
 
 use crate::claim::Claim;
 use crate::entry::{Cert, Entry, Reason};
+use itoa::Buffer;
 use sok_rules::fault::Memory;
 use std::alloc::{AllocError, Global};
-use std::fmt::Write;
 
 /// The text of a certificate: the header, the claim, a line for each entry, and `end`. Each line
 /// ends with LF.
@@ -17,54 +20,86 @@ pub fn write(alloc: Global, claim: &Claim, cert: &Cert) -> Result<Vec<u8>, Memor
     ensures exact { IfOk result (λ text. text.items ≡ text_of claim.now cert.now.entries.items) }
     ensures spells { IfOk result (λ text. Spells text.items claim.now cert.now.entries.items) }
 {
-    let mut text = String::from_str(alloc, "sokoban-certificate 1\n")?;
-    push_claim(&mut text, claim)?;
+    let mut text = Vec::new(alloc);
+    push_front(&mut text, claim)?;
     for entry in &cert.entries {
         push_entry(&mut text, entry)?;
     }
-    text.push_str("end\n")?;
-    Ok(text.into_bytes())
+    push_end(&mut text)?;
+    Ok(text)
+}
+
+/// Appends the lines in front of the entries: the header and the claim.
+#[tactic(auto, unfolding(crate::specs::Text::header))]
+pub fn push_front(text: &mut Vec<u8>, claim: &Claim) -> Result<(), AllocError>
+    ensures lines { OnOk result (text.new.items
+        ≡ text.old.items ++ (ended header ++ ended (claim_line claim.now))) }
+    ensures capacity { vec_capacity text.old ≤ vec_capacity text.new }
+{
+    text.extend_from_slice(b"sokoban-certificate 1\n")?;
+    push_claim(text, claim)
 }
 
 #[tactic(auto, unfolding(crate::specs::Text::claim_line))]
-fn push_claim(text: &mut String, claim: &Claim) -> Result<(), AllocError>
-    ensures { OnOk result
-        (string_bytes text.new ≡ string_bytes text.old ++ ended (claim_line claim.now)) }
+fn push_claim(text: &mut Vec<u8>, claim: &Claim) -> Result<(), AllocError>
+    ensures line { OnOk result (text.new.items ≡ text.old.items ++ ended (claim_line claim.now)) }
+    ensures capacity { vec_capacity text.old ≤ vec_capacity text.new }
 {
     match claim {
-        Claim::Pushes(pushes) => writeln!(text, "pushes {pushes}"),
-        Claim::Unsolvable => text.push_str("unsolvable\n"),
+        Claim::Pushes(pushes) => {
+            text.extend_from_slice(b"pushes ")?;
+            push_decimal(text, *pushes as usize)?;
+            push_line_feed(text)
+        }
+        Claim::Unsolvable => text.extend_from_slice(b"unsolvable\n"),
     }
 }
 
+/// Appends the line of an entry. It succeeds where there is room for the line.
 #[tactic(auto, unfolding(crate::specs::Text::entry_line))]
-fn push_entry(text: &mut String, entry: &Entry) -> Result<(), AllocError>
-    ensures { OnOk result
-        (string_bytes text.new ≡ string_bytes text.old ++ ended (entry_line entry.now)) }
+pub fn push_entry(text: &mut Vec<u8>, entry: &Entry) -> Result<(), AllocError>
+    ensures line { OnOk result (text.new.items ≡ text.old.items ++ ended (entry_line entry.now)) }
+    ensures capacity { vec_capacity text.old ≤ vec_capacity text.new }
+    ensures full { OnErr result
+        (vec_capacity text.old < vec_len text.old + length (ended (entry_line entry.now))) }
 {
     text.push(letter_of(&entry.reason))?;
-    push_number(text, entry.depth)?;
-    push_number(text, entry.player)?;
+    push_number(text, entry.depth as usize)?;
+    push_number(text, entry.player as usize)?;
     push_counted(text, entry.boxes.as_slice())?;
     push_reason(text, &entry.reason)?;
-    text.push('\n')
+    push_line_feed(text)
 }
 
-fn letter_of(reason: &Reason) -> char
+/// Appends the line behind the entries. It succeeds where there is room for it.
+#[tactic(auto, unfolding(crate::specs::Text::last_line))]
+pub fn push_end(text: &mut Vec<u8>) -> Result<(), AllocError>
+    ensures line { OnOk result (text.new.items ≡ text.old.items ++ ended last_line) }
+    ensures capacity { vec_capacity text.old ≤ vec_capacity text.new }
+    ensures full { OnErr result
+        (vec_capacity text.old < vec_len text.old + length (ended last_line)) }
+{
+    text.extend_from_slice(b"end\n")
+}
+
+fn letter_of(reason: &Reason) -> u8
     ensures { result ≡ letter_of reason.now }
 {
     match reason {
-        Reason::Expanded => 'x',
-        Reason::Spent => 's',
-        Reason::Bound { .. } => 'b',
-        Reason::Crowd { .. } => 'c',
-        Reason::Frozen { .. } => 'f',
+        Reason::Expanded => b'x',
+        Reason::Spent => b's',
+        Reason::Bound { .. } => b'b',
+        Reason::Crowd { .. } => b'c',
+        Reason::Frozen { .. } => b'f',
     }
 }
 
-fn push_reason(text: &mut String, reason: &Reason) -> Result<(), AllocError>
-    ensures { OnOk result
-        (string_bytes text.new ≡ string_bytes text.old ++ spaced (numbers_of_reason reason.now)) }
+fn push_reason(text: &mut Vec<u8>, reason: &Reason) -> Result<(), AllocError>
+    ensures numbers { OnOk result
+        (text.new.items ≡ text.old.items ++ spaced (numbers_of_reason reason.now)) }
+    ensures capacity { vec_capacity text.old ≤ vec_capacity text.new }
+    ensures full { OnErr result (vec_capacity text.old
+        < vec_len text.old + length (spaced (numbers_of_reason reason.now))) }
 {
     match reason {
         Reason::Expanded | Reason::Spent => Ok(()),
@@ -79,27 +114,54 @@ fn push_reason(text: &mut String, reason: &Reason) -> Result<(), AllocError>
 }
 
 /// Numbers behind their count.
-fn push_counted(text: &mut String, numbers: &[u32]) -> Result<(), AllocError>
-    ensures { OnOk result
-        (string_bytes text.new
-        ≡ string_bytes text.old ++ spaced (length numbers.now ∷ numbers.now)) }
+fn push_counted(text: &mut Vec<u8>, numbers: &[u32]) -> Result<(), AllocError>
+    ensures numbers { OnOk result
+        (text.new.items ≡ text.old.items ++ spaced (length numbers.now ∷ numbers.now)) }
+    ensures capacity { vec_capacity text.old ≤ vec_capacity text.new }
+    ensures full { OnErr result (vec_capacity text.old
+        < vec_len text.old + length (spaced (length numbers.now ∷ numbers.now))) }
 {
-    let count = numbers.len();
-    write!(text, " {count}")?;
+    push_number(text, numbers.len())?;
     push_numbers(text, numbers)
 }
 
-fn push_numbers(text: &mut String, numbers: &[u32]) -> Result<(), AllocError>
-    ensures { OnOk result (string_bytes text.new ≡ string_bytes text.old ++ spaced numbers.now) }
+fn push_numbers(text: &mut Vec<u8>, numbers: &[u32]) -> Result<(), AllocError>
+    ensures numbers { OnOk result (text.new.items ≡ text.old.items ++ spaced numbers.now) }
+    ensures capacity { vec_capacity text.old ≤ vec_capacity text.new }
+    ensures full { OnErr result
+        (vec_capacity text.old < vec_len text.old + length (spaced numbers.now)) }
 {
     for number in numbers {
-        push_number(text, *number)?;
+        push_number(text, *number as usize)?;
     }
     Ok(())
 }
 
-fn push_number(text: &mut String, number: u32) -> Result<(), AllocError>
-    ensures { OnOk result (string_bytes text.new ≡ string_bytes text.old ++ spaced (number ∷ [])) }
+fn push_number(text: &mut Vec<u8>, number: usize) -> Result<(), AllocError>
+    ensures number { OnOk result (text.new.items ≡ text.old.items ++ spaced (number ∷ [])) }
+    ensures capacity { vec_capacity text.old ≤ vec_capacity text.new }
+    ensures full { OnErr result
+        (vec_capacity text.old < vec_len text.old + length (spaced (number ∷ []))) }
 {
-    write!(text, " {number}")
+    text.push(b' ')?;
+    push_decimal(text, number)
+}
+
+fn push_decimal(text: &mut Vec<u8>, number: usize) -> Result<(), AllocError>
+    ensures number { OnOk result (text.new.items ≡ text.old.items ++ decimal number) }
+    ensures capacity { vec_capacity text.old ≤ vec_capacity text.new }
+    ensures full { OnErr result
+        (vec_capacity text.old < vec_len text.old + length (decimal number)) }
+{
+    let mut digits = Buffer::new();
+    text.extend_from_slice(digits.format(number).as_bytes())
+}
+
+fn push_line_feed(text: &mut Vec<u8>) -> Result<(), AllocError>
+    ensures line { OnOk result (text.new.items ≡ text.old.items ++ ended []) }
+    ensures capacity { vec_capacity text.old ≤ vec_capacity text.new }
+    ensures full { OnErr result (vec_capacity text.old < vec_len text.old + 1) }
+{
+    text.push(b'\n')?;
+    Ok(())
 }

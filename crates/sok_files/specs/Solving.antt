@@ -1,8 +1,13 @@
--- What an output holds after a call that opens files, and writes a certificate to one, and then an answer.
-use Rattle.std.specs.Prelude.{ℕ, ◌≡◌, ◌⊎◌, Result, Err}
+-- What an output holds after a call that opens a file and solves a level of it, with a certificate in another file, or alone.
+use Rattle.std.specs.Prelude.{ℕ, ◌≡◌, ◌⊎◌, List, Option, Some, None, Result, Err}
 use Rattle.sok_engine.specs.declared.fault.ToolFault.{ToolFault}
 use Rattle.sok_engine.specs.declared.fault.ToolFault.TheVariants as tool
 use Rattle.sok_engine.specs.Certified.{Bytes, CertifiedAnswers, Stays, WritesBoth}
+use Rattle.sok_engine.specs.Inputs.{Within}
+use Rattle.sok_engine.specs.Limits.{input_limit}
+use Rattle.sok_engine.specs.Written.{Writes}
+use Rattle.sok_solve.specs.Solves.{IsFind, IsSolve}
+use Rattle.sok_files.specs.Files.{OfFile}
 
 -- it did not begin: memory was refused, or a file can't be opened or made
 abbrev pub IsUnbegun : Result ℕ ToolFault → Type 0
@@ -11,3 +16,8 @@ IsUnbegun result = (result ≡ Err tool.Memory) ⊎ (result ≡ Err tool.ReadFai
 -- One of the answers is written to the output, behind its certificate to such a writer. Or nothing is written, since it did not begin.
 abbrev pub SolvesTo : CertifiedAnswers → (Bytes → Type 0) → Bytes → Result ℕ ToolFault → Type 0
 SolvesTo P IsPlace out result = (IsUnbegun result × Stays out) ⊎ ((cert : Bytes) × IsPlace cert × WritesBoth P cert out result)
+
+-- A level of a file is solved within a limit. With a path the certificate goes to the file that is made there; with none there is no certificate.
+abbrev pub SolvesLevel : (Option (List ℕ) → Type 0) → (List ℕ → Bytes → Type 0) → ℕ → ℕ → Option (List ℕ) → Bytes → Result ℕ ToolFault → Type 0
+SolvesLevel reads makes n limit (Some path) out result = SolvesTo (OfFile reads (Within input_limit (IsSolve n limit))) (makes path) out result
+SolvesLevel reads makes n limit None out result = Writes (OfFile reads (Within input_limit (IsFind n limit))) out.old out.new result

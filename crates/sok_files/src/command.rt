@@ -1,16 +1,16 @@
 //! Each command on its files, which are opened, or made, in the order in which the words name them,
 //! before anything is read.
 
-ghost use Rattle.std.specs.Prelude.{◌≡◌, IfSome, option_map, string_bytes, ⊤};
+ghost use Rattle.std.specs.Prelude.{◌≡◌, option_map, string_bytes};
 ghost use Rattle.sok_engine.specs.Inputs.{Within};
 ghost use Rattle.sok_engine.specs.Limits.{cert_limit, input_limit};
 ghost use Rattle.sok_engine.specs.Written.{Writes};
 ghost use Rattle.sok_judge.specs.Checks.{IsCheck};
 ghost use Rattle.sok_play.specs.Listing.{IsListing};
 ghost use Rattle.sok_play.specs.Plays.{IsReplay};
-ghost use Rattle.sok_solve.specs.Solves.{IsSolve};
+ghost use Rattle.sok_solve.specs.Solves.{IsFind, IsSolve};
 ghost use Rattle.sok_files.specs.Files.{IsMade, OfFile, OfFiles};
-ghost use Rattle.sok_files.specs.Solving.{SolvesTo};
+ghost use Rattle.sok_files.specs.Solving.{SolvesLevel, SolvesTo};
 
 use crate::file::{create, open};
 use crate::folder::Folder;
@@ -18,8 +18,8 @@ use sok_engine::fault::ToolFault;
 use sok_judge::check::check_bytes;
 use sok_play::listing::list_bytes;
 use sok_play::play::replay_bytes;
+use sok_solve::find::find_bytes;
 use sok_solve::solve::solve_bytes;
-use std::io;
 use std::io::Write;
 
 /// Lists the levels of a collection.
@@ -68,8 +68,8 @@ pub fn check<F: Folder + AllocGlobal, W: Write>(
     check_bytes(rt.alloc(), &mut input, n as usize, &mut cert_input, out)
 }
 
-/// Solves the n-th level of a collection. The certificate is written to a file, if a path is given,
-/// and else is dropped.
+/// Solves the n-th level of a collection. The certificate is written to a file, if a path is given;
+/// else none is made.
 pub fn solve<F: Folder + AllocGlobal, W: Write>(
     rt: &F,
     path: &str,
@@ -78,37 +78,30 @@ pub fn solve<F: Folder + AllocGlobal, W: Write>(
     cert_path: Option<String>,
     out: &mut W,
 ) -> Result<u8, ToolFault>
-    ensures { SolvesTo (OfFile (F.reads rt.now path.now) (Within input_limit (IsSolve n limit)))
-        (λ cert. IfSome (option_map (λ s. string_bytes s) cert_path) (λ place.
-        IsMade F.Output.contents (F.makes rt.now place) cert))
+    ensures { SolvesLevel (F.reads rt.now path.now)
+        (λ place. IsMade F.Output.contents (F.makes rt.now place)) n limit
+        (option_map (λ s. string_bytes s) cert_path)
         (record { old = W.contents out.old; new = W.contents out.new }) result }
 {
     match cert_path {
         Some(cert_path) => solve_with_file(rt, path, n, limit, cert_path.as_str(), out),
-        None => solve_alone(rt, path, n, limit, out),
+        None => find(rt, path, n, limit, out),
     }
 }
 
-/// Solves a level, and drops the certificate.
-fn solve_alone<F: Folder + AllocGlobal, W: Write>(
+/// Solves a level, and makes no certificate.
+fn find<F: Folder + AllocGlobal, W: Write>(
     rt: &F,
     path: &str,
     n: u32,
     limit: u32,
     out: &mut W,
 ) -> Result<u8, ToolFault>
-    ensures { SolvesTo (OfFile (F.reads rt.now path.now) (Within input_limit (IsSolve n limit)))
-        (λ _. ⊤) (record { old = W.contents out.old; new = W.contents out.new }) result }
+    ensures { Writes (OfFile (F.reads rt.now path.now) (Within input_limit (IsFind n limit)))
+        (W.contents out.old) (W.contents out.new) result }
 {
     let mut input = open(rt, path)?;
-    solve_bytes(
-        rt.alloc(),
-        &mut input,
-        n as usize,
-        limit,
-        out,
-        &mut io::sink(),
-    )
+    find_bytes(rt.alloc(), &mut input, n as usize, limit, out)
 }
 
 /// Solves a level, and writes the certificate to a file that is made for it.

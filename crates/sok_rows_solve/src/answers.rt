@@ -3,6 +3,7 @@
 use sok_judge::check::check_bytes;
 use sok_play::play::replay_bytes;
 use sok_sketch::sketch;
+use sok_solve::find::find_bytes;
 use sok_solve::solve::solve_bytes;
 use sok_text::line::cut_line;
 use std::alloc::Global;
@@ -17,15 +18,37 @@ pub(crate) struct Reply {
     pub cert: Vec<u8>,
 }
 
-/// Solves the second level of a collection, of which the first is at fault.
-pub(crate) fn answered(alloc: Global, board: &str, limit: u32) -> Result<Reply, Fail> {
+/// A collection with a board as its second level, of which the first is at fault.
+fn second(alloc: Global, board: &str) -> Result<String, Fail> {
     let mut boards = String::from_str(alloc, "#####\n#$ .#\n#####\n\n")?;
     boards.push_str(board)?;
+    Ok(boards)
+}
+
+/// Solves the second level of a collection.
+pub(crate) fn answered(alloc: Global, board: &str, limit: u32) -> Result<Reply, Fail> {
+    let boards = second(alloc, board)?;
     let mut out = Vec::new(alloc);
     let mut cert = Vec::new(alloc);
     let mut input = boards.as_bytes();
     let status = solve_bytes(alloc, &mut input, 2, limit, &mut out, &mut cert)?;
     Ok(Reply { status, out, cert })
+}
+
+/// Asserts that the answer is the same where no certificate is asked for.
+fn assert_found(
+    rt: &impl Abort,
+    alloc: Global,
+    board: &str,
+    limit: u32,
+    reply: &Reply,
+) -> Result<(), Fail> {
+    let boards = second(alloc, board)?;
+    let mut out = Vec::new(alloc);
+    let status = find_bytes(alloc, &mut boards.as_bytes(), 2, limit, &mut out)?;
+    assert_eq!(rt; out.as_slice(), reply.out.as_slice());
+    assert_eq!(rt; status, reply.status);
+    Ok(())
 }
 
 /// Asserts that a certificate has at most so many entries, and is accepted.
@@ -56,6 +79,7 @@ fn assert_solved(
     pushes: u32,
 ) -> Result<(), Fail> {
     let reply = answered(alloc, board, limit)?;
+    assert_found(rt, alloc, board, limit, &reply)?;
     let (line, text) = cut_line(reply.out.as_slice());
     let front = format!(in alloc; "solved {pushes} ")?;
     assert!(rt; line.starts_with(front.as_bytes()));
@@ -71,6 +95,7 @@ fn assert_solved(
 /// Asserts that none solves a level, and that its certificate says so.
 fn assert_unsolvable(rt: &impl Abort, alloc: Global, board: &str, limit: u32) -> Result<(), Fail> {
     let reply = answered(alloc, board, limit)?;
+    assert_found(rt, alloc, board, limit, &reply)?;
     assert_eq!(rt; reply.out.as_slice(), b"unsolvable\n".as_slice());
     assert_eq!(rt; reply.status, 0);
     let line = "accepted unsolvable\n";
@@ -190,6 +215,7 @@ fn whole_answers(rt: HostRuntime) -> Result<(), Fail> {
         (sketch::CORRIDOR_OF_SIX_PUSHES, 2, "limit 2\n", 4),
     ] {
         let reply = answered(rt.alloc(), board, limit)?;
+        assert_found(&rt, rt.alloc(), board, limit, &reply)?;
         assert_eq!(rt; reply.out.as_slice(), text.as_bytes());
         assert_eq!(rt; reply.status, status);
         assert_eq!(rt; reply.cert.is_empty(), status == 4);

@@ -66,7 +66,7 @@ fn meets(alloc: Global, board: &str, limit: u32) -> Result<bool, Fail> {
 }
 
 /// "Zerkalo" by GRIGoRusha (public domain), of 20 pushes.
-const ZERKALO: &str = "\
+pub(crate) const ZERKALO: &str = "\
 ---#####
 ####   #
 # $  #.##

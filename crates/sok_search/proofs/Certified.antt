@@ -1,12 +1,15 @@
 -- Entries of the states of a finished search.
-use Rattle.std.proofs.Common.{ℕ, ◌≡◌, ◌<◌, ◌≤◌, ◌+◌, ◌∙◌, inl, inr, refl, sym, ap, subst, List, [], ◌∷◌, ◌++◌, Option, Some, None, All, Contains, arith}
-use Rattle.std.proofs.Common.{length, slice_get}
+use Rattle.std.proofs.Common.{ℕ, ◌≡◌, ◌<◌, ◌≤◌, ◌+◌, ◌∙◌, inl, inr, refl, sym, ap, subst, List, [], ◌∷◌, ◌++◌, Option, Some, None, zero, suc, All}
+use Rattle.std.proofs.Common.{Contains, arith, length, slice_get}
 use Rattle.std.proofs.lemmas.List.{length-append}
-use Rattle.std.proofs.lemmas.List.Elements.{All-append, All-cons, All-push, All-weaker}
+use Rattle.std.proofs.lemmas.List.Elements.{All-append, All-cons, All-weaker}
 use Rattle.std.proofs.lemmas.Option.{same_Some, slice_get_within}
 use Rattle.sok_board.specs.Area.{Numbered, IsAccepted}
 use Rattle.sok_cert.specs.Claim.{Claim}
+use Rattle.sok_cert.specs.Claim.TheVariants.{Pushes, Unsolvable}
 use Rattle.sok_cert.specs.Entry.{Entry}
+use Rattle.sok_cert.specs.Reason.{Reason}
+use Rattle.sok_cert.specs.Reason.TheVariants as reason
 use Rattle.sok_cert.specs.Text.{FitsEntry, FitsReason, IsSmall, numbers_of_position, numbers_of_reason}
 use Rattle.sok_state.specs.declared.key.Key.{Key}
 use Rattle.sok_search.specs.declared.note.Note.{Note}
@@ -15,7 +18,8 @@ use Rattle.sok_search.specs.declared.note.Standing.TheVariants.{Open, Expanded, 
 use Rattle.sok_search.specs.Finished.{AreFirstEntries, HasText, IsAtMost, IsDone, IsEntryAt, IsEntryOf, IsReasonOf, claim_of}
 use Rattle.sok_search.specs.Limits.{state_limit}
 use Rattle.sok_search.specs.Searches.{Progress, IsBeaten, IsSearch, IsState, Stands}
-use Rattle.sok_search.proofs.Knowing.{key-within, push_cases}
+use Rattle.sok_search.proofs.Knowing.{key-within, known-at, push_cases}
+use Rattle.sok_search.proofs.Reasons.{bound-priced}
 
 none_waits : (queue : List ℕ) (i : ℕ) → queue ≡ [] → Contains queue i → ⊥
 none_waits queue i none (k, within, is) = let empty = ap length none in omega (arith, empty, within)
@@ -50,7 +54,7 @@ entry-along b claim p i key other depth deep note noted e state also entry =
     (subst (λ d. IsEntryOf b claim key d noted e) depths (subst (λ n. IsEntryOf b claim key depth n e) notes entry))
 
 -- it has a text
-entry-fits : (b : Numbered) → IsAccepted b → (limit : ℕ) (p : Progress) (i : ℕ) (key : Key) (depth : ℕ) (note : Note) (e : Entry) → IsSearch b limit p
+pub entry-fits : (b : Numbered) → IsAccepted b → (limit : ℕ) (p : Progress) (i : ℕ) (key : Key) (depth : ℕ) (note : Note) (e : Entry) → IsSearch b limit p
     → limit ≤ state_limit → IsState p i key depth note → e.depth ≡ depth
     → e.player ≡ key.least → e.boxes ≡ key.boxes → HasText key.boxes e.reason → FitsEntry e
 entry-fits b accepted limit p i key depth note e search small state depth_is player_is boxes_are text =
@@ -75,22 +79,15 @@ entry-fits b accepted limit p i key depth note e search small state depth_is pla
       priced = reason.0;
     }
 
-pub entry-made : (b : Numbered) → IsAccepted b → (limit : ℕ) (claim : Claim) (p : Progress) (i : ℕ) (key : Key) (depth : ℕ) (note : Note) (e : Entry)
-    → IsSearch b limit p → limit ≤ state_limit → IsState p i key depth note
-    → e.depth ≡ depth → e.player ≡ key.least → e.boxes ≡ key.boxes → IsReasonOf b claim key.boxes depth note.standing e.reason → HasText key.boxes e.reason
-    → IsEntryAt b claim p i e
-entry-made b accepted limit claim p i key depth note e search small state depth_is player_is boxes_are reason_is text = record {
-  entry = λ other deep noted also. entry-along b claim p i key other depth deep note noted e state also
-      (record { depth_is = depth_is; player_is = player_is; boxes_are = boxes_are; reason_is = reason_is });
-  fits = entry-fits b accepted limit p i key depth note e search small state depth_is player_is boxes_are text;
-}
+pub entry-at : (b : Numbered) (claim : Claim) (p : Progress) (i : ℕ) (key : Key) (depth : ℕ) (note : Note) (e : Entry)
+    → IsState p i key depth note → IsEntryOf b claim key depth note e → IsEntryAt b claim p i e
+entry-at b claim p i key depth note e state entry other deep noted also = entry-along b claim p i key other depth deep note noted e state also entry
 
 -- no entries, and one more
 pub first-none : (b : Numbered) (claim : Claim) (p : Progress) (entries : List Entry) → entries ≡ [] → AreFirstEntries b claim p 0 entries
 first-none b claim p entries none = subst (AreFirstEntries b claim p 0) (sym none) (record {
   as_many = refl;
   each = λ i key depth note e state there. absurd (empty i e there);
-  fit = λ k d within. absurd (omega (arith, within));
 })
   where
     empty : (i : ℕ) (e : Entry) → slice_get [] i ≡ Some e → ⊥
@@ -105,7 +102,39 @@ first-more b claim p n entries after e are one more = subst (AreFirstEntries b c
     | inl before ↦ are.each i key depth note other state before
     | inr (last, same) ↦
         let at : n ≡ i = sym are.as_many ∙ sym last in
-        subst (IsEntryOf b claim key depth note) same (one.entry key depth note (subst (λ k. IsState p k key depth note) (sym at) state))
+        subst (IsEntryOf b claim key depth note) same (one key depth note (subst (λ k. IsState p k key depth note) (sym at) state))
   ];
-  fit = All-push FitsEntry entries e are.fit one.fits;
 })
+
+pub none-fit : (entries : List Entry) → entries ≡ [] → All FitsEntry entries
+none-fit entries none = subst (All FitsEntry) (sym none) (λ k d within. absurd (omega (arith, within)))
+
+-- each state that is done with has a reason
+reason-exists : (b : Numbered) (boxes : List ℕ) (claim : Claim) (depth : ℕ) (s : Standing) → IsDone b claim boxes depth s
+    → (why : Reason) × IsReasonOf b claim boxes depth s why
+reason-exists b boxes Unsolvable depth (Open bound) (n, prices, none) = absurd none
+reason-exists b boxes (Pushes k) depth (Open bound) (n, (u, v, priced), near) = (reason.Bound u v, bound-priced b boxes u v n depth k priced near)
+reason-exists b boxes claim depth (Expanded bound) done = (reason.Expanded, refl)
+reason-exists b boxes claim depth Dead (inl (members, crowd)) = (reason.Crowd members, crowd)
+reason-exists b boxes claim depth Dead (inr (members, jam)) = (reason.Frozen members, jam)
+
+-- so where nothing waits there is a list of entries, made or not
+module _ (b : Numbered) (limit : ℕ) (claim : Claim) (p : Progress) (search : IsSearch b limit p) (none : p.queue ≡ []) (is : claim ≡ claim_of p.best) where
+  entry-exists : (i : ℕ) → i < length p.table → (e : Entry) × IsEntryAt b claim p i e
+  entry-exists i within =
+      let known = known-at b limit p search i within in
+      let done = is-done b limit p i known.key known.depth known.note claim search none is known.state in
+      let (why, reason_is) = reason-exists b known.key.boxes claim known.depth known.note.standing done in
+      let e : Entry = record { depth = known.depth; player = known.key.least; boxes = known.key.boxes; reason = why } in (
+        e,
+        entry-at b claim p i known.key known.depth known.note e known.state
+            (record { depth_is = refl; player_is = refl; boxes_are = refl; reason_is = reason_is }),
+      )
+
+  pub first-exist : (n : ℕ) → n ≤ length p.table → (entries : List Entry) × AreFirstEntries b claim p n entries
+  first-exist zero within = ([], first-none b claim p [] refl)
+  first-exist (suc n) within =
+      let (entries, are) = first-exist n (omega (arith, within)) in
+      let (e, one) = entry-exists n (omega (arith, within)) in
+      let more = first-more b claim p n entries (entries ++ e ∷ []) e are one refl in
+      (entries ++ e ∷ [], subst (λ k. AreFirstEntries b claim p k (entries ++ e ∷ [])) (omega arith) more)

@@ -1,21 +1,22 @@
 -- What a finished search answers.
-use Rattle.std.proofs.Common.{ℕ, ◌<◌, ◌≤◌, sym, subst, List, arith, length}
+use Rattle.std.proofs.Common.{ℕ, ◌≡◌, ◌<◌, ◌≤◌, ap, sym, subst, List, [], Some, None, All, arith, length}
 use Rattle.sok_rules.specs.declared.cell.Dir.{Dir}
-use Rattle.sok_rules.specs.Play.{AtLeast}
+use Rattle.sok_rules.specs.Play.{AtLeast, IsUnsolvable}
 use Rattle.sok_board.specs.Area.{Numbered, IsAccepted}
 use Rattle.sok_board.proofs.OneRefusal.{IsAccepted-one}
 use Rattle.sok_cert.specs.Claim.{Claim}
 use Rattle.sok_cert.specs.Claim.TheVariants as claim
 use Rattle.sok_cert.specs.Entry.{Entry}
-use Rattle.sok_cert.specs.Text.{FitsClaim}
+use Rattle.sok_cert.specs.Text.{FitsClaim, FitsEntry}
 use Rattle.sok_state.specs.declared.push.Push.{Push}
-use Rattle.sok_cert.specs.Closed.{IsClosed}
+use Rattle.sok_cert.specs.Closed.{IsClosed, IsTrueOf}
 use Rattle.sok_cert.proofs.ClosedLaws.{ShowsClaims-accepted}
-use Rattle.sok_search.specs.Finished.{AreFirstEntries}
+use Rattle.sok_search.specs.Finished.{AreFirstEntries, claim_of}
 use Rattle.sok_search.specs.Limits.{state_limit}
-use Rattle.sok_search.specs.Outcomes.{Certifies, IsShownSolved, IsShownUnsolvable}
+use Rattle.sok_search.specs.Outcomes.{Certifies, IsLeastSolution, IsShownSolved, IsShownUnsolvable}
 use Rattle.sok_search.specs.Searches.{Progress, IsSearch}
 use Rattle.sok_search.specs.Trails.{IsSolvedAt, IsSolvedWith, IsSolvedWithin, IsSolvingTrace, TracesBack}
+use Rattle.sok_search.proofs.Certified.{first-exist}
 use Rattle.sok_search.proofs.Finishing.{entries-closed}
 use Rattle.sok_search.proofs.Knowing.{key-within, some-at}
 
@@ -50,40 +51,52 @@ solved-within b limit p k index trace w search solved traces with_pushes =
     let less = less-deep b limit p k index search solved in
     record { n = length trace; solved = with_pushes; near = omega (arith, few, shallow); small = omega (arith, few, less) }
 
-module _ (b : Numbered) (accepted : IsAccepted b) (limit : ℕ) (p : Progress) (search : IsSearch b limit p) where
+module _ (b : Numbered) (accepted : IsAccepted b) (limit : ℕ) (p : Progress) (search : IsSearch b limit p) (none : p.queue ≡ []) where
   closed : (shown : Claim) (entries : List Entry) → AreFirstEntries b shown p (length p.table) entries → IsClosed b shown entries
   closed shown entries are = entries-closed b accepted limit shown p entries search are
 
-  certifies : (shown : Claim) (entries : List Entry) → FitsClaim shown → AreFirstEntries b shown p (length p.table) entries
-      → Certifies b.rows limit shown entries
-  certifies shown entries fits are = record {
-    fits = record { claim_fits = fits; entries_fit = are.fit };
-    closed = λ c rows other. subst (λ board. IsClosed board shown entries) (IsAccepted-one b c (sym rows) accepted other) (closed shown entries are);
-    few = let few = search.few in let count = are.as_many in omega (arith, few, count);
-  }
+  -- there is a closed list, whether a certificate is made or not
+  shows : (shown : Claim) → shown ≡ claim_of p.best → IsTrueOf b.rows shown
+  shows shown is =
+      let (entries, are) = first-exist b limit shown p search none is (length p.table) (omega arith) in
+      ShowsClaims-accepted b accepted shown entries (closed shown entries are)
 
-  pub shown-unsolvable : (entries : List Entry) → AreFirstEntries b claim.Unsolvable p (length p.table) entries → IsShownUnsolvable b.rows limit entries
-  shown-unsolvable entries are = record {
-    unsolvable = ShowsClaims-accepted b accepted claim.Unsolvable entries (closed claim.Unsolvable entries are);
-    certified = certifies claim.Unsolvable entries tt are;
-  }
+  pub unsolvable : p.best ≡ None → IsUnsolvable b.rows
+  unsolvable is = shows claim.Unsolvable (ap claim_of (sym is))
 
   -- the letters have no more pushes than the best, and the list says that none have fewer
-  pub shown-solved : length p.table ≤ state_limit → (k : ℕ) (w : List Dir) (entries : List Entry)
-      → AreFirstEntries b (claim.Pushes k) p (length p.table) entries → IsSolvedWithin b (length p.table) k w → IsShownSolved b.rows limit w k entries
-  shown-solved small k w entries are within =
-      let least : AtLeast b.rows k = ShowsClaims-accepted b accepted (claim.Pushes k) entries (closed (claim.Pushes k) entries are) in
+  pub least-solution : (k : ℕ) (w : List Dir) → p.best ≡ Some k → IsSolvedWithin b (length p.table) k w → IsLeastSolution b.rows w k
+  least-solution k w is within =
+      let least : AtLeast b.rows k = shows (claim.Pushes k) (ap claim_of (sym is)) in
       let solves = within.solved.solves in
       let above = least w solves in
       let counted = within.solved.counted in
       let near = within.near in
-      let below = within.small in
       record {
-        solution = record {
-          solves = solves;
-          counted = omega (arith, above, counted, near);
-          fewest = record { least = least; reached = (w, solves, omega (arith, above, counted, near)) };
-          ends = within.solved.ends;
-        };
-        certified = certifies (claim.Pushes k) entries (omega (arith, above, counted, below, small)) are;
+        solves = solves;
+        counted = omega (arith, above, counted, near);
+        fewest = record { least = least; reached = (w, solves, omega (arith, above, counted, near)) };
+        ends = within.solved.ends;
       }
+
+  certifies : (shown : Claim) (entries : List Entry) → FitsClaim shown → AreFirstEntries b shown p (length p.table) entries → All FitsEntry entries
+      → Certifies b.rows limit shown entries
+  certifies shown entries fits are fit = record {
+    fits = record { claim_fits = fits; entries_fit = fit };
+    closed = λ c rows other. subst (λ board. IsClosed board shown entries) (IsAccepted-one b c (sym rows) accepted other) (closed shown entries are);
+    few = let few = search.few in let count = are.as_many in omega (arith, few, count);
+  }
+
+  pub shown-unsolvable : (entries : List Entry) → p.best ≡ None → AreFirstEntries b claim.Unsolvable p (length p.table) entries → All FitsEntry entries
+      → IsShownUnsolvable b.rows limit entries
+  shown-unsolvable entries is are fit = record { unsolvable = unsolvable is; certified = certifies claim.Unsolvable entries tt are fit }
+
+  pub shown-solved : length p.table ≤ state_limit → (k : ℕ) (w : List Dir) (entries : List Entry) → p.best ≡ Some k
+      → AreFirstEntries b (claim.Pushes k) p (length p.table) entries → All FitsEntry entries → IsSolvedWithin b (length p.table) k w
+      → IsShownSolved b.rows limit w k entries
+  shown-solved small k w entries is are fit within =
+      let solution = least-solution k w is within in
+      let above = solution.fewest.least w solution.solves in
+      let counted = within.solved.counted in
+      let below = within.small in
+      record { solution = solution; certified = certifies (claim.Pushes k) entries (omega (arith, above, counted, below, small)) are fit }

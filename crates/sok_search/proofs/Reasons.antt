@@ -9,7 +9,7 @@ use Rattle.std.proofs.lemmas.Option.{slice_get-get_or, slice_get_within}
 use Rattle.sok_board.specs.Area.{Numbered}
 use Rattle.sok_board.specs.Limits.{box_limit}
 use Rattle.sok_price.specs.Matches.{ArePrices}
-use Rattle.sok_price.specs.Prices.{AreMembers, IsMember}
+use Rattle.sok_price.specs.Prices.{AreMembers, IsMember, Priced}
 use Rattle.sok_price.proofs.AssignmentLaws.{AtLeast-IsAssignment}
 use Rattle.sok_bar.specs.declared.rest.Rest.{Rest}
 use Rattle.sok_bar.specs.Bars.{Barring, Bars}
@@ -23,6 +23,18 @@ use Rattle.sok_cert.specs.Closed.{rest_of}
 use Rattle.sok_search.specs.Finished.{CostsEnough, HasNoJam, IsAssigned, ReasonBars}
 use Rattle.sok_search.specs.Searches.{IsDead}
 
+-- prices of a bound that is enough
+pub bound-priced : (b : Numbered) (boxes u v : List ℕ) (n depth k : ℕ) → Priced b boxes u v n → k ≤ depth + n
+    → Bars b boxes (Barring.bound u v) (rest_of (Pushes k) depth)
+bound-priced b boxes u v n depth k priced near =
+    let enough = priced.enough in
+    record {
+      a_price_a_box = priced.a_price_a_box;
+      a_price_a_goal = priced.a_price_a_goal;
+      fair = priced.fair;
+      enough = omega (arith, enough, near);
+    }
+
 -- prices that are found again bound as far as any did
 bound-again : (b : Numbered) (boxes u v goal_of : List ℕ) (total depth : ℕ) (claim : Claim) → CostsEnough b claim boxes depth
     → ArePrices b boxes u v total goal_of
@@ -31,13 +43,7 @@ bound-again b boxes u v goal_of total depth Unsolvable (bound, prices, none) are
 bound-again b boxes u v goal_of total depth (Pushes k) (bound, (us, vs, priced), near) are =
     let least = AtLeast-IsAssignment b boxes us vs goal_of are.distances bound priced are.assignment in
     let cost = are.cost in
-    let enough = are.priced.enough in
-    record {
-      a_price_a_box = are.priced.a_price_a_box;
-      a_price_a_goal = are.priced.a_price_a_goal;
-      fair = are.priced.fair;
-      enough = omega (arith, least, cost, enough, near);
-    }
+    bound-priced b boxes u v total depth k are.priced (omega (arith, least, cost, near))
 
 pub assigned-again : (b : Numbered) (boxes : List ℕ) (depth : ℕ) (claim : Claim) → CostsEnough b claim boxes depth → (why : Reason) → IsAssigned b boxes why
     → ReasonBars b boxes why (rest_of claim depth)

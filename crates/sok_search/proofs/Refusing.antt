@@ -1,16 +1,16 @@
 -- What is answered of a level that is refused.
-use Rattle.std.proofs.Common.{ℕ, ◌≡◌, ◌<◌, ◌≤◌, ◌↔◌, ◌∙◌, inl, inr, refl, sym, ap, subst, Result, Ok, Err, IfOk, arith, true≢false}
-use Rattle.std.specs.Result.{IfErr, IsOk}
+use Rattle.std.proofs.Common.{ℕ, ◌≡◌, ◌<◌, ◌≤◌, ◌∙◌, inl, inr, refl, sym, ap, subst, Result, Ok, Err, IfOk, arith, true≢false}
+use Rattle.std.specs.Result.{IsOk}
 use Rattle.std.proofs.lemmas.Bool.{cases_lt}
 use Rattle.sok_rules.specs.Squares.{Rows}
 use Rattle.sok_board.specs.declared.fault.BoardFault.{BoardFault}
 use Rattle.sok_board.specs.declared.fault.BoardFault.TheVariants as board
-use Rattle.sok_board.specs.Refusals.{IsAcceptable, IsRefused}
+use Rattle.sok_board.specs.Area.{Numbered, IsAccepted}
+use Rattle.sok_board.specs.Refusals.{IsRefused}
 use Rattle.sok_board.proofs.OneRefusal.{IsRefused-acceptable}
 use Rattle.sok_search.specs.declared.fault.SolveFault.{SolveFault}
 use Rattle.sok_search.specs.declared.fault.SolveFault.TheVariants as solve
-use Rattle.sok_search.specs.declared.outcome.Outcome.{Outcome}
-use Rattle.sok_search.specs.Faults.{IsBadLimit, IsRefusal, of_board}
+use Rattle.sok_search.specs.Faults.{IsAcceptedWithin, IsBadLimit, IsRefusal, TellsFault, of_board}
 use Rattle.sok_search.specs.Limits.{state_limit}
 
 -- a limit that is not refused
@@ -38,52 +38,74 @@ good-board board.TooLarge e = cc
 good-board board.TooManyBoxes e = cc
 good-board board.Memory e = cc
 
--- the clauses of an answer that is a fault
-pub record TellsFault (rows : Rows) (limit : ℕ) (answer : Result Outcome SolveFault) : Type 0 where
-  pub bad_limit : (answer ≡ Err solve.BadLimit) ↔ IsBadLimit limit
-  pub refused : IfErr answer (IsRefusal rows limit)
-  pub exact : (answer ≡ Err solve.Memory → ⊥) → (answer ≡ Err solve.BadLimit → ⊥) → (IsOk answer ↔ IsAcceptable rows)
+abbrev fails : (A : Type 0) → SolveFault → Result A SolveFault
+fails A fault = Err fault
 
-abbrev fails : SolveFault → Result Outcome SolveFault
-fails fault = Err fault
-
-same_fault : (f g : SolveFault) → fails f ≡ fails g → f ≡ g
+same_fault : {A : Type 0} (f g : SolveFault) → fails A f ≡ fails A g → f ≡ g
 same_fault f g e = cc
 
-no_ok : (f : SolveFault) → IsOk (fails f) → ⊥
-no_ok f e = true≢false (sym e)
+no_ok : (A : Type 0) (f : SolveFault) → IsOk (fails A f) → ⊥
+no_ok A f e = true≢false (sym e)
 
-told-board : (rows : Rows) (limit : ℕ) → (IsBadLimit limit → ⊥) → (fault : BoardFault) → IsRefused rows fault → TellsFault rows limit (fails (of_board fault))
-told-board rows limit good fault refused = record {
+told-board : (A : Type 0) (rows : Rows) (limit : ℕ) → (IsBadLimit limit → ⊥) → (fault : BoardFault) → IsRefused rows fault
+    → TellsFault rows limit (fails A (of_board fault))
+told-board A rows limit good fault refused = record {
   bad_limit = (λ e. absurd (good-board fault (same_fault (of_board fault) solve.BadLimit e)), λ bad. absurd (good bad));
   refused = refusal-board rows limit fault refused;
   exact = λ memory _. (
-    λ ok. absurd (no_ok (of_board fault) ok),
-    λ accepted. absurd (IsRefused-acceptable rows fault (λ same. memory (ap (λ f. fails (of_board f)) same)) refused accepted),
+    λ ok. absurd (no_ok A (of_board fault) ok),
+    λ accepted. absurd (IsRefused-acceptable rows fault (λ same. memory (ap (λ f. fails A (of_board f)) same)) refused accepted),
   );
 }
 
-pub refused-board : (rows : Rows) (limit : ℕ) → (IsBadLimit limit → ⊥) → (fault : BoardFault) → IsRefused rows fault
-    → (answer : Result Outcome SolveFault) (told : SolveFault) → answer ≡ Err told → told ≡ of_board fault
+pub refused-board : (A : Type 0) (rows : Rows) (limit : ℕ) → (IsBadLimit limit → ⊥) → (fault : BoardFault) → IsRefused rows fault
+    → (answer : Result A SolveFault) (told : SolveFault) → answer ≡ Err told → told ≡ of_board fault
     → TellsFault rows limit answer
-refused-board rows limit good fault refused answer told is gives = subst (TellsFault rows limit) (sym (is
-    ∙ ap fails gives)) (told-board rows limit good fault refused)
+refused-board A rows limit good fault refused answer told is gives = subst (TellsFault rows limit) (sym (is
+    ∙ ap (fails A) gives)) (told-board A rows limit good fault refused)
 
-told-memory : (rows : Rows) (limit : ℕ) → (IsBadLimit limit → ⊥) → TellsFault rows limit (fails solve.Memory)
-told-memory rows limit good = record {
+told-memory : (A : Type 0) (rows : Rows) (limit : ℕ) → (IsBadLimit limit → ⊥) → TellsFault rows limit (fails A solve.Memory)
+told-memory A rows limit good = record {
   bad_limit = (λ e. absurd (good-board board.Memory (same_fault solve.Memory solve.BadLimit e)), λ bad. absurd (good bad));
   refused = tt;
   exact = λ memory _. absurd (memory refl);
 }
 
-pub refused-memory : (rows : Rows) (limit : ℕ) → (IsBadLimit limit → ⊥) → (answer : Result Outcome SolveFault) (told : SolveFault) → answer ≡ Err told
-    → told ≡ solve.Memory → TellsFault rows limit answer
-refused-memory rows limit good answer told is gives = subst (TellsFault rows limit) (sym (is ∙ ap fails gives)) (told-memory rows limit good)
+pub refused-memory : (A : Type 0) (rows : Rows) (limit : ℕ) → (IsBadLimit limit → ⊥) → (answer : Result A SolveFault) (told : SolveFault)
+    → answer ≡ Err told → told ≡ solve.Memory → TellsFault rows limit answer
+refused-memory A rows limit good answer told is gives =
+    subst (TellsFault rows limit) (sym (is ∙ ap (fails A) gives)) (told-memory A rows limit good)
+
+-- the fault is handed on
+pub refused-also : (A B : Type 0) (rows : Rows) (limit : ℕ) (fault : SolveFault) → TellsFault rows limit (fails A fault)
+    → (answer : Result B SolveFault) (told : SolveFault) → answer ≡ Err told → told ≡ fault → TellsFault rows limit answer
+refused-also A B rows limit fault tells answer told is gives = subst (TellsFault rows limit) (sym (is ∙ ap (fails B) gives)) (record {
+  bad_limit = (
+    λ e. tells.bad_limit.0 (ap (fails A) (same_fault fault solve.BadLimit e)),
+    λ bad. ap (fails B) (same_fault fault solve.BadLimit (tells.bad_limit.1 bad)),
+  );
+  refused = tells.refused;
+  exact = λ memory good. let told = tells.exact (λ e. memory (ap (fails B) (same_fault fault solve.Memory e)))
+      (λ e. good (ap (fails B) (same_fault fault solve.BadLimit e))) in (λ ok. absurd (no_ok B fault ok), λ may. absurd (no_ok A fault (told.1 may)));
+})
 
 -- an error has no answer
-pub no-answer : (P : Outcome → Type 0) (answer : Result Outcome SolveFault) (told : SolveFault) → answer ≡ Err told → IfOk answer P
-no-answer P answer told is = subst (λ (r : Result Outcome SolveFault). IfOk r P) (sym is) tt
+pub no-answer : {A : Type 0} (P : A → Type 0) (answer : Result A SolveFault) (told : SolveFault) → answer ≡ Err told → IfOk answer P
+no-answer {A} P answer told is = subst (λ (r : Result A SolveFault). IfOk r P) (sym is) tt
 
 -- an answer is no error
-pub no-fault : (outcome : Outcome) (told : SolveFault) → Ok outcome ≡ Err told → ⊥
-no-fault outcome told e = cc
+pub no-fault : {A : Type 0} (answer : A) (told : SolveFault) → Ok answer ≡ Err told → ⊥
+no-fault answer told e = cc
+
+-- a limit within the range is not refused
+pub good-within : (rows : Rows) (limit : ℕ) (b : Numbered) → IsAcceptedWithin rows limit b → IsBadLimit limit → ⊥
+good-within rows limit b within (inl zero) = let positive = within.positive in omega (arith, positive, zero)
+good-within rows limit b within (inr above) = let small = within.small in omega (arith, small, above)
+
+-- what is told where there is an answer
+pub told-answer : {A : Type 0} (rows : Rows) (limit : ℕ) (b : Numbered) (answer : A) → IsAcceptedWithin rows limit b → TellsFault rows limit (Ok answer)
+told-answer {A} rows limit b answer within = record {
+  bad_limit = (λ e. absurd (no-fault answer _ e), λ bad. absurd (good-within rows limit b within bad));
+  refused = tt;
+  exact = λ _ _. (λ _. (b.area, subst (λ (level : Rows). IsAccepted (record { rows = level; area = b.area })) within.rows_are within.accepted), λ _. refl);
+}

@@ -86,11 +86,16 @@ comes-next b accepted key push to least layout can ahead comes =
     let (is, as_many) = next-made b accepted key push to least layout can ahead in
     record { is = is; as_many = as_many; came = comes key (next_of key push.from to least) can is }
 
+-- boxes with one of them moved are one list
+pub moved-same : (boxes one other : List ℕ) (from to : ℕ) → IsMoved boxes from to one → IsStrictlyIncreasing one → IsMoved boxes from to other
+    → IsStrictlyIncreasing other → one ≡ other
+moved-same boxes one other from to moved rising also_moved also_rising =
+    same_rising one other rising also_rising (λ s here. (also_moved s).1 ((moved s).0 here)) (λ s here. (moved s).1 ((also_moved s).0 here))
+
 -- a state has one that comes next
 pub next-same : (key : Key) (from to least : ℕ) (one other : Key) → IsNext key from to least one → IsNext key from to least other → one ≡ other
 next-same key from to least one other is also =
-    let boxes = same_rising one.boxes other.boxes is.rising also.rising (λ s here. (also.moved s).1 ((is.moved s).0 here))
-    (λ s here. (is.moved s).1 ((also.moved s).0 here)) in
+    let boxes = moved-same key.boxes one.boxes other.boxes from to is.moved is.rising also.moved also.rising in
     let number = is.least_is ∙ sym also.least_is in
     λ i. record { boxes = boxes i; least = number i }
 

@@ -1,9 +1,10 @@
 -- Why a level is not solved, and the numbers by which these faults are printed.
-use Rattle.std.specs.Prelude.{ℕ, ◌≡◌, ◌<◌, ◌⊎◌}
+use Rattle.std.specs.Prelude.{ℕ, ◌≡◌, ◌<◌, ◌≤◌, ◌↔◌, ◌⊎◌, Result, Err, IfErr, IsOk}
 use Rattle.sok_rules.specs.Squares.{Rows}
+use Rattle.sok_board.specs.Area.{Numbered, IsAccepted}
 use Rattle.sok_board.specs.declared.fault.BoardFault.{BoardFault}
 use Rattle.sok_board.specs.declared.fault.BoardFault.TheVariants as board
-use Rattle.sok_board.specs.Refusals.{IsRefused}
+use Rattle.sok_board.specs.Refusals.{IsAcceptable, IsRefused}
 use Rattle.sok_search.specs.declared.fault.SolveFault.{SolveFault}
 use Rattle.sok_search.specs.declared.fault.SolveFault.TheVariants as solve
 use Rattle.sok_search.specs.Limits.{state_limit}
@@ -30,6 +31,19 @@ IsRefusal rows limit solve.TooFewGoals = IsRefused rows board.TooFewGoals
 IsRefusal rows limit solve.TooLarge = IsRefused rows board.TooLarge
 IsRefusal rows limit solve.TooManyBoxes = IsRefused rows board.TooManyBoxes
 IsRefusal rows limit solve.Memory = Unit {0}
+
+-- the board of a level, within a limit that is not bad
+pub record IsAcceptedWithin (rows : Rows) (limit : ℕ) (b : Numbered) : Type 0 where
+  pub rows_are : b.rows ≡ rows
+  pub accepted : IsAccepted b
+  pub positive : 0 < limit
+  pub small : limit ≤ state_limit
+
+-- what is told is a fault exactly where the limit is bad or the level is refused, memory aside
+pub record TellsFault {A : Type 0} (rows : Rows) (limit : ℕ) (answer : Result A SolveFault) : Type 0 where
+  pub bad_limit : (answer ≡ Err solve.BadLimit) ↔ IsBadLimit limit
+  pub refused : IfErr answer (IsRefusal rows limit)
+  pub exact : (answer ≡ Err solve.Memory → ⊥) → (answer ≡ Err solve.BadLimit → ⊥) → (IsOk answer ↔ IsAcceptable rows)
 
 abbrev pub solve_fault_number : SolveFault → ℕ
 solve_fault_number solve.BadLimit = 16

@@ -1,5 +1,5 @@
 -- What a search shows that is finished: nothing waits.
-use Rattle.std.specs.Prelude.{ℕ, ◌≡◌, ◌≤◌, ◌+◌, List, Option, Some, None, IsSomeAnd, Vec, All, length, slice_get}
+use Rattle.std.specs.Prelude.{ℕ, ◌≡◌, ◌≤◌, ◌+◌, List, Option, Some, None, IsSomeAnd, Vec, length, slice_get}
 use Rattle.std.specs.declared.alloc.Global.{Global}
 use Rattle.sok_board.specs.Area.{Numbered}
 use Rattle.sok_cert.specs.Claim.{Claim}
@@ -7,7 +7,7 @@ use Rattle.sok_cert.specs.Claim.TheVariants.{Pushes, Unsolvable}
 use Rattle.sok_cert.specs.Entry.{Entry}
 use Rattle.sok_cert.specs.Reason.{Reason}
 use Rattle.sok_cert.specs.Reason.TheVariants as reason
-use Rattle.sok_cert.specs.Text.{FitsEntry, FitsReason}
+use Rattle.sok_cert.specs.Text.{FitsReason}
 use Rattle.sok_price.specs.Matches.{ArePrices}
 use Rattle.sok_price.specs.Prices.{IsCrowd}
 use Rattle.sok_bar.specs.declared.rest.Rest.{Rest}
@@ -42,17 +42,15 @@ pub record IsEntryOf (b : Numbered) (claim : Claim) (key : Key) (depth : ℕ) (n
   pub boxes_are : e.boxes ≡ key.boxes
   pub reason_is : IsReasonOf b claim key.boxes depth note.standing e.reason
 
--- entries of the first states, each of which has a text
+-- entries of the first states
 pub record AreFirstEntries (b : Numbered) (claim : Claim) (p : Progress) (n : ℕ) (entries : List Entry) : Type 0 where
   pub as_many : length entries ≡ n
   pub each : (i : ℕ) (key : Key) (depth : ℕ) (note : Note) (e : Entry) → IsState p i key depth note → slice_get entries i ≡ Some e
       → IsEntryOf b claim key depth note e
-  pub fit : All FitsEntry entries
 
--- an entry of the state at an index, which has a text
-pub record IsEntryAt (b : Numbered) (claim : Claim) (p : Progress) (index : ℕ) (e : Entry) : Type 0 where
-  pub entry : (key : Key) (depth : ℕ) (note : Note) → IsState p index key depth note → IsEntryOf b claim key depth note e
-  pub fits : FitsEntry e
+-- an entry of the state at an index
+abbrev pub IsEntryAt : Numbered → Claim → Progress → ℕ → Entry → Type 0
+IsEntryAt b claim p index e = (key : Key) (depth : ℕ) (note : Note) → IsState p index key depth note → IsEntryOf b claim key depth note e
 
 -- what is claimed is no more than this
 abbrev pub IsAtMost : Claim → ℕ → Type 0

@@ -10,6 +10,8 @@ use Rattle.sok_cert.specs.Claim.TheVariants as claim
 use Rattle.sok_cert.specs.Entry.{Entry}
 use Rattle.sok_cert.specs.Text.{Fits}
 use Rattle.sok_cert.specs.Closed.{IsClosed}
+use Rattle.sok_search.specs.declared.found.Found.{Found}
+use Rattle.sok_search.specs.declared.found.Found.TheVariants as found
 use Rattle.sok_search.specs.declared.outcome.Outcome.{Outcome}
 use Rattle.sok_search.specs.declared.outcome.Outcome.TheVariants.{Solved, Unsolvable, Limit}
 
@@ -51,6 +53,12 @@ pub record IsShownSolved (rows : Rows) (limit : ℕ) (w : List Dir) (n : ℕ) (e
 pub record IsPastLimit (rows : Rows) (limit states : ℕ) : Type 0 where
   pub more : MoreStatesThan rows limit
   pub is : states ≡ limit
+
+-- what is found of a level within a limit
+abbrev pub IsFound : Rows → ℕ → Found → Type 0
+IsFound rows limit (found.Solved dirs pushes) = IsLeastSolution rows dirs.items pushes
+IsFound rows limit found.Unsolvable = IsUnsolvable rows
+IsFound rows limit (found.Limit states) = IsPastLimit rows limit states
 
 -- what is answered of a level within a limit
 abbrev pub IsAnswer : Rows → ℕ → Outcome → Type 0

@@ -1,14 +1,16 @@
 //! The certificate of a finished search.
 
-ghost use Rattle.std.specs.Prelude.{◌≡◌, ◌<◌, [], IfOk, OnOk, length};
-ghost use Rattle.sok_board.specs.Area.{IsAccepted};
+ghost use Rattle.std.specs.Prelude.{◌≡◌, ◌<◌, [], All, IfOk, OnOk, length};
+ghost use Rattle.sok_board.specs.Area.{IsAccepted, Numbered};
+ghost use Rattle.sok_cert.specs.Text.{FitsEntry};
 ghost use Rattle.sok_price.specs.Matched.{Serves};
 ghost use Rattle.sok_search.specs.Finished.{claim_of, AreFirstEntries, IsEntryAt};
-ghost use Rattle.sok_search.specs.Searches.{IsSmallSearch};
+ghost use Rattle.sok_search.specs.Searches.{IsSearching, IsSmallSearch, IsState};
 ghost use Rattle.sok_search.specs.Stores.{entries_in};
 ghost use Rattle.sok_search.specs.Views.{progress_of};
 
 use crate::barring::reason_of;
+use crate::note::Note;
 use crate::search::Search;
 use sok_board::area::Sq;
 use sok_board::board::Board;
@@ -17,6 +19,7 @@ use sok_cert::entry::{Cert, Entry, Numbers};
 use sok_price::matching::Matching;
 use sok_push::tables::Tables;
 use sok_rules::fault::Memory;
+use sok_state::key::Key;
 use std::alloc::Global;
 
 /// The certificate: an entry of each state, in order.
@@ -32,8 +35,9 @@ pub(crate) fn certificate(
     requires search { IsSmallSearch board.now (progress_of search.now) }
     requires finished { search.now.queue ≡ [] }
     requires claim { claim ≡ claim_of search.now.best }
-    ensures { IfOk result (λ cert. AreFirstEntries board.now claim (progress_of search.now)
+    ensures entries { IfOk result (λ cert. AreFirstEntries board.now claim (progress_of search.now)
         (length (entries_in search.now.store)) cert.entries.items) }
+    ensures fit { IfOk result (λ cert. All FitsEntry cert.entries.items) }
 {
     let mut matching = Matching::new(alloc, board, tables)?;
     let mut squares = Vec::new(alloc);
@@ -74,10 +78,9 @@ fn entry_at(
     requires within { index < length (entries_in search.now.store) }
     ensures serves { OnOk result (Serves board.now matching.new) }
     ensures entry { IfOk result (IsEntryAt board.now claim (progress_of search.now) index) }
+    ensures fits { IfOk result FitsEntry }
 {
-    let key = search.store.key(alloc, squares, index)?;
-    let depth = search.store.depth(index);
-    let note = search.notes[index];
+    let (key, depth, note) = state_at(alloc, search, squares, index)?;
     let reason = reason_of(
         alloc,
         board,
@@ -95,6 +98,22 @@ fn entry_at(
         boxes,
         reason,
     })
+}
+
+/// What stands at an index. Its boxes are listed in a room for squares first.
+fn state_at(
+    alloc: Global,
+    search: &Search,
+    squares: &mut Vec<Sq>,
+    index: usize,
+) -> Result<(Key, u32, Note), Memory>
+    requires search { (b : Numbered) × IsAccepted b × IsSearching b (progress_of search.now) }
+    requires within { index < length (entries_in search.now.store) }
+    ensures { IfOk result
+        (λ told. IsState (progress_of search.now) index told.0 told.1 told.2) }
+{
+    let key = search.store.key(alloc, squares, index)?;
+    Ok((key, search.store.depth(index), search.notes[index]))
 }
 
 /// Squares, as numbers of a certificate.

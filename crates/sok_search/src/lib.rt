@@ -4,7 +4,8 @@
 //! | Module | What it holds |
 //! |---|---|
 //! | `fault` | why a level is not solved |
-//! | `outcome` | what is answered of a level |
+//! | `found` | what is found of a level |
+//! | `outcome` | what is answered of a level, with a certificate |
 //! | `solve` | the solver |
 //! | `barring` | the reasons of a certificate, found again (private) |
 //! | `beginning` | a search that knows the start alone (private) |
@@ -30,6 +31,7 @@ mod buckets;
 mod certifying;
 mod expanding;
 pub mod fault;
+pub mod found;
 mod judging;
 mod note;
 pub mod outcome;

@@ -102,7 +102,6 @@ pub(crate) fn reach(
     if at >= limit as usize {
         return Ok(Reached::Full);
     }
-    let after = key.boxes.moved(alloc, from, to)?;
-    let standing = judge_after(board, tables, trial, &key.boxes, from, to, &after);
+    let standing = judge_after(alloc, board, tables, trial, &key.boxes, from, to)?;
     Ok(Reached::On(add(search, at, deeper, Note { origin, standing })?))
 }

@@ -4,19 +4,20 @@ ghost use Rattle.std.specs.Prelude.{ℕ, ◌≡◌, ◌<◌, ◌≤◌, ◌↔�
 ghost use Rattle.std.specs.Prelude.{IsTrue, length};
 ghost use Rattle.sok_board.specs.Area.{IsAccepted};
 ghost use Rattle.sok_board.specs.Refusals.{IsAcceptable};
-ghost use Rattle.sok_search.specs.Faults.{IsBadLimit, IsRefusal};
+ghost use Rattle.sok_search.specs.Faults.{IsAcceptedWithin, IsBadLimit, IsRefusal, TellsFault};
 ghost use Rattle.sok_search.specs.Limits.{state_limit};
-ghost use Rattle.sok_search.specs.Outcomes.{IsAnswer};
+ghost use Rattle.sok_search.specs.Outcomes.{IsAnswer, IsFound};
 ghost use Rattle.sok_search.specs.Searches.{IsSearch, IsSearching, IsSmallSearch};
 ghost use Rattle.sok_search.specs.Stores.{entries_in};
 ghost use Rattle.sok_search.specs.Trails.{IsSolvedWithin};
-ghost use Rattle.sok_search.specs.Views.{progress_of};
+ghost use Rattle.sok_search.specs.Views.{progress_of, TellsFinished};
 ghost use Rattle.sok_search.specs.declared.fault.SolveFault.TheVariants as fault;
 
 use crate::beginning::begin;
 use crate::certifying::certificate;
 use crate::expanding::Scratch;
 use crate::fault::SolveFault;
+use crate::found::Found;
 use crate::outcome::Outcome;
 use crate::reaching::Reached;
 use crate::running::run;
@@ -45,12 +46,22 @@ pub fn solve(alloc: Global, level: &Level, limit: u32) -> Result<Outcome, SolveF
     ensures exact { (result ≡ Err fault.Memory → ⊥) → (result ≡ Err fault.BadLimit → ⊥)
         → (IsOk result ↔ IsAcceptable level.now) }
 {
-    if is_bad(limit) {
-        return Err(SolveFault::BadLimit);
-    }
-    let board = Board::new(alloc, level)?;
+    let board = accept(alloc, level, limit)?;
     let outcome = answer(alloc, &board, limit)?;
     Ok(outcome)
+}
+
+/// What `solve` answers, without a certificate, which takes more time and memory than the search.
+pub fn find(alloc: Global, level: &Level, limit: u32) -> Result<Found, SolveFault>
+    ensures found { IfOk result (IsFound level.now limit) }
+    ensures bad_limit { (result ≡ Err fault.BadLimit) ↔ IsBadLimit limit }
+    ensures refused { IfErr result (IsRefusal level.now limit) }
+    ensures exact { (result ≡ Err fault.Memory → ⊥) → (result ≡ Err fault.BadLimit → ⊥)
+        → (IsOk result ↔ IsAcceptable level.now) }
+{
+    let board = accept(alloc, level, limit)?;
+    let found = find_on(alloc, &board, limit)?;
+    Ok(found)
 }
 
 /// Whether a limit is refused.
@@ -58,6 +69,18 @@ fn is_bad(limit: u32) -> bool
     ensures { IsTrue result ↔ IsBadLimit limit }
 {
     limit == 0 || limit > LIMIT
+}
+
+/// The board of a level that is to be searched within a limit.
+fn accept(alloc: Global, level: &Level, limit: u32) -> Result<Board, SolveFault>
+    ensures board { IfOk result (IsAcceptedWithin level.now limit) }
+    ensures tells { TellsFault level.now limit result }
+{
+    if is_bad(limit) {
+        return Err(SolveFault::BadLimit);
+    }
+    let board = Board::new(alloc, level)?;
+    Ok(board)
 }
 
 /// The answer of a board within a limit.
@@ -69,11 +92,51 @@ fn answer(alloc: Global, board: &Board, limit: u32) -> Result<Outcome, Memory>
     // Its clauses tell that the level is accepted.
     let _level = board.level();
     let tables = Tables::new(alloc, board)?;
-    let search = begin(alloc, board, &tables)?;
-    let mut scratch = Scratch::new(alloc, board, &tables)?;
-    match run(alloc, board, &tables, limit, search, &mut scratch)? {
+    match search_all(alloc, board, &tables, limit)? {
         Reached::On(after) => conclude(alloc, board, &tables, &after),
         Reached::Full => Ok(Outcome::Limit { states: limit }),
+    }
+}
+
+/// What is found of a board within a limit.
+fn find_on(alloc: Global, board: &Board, limit: u32) -> Result<Found, Memory>
+    requires { 0 < limit }
+    ensures { IfOk result (IsFound board.now.rows limit) }
+{
+    // Its clauses tell that the level is accepted.
+    let _level = board.level();
+    let tables = Tables::new(alloc, board)?;
+    match search_all(alloc, board, &tables, limit)? {
+        Reached::On(after) => find_in(alloc, board, &after),
+        Reached::Full => Ok(Found::Limit { states: limit }),
+    }
+}
+
+/// Searches until no state waits, or until the table is full.
+fn search_all(alloc: Global, board: &Board, tables: &Tables, limit: u32) -> Result<Reached, Memory>
+    requires accepted { IsAccepted board.now }
+    requires tables { tables.now.board ≡ board.now }
+    requires positive { 0 < limit }
+    ensures { IfOk result (TellsFinished board.now limit) }
+{
+    let search = begin(alloc, board, tables)?;
+    let mut scratch = Scratch::new(alloc, board, tables)?;
+    run(alloc, board, tables, limit, search, &mut scratch)
+}
+
+/// What a finished search has found.
+fn find_in(alloc: Global, board: &Board, search: &Search) -> Result<Found, Memory>
+    requires accepted { IsAccepted board.now }
+    requires search { IsSearching board.now (progress_of search.now) }
+    requires finished { search.now.queue ≡ [] }
+    ensures { (limit : ℕ) → IfOk result (IsFound board.now.rows limit) }
+{
+    match search.best {
+        Some(pushes) => {
+            let dirs = solution(alloc, board, search, pushes)?;
+            Ok(Found::Solved { dirs, pushes })
+        }
+        None => Ok(Found::Unsolvable),
     }
 }
 

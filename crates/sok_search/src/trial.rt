@@ -1,9 +1,10 @@
 //! How a new state stands that a push leads to.
 
-ghost use Rattle.std.specs.Prelude.{ℕ, List, ◌≡◌, ◌<◌, ◌↔◌, IsTrue, All, length};
+ghost use Rattle.std.specs.Prelude.{ℕ, List, ◌≡◌, ◌<◌, ◌↔◌, IfOk, IsTrue, OnOk, All, length};
 ghost use Rattle.sok_board.specs.Area.{IsAccepted};
 ghost use Rattle.sok_price.specs.Matched.{TellsLeast};
 ghost use Rattle.sok_bar.specs.Jam.{HasJamWith};
+ghost use Rattle.sok_region.specs.BoxSets.{put_in_order};
 ghost use Rattle.sok_state.specs.Layouts.{IsLaidOut};
 ghost use Rattle.sok_search.specs.Steps.{IsJudged};
 ghost use Rattle.sok_search.specs.Trials.{AreMoved, IsTrial};
@@ -16,7 +17,9 @@ use sok_field::field::Field;
 use sok_price::matching::Matching;
 use sok_push::tables::Tables;
 use sok_region::box_set::BoxSet;
+use sok_rules::fault::Memory;
 use sok_state::layout::Layout;
+use std::alloc::Global;
 
 /// What pushes from a state are tried with: its boxes, laid out; room for the squares that the
 /// player comes to after a push; and a matching, which is made that of its boxes once a bound is
@@ -45,26 +48,29 @@ fn match_boxes(board: &Board, trial: &mut Trial, boxes: &BoxSet)
     }
 }
 
-/// The least total of the boxes after a push, and None where they have a crowd.
+/// The least total of the boxes after a push, and None where they have a crowd. The boxes are
+/// listed only where those before have a crowd.
 fn bound_after(
+    alloc: Global,
     board: &Board,
     trial: &mut Trial,
     before: &BoxSet,
     from: Sq,
     to: Sq,
-    after: &BoxSet,
-) -> Option<u32>
+) -> Result<Option<u32>, Memory>
     requires trial { IsTrial board.now before.now trial.old.matching trial.old.matched }
-    requires moved { AreMoved board.now before.now from to after.now }
-    ensures trial { IsTrial board.now before.now trial.new.matching trial.new.matched }
+    requires moved { AreMoved board.now before.now from to (put_in_order from to before.now) }
+    ensures trial { OnOk result
+        (IsTrial board.now before.now trial.new.matching trial.new.matched) }
     ensures layout { trial.new.layout ≡ trial.old.layout }
-    ensures least { TellsLeast board.now after.now result }
+    ensures least { IfOk result (TellsLeast board.now (put_in_order from to before.now)) }
 {
     match_boxes(board, trial, before);
     if trial.matched {
-        return trial.matching.bound_after(from, to);
+        return Ok(trial.matching.bound_after(from, to));
     }
-    trial.matching.set(after)
+    let after = before.moved(alloc, from, to)?;
+    Ok(trial.matching.set(&after))
 }
 
 /// Whether the boxes after a push have a jam with the box that was pushed. The boxes that are laid
@@ -88,28 +94,29 @@ fn is_jammed(board: &Board, tables: &Tables, layout: &mut Layout, from: Sq, to: 
 /// How a new state with some boxes stands, of which one was pushed: dead, by a jam with that box or
 /// by a crowd, or open, with prices of a total.
 pub(crate) fn judge_after(
+    alloc: Global,
     board: &Board,
     tables: &Tables,
     trial: &mut Trial,
     before: &BoxSet,
     from: Sq,
     to: Sq,
-    after: &BoxSet,
-) -> Standing
+) -> Result<Standing, Memory>
     requires accepted { IsAccepted board.now }
     requires tables { tables.now.board ≡ board.now }
     requires trial { IsTrial board.now before.now trial.old.matching trial.old.matched }
     requires laid { IsLaidOut board.now before.now trial.old.layout }
-    requires moved { AreMoved board.now before.now from to after.now }
-    ensures trial { IsTrial board.now before.now trial.new.matching trial.new.matched }
-    ensures laid { IsLaidOut board.now before.now trial.new.layout }
-    ensures judged { IsJudged board.now after.now result }
+    requires moved { AreMoved board.now before.now from to (put_in_order from to before.now) }
+    ensures trial { OnOk result
+        (IsTrial board.now before.now trial.new.matching trial.new.matched) }
+    ensures laid { OnOk result (IsLaidOut board.now before.now trial.new.layout) }
+    ensures judged { IfOk result (IsJudged board.now (put_in_order from to before.now)) }
 {
     if is_jammed(board, tables, &mut trial.layout, from, to) {
-        return Standing::Dead;
+        return Ok(Standing::Dead);
     }
-    match bound_after(board, trial, before, from, to, after) {
-        Some(bound) => Standing::Open(bound),
-        None => Standing::Dead,
+    match bound_after(alloc, board, trial, before, from, to)? {
+        Some(bound) => Ok(Standing::Open(bound)),
+        None => Ok(Standing::Dead),
     }
 }

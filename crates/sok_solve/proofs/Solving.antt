@@ -13,15 +13,14 @@ use Rattle.sok_board.specs.declared.fault.BoardFault.TheVariants as board
 use Rattle.sok_board.specs.Refusals.{IsAcceptable}
 use Rattle.sok_search.specs.declared.fault.SolveFault.{SolveFault}
 use Rattle.sok_search.specs.declared.fault.SolveFault.TheVariants as solve
-use Rattle.sok_search.specs.declared.outcome.Outcome.{Outcome}
 use Rattle.sok_search.specs.Faults.{IsBadLimit, IsRefusal}
 use Rattle.sok_engine.specs.declared.fault.ToolFault.{ToolFault}
 use Rattle.sok_engine.specs.declared.fault.ToolFault.TheVariants as tool
 use Rattle.sok_engine.specs.Certified.{Certified}
 use Rattle.sok_engine.specs.Faults.{of_play}
-use Rattle.sok_engine.specs.Written.{Gives, IsFaultOf}
+use Rattle.sok_engine.specs.Written.{Answer, Gives, IsFaultOf}
 use Rattle.sok_solve.specs.Faults.{of_solve}
-use Rattle.sok_solve.specs.Solves.{IsSolveAnswer, TellsOutcome, is_bad, is_refused, is_told}
+use Rattle.sok_solve.specs.Solves.{IsAnswered, is_bad, is_refused, is_told}
 
 -- letters that solve are legal
 solves_legal : (end : Option Position) (P : Position → Type 0) → IsSomeAnd end P → IsSome end
@@ -34,28 +33,35 @@ replayed rows w (play.Blocked at) solves blocked = absurd (blocked_not_legal row
 replayed rows w play.TooLong solves blocked = absurd blocked
 replayed rows w play.Memory solves blocked = refl
 
--- a fault is no outcome
-abbrev fails : SolveFault → Result Outcome SolveFault
-fails fault = Err fault
+-- a fault is no answer of a search
+abbrev fails : (B : Type 0) → SolveFault → Result B SolveFault
+fails B fault = Err fault
 
 -- why a level is not solved is one of its answers, memory aside
-pub refused_answer : (rows : Rows) (limit : ℕ) (fault : SolveFault) → (fails fault ≡ fails solve.BadLimit) ↔ IsBadLimit limit → IsRefusal rows limit fault
-    → IsFaultOf (IsSolveAnswer limit rows) (of_solve fault)
-refused_answer rows limit solve.BadLimit bad_limit is = is_bad is refl
-refused_answer rows limit (solve.NotEnclosed spot) bad_limit is =
+pub refused_answer : {A : Type 0} (B : Type 0) (Tells : A → Type 0) (rows : Rows) (limit : ℕ) (fault : SolveFault)
+    → (fails B fault ≡ fails B solve.BadLimit) ↔ IsBadLimit limit → IsRefusal rows limit fault → IsFaultOf (IsAnswered Tells limit rows) (of_solve fault)
+refused_answer B Tells rows limit solve.BadLimit bad_limit is = is_bad is refl
+refused_answer B Tells rows limit (solve.NotEnclosed spot) bad_limit is =
     is_refused (λ bad. let same = bad_limit.1 bad in cc) (board.NotEnclosed spot) (λ same. cc) is refl
-refused_answer rows limit (solve.BoxOutside spot) bad_limit is =
+refused_answer B Tells rows limit (solve.BoxOutside spot) bad_limit is =
     is_refused (λ bad. let same = bad_limit.1 bad in cc) (board.BoxOutside spot) (λ same. cc) is refl
-refused_answer rows limit solve.TooFewGoals bad_limit is = is_refused (λ bad. let same = bad_limit.1 bad in cc) board.TooFewGoals (λ same. cc) is refl
-refused_answer rows limit solve.TooLarge bad_limit is = is_refused (λ bad. let same = bad_limit.1 bad in cc) board.TooLarge (λ same. cc) is refl
-refused_answer rows limit solve.TooManyBoxes bad_limit is = is_refused (λ bad. let same = bad_limit.1 bad in cc) board.TooManyBoxes (λ same. cc) is refl
-refused_answer rows limit solve.Memory bad_limit is = tt
+refused_answer B Tells rows limit solve.TooFewGoals bad_limit is = is_refused (λ bad. let same = bad_limit.1 bad in cc) board.TooFewGoals (λ same. cc) is refl
+refused_answer B Tells rows limit solve.TooLarge bad_limit is = is_refused (λ bad. let same = bad_limit.1 bad in cc) board.TooLarge (λ same. cc) is refl
+refused_answer B Tells rows limit solve.TooManyBoxes bad_limit is =
+    is_refused (λ bad. let same = bad_limit.1 bad in cc) board.TooManyBoxes (λ same. cc) is refl
+refused_answer B Tells rows limit solve.Memory bad_limit is = tt
 
--- what is told of an outcome is the answer of an acceptable level within its limit
-pub told_answer : (rows : Rows) (limit : ℕ) (answer : Result Certified ToolFault) → ¬ (IsBadLimit limit) → IsAcceptable rows
-    → MatchResult answer (TellsOutcome limit rows) (λ fault. fault ≡ tool.Memory) → Gives (IsSolveAnswer limit rows) answer
-told_answer rows limit (Ok told) good acceptable tells = is_told good acceptable told tells refl
-told_answer rows limit (Err fault) good acceptable memory = subst (IsFaultOf (IsSolveAnswer limit rows)) (sym memory) tt
+-- what is told is the answer of an acceptable level within its limit
+pub told_answer : {A : Type 0} (Tells : A → Type 0) (rows : Rows) (limit : ℕ) (answer : Result A ToolFault) → ¬ (IsBadLimit limit) → IsAcceptable rows
+    → MatchResult answer Tells (λ fault. fault ≡ tool.Memory) → Gives (IsAnswered Tells limit rows) answer
+told_answer Tells rows limit (Ok told) good acceptable tells = is_told good acceptable told tells refl
+told_answer Tells rows limit (Err fault) good acceptable memory = subst (IsFaultOf (IsAnswered Tells limit rows)) (sym memory) tt
+
+abbrev answering : List ℕ → ℕ → Answer
+answering text status = record { text = text; status = status }
+
+pub same_answer : (text words : List ℕ) (status exit : ℕ) → text ≡ words → status ≡ exit → answering text status ≡ answering words exit
+same_answer text words status exit texts statuses = λ i. answering (texts i) (statuses i)
 
 -- a certificate, and an answer with its status
 abbrev certified : List ℕ → List ℕ → ℕ → Certified

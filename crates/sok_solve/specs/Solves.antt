@@ -1,9 +1,9 @@
--- What is answered to a level that is to be solved within a limit of states, and the certificate that goes with it.
+-- What is answered to a level that is to be solved within a limit of states, alone or with a certificate.
 use Rattle.std.specs.Prelude.{ℕ, ◌≡◌, ◌≢◌, List, [], ◌++◌, Result, Ok, Err, codes, length}
 use Rattle.std.specs.Fmt.{decimal}
 use Rattle.sok_rules.specs.declared.cell.Dir.{Dir}
 use Rattle.sok_rules.specs.Squares.{Rows}
-use Rattle.sok_rules.specs.Play.{start}
+use Rattle.sok_rules.specs.Play.{start, IsUnsolvable}
 use Rattle.sok_rules.specs.States.{MoreStatesThan}
 use Rattle.sok_text.specs.Collections.{blocks_of, level_at}
 use Rattle.sok_text.specs.Marked.{marked_text}
@@ -14,45 +14,72 @@ use Rattle.sok_cert.specs.Claim.TheVariants as claim
 use Rattle.sok_cert.specs.Entry.{Entry}
 use Rattle.sok_cert.specs.Text.{text_of}
 use Rattle.sok_search.specs.Faults.{IsBadLimit}
-use Rattle.sok_search.specs.Outcomes.{IsShownSolved, IsShownUnsolvable}
+use Rattle.sok_search.specs.Outcomes.{IsLeastSolution, IsShownSolved, IsShownUnsolvable}
 use Rattle.sok_engine.specs.declared.fault.ToolFault.{ToolFault}
 use Rattle.sok_engine.specs.declared.fault.ToolFault.TheVariants as tool
 use Rattle.sok_engine.specs.Certified.{Certified, CertifiedAnswers}
 use Rattle.sok_engine.specs.Faults.{of_board}
 use Rattle.sok_engine.specs.Inputs.{OnLevel}
+use Rattle.sok_engine.specs.Written.{Answer, Answers}
 
 -- the line of a solution, and its marked text on a line of its own
 abbrev pub solution_text : Rows → List Dir → ℕ → List ℕ
 solution_text rows w pushes =
     codes "solved " ++ decimal pushes ++ codes " " ++ decimal (length w) ++ codes "\n" ++ marked_text rows (start rows) w ++ codes "\n"
 
+-- the answers, alone
+abbrev pub solution_answer : Rows → List Dir → ℕ → Answer
+solution_answer rows w pushes = record { text = solution_text rows w pushes; status = 0 }
+
+abbrev pub unsolvable_answer : Answer
+unsolvable_answer = record { text = codes "unsolvable\n"; status = 0 }
+
+abbrev pub limit_answer : ℕ → Answer
+limit_answer limit = record { text = codes "limit " ++ decimal limit ++ codes "\n"; status = 4 }
+
+-- what is told without a certificate: a list that solves with the fewest pushes, or that none solves, or that there are too many states
+pub data TellsFound (limit : ℕ) (rows : Rows) (told : Answer) : Type 0 where
+  is_solution : (w : List Dir) (pushes : ℕ) → IsLeastSolution rows w pushes → told ≡ solution_answer rows w pushes → TellsFound limit rows told
+  has_none : IsUnsolvable rows → told ≡ unsolvable_answer → TellsFound limit rows told
+  is_past_limit : MoreStatesThan rows limit → told ≡ limit_answer limit → TellsFound limit rows told
+
 -- with the certificate that none solves with fewer pushes
-abbrev pub solved_answer : Rows → List Dir → ℕ → List Entry → Certified
-solved_answer rows w pushes entries =
-    record { cert = text_of (claim.Pushes pushes) entries; answer = record { text = solution_text rows w pushes; status = 0 } }
+abbrev pub certified_solution : Rows → List Dir → ℕ → List Entry → Certified
+certified_solution rows w pushes entries = record { cert = text_of (claim.Pushes pushes) entries; answer = solution_answer rows w pushes }
 
 -- with the certificate that none solves
-abbrev pub unsolvable_answer : List Entry → Certified
-unsolvable_answer entries = record { cert = text_of claim.Unsolvable entries; answer = record { text = codes "unsolvable\n"; status = 0 } }
+abbrev pub certified_unsolvable : List Entry → Certified
+certified_unsolvable entries = record { cert = text_of claim.Unsolvable entries; answer = unsolvable_answer }
 
 -- with no certificate
-abbrev pub limit_answer : ℕ → Certified
-limit_answer limit = record { cert = []; answer = record { text = codes "limit " ++ decimal limit ++ codes "\n"; status = 4 } }
+abbrev pub uncertified_limit : ℕ → Certified
+uncertified_limit limit = record { cert = []; answer = limit_answer limit }
 
 -- what is told: a list that solves with the fewest pushes, or that none solves, each with a closed certificate; or that there are too many states
 pub data TellsOutcome (limit : ℕ) (rows : Rows) (told : Certified) : Type 0 where
   is_solved : (w : List Dir) (pushes : ℕ) (entries : List Entry) → IsShownSolved rows limit w pushes entries
-      → told ≡ solved_answer rows w pushes entries → TellsOutcome limit rows told
-  is_unsolvable : (entries : List Entry) → IsShownUnsolvable rows limit entries → told ≡ unsolvable_answer entries → TellsOutcome limit rows told
-  is_limited : MoreStatesThan rows limit → told ≡ limit_answer limit → TellsOutcome limit rows told
+      → told ≡ certified_solution rows w pushes entries → TellsOutcome limit rows told
+  is_unsolvable : (entries : List Entry) → IsShownUnsolvable rows limit entries → told ≡ certified_unsolvable entries → TellsOutcome limit rows told
+  is_limited : MoreStatesThan rows limit → told ≡ uncertified_limit limit → TellsOutcome limit rows told
 
--- the limit is refused, or else the level, or else an outcome is told
-pub data IsSolveAnswer (limit : ℕ) (rows : Rows) (answer : Result Certified ToolFault) : Type 0 where
-  is_bad : IsBadLimit limit → answer ≡ Err tool.BadLimit → IsSolveAnswer limit rows answer
+-- the limit is refused, or else the level, or else something is told of it
+pub data IsAnswered {A : Type 0} (Tells : A → Type 0) (limit : ℕ) (rows : Rows) (answer : Result A ToolFault) : Type 0 where
+  is_bad : IsBadLimit limit → answer ≡ Err tool.BadLimit → IsAnswered Tells limit rows answer
   is_refused : ¬ (IsBadLimit limit) → (fault : BoardFault) → fault ≢ board.Memory → IsRefused rows fault → answer ≡ Err (of_board fault)
-      → IsSolveAnswer limit rows answer
-  is_told : ¬ (IsBadLimit limit) → IsAcceptable rows → (told : Certified) → TellsOutcome limit rows told → answer ≡ Ok told → IsSolveAnswer limit rows answer
+      → IsAnswered Tells limit rows answer
+  is_told : ¬ (IsBadLimit limit) → IsAcceptable rows → (told : A) → Tells told → answer ≡ Ok told → IsAnswered Tells limit rows answer
+
+-- with a certificate, and alone
+abbrev pub IsSolveAnswer : ℕ → Rows → CertifiedAnswers
+IsSolveAnswer limit rows = IsAnswered (TellsOutcome limit rows) limit rows
+
+abbrev pub IsFindAnswer : ℕ → Rows → Answers
+IsFindAnswer limit rows = IsAnswered (TellsFound limit rows) limit rows
 
 -- the answer to the n-th level of a collection, counted from 1
 abbrev pub IsSolve : ℕ → ℕ → List ℕ → CertifiedAnswers
 IsSolve n limit bytes = OnLevel (IsSolveAnswer limit) (level_at (blocks_of bytes) n)
+
+-- the same, alone
+abbrev pub IsFind : ℕ → ℕ → List ℕ → Answers
+IsFind n limit bytes = OnLevel (IsFindAnswer limit) (level_at (blocks_of bytes) n)

@@ -1,6 +1,6 @@
 //! A solution with the fewest pushes, with its certificate.
 
-ghost use Rattle.std.specs.Prelude.{◌≡◌, IfOk, MatchResult, string_bytes};
+ghost use Rattle.std.specs.Prelude.{◌≡◌, IfOk, MatchResult, Ok, string_bytes};
 ghost use Rattle.sok_engine.specs.Certified.{WritesBoth};
 ghost use Rattle.sok_engine.specs.Inputs.{OfReader, Within};
 ghost use Rattle.sok_engine.specs.Limits.{input_limit};
@@ -11,10 +11,9 @@ ghost use Rattle.sok_search.specs.Outcomes.{IsAnswer};
 ghost use Rattle.sok_solve.specs.Faults.{of_solve};
 ghost use Rattle.sok_solve.specs.Solves.{IsSolve, IsSolveAnswer, TellsOutcome, solution_text};
 
+use crate::certificate::ReadyCert;
 use sok_cert::claim::Claim;
-use sok_cert::writing::write;
 use sok_engine::answer::Answer;
-use sok_engine::certified::write_both;
 use sok_engine::fault::ToolFault;
 use sok_engine::input::read_input;
 use sok_rules::cell::Dir;
@@ -55,22 +54,40 @@ pub fn solve_bytes<R: Read, W: Write, C: Write>(
 {
     let bytes = read_input(alloc, input)?;
     let told = solved(alloc, bytes.as_slice(), n, limit)?;
-    write_both(cert_out, &told.cert, out, &told.answer)
+    told.write(cert_out, out)
 }
 
-/// An answer, and the text of its certificate, which is empty where there is none.
+/// An answer, and the certificate that is written before it, where there is one.
 #[derive(Debug, Drop)]
 struct CertifiedAnswer {
-    cert: Vec<u8>,
+    cert: Option<ReadyCert>,
     answer: Answer,
 }
 
 impl Model for CertifiedAnswer {
+    ghost use Rattle.std.specs.Prelude.{[], unwrap_or};
     ghost use Rattle.sok_engine.specs.Certified as certified;
 
     ghost Value = { certified.Certified };
 
-    ghost view = { λ told. record { cert = told.cert.items; answer = told.answer } };
+    ghost view = { λ told. record { cert = unwrap_or told.cert []; answer = told.answer } };
+}
+
+impl CertifiedAnswer {
+    /// Writes the certificate, and then the text of the answer, and gives the answer's status. A
+    /// write that fails is `WriteFailed` at once: after a front of the certificate nothing of the
+    /// answer is written.
+    fn write<C: Write, W: Write>(self, cert_out: &mut C, out: &mut W) -> Result<u8, ToolFault>
+        ensures { WritesBoth (λ both. both ≡ Ok self)
+            (record { old = C.contents cert_out.old; new = C.contents cert_out.new })
+            (record { old = W.contents out.old; new = W.contents out.new }) result }
+    {
+        let CertifiedAnswer { cert, answer } = self;
+        if let Some(cert) = cert {
+            cert.write(cert_out)?;
+        }
+        answer.write(out)
+    }
 }
 
 /// The answer to a level of a collection.
@@ -96,7 +113,7 @@ fn answer(alloc: Global, level: &Level, limit: u32) -> Result<CertifiedAnswer, T
     }
 }
 
-fn tool_fault(fault: SolveFault) -> ToolFault
+pub(crate) fn tool_fault(fault: SolveFault) -> ToolFault
     ensures { result ≡ of_solve fault }
 {
     match fault {
@@ -122,28 +139,33 @@ fn told(
 {
     match outcome {
         Outcome::Solved { dirs, pushes, cert } => {
-            let cert = write(alloc, &Claim::Pushes(pushes), &cert)?;
+            let cert = ReadyCert::new(alloc, &Claim::Pushes(pushes), cert)?;
             let text = solution_text(alloc, level, dirs.as_slice(), pushes)?;
             let answer = Answer::new(text, 0);
-            Ok(CertifiedAnswer { cert, answer })
+            Ok(CertifiedAnswer {
+                cert: Some(cert),
+                answer,
+            })
         }
         Outcome::Unsolvable { cert } => {
-            let cert = write(alloc, &Claim::Unsolvable, &cert)?;
+            let cert = ReadyCert::new(alloc, &Claim::Unsolvable, cert)?;
             let text = String::from_str(alloc, "unsolvable\n")?;
             let answer = Answer::new(text.into_bytes(), 0);
-            Ok(CertifiedAnswer { cert, answer })
+            Ok(CertifiedAnswer {
+                cert: Some(cert),
+                answer,
+            })
         }
         Outcome::Limit { states } => {
             let text = format!(in alloc; "limit {states}\n")?;
-            let cert = Vec::new(alloc);
             let answer = Answer::new(text.into_bytes(), 4);
-            Ok(CertifiedAnswer { cert, answer })
+            Ok(CertifiedAnswer { cert: None, answer })
         }
     }
 }
 
 /// The line of a solution, and its marked text on a line of its own.
-fn solution_text(
+pub(crate) fn solution_text(
     alloc: Global,
     level: &Level,
     dirs: &[Dir],

@@ -1,5 +1,6 @@
 -- What is answered to a job is what serves its form.
-use Rattle.std.proofs.Common.{ℕ, ℤ, ◌≡◌, ◌∙◌, inl, FitsSigned, Global, String, List, Option, Err, option_map, pos, refl, string_bytes, subst, sym, w64}
+use Rattle.std.proofs.Common.{ℕ, ℤ, ◌≡◌, ◌∙◌, inl, FitsSigned, Global, String, List, Option, Some, None, Err, option_map, pos, refl}
+use Rattle.std.proofs.Common.{string_bytes, subst, sym, w64}
 use Rattle.std.specs.Str.Parse.{digits_value}
 use Rattle.sok_engine.specs.declared.fault.ToolFault.TheVariants as tool
 use Rattle.sok_engine.specs.Certified.{Bytes, Stays}
@@ -18,7 +19,8 @@ pub Serves-memory : (files : Files) (databases : Databases) (form : Form) (out e
 Serves-memory files databases (list file) out err exit ends kept = (Err tool.Memory, kept, ends)
 Serves-memory files databases (replay file number text) out err exit ends kept = (Err tool.Memory, kept, ends)
 Serves-memory files databases (check file number cert) out err exit ends kept = (Err tool.Memory, kept, ends)
-Serves-memory files databases (solve file number limit cert) out err exit ends kept = (Err tool.Memory, inl (inl refl, kept), ends)
+Serves-memory files databases (solve file number limit None) out err exit ends kept = (Err tool.Memory, kept, ends)
+Serves-memory files databases (solve file number limit (Some cert)) out err exit ends kept = (Err tool.Memory, inl (inl refl, kept), ends)
 Serves-memory files databases _ out err exit ends kept = (Err tool.Memory, unready (inl refl) kept, ends)
 
 -- a job of replaying serves its form

@@ -1,15 +1,15 @@
 -- What the program does for a command line.
-use Rattle.std.specs.Prelude.{ℕ, ℤ, ◌≡◌, List, Option, Result, IfSome, pos}
+use Rattle.std.specs.Prelude.{ℕ, ℤ, ◌≡◌, List, Option, Result, pos}
 use Rattle.std.specs.Str.Parse.{digits_value}
 use Rattle.sok_book.specs.Books.{Book}
 use Rattle.sok_engine.specs.declared.fault.ToolFault.{ToolFault}
-use Rattle.sok_engine.specs.Certified.{Bytes, CertifiedAnswers}
+use Rattle.sok_engine.specs.Certified.{Bytes}
 use Rattle.sok_engine.specs.Inputs.{Within}
 use Rattle.sok_engine.specs.Limits.{cert_limit, input_limit}
 use Rattle.sok_engine.specs.Written.{Answers, Writes}
 use Rattle.sok_files.specs.Endings.{Ends, Runs}
 use Rattle.sok_files.specs.Files.{Files, OfFile, OfFiles}
-use Rattle.sok_files.specs.Solving.{SolvesTo}
+use Rattle.sok_files.specs.Solving.{SolvesLevel}
 use Rattle.sok_judge.specs.Checks.{IsCheck}
 use Rattle.sok_keep.specs.Adds.{WritesAdding}
 use Rattle.sok_keep.specs.Offers.{WritesOffer}
@@ -17,13 +17,8 @@ use Rattle.sok_keep.specs.Proves.{WritesProof}
 use Rattle.sok_keep.specs.Shows.{IsExport, IsShow}
 use Rattle.sok_play.specs.Listing.{IsListing}
 use Rattle.sok_play.specs.Plays.{IsReplay}
-use Rattle.sok_solve.specs.Solves.{IsSolve}
 use Rattle.sok_words.specs.Forms.{Form, add, check, export, limit_of, list, offer, prove, replay, show, solve}
 use Rattle.sok_tool.specs.Databases.{Databases, OfOpened, WorksOn}
-
--- a certificate is written to such a writer, and one of the answers to the output, and the program ends with its status, or that of the fault
-abbrev pub RunsBoth : CertifiedAnswers → (Bytes → Type 0) → Bytes → Bytes → ℕ → Type 0
-RunsBoth P IsPlace out err exit = (result : Result ℕ ToolFault) × SolvesTo P IsPlace out result × Ends result err.old err.new exit
 
 -- what is answered to the job of replaying
 abbrev pub RunsReplay : Files → List ℕ → ℕ → List ℕ → Bytes → Bytes → ℕ → Type 0
@@ -34,10 +29,10 @@ abbrev pub RunsCheck : Files → List ℕ → ℕ → List ℕ → Bytes → Byt
 RunsCheck files file n cert out err exit =
     Runs (OfFiles (files.reads file) (files.reads cert) (λ text. Within input_limit (IsCheck cert_limit n text))) out.old out.new err.old err.new exit
 
--- what is answered to the job of solving
+-- what is answered to the job of solving, with a certificate where a path is given
 abbrev pub RunsSolve : Files → List ℕ → ℕ → ℕ → Option (List ℕ) → Bytes → Bytes → ℕ → Type 0
 RunsSolve files file n most path out err exit =
-    RunsBoth (OfFile (files.reads file) (Within input_limit (IsSolve n most))) (λ cert. IfSome path (λ place. files.makes place cert)) out err exit
+    (result : Result ℕ ToolFault) × SolvesLevel (files.reads file) files.makes n most path out result × Ends result err.old err.new exit
 
 -- a command works on the book in the database at a path, and the program ends with its status, or that of the fault
 abbrev pub RunsOn : Databases → List ℕ → (Book → Book → Result ℕ ToolFault → Type 0) → Bytes → Bytes → ℕ → Type 0

@@ -1,17 +1,16 @@
 use Rattle.std.proofs.Common.{◌+◌, ap, subst, refl, arith, length}
 use Rattle.sok_board.proofs.Beside.{beside-within}
 use Rattle.sok_cert.proofs.Starting.{at-within}
-use Rattle.sok_state.proofs.LegalPushes.{clear-legal}
 use Rattle.sok_state.specs.declared.key.Key.{Key}
 use Rattle.sok_state.specs.Tables.{Entries, Enters, GoesLast, Stays}
 use Rattle.sok_search.specs.Steps.{holding}
-use Rattle.sok_search.specs.Stores.{IsNext, entries_in, room_of}
+use Rattle.sok_search.specs.Stores.{entries_in, room_of}
 use Rattle.sok_search.specs.Views.{progress_of}
 use Rattle.sok_search.proofs.Adding.{added-made, note-within, taken, taken-deep, taken-pushable}
 use Rattle.sok_search.proofs.Filling.{full-more}
 use Rattle.sok_search.proofs.Moving.{moved-next}
 use Rattle.sok_search.proofs.Pushing.{pushed-added, pushed-known}
-use Rattle.sok_search.proofs.Stepped.{clear-after, comes-next, next_of}
+use Rattle.sok_search.proofs.Stepped.{comes-next, next_of}
 use Rattle.sok_search.proofs.reaching.reach.Goals as goal
 
 pub step-to-requires-clause-pushable : goal.step-to-requires-clause-pushable
@@ -120,37 +119,20 @@ returns-then-at-limit-clause-tells c =
     c.requires.legal.after c.requires.search (omega (arith, full, count))
     c.requires.there c.requires.legal.leads (comes.came.exact c.requires.legal.after c.requires.legal.leads) last.absent
 
-pub moved-requires-clause-from : goal.moved-requires-clause-from
-moved-requires-clause-from c =
-    let can = taken-pushable c.args.board.now c.requires.accepted c.args.limit c.args.index (progress_of c.args.search) c.args.key.now c.args.depth
-    c.requires.search c.requires.there c.requires.depth c.args.push c.requires.legal c.args.trial.now.layout c.requires.laid in
-    (clear-legal c.args.board.now c.requires.accepted.numbered c.args.key.now can.state.is.placed c.args.push c.requires.legal).0
-
-pub moved-requires-clause-to : goal.moved-requires-clause-to
-moved-requires-clause-to c =
-    let can = taken-pushable c.args.board.now c.requires.accepted c.args.limit c.args.index (progress_of c.args.search) c.args.key.now c.args.depth
-    c.requires.search c.requires.there c.requires.depth c.args.push c.requires.legal c.args.trial.now.layout c.requires.laid in
-    clear-after c.args.board.now c.requires.accepted c.args.key.now c.args.push c.step-to.result.0 can.state c.requires.legal c.step-to.ensures.ahead
-
-pub judge_after-standing-requires-clause-laid : goal.judge_after-standing-requires-clause-laid
-judge_after-standing-requires-clause-laid c =
+pub judge_after-requires-clause-laid : goal.judge_after-requires-clause-laid
+judge_after-requires-clause-laid c =
     let can = taken-pushable c.args.board.now c.requires.accepted c.args.limit c.args.index (progress_of c.args.search) c.args.key.now c.args.depth
     c.requires.search c.requires.there c.requires.depth c.args.push c.requires.legal c.args.trial.now.layout c.requires.laid in
     c.step-to.ensures.laid c.args.key.now can
 
-pub judge_after-standing-requires-clause-moved : goal.judge_after-standing-requires-clause-moved
-judge_after-standing-requires-clause-moved c =
+pub judge_after-requires-clause-moved : goal.judge_after-requires-clause-moved
+judge_after-requires-clause-moved c =
     let can = taken-pushable c.args.board.now c.requires.accepted c.args.limit c.args.index (progress_of c.args.search) c.args.key.now c.args.depth
     c.requires.search c.requires.there c.requires.depth c.args.push c.requires.legal c.args.trial.now.layout c.requires.laid in
-    let after : Key = record { boxes = c.in_ok-after.after; least = c.step-to.result.1 } in
-    let is : IsNext c.args.key.now c.args.push.from c.step-to.result.0 c.step-to.result.1 after = record {
-      moved = c.in_ok-after.ensures.moved;
-      rising = c.in_ok-after.ensures.rising;
-      least_is = refl;
-    } in
-    let came = c.step-to.ensures.next c.args.key.now after can is in
-    moved-next c.args.board.now c.requires.accepted c.args.key.now after c.args.push c.step-to.result.0 can.state can.few came.state c.requires.legal
-    came.exact c.step-to.ensures.ahead
+    let comes = comes-next c.args.board.now c.requires.accepted c.args.key.now c.args.push c.step-to.result.0 c.step-to.result.1
+    c.args.trial.now.layout can c.step-to.ensures.ahead c.step-to.ensures.next in
+    moved-next c.args.board.now c.requires.accepted c.args.key.now _ c.args.push c.step-to.result.0 can.state can.few comes.came.state c.requires.legal
+    comes.came.exact c.step-to.ensures.ahead
 
 pub returns-clause-tells : goal.returns-clause-tells
 returns-clause-tells c =
@@ -160,21 +142,17 @@ returns-clause-tells c =
     let one = taken c.args.board.now c.args.limit c.args.index p c.args.key.now c.args.depth c.requires.search c.requires.there c.requires.depth in
     let can = taken-pushable c.args.board.now c.requires.accepted c.args.limit c.args.index (progress_of c.args.search) c.args.key.now c.args.depth
     c.requires.search c.requires.there c.requires.depth c.args.push c.requires.legal c.args.trial.now.layout c.requires.laid in
-    let next : Key = record { boxes = c.in_ok-after.after; least = c.step-to.result.1 } in
-    let is : IsNext c.args.key.now c.args.push.from c.step-to.result.0 c.step-to.result.1 next = record {
-      moved = c.in_ok-after.ensures.moved;
-      rising = c.in_ok-after.ensures.rising;
-      least_is = refl;
-    } in
-    let came = c.step-to.ensures.next c.args.key.now next can is in
+    let comes = comes-next c.args.board.now c.requires.accepted c.args.key.now c.args.push c.step-to.result.0 c.step-to.result.1
+    c.args.trial.now.layout can c.step-to.ensures.ahead c.step-to.ensures.next in
+    let next = next_of c.args.key.now c.args.push.from c.step-to.result.0 c.step-to.result.1 in
     let last : GoesLast p.table next (c.args.depth + 1) at (entries_in c.insert_next.new.self) = subst
     (λ t. Enters p.table next (c.args.depth + 1) at t (entries_in c.insert_next.new.self)) c.if-not-is_new.false
-    (c.in_ok-at.ensures.inserted.enters c.args.key.now next c.requires.there is) in
+    (c.in_ok-at.ensures.inserted.enters c.args.key.now next c.requires.there comes.is) in
     let room = c.if-at-limit.false in
     let count = last.last in
     pushed-added c.args.board.now c.args.limit c.args.index p c.requires.search c.args.key.now
     c.args.depth c.requires.there c.requires.depth one.note one.note_is
-    c.args.push c.requires.legal next came.exact came.state c.in_ok-after.ensures.as_many last.absent
-    (omega (arith, room, count)) _ refl c.judge_after-standing.ensures.judged q
+    c.args.push c.requires.legal next comes.came.exact comes.came.state comes.as_many last.absent
+    (omega (arith, room, count)) _ refl c.in_ok-standing.ensures.judged q
     (added-made p (room_of c.insert_next.new.self) (entries_in c.insert_next.new.self) q next (c.args.depth + 1) at _ c.in_ok-at.ensures.room last
     c.in_ok-add.ensures)

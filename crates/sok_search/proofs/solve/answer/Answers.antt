@@ -3,9 +3,6 @@ use Rattle.sok_search.specs.declared.reaching.Reached.TheVariants.{Full, On}
 use Rattle.sok_search.specs.Views.{TellsFinished}
 use Rattle.sok_search.proofs.solve.answer.Goals as goal
 
-pub run-requires-clause-search : goal.run-requires-clause-search
-run-requires-clause-search c = c.in_ok-search.ensures c.args.limit c.requires.positive
-
 pub conclude-requires-clause-search : goal.conclude-requires-clause-search
 conclude-requires-clause-search c =
     let b = c.args.board.now in

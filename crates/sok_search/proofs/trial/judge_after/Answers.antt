@@ -1,22 +1,25 @@
 use Rattle.std.proofs.Common.{inr, refl, subst, sym}
+use Rattle.sok_region.specs.BoxSets.{put_in_order}
 use Rattle.sok_state.specs.Layouts.{IsLaidOut}
 use Rattle.sok_search.proofs.trial.judge_after.Goals as goal
 
 pub is_jammed-requires-clause-laid : goal.is_jammed-requires-clause-laid
-is_jammed-requires-clause-laid c = (c.args.before.now, c.args.after.now, c.requires.moved, c.requires.laid)
+is_jammed-requires-clause-laid c = (c.args.before.now, (put_in_order c.args.from c.args.to c.args.before.now), c.requires.moved, c.requires.laid)
 
 pub returns-then-is_jammed-clause-laid : goal.returns-then-is_jammed-clause-laid
-returns-then-is_jammed-clause-laid c = c.is_jammed.ensures.laid c.args.before.now c.args.after.now c.requires.moved c.requires.laid
+returns-then-is_jammed-clause-laid c =
+    c.is_jammed.ensures.laid c.args.before.now (put_in_order c.args.from c.args.to c.args.before.now) c.requires.moved c.requires.laid
 
 pub returns-then-is_jammed-clause-judged : goal.returns-then-is_jammed-clause-judged
 returns-then-is_jammed-clause-judged c =
-    let (members, jam, with_box) = (c.if-is_jammed.ensures.jammed c.args.before.now c.args.after.now c.requires.moved c.requires.laid).0 refl in
+    let after = put_in_order c.args.from c.args.to c.args.before.now in
+    let (members, jam, with_box) = (c.if-is_jammed.ensures.jammed c.args.before.now after c.requires.moved c.requires.laid).0 refl in
     inr (members, jam)
 
 pub returns-in-Some-clause-laid : goal.returns-in-Some-clause-laid
 returns-in-Some-clause-laid c = subst (IsLaidOut c.args.board.now c.args.before.now) (sym c.bound_after.ensures.layout)
-    (c.is_jammed.ensures.laid c.args.before.now c.args.after.now c.requires.moved c.requires.laid)
+    (c.is_jammed.ensures.laid c.args.before.now (put_in_order c.args.from c.args.to c.args.before.now) c.requires.moved c.requires.laid)
 
 pub returns-in-None-clause-laid : goal.returns-in-None-clause-laid
 returns-in-None-clause-laid c = subst (IsLaidOut c.args.board.now c.args.before.now) (sym c.bound_after.ensures.layout)
-    (c.is_jammed.ensures.laid c.args.before.now c.args.after.now c.requires.moved c.requires.laid)
+    (c.is_jammed.ensures.laid c.args.before.now (put_in_order c.args.from c.args.to c.args.before.now) c.requires.moved c.requires.laid)

@@ -1,6 +1,6 @@
-use Rattle.std.proofs.Common.{ℕ, ◌≡◌, ◌∙◌, List, Ok, Err, ap, subst, sym}
+use Rattle.std.proofs.Common.{ℕ, List, Ok, Err, ap, subst}
 use Rattle.std.proofs.lemmas.Result.{err_from_is_err_and}
-use Rattle.sok_engine.specs.Certified.{Certified, CertifiedAnswers}
+use Rattle.sok_engine.specs.Certified.{CertifiedAnswers}
 use Rattle.sok_engine.specs.Limits.{input_limit}
 use Rattle.sok_engine.specs.Written.{IsFaultOf}
 use Rattle.sok_engine.proofs.Certifying.{WritesBoth-none, WritesBoth-read, WritesBoth-unread}
@@ -26,10 +26,6 @@ pub returns : goal.returns
 returns g c =
     let solve : List ℕ → CertifiedAnswers = IsSolve c.args.n c.args.limit in
     let read = c.in_ok-bytes in
-    let shown : List ℕ → Certified = λ cert. record { cert = cert; answer = c.told.inside.answer } in
-    let same : shown c.deref.result.now ≡ c.in_ok-told.told = ap shown c.deref.ensures.value ∙ c.told.view_is in
     let told : solve read.bytes.items (Ok c.in_ok-told.told) =
     subst (λ bytes. solve bytes (Ok c.in_ok-told.told)) c.as_slice.ensures.value c.in_ok-told.ensures in
-    let answered : solve read.bytes.items (Ok (shown c.deref.result.now)) = subst (λ both. solve read.bytes.items (Ok both)) (sym same) told in
-    WritesBoth-read input_limit solve _ _ _ read.bytes.items (shown c.deref.result.now) c.write_both.result read.ensures.all read.ensures.within answered
-    c.write_both.ensures
+    WritesBoth-read input_limit solve _ _ _ read.bytes.items c.in_ok-told.told c.write.result read.ensures.all read.ensures.within told c.write.ensures

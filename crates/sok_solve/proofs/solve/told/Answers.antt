@@ -11,7 +11,7 @@ returns-in_ok-text-in-Solved c =
     let words = c.new-answer.ensures.text ∙ c.in_ok-text-in-Solved.ensures
     ∙ ap (λ w. solution_text c.args.level.now w outcome.pushes) c.as_slice.ensures.value in
     is_solved outcome.dirs.items outcome.pushes outcome.cert.entries.items shown
-    (same_certified _ _ _ _ _ _ c.in_ok-cert-in-Solved.ensures.exact words c.new-answer.ensures.status)
+    (same_certified _ _ _ _ _ _ c.in_ok-cert-in-Solved.ensures words c.new-answer.ensures.status)
 
 pub returns-in_ok-text-in-Unsolvable : goal.returns-in_ok-text-in-Unsolvable
 returns-in_ok-text-in-Unsolvable c =
@@ -19,4 +19,4 @@ returns-in_ok-text-in-Unsolvable c =
     let shown = subst (IsAnswer c.args.level.now c.args.limit) outcome.is c.requires in
     let words = c.new-answer-in-Unsolvable.ensures.text ∙ ap (λ bytes. bytes.items) c.into_bytes.ensures.value ∙ c.in_ok-text-in-Unsolvable.ensures.ok in
     is_unsolvable outcome.cert.entries.items shown
-    (same_certified _ _ _ _ _ _ c.in_ok-cert-in-Unsolvable.ensures.exact words c.new-answer-in-Unsolvable.ensures.status)
+    (same_certified _ _ _ _ _ _ c.in_ok-cert-in-Unsolvable.ensures words c.new-answer-in-Unsolvable.ensures.status)

@@ -1,0 +1,14 @@
+//! What is found of a level.
+
+use sok_rules::cell::Dir;
+
+/// What is found of a level, with no certificate.
+#[derive(Debug, Drop)]
+pub enum Found {
+    /// Letters that solve the level with the fewest pushes.
+    Solved { dirs: Vec<Dir>, pushes: u32 },
+    /// No letters solve the level.
+    Unsolvable,
+    /// More states can be reached than the limit, which is told, and they were too few to answer.
+    Limit { states: u32 },
+}

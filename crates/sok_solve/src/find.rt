@@ -1,0 +1,76 @@
+//! A solution with the fewest pushes, alone.
+
+ghost use Rattle.std.specs.Prelude.{◌≡◌, MatchResult};
+ghost use Rattle.sok_engine.specs.Inputs.{OfReader, Within};
+ghost use Rattle.sok_engine.specs.Limits.{input_limit};
+ghost use Rattle.sok_engine.specs.Written.{Gives, Writes};
+ghost use Rattle.sok_engine.specs.declared.fault.ToolFault.TheVariants as tool;
+ghost use Rattle.sok_search.specs.Outcomes.{IsFound};
+ghost use Rattle.sok_solve.specs.Solves.{IsFind, IsFindAnswer, TellsFound};
+
+use crate::solve::{solution_text, tool_fault};
+use sok_engine::answer::Answer;
+use sok_engine::fault::ToolFault;
+use sok_engine::input::read_input;
+use sok_rules::level::Level;
+use sok_search::found::Found;
+use sok_search::solve::find;
+use sok_text::collection::Collection;
+use std::alloc::Global;
+use std::io::{Read, Write};
+
+/// Solves the n-th level of a collection as `solve_bytes` does, with the same answers and faults,
+/// but makes no certificate, which takes more time and memory than the search.
+pub fn find_bytes<R: Read, W: Write>(
+    alloc: Global,
+    input: &mut R,
+    n: usize,
+    limit: u32,
+    out: &mut W,
+) -> Result<u8, ToolFault>
+    ensures { Writes (OfReader (R.remaining input.old) (Within input_limit (IsFind n limit)))
+        (W.contents out.old) (W.contents out.new) result }
+{
+    let bytes = read_input(alloc, input)?;
+    let answer = found(alloc, bytes.as_slice(), n, limit)?;
+    answer.write(out)
+}
+
+/// The answer to a level of a collection.
+fn found(alloc: Global, collection: &[u8], n: usize, limit: u32) -> Result<Answer, ToolFault>
+    ensures { Gives (IsFind n limit collection.now) result }
+{
+    let level = Collection::read(alloc, collection)?.level(alloc, n)?;
+    answer(alloc, &level, limit)
+}
+
+/// The answer to a level.
+fn answer(alloc: Global, level: &Level, limit: u32) -> Result<Answer, ToolFault>
+    ensures { Gives (IsFindAnswer limit level.now) result }
+{
+    match find(alloc, level, limit) {
+        Ok(found) => told(alloc, level, limit, found),
+        Err(fault) => Err(tool_fault(fault)),
+    }
+}
+
+/// What is told of what is found.
+fn told(alloc: Global, level: &Level, limit: u32, found: Found) -> Result<Answer, ToolFault>
+    requires { IsFound level.now limit found }
+    ensures { MatchResult result (TellsFound limit level.now) (λ fault. fault ≡ tool.Memory) }
+{
+    match found {
+        Found::Solved { dirs, pushes } => {
+            let text = solution_text(alloc, level, dirs.as_slice(), pushes)?;
+            Ok(Answer::new(text, 0))
+        }
+        Found::Unsolvable => {
+            let text = String::from_str(alloc, "unsolvable\n")?;
+            Ok(Answer::new(text.into_bytes(), 0))
+        }
+        Found::Limit { states } => {
+            let text = format!(in alloc; "limit {states}\n")?;
+            Ok(Answer::new(text.into_bytes(), 4))
+        }
+    }
+}
