@@ -51,7 +51,7 @@ pub fn solve(alloc: Global, level: &Level, limit: u32) -> Result<Outcome, SolveF
     Ok(outcome)
 }
 
-/// What `solve` answers, without a certificate, which takes more time and memory than the search.
+/// What `solve` answers, without a certificate, which takes time and most of the memory.
 pub fn find(alloc: Global, level: &Level, limit: u32) -> Result<Found, SolveFault>
     ensures found { IfOk result (IsFound level.now limit) }
     ensures bad_limit { (result ≡ Err fault.BadLimit) ↔ IsBadLimit limit }

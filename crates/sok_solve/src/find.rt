@@ -20,7 +20,7 @@ use std::alloc::Global;
 use std::io::{Read, Write};
 
 /// Solves the n-th level of a collection as `solve_bytes` does, with the same answers and faults,
-/// but makes no certificate, which takes more time and memory than the search.
+/// but makes no certificate, which takes time and most of the memory.
 pub fn find_bytes<R: Read, W: Write>(
     alloc: Global,
     input: &mut R,
