@@ -34,6 +34,11 @@ pub Agrees-more : (claim : Claim) (depth next more n : ℕ) → next ≤ depth +
 Agrees-more (Pushes k) depth next more n near agrees = omega (arith, near, agrees)
 Agrees-more Unsolvable depth next more n near agrees = agrees
 
+-- at a greater depth
+pub Agrees-deeper : (claim : Claim) (near far n : ℕ) → near ≤ far → Agrees claim near n → Agrees claim far n
+Agrees-deeper (Pushes k) near far n deeper agrees = omega (arith, deeper, agrees)
+Agrees-deeper Unsolvable near far n deeper agrees = agrees
+
 -- from no position of a barred state does a list solve that goes against the claim
 pub Agrees-barred : (b : Numbered) (claim : Claim) (depth player : ℕ) (boxes : List ℕ) → IsBarred b player boxes (rest_of claim depth)
     → (x : Position) → Same b.rows (position_of b player boxes) x → (w : List Dir) → SolvesFrom b.rows x w → Agrees claim depth (pushes b.rows x w)

@@ -6,15 +6,17 @@ use Rattle.std.proofs.lemmas.Bool.{cases_eq, cases_lt}
 use Rattle.std.proofs.lemmas.Option.{same_Some, slice_get_within, slice_get-get_or, get_or_from_slice_get}
 use Rattle.std.proofs.lemmas.List.{length-map}
 use Rattle.std.proofs.lemmas.List.Elements.{All-contains}
-use Rattle.sok_rules.specs.Play.{Position}
+use Rattle.sok_rules.specs.declared.cell.Dir.{Dir}
+use Rattle.sok_rules.specs.Play.{After, Position, step}
 use Rattle.sok_rules.specs.States.{Same}
 use Rattle.sok_rules.proofs.Steps.{IsStanding}
 use Rattle.sok_rules.proofs.Walking.{Same-sym, Same-trans}
-use Rattle.sok_board.specs.Area.{Numbered, InArea, position_of}
+use Rattle.sok_board.specs.Area.{Numbered, InArea, IsAccepted, position_of}
 use Rattle.sok_board.proofs.AreaLaws.{InArea-spot_of}
 use Rattle.sok_board.proofs.Confined.{confines-play}
 use Rattle.sok_board.proofs.Lists.{Contains-at}
 use Rattle.sok_push.proofs.Pushes.{pushes-alone}
+use Rattle.sok_region.specs.Regions.{IsPlaced}
 use Rattle.sok_state.specs.declared.key.Key.{Key}
 use Rattle.sok_state.specs.declared.push.Push.{Push}
 use Rattle.sok_state.specs.Keys.{IsKeyOf}
@@ -90,23 +92,32 @@ found-follower b entries table looking e key push found after leads =
       },
     )
 
+-- a letter that pushes from a position of a state makes a push of it
+pub leads-pushed : (b : Numbered) → IsAccepted b → (key : Key) → IsPlaced b key.boxes key.least → (x : Position) (d : Dir) (after : After)
+    → Same b.rows (position_of b key.least key.boxes) x → step b.rows d x ≡ Some after → after.pushed ≡ true
+    → (from : ℕ) × LeadsTo b key (record { from = from; dir = d }) after.position
+leads-pushed b accepted key placed x d after walked leads pushed =
+    let place = position_of b key.least key.boxes in
+    let inside : InArea b.rows x.man = (confines-play b.rows place x walked.0
+    (InArea-spot_of b accepted.numbered key.least placed.player_exists) walked.1).man in
+    let move = pushes-alone b accepted.numbered x d after inside leads pushed in (
+      move.from,
+      record {
+        before = x;
+        same = walked;
+        steps = leads ∙ (λ i. Some (record { position = after.position; pushed = pushed i }));
+        man = move.man;
+        exists = move.from_exists;
+      },
+    )
+
 -- where each legal push is found, the entry is followed
 pub IsFollowed-found : (b : Numbered) (entries : List Entry) (table : Entries) → IsLooking b entries table → (e : Entry) → Contains entries e → (key : Key)
     → IsKeyOf b (entry_position b e) key
     → TellsOpen b table key e.depth None → IsFollowed b entries e
 IsFollowed-found b entries table looking e listed key is found x d after walked leads pushed =
-    let placed = (All-contains (IsPosition b) entries e looking.positions listed).placed in
-    let inside : InArea b.rows x.man = (confines-play b.rows (entry_position b e) x walked.0
-    (InArea-spot_of b looking.accepted.numbered e.player placed.player_exists) walked.1).man in
-    let move = pushes-alone b looking.accepted.numbered x d after inside leads pushed in
-    let push : Push = record { from = move.from; dir = d } in
-    let on : LeadsTo b key push after.position = record {
-      before = x;
-      same = leads-from b entries table looking e listed key is x walked;
-      steps = leads ∙ (λ i. Some (record { position = after.position; pushed = pushed i }));
-      man = move.man;
-      exists = move.from_exists;
-    } in
+    let (from, on) = leads-pushed b looking.accepted key is.placed x d after (leads-from b entries table looking e listed key is x walked) leads pushed in
+    let push : Push = record { from = from; dir = d } in
     found-follower b entries table looking e key push (found push (record { after = after.position; leads = on })) after.position on
 
 open-leads : (b : Numbered) (entries : List Entry) (table : Entries) → IsLooking b entries table → (e : Entry) → Contains entries e → (key : Key)

@@ -3,6 +3,7 @@ pub mod ClosedLaws
 pub mod Closing
 pub mod Entered
 pub mod Followed
+pub mod KnownPositions
 pub mod Looking
 pub mod OneRefusal
 pub mod Solved

@@ -9,8 +9,9 @@ use sok_rules::cell::Spot;
 use sok_rules::level::Level;
 use sok_rules::play::replay;
 use sok_search::fault::SolveFault;
+use sok_search::found::Found;
 use sok_search::outcome::Outcome;
-use sok_search::solve::solve;
+use sok_search::solve::{find, solve};
 use sok_sketch::rooms::{ROOM_OF_1024, Room};
 use sok_sketch::sketch::{self, level};
 use std::alloc::Global;
@@ -53,6 +54,26 @@ fn pushes_of(rt: &impl Abort, alloc: Global, board: &str, limit: u32) -> Result<
             assert!(rt; false);
             Ok(None)
         }
+    }
+}
+
+/// The pushes of a level's solution that is found without a certificate, and None where none is.
+/// Asserts that the letters solve with as many pushes.
+fn found_pushes(
+    rt: &impl Abort,
+    alloc: Global,
+    board: &str,
+    limit: u32,
+) -> Result<Option<u32>, Fail> {
+    let level = level(alloc, board)?;
+    match find(alloc, &level, limit)? {
+        Found::Solved { dirs, pushes } => {
+            let tally = replay(alloc, &level, &dirs)?;
+            assert!(rt; tally.solved);
+            assert_eq!(rt; tally.pushes, u64::from(pushes));
+            Ok(Some(pushes))
+        }
+        _ => Ok(None),
     }
 }
 
@@ -164,5 +185,20 @@ fn limits(rt: HostRuntime) -> Result<(), Fail> {
     }
     let pushes = pushes_of(&rt, rt.alloc(), sketch::CORRIDOR_OF_SIX_PUSHES, least)?;
     assert_eq!(rt; pushes, Some(6));
+    Ok(())
+}
+
+/// Without a certificate states are left out from which a box reaches no goal, so a limit suffices
+/// that is met where they are kept.
+#[test]
+fn fewer_states(rt: HostRuntime) -> Result<(), Fail> {
+    for (board, limit, pushes) in [
+        (sketch::CORRIDOR_OF_SIX_PUSHES, 7, 6),
+        (ZERKALO, 300, 20),
+        (LOWERED, 30, 7),
+    ] {
+        assert!(rt; meets(rt.alloc(), board, limit)?);
+        assert_eq!(rt; found_pushes(&rt, rt.alloc(), board, limit)?, Some(pushes));
+    }
     Ok(())
 }

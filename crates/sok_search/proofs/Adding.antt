@@ -11,18 +11,18 @@ use Rattle.sok_state.specs.Layouts.{IsLaidOut, Laid}
 use Rattle.sok_state.specs.Pushes.{IsLegal}
 use Rattle.sok_state.specs.Tables.{Entries, Enters, GoesLast, IsAt}
 use Rattle.sok_search.specs.declared.note.Note.{Note}
-use Rattle.sok_search.specs.Searches.{Progress, IsNoted, IsSearch}
+use Rattle.sok_search.specs.Searches.{Frame, Progress, IsNoted, IsSearch}
 use Rattle.sok_search.specs.Steps.{IsAdded, IsListed, Queues, holding}
 use Rattle.sok_search.specs.Trials.{IsPushable}
-use Rattle.sok_search.proofs.Knowing.{key-within, some-at}
+use Rattle.sok_search.proofs.Knowing.{key-within, noted-at}
 
 -- a state that went last into the table, and is noted, is added
-pub added-made : (p : Progress) (room : ℕ) (table : Entries) (q : Progress) (key : Key) (depth index : ℕ) (note : Note) → room ≡ p.room
-    → GoesLast p.table key depth index table → IsListed (record p { room = room; table = table }) index note q → IsAdded p key depth note q
-added-made p room table q key depth index note same last listed =
+pub added-made : (p : Progress) (frame : Frame) (table : Entries) (q : Progress) (key : Key) (depth index : ℕ) (note : Note) → frame ≡ p.frame
+    → GoesLast p.table key depth index table → IsListed (record p { frame = frame; table = table }) index note q → IsAdded p key depth note q
+added-made p frame table q key depth index note same last listed =
     let entry : Key × ℕ = (key, depth) in
     record {
-      room = listed.room ∙ same;
+      frame = listed.frame ∙ same;
       keys = ap keys_of listed.table ∙ ap keys_of last.more ∙ map-append (λ (one : Key × ℕ). one.0) p.table (entry ∷ []);
       depths = ap values_of listed.table ∙ ap values_of last.more ∙ map-append (λ (one : Key × ℕ). one.1) p.table (entry ∷ []);
       notes = listed.notes;
@@ -45,10 +45,8 @@ pub record IsTaken (b : Numbered) (p : Progress) (index : ℕ) (key : Key) (dept
 pub taken : (b : Numbered) (limit index : ℕ) (p : Progress) (key : Key) (depth : ℕ) → IsSearch b limit (holding index p) → IsAt p.table key index
     → slice_get (values_of p.table) index ≡ Some depth → IsTaken b p index key depth
 taken b limit index p key depth search there depth_is =
-    let within = key-within p index key there in
-    let notes = search.a_note_each in
-    let (note, note_is) = some-at p.notes index (omega (arith, within, notes)) in
-    record { note = note; note_is = note_is; noted = search.noted index key depth note (record { there = there; depth_is = depth_is; note_is = note_is }) }
+    let (note, note_is, noted) = noted-at b limit (holding index p) search index key depth there depth_is in
+    record { note = note; note_is = note_is; noted = noted }
 
 pub taken-key : (b : Numbered) (limit index : ℕ) (p : Progress) (key : Key) (depth : ℕ) → IsSearch b limit (holding index p) → IsAt p.table key index
     → slice_get (values_of p.table) index ≡ Some depth → IsKey b key

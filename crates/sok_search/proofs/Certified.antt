@@ -1,25 +1,21 @@
 -- Entries of the states of a finished search.
-use Rattle.std.proofs.Common.{ℕ, ◌≡◌, ◌<◌, ◌≤◌, ◌+◌, ◌∙◌, inl, inr, refl, sym, ap, subst, List, [], ◌∷◌, ◌++◌, Option, Some, None, zero, suc, All}
+use Rattle.std.proofs.Common.{ℕ, ◌≡◌, ◌<◌, ◌≤◌, ◌+◌, ◌∙◌, inl, inr, refl, sym, ap, subst, List, [], ◌∷◌, ◌++◌, Option, Some, None, All}
 use Rattle.std.proofs.Common.{Contains, arith, length, slice_get}
 use Rattle.std.proofs.lemmas.List.{length-append}
 use Rattle.std.proofs.lemmas.List.Elements.{All-append, All-cons, All-weaker}
 use Rattle.std.proofs.lemmas.Option.{same_Some, slice_get_within}
 use Rattle.sok_board.specs.Area.{Numbered, IsAccepted}
 use Rattle.sok_cert.specs.Claim.{Claim}
-use Rattle.sok_cert.specs.Claim.TheVariants.{Pushes, Unsolvable}
 use Rattle.sok_cert.specs.Entry.{Entry}
-use Rattle.sok_cert.specs.Reason.{Reason}
-use Rattle.sok_cert.specs.Reason.TheVariants as reason
 use Rattle.sok_cert.specs.Text.{FitsEntry, FitsReason, IsSmall, numbers_of_position, numbers_of_reason}
 use Rattle.sok_state.specs.declared.key.Key.{Key}
 use Rattle.sok_search.specs.declared.note.Note.{Note}
 use Rattle.sok_search.specs.declared.note.Standing.{Standing}
 use Rattle.sok_search.specs.declared.note.Standing.TheVariants.{Open, Expanded, Dead}
-use Rattle.sok_search.specs.Finished.{AreFirstEntries, HasText, IsAtMost, IsDone, IsEntryAt, IsEntryOf, IsReasonOf, claim_of}
+use Rattle.sok_search.specs.Finished.{AreFirstEntries, HasText, IsAtMost, IsDone, IsEntryAt, IsEntryOf, claim_of}
 use Rattle.sok_search.specs.Limits.{state_limit}
 use Rattle.sok_search.specs.Searches.{Progress, IsBeaten, IsSearch, IsState, Stands}
-use Rattle.sok_search.proofs.Knowing.{key-within, known-at, push_cases}
-use Rattle.sok_search.proofs.Reasons.{bound-priced}
+use Rattle.sok_search.proofs.Knowing.{key-within, push_cases}
 
 none_waits : (queue : List ℕ) (i : ℕ) → queue ≡ [] → Contains queue i → ⊥
 none_waits queue i none (k, within, is) = let empty = ap length none in omega (arith, empty, within)
@@ -29,7 +25,7 @@ beaten-at_most None n none = none
 beaten-at_most (Some k) n beaten = beaten
 
 -- where nothing waits, each state is done with
-stands-done : (b : Numbered) (p : Progress) (i : ℕ) (key : Key) (depth : ℕ) → p.queue ≡ [] → (s : Standing) → Stands b p i key depth s
+pub stands-done : (b : Numbered) (p : Progress) (i : ℕ) (key : Key) (depth : ℕ) → p.queue ≡ [] → (s : Standing) → Stands b p i key depth s
     → IsDone b (claim_of p.best) key.boxes depth s
 stands-done b p i key depth none (Open bound) (prices, inl waits) = absurd (none_waits p.queue i none waits)
 stands-done b p i key depth none (Open bound) (prices, inr beaten) = (bound, prices, beaten-at_most p.best (depth + bound) beaten)
@@ -108,33 +104,3 @@ first-more b claim p n entries after e are one more = subst (AreFirstEntries b c
 
 pub none-fit : (entries : List Entry) → entries ≡ [] → All FitsEntry entries
 none-fit entries none = subst (All FitsEntry) (sym none) (λ k d within. absurd (omega (arith, within)))
-
--- each state that is done with has a reason
-reason-exists : (b : Numbered) (boxes : List ℕ) (claim : Claim) (depth : ℕ) (s : Standing) → IsDone b claim boxes depth s
-    → (why : Reason) × IsReasonOf b claim boxes depth s why
-reason-exists b boxes Unsolvable depth (Open bound) (n, prices, none) = absurd none
-reason-exists b boxes (Pushes k) depth (Open bound) (n, (u, v, priced), near) = (reason.Bound u v, bound-priced b boxes u v n depth k priced near)
-reason-exists b boxes claim depth (Expanded bound) done = (reason.Expanded, refl)
-reason-exists b boxes claim depth Dead (inl (members, crowd)) = (reason.Crowd members, crowd)
-reason-exists b boxes claim depth Dead (inr (members, jam)) = (reason.Frozen members, jam)
-
--- so where nothing waits there is a list of entries, made or not
-module _ (b : Numbered) (limit : ℕ) (claim : Claim) (p : Progress) (search : IsSearch b limit p) (none : p.queue ≡ []) (is : claim ≡ claim_of p.best) where
-  entry-exists : (i : ℕ) → i < length p.table → (e : Entry) × IsEntryAt b claim p i e
-  entry-exists i within =
-      let known = known-at b limit p search i within in
-      let done = is-done b limit p i known.key known.depth known.note claim search none is known.state in
-      let (why, reason_is) = reason-exists b known.key.boxes claim known.depth known.note.standing done in
-      let e : Entry = record { depth = known.depth; player = known.key.least; boxes = known.key.boxes; reason = why } in (
-        e,
-        entry-at b claim p i known.key known.depth known.note e known.state
-            (record { depth_is = refl; player_is = refl; boxes_are = refl; reason_is = reason_is }),
-      )
-
-  pub first-exist : (n : ℕ) → n ≤ length p.table → (entries : List Entry) × AreFirstEntries b claim p n entries
-  first-exist zero within = ([], first-none b claim p [] refl)
-  first-exist (suc n) within =
-      let (entries, are) = first-exist n (omega (arith, within)) in
-      let (e, one) = entry-exists n (omega (arith, within)) in
-      let more = first-more b claim p n entries (entries ++ e ∷ []) e are one refl in
-      (entries ++ e ∷ [], subst (λ k. AreFirstEntries b claim p k (entries ++ e ∷ [])) (omega arith) more)

@@ -17,7 +17,7 @@ use Rattle.sok_state.specs.Tables.{IsAt}
 use Rattle.sok_state.proofs.States.{key_position}
 use Rattle.sok_search.specs.declared.note.Origin.{Origin}
 use Rattle.sok_search.specs.Searches.{Progress, IsCome, IsSearch}
-use Rattle.sok_search.proofs.Knowing.{key-within, some-at}
+use Rattle.sok_search.proofs.Knowing.{noted-at}
 
 -- a list of letters from the start that comes to a position of the state, with at most so many pushes
 pub record IsReached (b : Numbered) (key : Key) (n : ℕ) : Type 0 where
@@ -90,10 +90,8 @@ reached-first b p key depth near (Some origin) from = let nearer = from.nearer i
 come-at : (b : Numbered) (limit : ℕ) (p : Progress) → IsSearch b limit p → (i : ℕ) (key : Key) (depth : ℕ) → IsAt p.table key i
     → slice_get (values_of p.table) i ≡ Some depth → (origin : Option Origin) × IsCome b p key depth origin
 come-at b limit p search i key depth there depth_is =
-    let within = key-within p i key there in
-    let notes = search.a_note_each in
-    let (note, note_is) = some-at p.notes i (omega (arith, within, notes)) in
-    (note.origin, (search.noted i key depth note (record { there = there; depth_is = depth_is; note_is = note_is })).come)
+    let (note, note_is, noted) = noted-at b limit p search i key depth there depth_is in
+    (note.origin, noted.come)
 
 all-reached : (b : Numbered) (limit : ℕ) (p : Progress) → IsSearch b limit p → (n : ℕ) → AllReached b p n
 all-reached b limit p search zero i key depth there depth_is near =

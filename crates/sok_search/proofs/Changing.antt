@@ -177,7 +177,7 @@ module _ (b : Numbered) (limit : ℕ) (p q : Progress) (key : Key) (depth : ℕ)
       let one = ap length added.notes in
       let more = length-append p.notes (note ∷ []) in
       keeps b limit p q search (record {
-        room = added.room;
+        frame = added.frame;
         distinct = added-distinct absent;
         a_note_each = omega (arith, count, notes, one, more);
         few = omega (arith, count, room);
@@ -253,7 +253,7 @@ module _ (b : Numbered) (limit : ℕ) (p q : Progress) (index : ℕ) (key : Key)
       let few = search.few in
       let keys = changed.keys in
       keeps b limit p q search (record {
-        room = changed.room;
+        frame = changed.frame;
         distinct = subst (AllPairs (λ k other. k ≢ other)) (sym keys) search.distinct;
         a_note_each = omega (arith, count, notes, one, as_long);
         few = omega (arith, count, few);

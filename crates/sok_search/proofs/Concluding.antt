@@ -1,5 +1,5 @@
 -- What a finished search answers.
-use Rattle.std.proofs.Common.{ℕ, ◌≡◌, ◌<◌, ◌≤◌, ap, sym, subst, List, [], Some, None, All, arith, length}
+use Rattle.std.proofs.Common.{ℕ, ◌≡◌, ◌<◌, ◌≤◌, sym, subst, true, List, [], Option, Some, None, All, arith, length}
 use Rattle.sok_rules.specs.declared.cell.Dir.{Dir}
 use Rattle.sok_rules.specs.Play.{AtLeast, IsUnsolvable}
 use Rattle.sok_board.specs.Area.{Numbered, IsAccepted}
@@ -10,15 +10,14 @@ use Rattle.sok_cert.specs.Entry.{Entry}
 use Rattle.sok_cert.specs.Text.{FitsClaim, FitsEntry}
 use Rattle.sok_state.specs.declared.push.Push.{Push}
 use Rattle.sok_cert.specs.Closed.{IsClosed, IsTrueOf}
-use Rattle.sok_cert.proofs.ClosedLaws.{ShowsClaims-accepted}
 use Rattle.sok_search.specs.Finished.{AreFirstEntries, claim_of}
 use Rattle.sok_search.specs.Limits.{state_limit}
 use Rattle.sok_search.specs.Outcomes.{Certifies, IsLeastSolution, IsShownSolved, IsShownUnsolvable}
 use Rattle.sok_search.specs.Searches.{Progress, IsSearch}
 use Rattle.sok_search.specs.Trails.{IsSolvedAt, IsSolvedWith, IsSolvedWithin, IsSolvingTrace, TracesBack}
-use Rattle.sok_search.proofs.Certified.{first-exist}
 use Rattle.sok_search.proofs.Finishing.{entries-closed}
-use Rattle.sok_search.proofs.Knowing.{key-within, some-at}
+use Rattle.sok_search.proofs.Knowing.{key-within, noted-at}
+use Rattle.sok_search.proofs.Showing.{shows}
 
 -- the index of a solved state is one of the notes
 pub solved-noted : (b : Numbered) (limit : ℕ) (p : Progress) (k index : ℕ) → IsSearch b limit p → IsSolvedAt b p k index → index < length p.notes
@@ -37,9 +36,8 @@ solving-trace b limit p k index trace search solved traces =
 less-deep : (b : Numbered) (limit : ℕ) (p : Progress) (k index : ℕ) → IsSearch b limit p → (solved : IsSolvedAt b p k index) → solved.depth < length p.table
 less-deep b limit p k index search solved =
     let within = key-within p index solved.key solved.there in
-    let notes = search.a_note_each in
-    let (note, note_is) = some-at p.notes index (omega (arith, within, notes)) in
-    let shallow = (search.noted index solved.key solved.depth note (record { there = solved.there; depth_is = solved.depth_is; note_is = note_is })).shallow in
+    let (note, note_is, noted) = noted-at b limit p search index solved.key solved.depth solved.there solved.depth_is in
+    let shallow = noted.shallow in
     omega (arith, shallow, within)
 
 pub solved-within : (b : Numbered) (limit : ℕ) (p : Progress) (k index : ℕ) (trace : List Push) (w : List Dir) → IsSearch b limit p → IsSolvedAt b p k index
@@ -52,22 +50,16 @@ solved-within b limit p k index trace w search solved traces with_pushes =
     record { n = length trace; solved = with_pushes; near = omega (arith, few, shallow); small = omega (arith, few, less) }
 
 module _ (b : Numbered) (accepted : IsAccepted b) (limit : ℕ) (p : Progress) (search : IsSearch b limit p) (none : p.queue ≡ []) where
-  closed : (shown : Claim) (entries : List Entry) → AreFirstEntries b shown p (length p.table) entries → IsClosed b shown entries
-  closed shown entries are = entries-closed b accepted limit shown p entries search are
-
-  -- there is a closed list, whether a certificate is made or not
-  shows : (shown : Claim) → shown ≡ claim_of p.best → IsTrueOf b.rows shown
-  shows shown is =
-      let (entries, are) = first-exist b limit shown p search none is (length p.table) (omega arith) in
-      ShowsClaims-accepted b accepted shown entries (closed shown entries are)
+  shows-best : (best : Option ℕ) → p.best ≡ best → IsTrueOf b.rows (claim_of best)
+  shows-best best is = subst (λ o. IsTrueOf b.rows (claim_of o)) is (shows b accepted limit p search none)
 
   pub unsolvable : p.best ≡ None → IsUnsolvable b.rows
-  unsolvable is = shows claim.Unsolvable (ap claim_of (sym is))
+  unsolvable is = shows-best None is
 
   -- the letters have no more pushes than the best, and the list says that none have fewer
   pub least-solution : (k : ℕ) (w : List Dir) → p.best ≡ Some k → IsSolvedWithin b (length p.table) k w → IsLeastSolution b.rows w k
   least-solution k w is within =
-      let least : AtLeast b.rows k = shows (claim.Pushes k) (ap claim_of (sym is)) in
+      let least : AtLeast b.rows k = shows-best (Some k) is in
       let solves = within.solved.solves in
       let above = least w solves in
       let counted = within.solved.counted in
@@ -79,24 +71,28 @@ module _ (b : Numbered) (accepted : IsAccepted b) (limit : ℕ) (p : Progress) (
         ends = within.solved.ends;
       }
 
-  certifies : (shown : Claim) (entries : List Entry) → FitsClaim shown → AreFirstEntries b shown p (length p.table) entries → All FitsEntry entries
-      → Certifies b.rows limit shown entries
-  certifies shown entries fits are fit = record {
-    fits = record { claim_fits = fits; entries_fit = fit };
-    closed = λ c rows other. subst (λ board. IsClosed board shown entries) (IsAccepted-one b c (sym rows) accepted other) (closed shown entries are);
-    few = let few = search.few in let count = are.as_many in omega (arith, few, count);
-  }
+  -- a whole search gives a closed list
+  module _ (whole : p.frame.whole ≡ true) where
+    certifies : (shown : Claim) (entries : List Entry) → FitsClaim shown → AreFirstEntries b shown p (length p.table) entries → All FitsEntry entries
+        → Certifies b.rows limit shown entries
+    certifies shown entries fits are fit =
+        let closed = entries-closed b accepted limit shown p entries search whole are in
+        record {
+          fits = record { claim_fits = fits; entries_fit = fit };
+          closed = λ c rows other. subst (λ board. IsClosed board shown entries) (IsAccepted-one b c (sym rows) accepted other) closed;
+          few = let few = search.few in let count = are.as_many in omega (arith, few, count);
+        }
 
-  pub shown-unsolvable : (entries : List Entry) → p.best ≡ None → AreFirstEntries b claim.Unsolvable p (length p.table) entries → All FitsEntry entries
-      → IsShownUnsolvable b.rows limit entries
-  shown-unsolvable entries is are fit = record { unsolvable = unsolvable is; certified = certifies claim.Unsolvable entries tt are fit }
+    pub shown-unsolvable : (entries : List Entry) → p.best ≡ None → AreFirstEntries b claim.Unsolvable p (length p.table) entries → All FitsEntry entries
+        → IsShownUnsolvable b.rows limit entries
+    shown-unsolvable entries is are fit = record { unsolvable = unsolvable is; certified = certifies claim.Unsolvable entries tt are fit }
 
-  pub shown-solved : length p.table ≤ state_limit → (k : ℕ) (w : List Dir) (entries : List Entry) → p.best ≡ Some k
-      → AreFirstEntries b (claim.Pushes k) p (length p.table) entries → All FitsEntry entries → IsSolvedWithin b (length p.table) k w
-      → IsShownSolved b.rows limit w k entries
-  shown-solved small k w entries is are fit within =
-      let solution = least-solution k w is within in
-      let above = solution.fewest.least w solution.solves in
-      let counted = within.solved.counted in
-      let below = within.small in
-      record { solution = solution; certified = certifies (claim.Pushes k) entries (omega (arith, above, counted, below, small)) are fit }
+    pub shown-solved : length p.table ≤ state_limit → (k : ℕ) (w : List Dir) (entries : List Entry) → p.best ≡ Some k
+        → AreFirstEntries b (claim.Pushes k) p (length p.table) entries → All FitsEntry entries → IsSolvedWithin b (length p.table) k w
+        → IsShownSolved b.rows limit w k entries
+    shown-solved small k w entries is are fit within =
+        let solution = least-solution k w is within in
+        let above = solution.fewest.least w solution.solves in
+        let counted = within.solved.counted in
+        let below = within.small in
+        record { solution = solution; certified = certifies (claim.Pushes k) entries (omega (arith, above, counted, below, small)) are fit }

@@ -13,11 +13,10 @@ use Rattle.sok_state.specs.declared.key.Key.{Key}
 use Rattle.sok_state.specs.declared.push.Push.{Push}
 use Rattle.sok_state.specs.Pushes.{IsLegal}
 use Rattle.sok_state.specs.Tables.{IsAt}
-use Rattle.sok_cert.specs.Lookup.{IsFound}
 use Rattle.sok_search.specs.declared.note.Note.{Note}
 use Rattle.sok_search.specs.declared.note.Standing.{Standing}
 use Rattle.sok_search.specs.declared.note.Standing.TheVariants.{Open, Expanded, Dead}
-use Rattle.sok_search.specs.Searches.{Progress, IsBeaten, IsCome, IsNoted, IsSearch, IsSolved, IsSolvedIn, IsState, Stands}
+use Rattle.sok_search.specs.Searches.{Progress, IsBeaten, IsCome, IsMet, IsNoted, IsSearch, IsSolved, IsSolvedIn, IsState, Stands}
 use Rattle.sok_search.specs.Steps.{IsAdded, IsChanged, Queues, done, holding, work}
 use Rattle.sok_search.proofs.Changing.{key_count, set_cases, set_same}
 use Rattle.sok_search.proofs.Keeping.{Grows-refl, best-along, come-along, keeps}
@@ -35,7 +34,7 @@ keeps-done b limit p index key depth note notes best search there depth_is note_
     let q = done p notes best in
     let count = search.a_note_each in
     keeps b limit (holding index p) q search (record {
-      room = refl;
+      frame = refl;
       distinct = search.distinct;
       a_note_each = omega (arith, as_many, count);
       few = search.few;
@@ -77,9 +76,9 @@ noted-done b limit p index key depth was note notes best search state origin sta
 -- it is expanded
 pub keeps-expanded : (b : Numbered) (limit : ℕ) (p : Progress) (index : ℕ) (key : Key) (depth bound : ℕ) (was : Note) → IsSearch b limit (holding index p)
     → IsState p index key depth was → was.standing ≡ Open bound → (IsSolved b key → ⊥)
-    → ((push : Push) → IsLegal b key push → IsFound b p.table key depth push)
+    → ((push : Push) → IsLegal b key push → IsMet b p key depth push)
     → IsSearch b limit (done p (set p.notes index (record { origin = was.origin; standing = Expanded bound })) p.best)
-keeps-expanded b limit p index key depth bound was search state is_open unsolved found =
+keeps-expanded b limit p index key depth bound was search state is_open unsolved met =
     let note : Note = record { origin = was.origin; standing = Expanded bound } in
     let notes = set p.notes index note in
     let noted = search.noted index key depth was (record { there = state.there; depth_is = state.depth_is; note_is = state.note_is }) in
@@ -88,7 +87,7 @@ keeps-expanded b limit p index key depth bound was search state is_open unsolved
     (set_same p.notes index note (slice_get_within p.notes index was state.note_is)) (length-set p.notes index note)
     (λ i n other there. elim (set_cases p.notes index note i n there) [ inl (same, _) ↦ absurd (other same) | inr (_, before) ↦ before ]) (λ n beaten. beaten)
     (best-along b (holding index p) (done p notes p.best) (Grows-refl p.table) p.best search.best)
-    (noted-done b limit p index key depth was note notes p.best search state refl (stood.0, unsolved, found))
+    (noted-done b limit p index key depth was note notes p.best search state refl (stood.0, unsolved, met))
 
 -- it is let go
 pub keeps-dropped : (b : Numbered) (limit : ℕ) (p : Progress) (index : ℕ) (key : Key) (depth : ℕ) (was : Note) → IsSearch b limit (holding index p)
@@ -136,7 +135,7 @@ queues-holding Dead index i old new queues = ap (λ queue. index ∷ queue) queu
 pub added-holding : (index : ℕ) (p : Progress) (key : Key) (depth : ℕ) (note : Note) (q : Progress) → IsAdded p key depth note q
     → IsAdded (holding index p) key depth note (holding index q)
 added-holding index p key depth note q added = record {
-  room = added.room;
+  frame = added.frame;
   keys = added.keys;
   depths = added.depths;
   notes = added.notes;
@@ -148,7 +147,7 @@ added-holding index p key depth note q added = record {
 pub changed-holding : (index : ℕ) (p : Progress) (at depth : ℕ) (note : Note) (q : Progress) → IsChanged p at depth note q
     → IsChanged (holding index p) at depth note (holding index q)
 changed-holding index p at depth note q changed = record {
-  room = changed.room;
+  frame = changed.frame;
   keys = changed.keys;
   depths = changed.depths;
   notes = changed.notes;

@@ -1,4 +1,4 @@
--- A finished search gives a closed list.
+-- A finished search that is whole gives a closed list.
 use Rattle.std.proofs.Common.{ℕ, ◌≡◌, ◌∙◌, inl, inr, refl, sym, ap, subst, List, true≢false, Some, Bool, true, All, Contains, MatchBool, IsTrue, arith}
 use Rattle.std.proofs.Common.{length, get_or, slice_get}
 use Rattle.std.proofs.lemmas.Bool.{cases_Bool}
@@ -14,6 +14,7 @@ use Rattle.sok_cert.specs.Entry.{Entry}
 use Rattle.sok_cert.specs.Reason.{Reason}
 use Rattle.sok_cert.specs.Reason.TheVariants as reason
 use Rattle.sok_state.specs.declared.key.Key.{Key}
+use Rattle.sok_state.specs.declared.push.Push.{Push}
 use Rattle.sok_state.specs.Keys.{IsKeyOf}
 use Rattle.sok_state.specs.Tables.{HasDistinctKeys, IsAt}
 use Rattle.sok_state.proofs.States.{keys_equal, key_position}
@@ -25,7 +26,7 @@ use Rattle.sok_cert.proofs.Starting.{one-starts}
 use Rattle.sok_search.specs.declared.note.Note.{Note}
 use Rattle.sok_search.specs.declared.note.Standing.{Standing}
 use Rattle.sok_search.specs.declared.note.Standing.TheVariants as standing
-use Rattle.sok_search.specs.Searches.{Progress, IsState, IsSearch, IsNoted, Stands}
+use Rattle.sok_search.specs.Searches.{Progress, IsMet, IsState, IsSearch, IsNoted, Stands}
 use Rattle.sok_search.specs.Finished.{AreFirstEntries, IsEntryOf, IsReasonOf, ReasonBars}
 use Rattle.sok_search.proofs.Knowing.{known-at, key-of-itself}
 
@@ -122,22 +123,29 @@ bars-made b claim p i e made bars =
 -- by the standing of the state
 reasoned-standing : (b : Numbered) (claim : Claim) (p : Progress) (i : ℕ) (e : Entry) (made : Made b claim p i e) (s : Standing)
     → Stands b p i made.key made.depth s → IsReasonOf b claim made.key.boxes made.depth s e.reason → IsReasoned b claim e
-reasoned-standing b claim p i e made (standing.Expanded bound) (prices, unsolved, found) why =
+reasoned-standing b claim p i e made (standing.Expanded bound) (prices, unsolved, met) why =
     let off : AllOnGoals b.rows (entry_position b e) → ⊥ = subst (λ x. AllOnGoals b.rows x → ⊥) (place-made b claim p i e made) unsolved in
     subst (reasoned_as b claim e) (sym (ap is_expanded why)) off
 reasoned-standing b claim p i e made (standing.Open bound) stands why = reasoned-bars b claim e (bars-made b claim p i e made why)
 reasoned-standing b claim p i e made standing.Dead stands why = reasoned-bars b claim e (bars-made b claim p i e made why)
 
-followed-standing : (b : Numbered) → IsAccepted b → (claim : Claim) (p : Progress) (entries : List Entry)
+-- a whole search leaves no push out
+found-whole : (b : Numbered) (p : Progress) → p.frame.whole ≡ true → (key : Key) (depth : ℕ) (push : Push) → IsMet b p key depth push
+    → IsFound b p.table key depth push
+found-whole b p whole key depth push (inl found) = found
+found-whole b p whole key depth push (inr left) = absurd (true≢false (sym whole ∙ left.part))
+
+followed-standing : (b : Numbered) → IsAccepted b → (claim : Claim) (p : Progress) → p.frame.whole ≡ true → (entries : List Entry)
     → IsLooking b entries p.table → (i : ℕ) (e : Entry) → Contains entries e
     → (made : Made b claim p i e) (s : Standing) → Stands b p i made.key made.depth s → IsReasonOf b claim made.key.boxes made.depth s e.reason
     → IsTrue (is_expanded e.reason) → IsFollowed b entries e
-followed-standing b accepted claim p entries looking i e listed made (standing.Expanded bound) (prices, unsolved, found) why expanded =
+followed-standing b accepted claim p whole entries looking i e listed made (standing.Expanded bound) (prices, unsolved, met) why expanded =
     IsFollowed-found b entries p.table looking e listed made.key (key-made b accepted claim p i e made)
-    (λ push legal. subst (λ depth. IsFound b p.table made.key depth push) (sym made.entry.depth_is) (found push legal))
-followed-standing b accepted claim p entries looking i e listed made (standing.Open bound) stands why expanded = absurd
+    (λ push legal. subst (λ depth. IsFound b p.table made.key depth push) (sym made.entry.depth_is)
+    (found-whole b p whole made.key made.depth push (met push legal)))
+followed-standing b accepted claim p whole entries looking i e listed made (standing.Open bound) stands why expanded = absurd
     (barred b e.boxes claim e.depth e.reason expanded (bars-made b claim p i e made why))
-followed-standing b accepted claim p entries looking i e listed made standing.Dead stands why expanded = absurd
+followed-standing b accepted claim p whole entries looking i e listed made standing.Dead stands why expanded = absurd
     (barred b e.boxes claim e.depth e.reason expanded (bars-made b claim p i e made why))
 
 -- no two entries are one state, since the keys are distinct
@@ -153,9 +161,9 @@ apart-made b accepted claim p distinct i j e f of_e of_f same =
 
 -- the law
 pub entries-closed : (b : Numbered) → IsAccepted b → (limit : ℕ) (claim : Claim) (p : Progress) (entries : List Entry)
-    → IsSearch b limit p
+    → IsSearch b limit p → p.frame.whole ≡ true
     → AreFirstEntries b claim p (length p.table) entries → IsClosed b claim entries
-entries-closed b accepted limit claim p entries search are =
+entries-closed b accepted limit claim p entries search whole are =
     let looking = looking-made b accepted limit claim p entries search are in
     let begun = search.begun in
     let made = made-at b limit claim p entries search are in
@@ -167,6 +175,6 @@ entries-closed b accepted limit claim p entries search are =
       starter = one-starts b entries p.table looking (IsStanding-start b.rows accepted.proper) begun.key begun.is 0 0 begun.there begun.depth_is refl;
       followed = all-at (λ e. IsTrue (is_expanded e.reason) → IsFollowed b entries e) entries (λ i e there.
           let one = made i e there in
-          followed-standing b accepted claim p entries looking i e
+          followed-standing b accepted claim p whole entries looking i e
           (Contains-at entries e i there) one one.note.standing one.noted.stands one.entry.reason_is);
     }

@@ -11,13 +11,13 @@ use Rattle.sok_search.specs.declared.note.Note.{Note}
 use Rattle.sok_search.specs.declared.note.Origin.{Origin}
 use Rattle.sok_search.specs.declared.note.Standing.{Standing}
 use Rattle.sok_search.specs.declared.note.Standing.TheVariants.{Open, Expanded, Dead}
-use Rattle.sok_search.specs.Searches.{Progress, IsBeaten, IsBegun, IsCome, IsFrom, IsNoted, IsSearch, IsSolvedIn, IsState, Stands}
+use Rattle.sok_search.specs.Searches.{Frame, Progress, IsBeaten, IsBegun, IsCome, IsFrom, IsMet, IsNoted, IsSearch, IsSolvedIn, IsState, Stands}
 use Rattle.sok_search.specs.Steps.{Grows}
 
 pub Grows-refl : (table : Entries) → Grows table table
 Grows-refl table = record { keys = λ key i there. there; depths = λ i depth there. (depth, there, omega arith) }
 
-pub found-along : (b : Numbered) (old new : Entries) → Grows old new → (key : Key) (depth : ℕ) (push : Push) → IsFound b old key depth push
+found-along : (b : Numbered) (old new : Entries) → Grows old new → (key : Key) (depth : ℕ) (push : Push) → IsFound b old key depth push
     → IsFound b new key depth push
 found-along b old new grows key depth push found =
     let (deep, deep_is, near) = grows.depths found.index found.deep found.depth_is in
@@ -31,6 +31,11 @@ found-along b old new grows key depth push found =
       depth_is = deep_is;
       near = omega (arith, near, was);
     }
+
+pub met-along : (b : Numbered) (p q : Progress) → q.frame ≡ p.frame → Grows p.table q.table → (key : Key) (depth : ℕ) (push : Push) → IsMet b p key depth push
+    → IsMet b q key depth push
+met-along b p q same grows key depth push (inl found) = inl (found-along b p.table q.table grows key depth push found)
+met-along b p q same grows key depth push (inr left) = inr (record { part = ap (λ (f : Frame). f.whole) same ∙ left.part; nowhere = left.nowhere })
 
 pub from-along : (b : Numbered) (p q : Progress) → Grows p.table q.table → (key : Key) (depth : ℕ) (origin : Origin) → IsFrom b p key depth origin
     → IsFrom b q key depth origin
@@ -59,23 +64,23 @@ pub record IsUnchanged (p q : Progress) (i : ℕ) (key : Key) (depth : ℕ) (not
   pub state : IsState p i key depth note
   pub waits : Contains p.queue i → Contains q.queue i
 
-pub stands-along : (b : Numbered) (p q : Progress) → Grows p.table q.table → ((n : ℕ) → IsBeaten p.best n → IsBeaten q.best n)
+pub stands-along : (b : Numbered) (p q : Progress) → q.frame ≡ p.frame → Grows p.table q.table → ((n : ℕ) → IsBeaten p.best n → IsBeaten q.best n)
     → (i : ℕ) (key : Key) (depth : ℕ) (s : Standing) → (Contains p.queue i → Contains q.queue i) → Stands b p i key depth s → Stands b q i key depth s
-stands-along b p q grows better i key depth (Open bound) waits (prices, inl waited) = (prices, inl (waits waited))
-stands-along b p q grows better i key depth (Open bound) waits (prices, inr beaten) = (prices, inr (better (depth + bound) beaten))
-stands-along b p q grows better i key depth (Expanded bound) waits (prices, unsolved, found) =
-    (prices, unsolved, λ push legal. found-along b p.table q.table grows key depth push (found push legal))
-stands-along b p q grows better i key depth Dead waits dead = dead
+stands-along b p q same grows better i key depth (Open bound) waits (prices, inl waited) = (prices, inl (waits waited))
+stands-along b p q same grows better i key depth (Open bound) waits (prices, inr beaten) = (prices, inr (better (depth + bound) beaten))
+stands-along b p q same grows better i key depth (Expanded bound) waits (prices, unsolved, met) =
+    (prices, unsolved, λ push legal. met-along b p q same grows key depth push (met push legal))
+stands-along b p q same grows better i key depth Dead waits dead = dead
 
-pub noted-along : (b : Numbered) (p q : Progress) → Grows p.table q.table → ((n : ℕ) → IsBeaten p.best n → IsBeaten q.best n)
+pub noted-along : (b : Numbered) (p q : Progress) → q.frame ≡ p.frame → Grows p.table q.table → ((n : ℕ) → IsBeaten p.best n → IsBeaten q.best n)
     → (i : ℕ) (key : Key) (depth : ℕ) (note : Note) → (Contains p.queue i → Contains q.queue i)
     → IsNoted b p i key depth note → IsNoted b q i key depth note
-noted-along b p q grows better i key depth note waits noted = record {
+noted-along b p q same grows better i key depth note waits noted = record {
   state = noted.state;
   as_many = noted.as_many;
   shallow = noted.shallow;
   come = come-along b p q grows key depth note.origin noted.come;
-  stands = stands-along b p q grows better i key depth note.standing waits noted.stands;
+  stands = stands-along b p q same grows better i key depth note.standing waits noted.stands;
 }
 
 begun-along : (b : Numbered) (p q : Progress) → Grows p.table q.table → IsBegun b p → IsBegun b q
@@ -105,7 +110,7 @@ best-along b p q grows (Some k) one = solved-along b p q grows k one
 
 -- a step after which each state is as it was, or is noted anew
 pub record IsStep (b : Numbered) (limit : ℕ) (p q : Progress) : Type 0 where
-  pub room : q.room ≡ p.room
+  pub frame : q.frame ≡ p.frame
   pub distinct : HasDistinctKeys q.table
   pub a_note_each : length q.notes ≡ length q.table
   pub few : length q.table ≤ limit
@@ -117,14 +122,14 @@ pub record IsStep (b : Numbered) (limit : ℕ) (p q : Progress) : Type 0 where
 
 pub keeps : (b : Numbered) (limit : ℕ) (p q : Progress) → IsSearch b limit p → IsStep b limit p q → IsSearch b limit q
 keeps b limit p q search after = record {
-  wide = let wide = search.wide in let room = after.room in omega (arith, wide, room);
+  wide = let wide = search.wide in let room = ap (λ (f : Frame). f.room) after.frame in omega (arith, wide, room);
   distinct = after.distinct;
   a_note_each = after.a_note_each;
   few = after.few;
   queued = after.queued;
   begun = begun-along b p q after.grows search.begun;
   noted = λ i key depth note state. elim (after.each i key depth note state) [
-    | inl same ↦ noted-along b p q after.grows after.better i key depth note same.waits (search.noted i key depth note same.state)
+    | inl same ↦ noted-along b p q after.frame after.grows after.better i key depth note same.waits (search.noted i key depth note same.state)
     | inr noted ↦ noted
   ];
   best = after.best;
@@ -138,7 +143,7 @@ pub keeps-queue : (b : Numbered) (limit : ℕ) (p : Progress) (queue : List ℕ)
 keeps-queue b limit p queue search queued each =
     let q : Progress = record p { queue = queue } in
     keeps b limit p q search (record {
-      room = refl;
+      frame = refl;
       distinct = search.distinct;
       a_note_each = search.a_note_each;
       few = search.few;

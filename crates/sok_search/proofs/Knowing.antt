@@ -10,7 +10,7 @@ use Rattle.sok_state.specs.Tables.{IsAt}
 use Rattle.sok_state.proofs.Placed.{IsStanding-placed}
 use Rattle.sok_state.proofs.States.{IsKeyOf-Same, key_position}
 use Rattle.sok_search.specs.declared.note.Note.{Note}
-use Rattle.sok_search.specs.Searches.{Progress, IsState, IsSearch}
+use Rattle.sok_search.specs.Searches.{Progress, IsNoted, IsSearch, IsState}
 
 pub some-at : {X : Type 0} (xs : List X) (i : ℕ) → i < length xs → (x : X) × (slice_get xs i ≡ Some x)
 some-at [] i within = absurd (omega (arith, within))
@@ -40,6 +40,15 @@ key-within p i key there =
     let keys = length-map p.table (λ (entry : Key × ℕ). entry.0) in
     let within = slice_get_within (keys_of p.table) i key there in
     omega (arith, within, keys)
+
+-- what is noted of the state that stands at an index
+pub noted-at : (b : Numbered) (limit : ℕ) (p : Progress) → IsSearch b limit p → (i : ℕ) (key : Key) (depth : ℕ) → IsAt p.table key i
+    → slice_get (values_of p.table) i ≡ Some depth → (note : Note) × (slice_get p.notes i ≡ Some note) × IsNoted b p i key depth note
+noted-at b limit p search i key depth there depth_is =
+    let within = key-within p i key there in
+    let notes = search.a_note_each in
+    let (note, note_is) = some-at p.notes i (omega (arith, within, notes)) in
+    (note, note_is, search.noted i key depth note (record { there = there; depth_is = depth_is; note_is = note_is }))
 
 -- a key that some position has is that of the position that it stands for
 pub key-of-itself : (b : Numbered) → IsAccepted b → (key : Key) → IsKey b key → IsKeyOf b (key_position b key) key

@@ -14,6 +14,7 @@ pub mod Opening
 pub mod Pushing
 pub mod Reasons
 pub mod Refusing
+pub mod Showing
 pub mod Stepped
 pub mod Traces
 pub mod Trailing

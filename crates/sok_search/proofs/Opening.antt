@@ -7,12 +7,12 @@ use Rattle.sok_board.specs.Area.{Numbered, boxes_of}
 use Rattle.sok_state.specs.declared.key.Key.{Key}
 use Rattle.sok_state.specs.Keys.{IsKey, IsKeyOf}
 use Rattle.sok_search.specs.declared.note.Note.{Note}
-use Rattle.sok_search.specs.Searches.{Progress, IsCome, IsNoted, IsSearch, IsSolvedIn}
+use Rattle.sok_search.specs.Searches.{Frame, Progress, IsCome, IsNoted, IsSearch, IsSolvedIn}
 use Rattle.sok_search.specs.Steps.{IsAdded, IsJudged}
 use Rattle.sok_search.proofs.Changing.{key_count, queues-cases, stands-judged}
 
-abbrev pub nothing : ℕ → Progress
-nothing room = record { room = room; table = []; notes = []; queue = []; best = None }
+abbrev pub nothing : Frame → Progress
+nothing frame = record { frame = frame; table = []; notes = []; queue = []; best = None }
 
 -- with one element, it stands first
 only : {X : Type 0} (x : X) (i : ℕ) (y : X) → slice_get (x ∷ []) i ≡ Some y → (i ≡ 0) × (x ≡ y)
@@ -21,8 +21,8 @@ only x i y there =
     let first : i ≡ 0 = omega (arith, within) in
     (first, same_Some x y (ap (slice_get (x ∷ [])) (sym first) ∙ there))
 
-module _ (b : Numbered) (limit room : ℕ) (positive : 0 < limit) (wide : length b.area ≤ room) (key : Key) (note : Note) (q : Progress)
-    (added : IsAdded (nothing room) key 0 note q)
+module _ (b : Numbered) (limit : ℕ) (frame : Frame) (positive : 0 < limit) (wide : length b.area ≤ frame.room) (key : Key) (note : Note) (q : Progress)
+    (added : IsAdded (nothing frame) key 0 note q)
     (state : IsKey b key) (is : IsKeyOf b (start b.rows) key) (as_many : length key.boxes ≡ length (boxes_of b))
     (origin : note.origin ≡ None) (judged : IsJudged b key.boxes note.standing) where
   noted : IsNoted b q 0 key 0 note
@@ -40,7 +40,7 @@ module _ (b : Numbered) (limit room : ℕ) (positive : 0 < limit) (wide : length
       let keys = ap length added.keys in
       let notes = ap length added.notes in
       record {
-        wide = let same = added.room in omega (arith, wide, same);
+        wide = let same = ap (λ (f : Frame). f.room) added.frame in omega (arith, wide, same);
         distinct = subst (AllPairs (λ k other. k ≢ other)) (sym added.keys) (λ i j d below within. absurd (omega (arith, below, within)));
         a_note_each = omega (arith, count, keys, notes);
         few = omega (arith, count, keys, positive);

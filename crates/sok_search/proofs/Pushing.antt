@@ -1,30 +1,63 @@
 -- A push is followed: the state that it leads to is added, comes nearer, or stays.
-use Rattle.std.proofs.Common.{ℕ, ◌≡◌, ◌<◌, ◌≤◌, ◌+◌, ◌∙◌, inl, inr, refl, sym, ap, subst, [], ◌∷◌, ◌++◌, Some, Contains, arith, length, slice_get}
+use Rattle.std.proofs.Common.{ℕ, ◌≡◌, ◌<◌, ◌≤◌, ◌+◌, ◌∙◌, inl, inr, refl, sym, ap, subst, true, [], ◌∷◌, ◌++◌, Some, Contains, arith, length, slice_get}
 use Rattle.std.specs.Map.{keys_of, values_of}
 use Rattle.std.proofs.lemmas.Option.{same_Some, slice_get_within}
 use Rattle.sok_rules.specs.Play.{Position}
-use Rattle.sok_board.specs.Area.{Numbered, boxes_of}
+use Rattle.sok_board.specs.Area.{Numbered, InArea, IsAccepted, beside, boxes_of, position_of, spot_of}
+use Rattle.sok_board.proofs.AreaLaws.{InArea-spot_of}
+use Rattle.sok_board.proofs.Beside.{beside-within}
 use Rattle.sok_board.proofs.Lists.{slice_get-push}
+use Rattle.sok_board.proofs.Positions.{listed_box}
+use Rattle.sok_push.specs.Pushing.{IsStuck}
+use Rattle.sok_region.specs.BoxSets.{put_in_order}
 use Rattle.sok_region.proofs.Floods.{slice_get-append}
+use Rattle.sok_region.proofs.Moves.{IsMoved-put}
+use Rattle.sok_bar.proofs.Kept.{never_stuck}
 use Rattle.sok_state.specs.declared.key.Key.{Key}
 use Rattle.sok_state.specs.declared.push.Push.{Push}
 use Rattle.sok_state.specs.Keys.{IsKey, IsKeyOf}
 use Rattle.sok_state.specs.Pushes.{IsLegal, LeadsTo}
 use Rattle.sok_state.specs.Tables.{Entries, IsAt, Stays}
+use Rattle.sok_state.proofs.LegalPushes.{LeadsTo-position}
 use Rattle.sok_search.specs.declared.note.Note.{Note}
 use Rattle.sok_search.specs.declared.note.Standing.{Standing}
 use Rattle.sok_search.specs.declared.note.Standing.TheVariants.{Open, Expanded, Dead}
-use Rattle.sok_search.specs.Searches.{Progress, IsCome, IsFrom, IsNoted, IsSearch, IsState, Stands}
+use Rattle.sok_search.specs.Searches.{Frame, Progress, IsCome, IsFrom, IsLeftOut, IsNoted, IsSearch, IsState, LeadsNowhere, Stands}
 use Rattle.sok_search.specs.Steps.{IsAdded, IsChanged, IsJudged, IsPushed, Nears, holding, reopened}
 use Rattle.sok_search.proofs.Doing.{added-holding, changed-holding, work-added, work-changed}
 use Rattle.sok_search.proofs.Changing.{added-grows, changed-grows, depth_count, keeps-added, keeps-changed, key_count, set_other, set_same}
 use Rattle.sok_search.proofs.Keeping.{Grows-refl}
 use Rattle.sok_search.proofs.Knowing.{key-within, some-at}
 
+-- nothing solves once a box stands where it reaches no goal
+pub leads-nowhere : (b : Numbered) → IsAccepted b → (key : Key) → IsKey b key → (push : Push) → IsLegal b key push → (to : ℕ)
+    → beside b push.from push.dir ≡ Some to → IsStuck b to → LeadsNowhere b key push
+leads-nowhere b accepted key state push legal to ahead stuck after leads w =
+    let area = accepted.numbered in
+    let moves = IsMoved-put push.from to key.boxes in
+    let boxes = put_in_order push.from to key.boxes in
+    let is : position_of b push.from boxes ≡ after = LeadsTo-position b area key push to boxes after state.is.placed ahead moves leads in
+    let there : after.boxes (spot_of b to) ≡ true =
+    ap (λ (x : Position). x.boxes (spot_of b to)) (sym is) ∙ listed_box b push.from boxes to ((moves to).1 (inl refl)) in
+    never_stuck b area w after to (subst (InArea b.rows) (sym leads.man) (InArea-spot_of b area push.from leads.exists))
+    (beside-within b push.dir push.from to ahead) there stuck
+
+-- so it may be left out
+pub pushed-left_out : (b : Numbered) (limit index : ℕ) (p : Progress) → IsSearch b limit (holding index p) → (key : Key) (depth : ℕ) (push : Push)
+    → IsLeftOut b p.frame.whole key push → IsPushed b limit (holding index p) key depth push (holding index p)
+pushed-left_out b limit index p search key depth push left = record {
+  search = search;
+  frame = refl;
+  grows = Grows-refl p.table;
+  stay = λ i k deep n shallow s. s;
+  met = inr left;
+  no_more = omega arith;
+}
+
 -- what is open again is judged as before
 judged-reopened : (b : Numbered) (p : Progress) (i : ℕ) (key : Key) (depth : ℕ) (s : Standing) → Stands b p i key depth s → IsJudged b key.boxes (reopened s)
 judged-reopened b p i key depth (Open bound) (prices, waits) = prices
-judged-reopened b p i key depth (Expanded bound) (prices, unsolved, found) = prices
+judged-reopened b p i key depth (Expanded bound) (prices, unsolved, met) = prices
 judged-reopened b p i key depth Dead dead = dead
 
 module _ (b : Numbered) (limit index : ℕ) (p : Progress) (search : IsSearch b limit (holding index p)) (key : Key) (depth : ℕ)
@@ -77,6 +110,7 @@ module _ (b : Numbered) (limit index : ℕ) (p : Progress) (search : IsSearch b 
             come = subst (IsCome b (holding index p) next (depth + 1)) (sym origin) from;
             judged = judged;
           });
+          frame = added.frame;
           grows = grows;
           stay = λ i other deep n near state. record {
             there = grows.keys other i state.there;
@@ -84,7 +118,7 @@ module _ (b : Numbered) (limit index : ℕ) (p : Progress) (search : IsSearch b 
                 (slice_get-append (values_of p.table) ((depth + 1) ∷ []) i deep state.depth_is);
             note_is = subst (λ xs. slice_get xs i ≡ Some n) (sym added.notes) (slice_get-append p.notes (note ∷ []) i n state.note_is);
           };
-          found = record {
+          met = inl (record {
             next = next;
             is = is;
             index = length p.table;
@@ -94,7 +128,7 @@ module _ (b : Numbered) (limit index : ℕ) (p : Progress) (search : IsSearch b 
             depth_is = subst (λ xs. slice_get xs (length p.table) ≡ Some (depth + 1)) (sym added.depths)
                 (subst (λ n. slice_get (values_of p.table ++ (depth + 1) ∷ []) n ≡ Some (depth + 1)) depths (slice_get-push (values_of p.table) (depth + 1)));
             near = omega arith;
-          };
+          });
           no_more = work-added limit (holding index p) next (depth + 1) note (holding index q) more shallow-next room;
         }
 
@@ -122,6 +156,7 @@ module _ (b : Numbered) (limit index : ℕ) (p : Progress) (search : IsSearch b 
               come = subst (IsCome b (holding index p) next (depth + 1)) (sym origin) from;
               judged = subst (IsJudged b next.boxes) (sym standing) (judged-reopened b (holding index p) at next old other.standing was_noted.stands);
             });
+            frame = changed.frame;
             grows = grows;
             stay = λ i k deep n shallow s. record {
               there = grows.keys k i s.there;
@@ -129,7 +164,7 @@ module _ (b : Numbered) (limit index : ℕ) (p : Progress) (search : IsSearch b 
                   (set_other (values_of p.table) at (depth + 1) i deep (apart i deep k n shallow s) s.depth_is);
               note_is = subst (λ xs. slice_get xs i ≡ Some n) (sym changed.notes) (set_other p.notes at note i n (apart i deep k n shallow s) s.note_is);
             };
-            found = record {
+            met = inl (record {
               next = next;
               is = is;
               index = at;
@@ -138,7 +173,7 @@ module _ (b : Numbered) (limit index : ℕ) (p : Progress) (search : IsSearch b 
               depth_is = subst (λ xs. slice_get xs at ≡ Some (depth + 1)) (sym changed.depths)
                   (set_same (values_of p.table) at (depth + 1) (slice_get_within (values_of p.table) at old state.depth_is));
               near = omega arith;
-            };
+            });
             no_more = work-changed limit (holding index p) at old (depth + 1) note (holding index q) more state.depth_is lower;
           }
 
@@ -146,9 +181,10 @@ module _ (b : Numbered) (limit index : ℕ) (p : Progress) (search : IsSearch b 
     pub pushed-stays : old ≤ depth + 1 → IsPushed b limit (holding index p) key depth push (holding index p)
     pushed-stays near = record {
       search = search;
+      frame = refl;
       grows = Grows-refl p.table;
       stay = λ i k deep n shallow s. s;
-      found = record { next = next; is = is; index = at; there = state.there; deep = old; depth_is = state.depth_is; near = near };
+      met = inl (record { next = next; is = is; index = at; there = state.there; deep = old; depth_is = state.depth_is; near = near });
       no_more = omega arith;
     }
 
@@ -165,9 +201,9 @@ module _ (b : Numbered) (limit index : ℕ) (p : Progress) (search : IsSearch b 
       pushed-changed at nearer.old nearer.was state nearer.nearer _ refl refl q nearer.changed
 
   -- it is known already, in a table that is as it was
-  pub pushed-known : (at room : ℕ) (table : Entries) → room ≡ p.room → Stays p.table next at table → (q : Progress)
-      → Nears (record p { room = room; table = table }) at (depth + 1) (Some (record { parent = index; push = push })) q
+  pub pushed-known : (at : ℕ) (frame : Frame) (table : Entries) → frame ≡ p.frame → Stays p.table next at table → (q : Progress)
+      → Nears (record p { frame = frame; table = table }) at (depth + 1) (Some (record { parent = index; push = push })) q
       → IsPushed b limit (holding index p) key depth push (holding index q)
-  pushed-known at room table same stays q nears =
-      let whole : record p { room = room; table = table } ≡ p = λ i. record p { room = same i; table = stays.unchanged i } in
+  pushed-known at frame table same stays q nears =
+      let whole : record p { frame = frame; table = table } ≡ p = λ i. record p { frame = same i; table = stays.unchanged i } in
       pushed-nears at stays.there q (subst (λ r. Nears r at (depth + 1) (Some (record { parent = index; push = push })) q) whole nears)

@@ -1,23 +1,22 @@
 -- Pushes are followed one after another.
-use Rattle.std.proofs.Common.{ℕ, ◌≡◌, ◌<◌, ◌+◌, ◌∙◌, inl, inr, sym, ap, subst, List, Some, Contains, Result, Ok, Err, arith, slice_get}
+use Rattle.std.proofs.Common.{ℕ, ◌≡◌, ◌<◌, ◌+◌, ◌∙◌, inl, inr, refl, sym, ap, subst, List, Some, Contains, Result, Ok, Err, arith, slice_get}
 use Rattle.std.specs.Result.{OnOk}
 use Rattle.std.specs.Map.{values_of}
 use Rattle.std.proofs.lemmas.Bool.{cases_eq}
 use Rattle.std.proofs.lemmas.Option.{same_Some}
-use Rattle.sok_cert.specs.Lookup.{IsFound}
 use Rattle.sok_board.specs.Area.{Numbered}
 use Rattle.sok_state.specs.declared.key.Key.{Key}
 use Rattle.sok_state.specs.declared.push.Push.{Push}
 use Rattle.sok_state.specs.Tables.{IsAt}
 use Rattle.sok_search.specs.declared.note.Note.{Note}
-use Rattle.sok_search.specs.Searches.{Progress, IsSearch, IsState}
+use Rattle.sok_search.specs.Searches.{Progress, IsMet, IsSearch, IsState}
 use Rattle.sok_search.specs.Steps.{IsPushed, holding}
 use Rattle.sok_state.specs.Pushes.{IsLegal}
 use Rattle.sok_search.specs.declared.reaching.Reached.{Reached}
 use Rattle.sok_search.specs.declared.reaching.Reached.TheVariants.{On, Full}
 use Rattle.sok_search.specs.Views.{HasFollowed, TellsExpanded, TellsFollowed, progress_of}
 use Rattle.sok_search.proofs.Adding.{taken}
-use Rattle.sok_search.proofs.Keeping.{found-along}
+use Rattle.sok_search.proofs.Keeping.{met-along}
 
 -- the pushes before a place
 abbrev pub Before : List Push → ℕ → Push → Type 0
@@ -27,8 +26,9 @@ pub followed-none : (b : Numbered) (limit : ℕ) (p : Progress) (index : ℕ) (k
     → HasFollowed b limit p index key depth (Before pushes 0) p
 followed-none b limit p index key depth pushes search = record {
   search = search;
+  frame = refl;
   stay = λ i other deep note near state. state;
-  found = λ push (k, below, there). absurd (omega (arith, below));
+  met = λ push (k, below, there). absurd (omega (arith, below));
   no_more = omega arith;
 }
 
@@ -37,15 +37,16 @@ pub followed-more : (b : Numbered) (limit : ℕ) (p q r : Progress) (index : ℕ
     → IsPushed b limit (holding index q) key depth push (holding index r) → HasFollowed b limit p index key depth (Before pushes (n + 1)) r
 followed-more b limit p q r index key depth pushes n push there before pushed = record {
   search = pushed.search;
+  frame = pushed.frame ∙ before.frame;
   stay = λ i other deep note near state.
       let one = before.stay i other deep note near state in
       let two = pushed.stay i other deep note near (record { there = one.there; depth_is = one.depth_is; note_is = one.note_is }) in
       record { there = two.there; depth_is = two.depth_is; note_is = two.note_is };
-  found = λ other (k, below, at). elim (cases_eq k n) [
+  met = λ other (k, below, at). elim (cases_eq k n) [
     | inl same ↦
         let is : push ≡ other = same_Some push other (sym there ∙ ap (slice_get pushes) (sym same) ∙ at) in
-        subst (IsFound b r.table key depth) is pushed.found
-    | inr apart ↦ found-along b q.table r.table pushed.grows key depth other (before.found other (k, omega (arith, below, apart), at))
+        subst (IsMet b r key depth) is pushed.met
+    | inr apart ↦ met-along b q r pushed.frame pushed.grows key depth other (before.met other (k, omega (arith, below, apart), at))
   ];
   no_more = let one = before.no_more in let two = pushed.no_more in omega (arith, one, two);
 }
@@ -55,9 +56,10 @@ pub followed-along : (b : Numbered) (limit : ℕ) (p q : Progress) (index : ℕ)
     → ((push : Push) → Other push → Followed push) → HasFollowed b limit p index key depth Followed q → HasFollowed b limit p index key depth Other q
 followed-along b limit p q index key depth Followed Other covers followed = record {
   search = followed.search;
+  frame = followed.frame;
   stay = followed.stay;
-  found = λ push other.
-      followed.found push (covers push other);
+  met = λ push other.
+      followed.met push (covers push other);
   no_more = followed.no_more;
 }
 

@@ -12,7 +12,7 @@ use Rattle.sok_search.specs.declared.note.Note.{Note}
 use Rattle.sok_search.specs.declared.note.Standing.TheVariants.{Open, Expanded, Dead}
 use Rattle.sok_search.specs.Searches.{Progress, IsBeaten, IsSearch, IsSolved, IsState, Stands}
 use Rattle.sok_search.specs.Steps.{HasOneMore, done, holding, work}
-use Rattle.sok_search.specs.Views.{HasFollowed}
+use Rattle.sok_search.specs.Views.{HasFollowed, IsTurned}
 use Rattle.sok_search.proofs.Doing.{keeps-dropped, keeps-expanded, keeps-solved}
 use Rattle.sok_search.proofs.Keeping.{keeps-queue}
 use Rattle.sok_search.proofs.Knowing.{known-at}
@@ -60,25 +60,27 @@ work-taken limit index p rest taken =
 -- what is not open stands without waiting
 pub let-go : (b : Numbered) (limit index : ℕ) (p : Progress) (note : Note) → IsSearch b limit (holding index p) → slice_get p.notes index ≡ Some note
     → ((key : Key) (depth : ℕ) → slice_get (values_of p.table) index ≡ Some depth → Stands b (holding index p) index key depth note.standing
-    → Stands b p index key depth note.standing) → IsSearch b limit p × (work limit p < work limit (holding index p))
+    → Stands b p index key depth note.standing) → IsTurned b limit (holding index p) p
 let-go b limit index p note search note_is stands =
     let known = known-at b limit (holding index p) search index (held-within b limit index p search) in
     let noted = search.noted index known.key known.depth note (record { there = known.state.there; depth_is = known.state.depth_is; note_is = note_is }) in
-    let state : IsState p index known.key known.depth note = record { there = known.state.there; depth_is = known.state.depth_is; note_is = note_is } in (
-      keeps-dropped b limit p index known.key known.depth note search state
-          (stands known.key known.depth known.state.depth_is noted.stands),
-      work-held limit index p,
-    )
+    let state : IsState p index known.key known.depth note = record { there = known.state.there; depth_is = known.state.depth_is; note_is = note_is } in
+    record {
+      search = keeps-dropped b limit p index known.key known.depth note search state
+          (stands known.key known.depth known.state.depth_is noted.stands);
+      frame = refl;
+      less = work-held limit index p;
+    }
 
 pub go-expanded : (b : Numbered) (limit index bound : ℕ) (p : Progress) (note : Note) → IsSearch b limit (holding index p)
-    → slice_get p.notes index ≡ Some note → note.standing ≡ Expanded bound → IsSearch b limit p × (work limit p < work limit (holding index p))
+    → slice_get p.notes index ≡ Some note → note.standing ≡ Expanded bound → IsTurned b limit (holding index p) p
 go-expanded b limit index bound p note search note_is is =
     let-go b limit index p note search note_is (λ key depth depth_is stood.
     let was : Stands b (holding index p) index key depth (Expanded bound) = subst (Stands b (holding index p) index key depth) is stood in
     subst (Stands b p index key depth) (sym is) was)
 
 pub go-dead : (b : Numbered) (limit index : ℕ) (p : Progress) (note : Note) → IsSearch b limit (holding index p) → slice_get p.notes index ≡ Some note
-    → note.standing ≡ Dead → IsSearch b limit p × (work limit p < work limit (holding index p))
+    → note.standing ≡ Dead → IsTurned b limit (holding index p) p
 go-dead b limit index p note search note_is is =
     let-go b limit index p note search note_is (λ key depth depth_is stood.
     let was : Stands b (holding index p) index key depth Dead = subst (Stands b (holding index p) index key depth) is stood in
@@ -86,7 +88,7 @@ go-dead b limit index p note search note_is is =
 
 pub go-beaten : (b : Numbered) (limit index bound depth : ℕ) (p : Progress) (note : Note) → IsSearch b limit (holding index p)
     → slice_get p.notes index ≡ Some note → note.standing ≡ Open bound → slice_get (values_of p.table) index ≡ Some depth → IsBeaten p.best (depth + bound)
-    → IsSearch b limit p × (work limit p < work limit (holding index p))
+    → IsTurned b limit (holding index p) p
 go-beaten b limit index bound deep p note search note_is is deep_is beaten =
     let-go b limit index p note search note_is (λ key depth depth_is stood.
     let was : Stands b (holding index p) index key depth (Open bound) = subst (Stands b (holding index p) index key depth) is stood in
@@ -100,22 +102,26 @@ unbeaten (Some k) depth bound far n beaten = elim (cases_lt (depth + bound) k) [
 
 pub go-solved : (b : Numbered) (limit index bound depth : ℕ) (key : Key) (p : Progress) (note : Note) → IsSearch b limit (holding index p)
     → IsState p index key depth note → note.standing ≡ Open bound → IsSolved b key → (IsBeaten p.best (depth + bound) → ⊥)
-    → IsSearch b limit (done p p.notes (Some depth)) × (work limit (done p p.notes (Some depth)) < work limit (holding index p))
+    → IsTurned b limit (holding index p) (done p p.notes (Some depth))
 go-solved b limit index bound depth key p note search state is solved far =
-    (keeps-solved b limit p index key depth bound note search state is solved (unbeaten p.best depth bound far), work-held limit index p)
+    record {
+      search = keeps-solved b limit p index key depth bound note search state is solved (unbeaten p.best depth bound far);
+      frame = refl;
+      less = work-held limit index p;
+    }
 
 pub go-on : (b : Numbered) (limit index bound depth : ℕ) (key : Key) (p q : Progress) (note : Note) → IsState p index key depth note
     → note.standing ≡ Open bound → (IsSolved b key → ⊥) → HasFollowed b limit p index key depth (IsLegal b key) q → (r : Progress)
     → r ≡ done q (set q.notes index (record { origin = note.origin; standing = Expanded bound })) q.best
-    → IsSearch b limit r × (work limit r < work limit (holding index p))
+    → IsTurned b limit (holding index p) r
 go-on b limit index bound depth key p q note state is unsolved followed r same =
     let stays = followed.stay index key depth note (omega arith) state in
     let s = done q (set q.notes index (record { origin = note.origin; standing = Expanded bound })) q.best in
-    let kept : IsSearch b limit s = keeps-expanded b limit q index key depth bound note followed.search stays is unsolved followed.found in
+    let kept : IsSearch b limit s = keeps-expanded b limit q index key depth bound note followed.search stays is unsolved followed.met in
     let no_more = followed.no_more in
     let less : work limit q < work limit (holding index q) = work-held limit index q in
     let now : work limit s < work limit (holding index p) = below (work limit q) (work limit (holding index q)) (work limit (holding index p)) less no_more in
-    subst (λ x. IsSearch b limit x × (work limit x < work limit (holding index p))) (sym same) (kept, now)
+    subst (IsTurned b limit (holding index p)) (sym same) (record { search = kept; frame = followed.frame; less = now })
   where
     below : (x y z : ℕ) → x < y → y ≤ z → x < z
     below x y z f g = omega (arith, f, g)

@@ -1,7 +1,7 @@
 -- What a search knows all the time: which states are known, how each was come to, and why it may stand as it does.
-use Rattle.std.specs.Prelude.{ℕ, ◌≡◌, ◌<◌, ◌≤◌, ◌+◌, ◌⊎◌, List, Option, Some, None, IfSome, IsSomeAnd, Contains, length, slice_get}
+use Rattle.std.specs.Prelude.{ℕ, ◌≡◌, ◌<◌, ◌≤◌, ◌+◌, ◌⊎◌, Bool, false, List, Option, Some, None, IfSome, IsSomeAnd, Contains, length, slice_get}
 use Rattle.std.specs.Map.{values_of}
-use Rattle.sok_rules.specs.Play.{Position, AllOnGoals, start}
+use Rattle.sok_rules.specs.Play.{Position, AllOnGoals, NeverFrom, start}
 use Rattle.sok_board.specs.Area.{Numbered, position_of, boxes_of}
 use Rattle.sok_price.specs.Prices.{Priced, IsCrowd}
 use Rattle.sok_bar.specs.Jam.{IsJam}
@@ -17,10 +17,14 @@ use Rattle.sok_search.specs.declared.note.Standing.{Standing}
 use Rattle.sok_search.specs.declared.note.Standing.TheVariants.{Open, Expanded, Dead}
 use Rattle.sok_search.specs.Limits.{state_limit}
 
--- how many squares there is room for, the known states with their depths, a note of each, the indices that wait, and the least depth at which a solved
--- state was taken
-pub record Progress : Type 0 where
+-- what stays as it is: how many squares there is room for, and whether each state is kept that is come to
+pub record Frame : Type 0 where
   pub room : ℕ
+  pub whole : Bool
+
+-- what stays as it is, the known states with their depths, a note of each, the indices that wait, and the least depth at which a solved state was taken
+pub record Progress : Type 0 where
+  pub frame : Frame
   pub table : Entries
   pub notes : List Note
   pub queue : List ℕ
@@ -67,11 +71,24 @@ IsDead b boxes = HasCrowd b boxes ⊎ HasJam b boxes
 abbrev pub IsBeaten : Option ℕ → ℕ → Type 0
 IsBeaten best n = IsSomeAnd best (λ k. k ≤ n)
 
+-- nothing solves from where a push leads
+abbrev pub LeadsNowhere : Numbered → Key → Push → Type 0
+LeadsNowhere b key push = (after : Position) → LeadsTo b key push after → NeverFrom b.rows after
+
+-- a push is left out, since nothing solves from where it leads, and not each state is kept
+pub record IsLeftOut (b : Numbered) (whole : Bool) (key : Key) (push : Push) : Type 0 where
+  pub part : whole ≡ false
+  pub nowhere : LeadsNowhere b key push
+
+-- the state that a push leads to is known, at most one deeper, or the push is left out
+abbrev pub IsMet : Numbered → Progress → Key → ℕ → Push → Type 0
+IsMet b p key depth push = IsFound b p.table key depth push ⊎ IsLeftOut b p.frame.whole key push
+
 -- why it may stand as it does
 abbrev pub Stands : Numbered → Progress → ℕ → Key → ℕ → Standing → Type 0
 Stands b p i key depth (Open bound) = HasPrices b key.boxes bound × (Contains p.queue i ⊎ IsBeaten p.best (depth + bound))
 Stands b p i key depth (Expanded bound) =
-    HasPrices b key.boxes bound × (IsSolved b key → ⊥) × ((push : Push) → IsLegal b key push → IsFound b p.table key depth push)
+    HasPrices b key.boxes bound × (IsSolved b key → ⊥) × ((push : Push) → IsLegal b key push → IsMet b p key depth push)
 Stands b p i key depth Dead = IsDead b key.boxes
 
 -- a state of the board, no deeper than its index, which was come to and may stand as it does
@@ -101,7 +118,7 @@ pub record IsSolvedIn (b : Numbered) (p : Progress) (k : ℕ) : Type 0 where
 
 -- all that is known
 pub record IsSearch (b : Numbered) (limit : ℕ) (p : Progress) : Type 0 where
-  pub wide : length b.area ≤ p.room
+  pub wide : length b.area ≤ p.frame.room
   pub distinct : HasDistinctKeys p.table
   pub a_note_each : length p.notes ≡ length p.table
   pub few : length p.table ≤ limit

@@ -5,12 +5,11 @@ use Rattle.sok_board.specs.Area.{Numbered}
 use Rattle.sok_state.specs.declared.key.Key.{Key}
 use Rattle.sok_state.specs.declared.push.Push.{Push}
 use Rattle.sok_state.specs.Tables.{Entries, IsAt}
-use Rattle.sok_cert.specs.Lookup.{IsFound}
 use Rattle.sok_search.specs.declared.note.Note.{Note}
 use Rattle.sok_search.specs.declared.note.Origin.{Origin}
 use Rattle.sok_search.specs.declared.note.Standing.{Standing}
 use Rattle.sok_search.specs.declared.note.Standing.TheVariants.{Open, Expanded, Dead}
-use Rattle.sok_search.specs.Searches.{Progress, HasPrices, IsDead, IsSearch, IsState}
+use Rattle.sok_search.specs.Searches.{Progress, HasPrices, IsDead, IsMet, IsSearch, IsState}
 
 -- each state stays where it is, and no deeper
 pub record Grows (old new : Entries) : Type 0 where
@@ -30,7 +29,7 @@ Queues Dead index old new = new ≡ old
 
 -- a state is added
 pub record IsAdded (p : Progress) (key : Key) (depth : ℕ) (note : Note) (q : Progress) : Type 0 where
-  pub room : q.room ≡ p.room
+  pub frame : q.frame ≡ p.frame
   pub keys : keys_of q.table ≡ keys_of p.table ++ key ∷ []
   pub depths : values_of q.table ≡ values_of p.table ++ depth ∷ []
   pub notes : q.notes ≡ p.notes ++ note ∷ []
@@ -39,7 +38,7 @@ pub record IsAdded (p : Progress) (key : Key) (depth : ℕ) (note : Note) (q : P
 
 -- a state has another depth and note
 pub record IsChanged (p : Progress) (index depth : ℕ) (note : Note) (q : Progress) : Type 0 where
-  pub room : q.room ≡ p.room
+  pub frame : q.frame ≡ p.frame
   pub keys : keys_of q.table ≡ keys_of p.table
   pub depths : values_of q.table ≡ slice_set (values_of p.table) index depth
   pub notes : q.notes ≡ slice_set p.notes index note
@@ -48,7 +47,7 @@ pub record IsChanged (p : Progress) (index depth : ℕ) (note : Note) (q : Progr
 
 -- a state that went last into the table is noted
 pub record IsListed (p : Progress) (index : ℕ) (note : Note) (q : Progress) : Type 0 where
-  pub room : q.room ≡ p.room
+  pub frame : q.frame ≡ p.frame
   pub table : q.table ≡ p.table
   pub notes : q.notes ≡ p.notes ++ note ∷ []
   pub queue : Queues note.standing index p.queue q.queue
@@ -86,7 +85,7 @@ holding index p = record p { queue = index ∷ p.queue }
 
 -- done with it: its note may be another, and the best may be better
 abbrev pub done : Progress → List Note → Option ℕ → Progress
-done p notes best = record { room = p.room; table = p.table; notes = notes; queue = p.queue; best = best }
+done p notes best = record { frame = p.frame; table = p.table; notes = notes; queue = p.queue; best = best }
 
 -- what is found of a new state
 abbrev pub IsJudged : Numbered → List ℕ → Standing → Type 0
@@ -98,10 +97,11 @@ IsJudged b boxes Dead = IsDead b boxes
 abbrev pub work : ℕ → Progress → ℕ
 work limit p = (limit - length p.table) * (2 * limit + 2) + (2 * sum_by (λ depth. depth) (values_of p.table) + length p.queue)
 
--- what a push that was followed leaves: all that is known holds, states that are no deeper stay, the next state is found, and no work was added
+-- what a push that was followed leaves: all that is known holds, states that are no deeper stay, the push is met, and no work was added
 pub record IsPushed (b : Numbered) (limit : ℕ) (p : Progress) (key : Key) (depth : ℕ) (push : Push) (q : Progress) : Type 0 where
   pub search : IsSearch b limit q
+  pub frame : q.frame ≡ p.frame
   pub grows : Grows p.table q.table
   pub stay : (i : ℕ) (other : Key) (deep : ℕ) (note : Note) → deep ≤ depth → IsState p i other deep note → IsState q i other deep note
-  pub found : IsFound b q.table key depth push
+  pub met : IsMet b q key depth push
   pub no_more : work limit q ≤ work limit p

@@ -16,16 +16,23 @@ use sok_state::key::Key;
 use std::alloc::Global;
 
 /// A search that knows the start alone.
-pub(crate) fn begin(alloc: Global, board: &Board, tables: &Tables) -> Result<Search, Memory>
+pub(crate) fn begin(
+    alloc: Global,
+    board: &Board,
+    tables: &Tables,
+    whole: bool,
+) -> Result<Search, Memory>
     requires { tables.now.board ≡ board.now }
-    ensures { (limit : ℕ) → 0 < limit
+    ensures search { (limit : ℕ) → 0 < limit
         → IfOk result (λ search. IsSearch board.now limit (progress_of search)) }
+    ensures whole { IfOk result (λ search. search.whole ≡ whole) }
 {
     let key = Key::start(alloc, board)?;
     let standing = judge(alloc, board, tables, &key.boxes)?;
     let mut store = Store::new(alloc, board.squares());
     let (index, _is_new) = store.insert(&key, 0)?;
     let search = Search {
+        whole,
         store,
         notes: Vec::new(alloc),
         queue: Queue::new(alloc),

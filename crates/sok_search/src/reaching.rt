@@ -14,7 +14,7 @@ ghost use Rattle.sok_search.specs.Views.{progress_of, TellsReached};
 
 use crate::note::{Note, Origin, Standing};
 use crate::search::{Search, add, lower};
-use crate::stepping::step;
+use crate::stepping::{square_ahead, step};
 use crate::trial::{Trial, judge_after};
 use sok_board::board::Board;
 use sok_push::tables::Tables;
@@ -61,7 +61,8 @@ fn approach(
     lower(search, index, depth, Note { origin, standing })
 }
 
-/// Follows a push from a state that was taken: the next state is added, comes nearer, or stays.
+/// Follows a push from a state that was taken: the next state is added, comes nearer, or stays. Or
+/// the push is left out, since nothing solves from a box that reaches no goal.
 pub(crate) fn reach(
     alloc: Global,
     board: &Board,
@@ -89,7 +90,11 @@ pub(crate) fn reach(
         (TellsReached board.now limit (progress_of search) index key.now depth push) }
 {
     let from = push.from;
-    let (to, least) = step(board, push, &mut trial.layout, &mut trial.seen);
+    let to = square_ahead(board, push);
+    if !search.whole && tables.stuck(to) {
+        return Ok(Reached::On(search));
+    }
+    let least = step(board, push, to, &mut trial.layout, &mut trial.seen);
     let origin = Some(Origin {
         parent: index as u32,
         push,

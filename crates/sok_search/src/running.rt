@@ -123,7 +123,7 @@ pub(crate) fn run(
     requires tables { tables.now.board ≡ board.now }
     requires search { IsSearch board.now limit (progress_of search) }
     requires ready { IsReady board.now scratch.old.trial.matching scratch.old.trial.layout }
-    ensures { IfOk result (TellsFinished board.now limit) }
+    ensures { IfOk result (TellsFinished board.now limit search.whole) }
 {
     while let Some(index) = search.queue.pop() {
         match turn(alloc, board, tables, limit, search, scratch, index as usize)? {

@@ -15,6 +15,9 @@ use sok_rules::fault::Memory;
 /// which a solved state was taken.
 #[derive(Drop)]
 pub(crate) struct Search {
+    /// Whether each state is kept that is come to. Else those are left out of which a box was just
+    /// pushed to a square from which it reaches no goal.
+    pub(crate) whole: bool,
     pub(crate) store: Store,
     pub(crate) notes: Vec<Note>,
     pub(crate) queue: Queue,

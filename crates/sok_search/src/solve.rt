@@ -1,7 +1,7 @@
 //! The solver.
 
 ghost use Rattle.std.specs.Prelude.{ℕ, ◌≡◌, ◌<◌, ◌≤◌, ◌↔◌, [], Err, IfOk, IfErr, IsOk};
-ghost use Rattle.std.specs.Prelude.{IsTrue, length};
+ghost use Rattle.std.specs.Prelude.{IsTrue, length, true};
 ghost use Rattle.sok_board.specs.Area.{IsAccepted};
 ghost use Rattle.sok_board.specs.Refusals.{IsAcceptable};
 ghost use Rattle.sok_search.specs.Faults.{IsAcceptedWithin, IsBadLimit, IsRefusal, TellsFault};
@@ -51,7 +51,9 @@ pub fn solve(alloc: Global, level: &Level, limit: u32) -> Result<Outcome, SolveF
     Ok(outcome)
 }
 
-/// What `solve` answers, without a certificate, which takes time and most of the memory.
+/// What `solve` answers, without a certificate, which takes time and most of the memory. States in
+/// which a box was pushed to where it reaches no goal are not kept, so there may be an answer where
+/// `solve` tells that there are more states than the limit.
 pub fn find(alloc: Global, level: &Level, limit: u32) -> Result<Found, SolveFault>
     ensures found { IfOk result (IsFound level.now limit) }
     ensures bad_limit { (result ≡ Err fault.BadLimit) ↔ IsBadLimit limit }
@@ -92,7 +94,7 @@ fn answer(alloc: Global, board: &Board, limit: u32) -> Result<Outcome, Memory>
     // Its clauses tell that the level is accepted.
     let _level = board.level();
     let tables = Tables::new(alloc, board)?;
-    match search_all(alloc, board, &tables, limit)? {
+    match search_all(alloc, board, &tables, limit, true)? {
         Reached::On(after) => conclude(alloc, board, &tables, &after),
         Reached::Full => Ok(Outcome::Limit { states: limit }),
     }
@@ -106,20 +108,27 @@ fn find_on(alloc: Global, board: &Board, limit: u32) -> Result<Found, Memory>
     // Its clauses tell that the level is accepted.
     let _level = board.level();
     let tables = Tables::new(alloc, board)?;
-    match search_all(alloc, board, &tables, limit)? {
+    match search_all(alloc, board, &tables, limit, false)? {
         Reached::On(after) => find_in(alloc, board, &after),
         Reached::Full => Ok(Found::Limit { states: limit }),
     }
 }
 
-/// Searches until no state waits, or until the table is full.
-fn search_all(alloc: Global, board: &Board, tables: &Tables, limit: u32) -> Result<Reached, Memory>
+/// Searches until no state waits, or until the table is full. A whole search keeps each state that
+/// it comes to.
+fn search_all(
+    alloc: Global,
+    board: &Board,
+    tables: &Tables,
+    limit: u32,
+    whole: bool,
+) -> Result<Reached, Memory>
     requires accepted { IsAccepted board.now }
     requires tables { tables.now.board ≡ board.now }
     requires positive { 0 < limit }
-    ensures { IfOk result (TellsFinished board.now limit) }
+    ensures { IfOk result (TellsFinished board.now limit whole) }
 {
-    let search = begin(alloc, board, tables)?;
+    let search = begin(alloc, board, tables, whole)?;
     let mut scratch = Scratch::new(alloc, board, tables)?;
     run(alloc, board, tables, limit, search, &mut scratch)
 }
@@ -150,6 +159,7 @@ fn conclude(
     requires accepted { IsAccepted board.now }
     requires tables { tables.now.board ≡ board.now }
     requires search { IsSmallSearch board.now (progress_of search.now) }
+    requires whole { search.now.whole ≡ true }
     requires finished { search.now.queue ≡ [] }
     ensures { (limit : ℕ) → IsSearch board.now limit (progress_of search.now)
         → IfOk result (IsAnswer board.now.rows limit) }

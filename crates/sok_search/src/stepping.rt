@@ -4,8 +4,9 @@ ghost use Rattle.std.specs.Prelude.{ℕ, List, ◌≡◌, Some};
 ghost use Rattle.sok_board.specs.Area.{IsAccepted, beside, position_of};
 ghost use Rattle.sok_region.specs.Regions.{IsPlaced};
 ghost use Rattle.sok_state.specs.declared.key.Key.{Key};
-ghost use Rattle.sok_state.specs.Keys.{IsKeyOf};
+ghost use Rattle.sok_state.specs.Keys.{IsKey, IsKeyOf};
 ghost use Rattle.sok_state.specs.Layouts.{IsLaidOut};
+ghost use Rattle.sok_state.specs.Pushes.{IsLegal};
 ghost use Rattle.sok_search.specs.Stores.{IsNext};
 ghost use Rattle.sok_search.specs.Trials.{IsLedTo, IsPushable};
 
@@ -16,23 +17,31 @@ use sok_field::field::Field;
 use sok_state::layout::Layout;
 use sok_state::push::Push;
 
-/// Where the box comes to that is pushed from a state, and the least square that the player can
-/// walk to then. The boxes that are laid out are shifted by the push and back, so that nothing is
-/// laid out anew.
-pub(crate) fn step(board: &Board, push: Push, layout: &mut Layout, seen: &mut Field) -> (Sq, Sq)
+/// The square to which a push from a state brings its box.
+pub(crate) fn square_ahead(board: &Board, push: Push) -> Sq
+    requires accepted { IsAccepted board.now }
+    requires legal { (key : Key) × IsKey board.now key × IsLegal board.now key push }
+    ensures { beside board.now push.from push.dir ≡ Some result }
+{
+    board.neighbour(push.from, push.dir).unwrap()
+}
+
+/// The least square that the player can walk to after a push from a state, which brings its box to
+/// a square. The boxes that are laid out are shifted by the push and back, so that nothing is laid
+/// out anew.
+pub(crate) fn step(board: &Board, push: Push, to: Sq, layout: &mut Layout, seen: &mut Field) -> Sq
     requires accepted { IsAccepted board.now }
     requires pushable { (key : Key) × IsPushable board.now push layout.old key }
-    ensures ahead { beside board.now push.from push.dir ≡ Some result.0 }
+    requires ahead { beside board.now push.from push.dir ≡ Some to }
     ensures laid { (key : Key) → IsPushable board.now push layout.old key
         → IsLaidOut board.now key.boxes layout.new }
     ensures next { (key next : Key) → IsPushable board.now push layout.old key
-        → IsNext key push.from result.0 result.1 next → IsLedTo board.now key push next }
+        → IsNext key push.from to result next → IsLedTo board.now key push next }
 {
-    let ahead = board.neighbour(push.from, push.dir).unwrap();
-    layout.shift(board, push.from, ahead);
+    layout.shift(board, push.from, to);
     let least = least_square(board, layout, seen, push.from);
-    layout.shift(board, ahead, push.from);
-    (ahead, least)
+    layout.shift(board, to, push.from);
+    least
 }
 
 /// The least square to which the player walks from one, among boxes that are laid out.

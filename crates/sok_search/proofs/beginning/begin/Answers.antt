@@ -1,9 +1,9 @@
-use Rattle.std.proofs.Common.{◌≡◌, ◌<◌, [], None, arith, length, refl, subst}
+use Rattle.std.proofs.Common.{◌≡◌, ◌<◌, [], None, ap, arith, length, refl, subst}
 use Rattle.std.proofs.lemmas.List.Elements.{All-weaker}
 use Rattle.std.proofs.lemmas.Result.{IfOk-weaker}
 use Rattle.sok_state.specs.Tables.{GoesLast}
 use Rattle.sok_search.specs.declared.note.Note.{Note}
-use Rattle.sok_search.specs.Searches.{Progress}
+use Rattle.sok_search.specs.Searches.{Frame, Progress}
 use Rattle.sok_search.specs.Steps.{IsListed}
 use Rattle.sok_search.specs.Stores.{entries_in, room_of}
 use Rattle.sok_search.specs.Views.{progress_of}
@@ -18,27 +18,32 @@ insert-requires c =
     All-weaker (λ square. square < length c.args.board.now.area) (λ square. square < room_of c.new-store.result)
     (λ square exists. omega (arith, wide, count, exists)) c.in_ok-key.key.boxes c.in_ok-key.ensures.of_board.is.placed.boxes_exist
 
-pub returns : goal.returns
-returns c = λ limit positive.
+pub returns-clause-search : goal.returns-clause-search
+returns-clause-search c = λ limit positive.
     let b = c.args.board.now in
     let key = c.in_ok-key.key in
     let note : Note = record { origin = None; standing = c.in_ok-standing.standing } in
-    let room = room_of c.new-store.result in
+    let frame : Frame = record { room = room_of c.new-store.result; whole = c.args.whole } in
+    let inserted : Frame = record { room = room_of c.insert.new.self; whole = c.args.whole } in
     let table = entries_in c.insert.new.self in
-    let same = c.in_ok-index.ensures.room in
+    let room = c.in_ok-index.ensures.room in
+    let same : inserted ≡ frame = λ i. record { room = room i; whole = c.args.whole } in
     let wide = c.new-store.ensures.wide in
     let count = c.squares.ensures.count in
     let last : GoesLast [] key 0 c.in_ok-index.index table = first-last (entries_in c.new-store.result) table key 0 c.in_ok-index.index c.in_ok-index._is_new
     c.new-store.ensures.none c.in_ok-index.ensures.inserted in
-    let begins : Progress = record { room = room_of c.insert.new.self; table = table; notes = c.new.result.items; queue = c.new-2.result; best = None } in
-    let bare : begins ≡ record (nothing room) { room = room_of c.insert.new.self; table = table } = λ i. record {
-      room = room_of c.insert.new.self;
+    let begins : Progress = record { frame = inserted; table = table; notes = c.new.result.items; queue = c.new-2.result; best = None } in
+    let bare : begins ≡ record (nothing frame) { frame = inserted; table = table } = λ i. record {
+      frame = inserted;
       table = table;
       notes = c.new.ensures.items i;
       queue = c.new-2.ensures i;
       best = None;
     } in
-    IfOk-weaker c.add.result _ _ (λ after listed. begun b limit room positive (omega (arith, wide, count)) key note (progress_of after)
-    (added-made (nothing room) (room_of c.insert.new.self) table (progress_of after) key 0 c.in_ok-index.index note same last
+    IfOk-weaker c.add.result _ _ (λ after listed. begun b limit frame positive (omega (arith, wide, count)) key note (progress_of after)
+    (added-made (nothing frame) inserted table (progress_of after) key 0 c.in_ok-index.index note same last
     (subst (λ x. IsListed x c.in_ok-index.index note (progress_of after)) bare listed))
     c.in_ok-key.ensures.of_board c.in_ok-key.ensures.key c.in_ok-key.ensures.as_many refl c.in_ok-standing.ensures) c.add.ensures
+
+pub returns-clause-whole : goal.returns-clause-whole
+returns-clause-whole c = IfOk-weaker c.add.result _ _ (λ after listed. ap (λ (f : Frame). f.whole) listed.frame) c.add.ensures

@@ -1,20 +1,45 @@
-use Rattle.std.proofs.Common.{◌+◌, ap, subst, refl, arith, length}
+use Rattle.std.proofs.Common.{◌≡◌, ◌+◌, ap, subst, refl, arith, length}
+use Rattle.sok_board.specs.Area.{Numbered}
 use Rattle.sok_board.proofs.Beside.{beside-within}
+use Rattle.sok_push.specs.Pushing.{IsStuck}
 use Rattle.sok_cert.proofs.Starting.{at-within}
 use Rattle.sok_state.specs.declared.key.Key.{Key}
 use Rattle.sok_state.specs.Tables.{Entries, Enters, GoesLast, Stays}
+use Rattle.sok_search.specs.declared.search.Search.{Search}
+use Rattle.sok_search.specs.declared.store.Store.{Store}
+use Rattle.sok_search.specs.Searches.{Frame}
 use Rattle.sok_search.specs.Steps.{holding}
 use Rattle.sok_search.specs.Stores.{entries_in, room_of}
 use Rattle.sok_search.specs.Views.{progress_of}
-use Rattle.sok_search.proofs.Adding.{added-made, note-within, taken, taken-deep, taken-pushable}
+use Rattle.sok_search.proofs.Adding.{added-made, note-within, taken, taken-deep, taken-key, taken-pushable}
 use Rattle.sok_search.proofs.Filling.{full-more}
 use Rattle.sok_search.proofs.Moving.{moved-next}
-use Rattle.sok_search.proofs.Pushing.{pushed-added, pushed-known}
+use Rattle.sok_search.proofs.Pushing.{leads-nowhere, pushed-added, pushed-known, pushed-left_out}
 use Rattle.sok_search.proofs.Stepped.{comes-next, next_of}
 use Rattle.sok_search.proofs.reaching.reach.Goals as goal
 
-pub step-to-requires-clause-pushable : goal.step-to-requires-clause-pushable
-step-to-requires-clause-pushable c =
+pub square_ahead-to-requires-clause-legal : goal.square_ahead-to-requires-clause-legal
+square_ahead-to-requires-clause-legal c = (
+  c.args.key.now,
+  taken-key c.args.board.now c.args.limit c.args.index (progress_of c.args.search) c.args.key.now c.args.depth c.requires.search c.requires.there
+      c.requires.depth,
+  c.requires.legal,
+)
+
+pub returns-then-stuck-clause-tells : goal.returns-then-stuck-clause-tells
+returns-then-stuck-clause-tells c =
+    let b = c.args.board.now in
+    let p = progress_of c.args.search in
+    let state = taken-key b c.args.limit c.args.index p c.args.key.now c.args.depth c.requires.search c.requires.there c.requires.depth in
+    let stuck = subst (λ (board : Numbered). IsStuck board c.square_ahead-to.result) c.requires.tables (c.stuck.ensures.0 c.if-stuck.true) in
+    pushed-left_out b c.args.limit c.args.index p c.requires.search c.args.key.now c.args.depth c.args.push (record {
+      part = c.if-not-search.true;
+      nowhere = leads-nowhere b c.requires.accepted c.args.key.now state c.args.push c.requires.legal c.square_ahead-to.result
+          c.square_ahead-to.ensures stuck;
+    })
+
+pub step-least-requires-clause-pushable : goal.step-least-requires-clause-pushable
+step-least-requires-clause-pushable c =
     let can = taken-pushable c.args.board.now c.requires.accepted c.args.limit c.args.index (progress_of c.args.search) c.args.key.now c.args.depth
     c.requires.search c.requires.there c.requires.depth c.args.push c.requires.legal c.args.trial.now.layout c.requires.laid in
     (c.args.key.now, can)
@@ -24,7 +49,7 @@ insert_next-requires-clause-exists c = at-within (entries_in c.args.search.store
 
 pub insert_next-requires-clause-to : goal.insert_next-requires-clause-to
 insert_next-requires-clause-to c =
-    let exists = beside-within c.args.board.now c.args.push.dir c.args.push.from c.step-to.result.0 c.step-to.ensures.ahead in
+    let exists = beside-within c.args.board.now c.args.push.dir c.args.push.from c.square_ahead-to.result c.square_ahead-to.ensures in
     let wide = c.requires.search.wide in
     omega (arith, exists, wide)
 
@@ -40,18 +65,25 @@ overflow_add-deeper c =
     (progress_of c.args.search) c.args.key.now c.args.depth c.requires.search c.requires.there c.requires.depth in
     omega (arith, deep, c.ranges.limit.fits)
 
+-- the frame of a search with another store
+abbrev frame_in : Search → Store → Frame
+frame_in search store = record { room = room_of store; whole = search.whole }
+
+same_frame : (search : Search) (store : Store) → room_of store ≡ room_of search.store → frame_in search store ≡ (progress_of search).frame
+same_frame search store same = λ i. record { room = same i; whole = search.whole }
+
 -- the next state is known
 next_in : goal.Then-not-is_new → Key
-next_in c = next_of c.args.key.now c.args.push.from c.step-to.result.0 c.step-to.result.1
+next_in c = next_of c.args.key.now c.args.push.from c.square_ahead-to.result c.step-least.result
 
 stays_in : (c : goal.Then-not-is_new) → Stays (entries_in c.args.search.store) (next_in c) c.in_ok-at.at (entries_in c.insert_next.new.self)
 unfolding next_in
 stays_in c =
     let can = taken-pushable c.args.board.now c.requires.accepted c.args.limit c.args.index (progress_of c.args.search) c.args.key.now c.args.depth
     c.requires.search c.requires.there c.requires.depth c.args.push c.requires.legal c.args.trial.now.layout c.requires.laid in
-    let comes = comes-next c.args.board.now c.requires.accepted c.args.key.now c.args.push c.step-to.result.0 c.step-to.result.1
-    c.args.trial.now.layout can c.step-to.ensures.ahead c.step-to.ensures.next in
-    let next = next_of c.args.key.now c.args.push.from c.step-to.result.0 c.step-to.result.1 in
+    let comes = comes-next c.args.board.now c.requires.accepted c.args.key.now c.args.push c.square_ahead-to.result c.step-least.result
+    c.args.trial.now.layout can c.square_ahead-to.ensures c.step-least.ensures.next in
+    let next = next_of c.args.key.now c.args.push.from c.square_ahead-to.result c.step-least.result in
     subst (λ t. Enters (entries_in c.args.search.store) next (c.args.depth + 1) c.in_ok-at.at t (entries_in c.insert_next.new.self))
     c.if-not-is_new.true (c.in_ok-at.ensures.inserted.enters c.args.key.now next c.requires.there comes.is)
 
@@ -76,7 +108,7 @@ pub returns-then-not-is_new-clause-laid : goal.returns-then-not-is_new-clause-la
 returns-then-not-is_new-clause-laid c =
     let can = taken-pushable c.args.board.now c.requires.accepted c.args.limit c.args.index (progress_of c.args.search) c.args.key.now c.args.depth
     c.requires.search c.requires.there c.requires.depth c.args.push c.requires.legal c.args.trial.now.layout c.requires.laid in
-    c.step-to.ensures.laid c.args.key.now can
+    c.step-least.ensures.laid c.args.key.now can
 
 pub returns-then-not-is_new-clause-tells : goal.returns-then-not-is_new-clause-tells
 returns-then-not-is_new-clause-tells c =
@@ -84,15 +116,16 @@ returns-then-not-is_new-clause-tells c =
     let one = taken c.args.board.now c.args.limit c.args.index p c.args.key.now c.args.depth c.requires.search c.requires.there c.requires.depth in
     let can = taken-pushable c.args.board.now c.requires.accepted c.args.limit c.args.index (progress_of c.args.search) c.args.key.now c.args.depth
     c.requires.search c.requires.there c.requires.depth c.args.push c.requires.legal c.args.trial.now.layout c.requires.laid in
-    let comes = comes-next c.args.board.now c.requires.accepted c.args.key.now c.args.push c.step-to.result.0 c.step-to.result.1
-    c.args.trial.now.layout can c.step-to.ensures.ahead c.step-to.ensures.next in
-    let next = next_of c.args.key.now c.args.push.from c.step-to.result.0 c.step-to.result.1 in
+    let comes = comes-next c.args.board.now c.requires.accepted c.args.key.now c.args.push c.square_ahead-to.result c.step-least.result
+    c.args.trial.now.layout can c.square_ahead-to.ensures c.step-least.ensures.next in
+    let next = next_of c.args.key.now c.args.push.from c.square_ahead-to.result c.step-least.result in
     let stays : Stays p.table next c.in_ok-at.at (entries_in c.insert_next.new.self) = subst
     (λ t. Enters p.table next (c.args.depth + 1) c.in_ok-at.at t (entries_in c.insert_next.new.self)) c.if-not-is_new.true
     (c.in_ok-at.ensures.inserted.enters c.args.key.now next c.requires.there comes.is) in
     pushed-known c.args.board.now c.args.limit c.args.index p c.requires.search c.args.key.now c.args.depth c.requires.there c.requires.depth
     one.note one.note_is c.args.push c.requires.legal next comes.came.exact comes.came.state comes.as_many
-    c.in_ok-at.at (room_of c.insert_next.new.self) (entries_in c.insert_next.new.self) c.in_ok-at.ensures.room stays
+    c.in_ok-at.at (frame_in c.args.search c.insert_next.new.self) (entries_in c.insert_next.new.self)
+    (same_frame c.args.search c.insert_next.new.self c.in_ok-at.ensures.room) stays
     (progress_of c.in_ok-approach.field-0) c.in_ok-approach.ensures
 
 -- it is new
@@ -100,16 +133,16 @@ pub returns-then-at-limit-clause-laid : goal.returns-then-at-limit-clause-laid
 returns-then-at-limit-clause-laid c =
     let can = taken-pushable c.args.board.now c.requires.accepted c.args.limit c.args.index (progress_of c.args.search) c.args.key.now c.args.depth
     c.requires.search c.requires.there c.requires.depth c.args.push c.requires.legal c.args.trial.now.layout c.requires.laid in
-    c.step-to.ensures.laid c.args.key.now can
+    c.step-least.ensures.laid c.args.key.now can
 
 pub returns-then-at-limit-clause-tells : goal.returns-then-at-limit-clause-tells
 returns-then-at-limit-clause-tells c =
     let p = progress_of c.args.search in
     let can = taken-pushable c.args.board.now c.requires.accepted c.args.limit c.args.index (progress_of c.args.search) c.args.key.now c.args.depth
     c.requires.search c.requires.there c.requires.depth c.args.push c.requires.legal c.args.trial.now.layout c.requires.laid in
-    let comes = comes-next c.args.board.now c.requires.accepted c.args.key.now c.args.push c.step-to.result.0 c.step-to.result.1
-    c.args.trial.now.layout can c.step-to.ensures.ahead c.step-to.ensures.next in
-    let next = next_of c.args.key.now c.args.push.from c.step-to.result.0 c.step-to.result.1 in
+    let comes = comes-next c.args.board.now c.requires.accepted c.args.key.now c.args.push c.square_ahead-to.result c.step-least.result
+    c.args.trial.now.layout can c.square_ahead-to.ensures c.step-least.ensures.next in
+    let next = next_of c.args.key.now c.args.push.from c.square_ahead-to.result c.step-least.result in
     let last : GoesLast p.table next (c.args.depth + 1) c.in_ok-at.at (entries_in c.insert_next.new.self) = subst
     (λ t. Enters p.table next (c.args.depth + 1) c.in_ok-at.at t (entries_in c.insert_next.new.self)) c.if-not-is_new.false
     (c.in_ok-at.ensures.inserted.enters c.args.key.now next c.requires.there comes.is) in
@@ -123,16 +156,16 @@ pub judge_after-requires-clause-laid : goal.judge_after-requires-clause-laid
 judge_after-requires-clause-laid c =
     let can = taken-pushable c.args.board.now c.requires.accepted c.args.limit c.args.index (progress_of c.args.search) c.args.key.now c.args.depth
     c.requires.search c.requires.there c.requires.depth c.args.push c.requires.legal c.args.trial.now.layout c.requires.laid in
-    c.step-to.ensures.laid c.args.key.now can
+    c.step-least.ensures.laid c.args.key.now can
 
 pub judge_after-requires-clause-moved : goal.judge_after-requires-clause-moved
 judge_after-requires-clause-moved c =
     let can = taken-pushable c.args.board.now c.requires.accepted c.args.limit c.args.index (progress_of c.args.search) c.args.key.now c.args.depth
     c.requires.search c.requires.there c.requires.depth c.args.push c.requires.legal c.args.trial.now.layout c.requires.laid in
-    let comes = comes-next c.args.board.now c.requires.accepted c.args.key.now c.args.push c.step-to.result.0 c.step-to.result.1
-    c.args.trial.now.layout can c.step-to.ensures.ahead c.step-to.ensures.next in
-    moved-next c.args.board.now c.requires.accepted c.args.key.now _ c.args.push c.step-to.result.0 can.state can.few comes.came.state c.requires.legal
-    comes.came.exact c.step-to.ensures.ahead
+    let comes = comes-next c.args.board.now c.requires.accepted c.args.key.now c.args.push c.square_ahead-to.result c.step-least.result
+    c.args.trial.now.layout can c.square_ahead-to.ensures c.step-least.ensures.next in
+    moved-next c.args.board.now c.requires.accepted c.args.key.now _ c.args.push c.square_ahead-to.result can.state can.few comes.came.state c.requires.legal
+    comes.came.exact c.square_ahead-to.ensures
 
 pub returns-clause-tells : goal.returns-clause-tells
 returns-clause-tells c =
@@ -142,9 +175,9 @@ returns-clause-tells c =
     let one = taken c.args.board.now c.args.limit c.args.index p c.args.key.now c.args.depth c.requires.search c.requires.there c.requires.depth in
     let can = taken-pushable c.args.board.now c.requires.accepted c.args.limit c.args.index (progress_of c.args.search) c.args.key.now c.args.depth
     c.requires.search c.requires.there c.requires.depth c.args.push c.requires.legal c.args.trial.now.layout c.requires.laid in
-    let comes = comes-next c.args.board.now c.requires.accepted c.args.key.now c.args.push c.step-to.result.0 c.step-to.result.1
-    c.args.trial.now.layout can c.step-to.ensures.ahead c.step-to.ensures.next in
-    let next = next_of c.args.key.now c.args.push.from c.step-to.result.0 c.step-to.result.1 in
+    let comes = comes-next c.args.board.now c.requires.accepted c.args.key.now c.args.push c.square_ahead-to.result c.step-least.result
+    c.args.trial.now.layout can c.square_ahead-to.ensures c.step-least.ensures.next in
+    let next = next_of c.args.key.now c.args.push.from c.square_ahead-to.result c.step-least.result in
     let last : GoesLast p.table next (c.args.depth + 1) at (entries_in c.insert_next.new.self) = subst
     (λ t. Enters p.table next (c.args.depth + 1) at t (entries_in c.insert_next.new.self)) c.if-not-is_new.false
     (c.in_ok-at.ensures.inserted.enters c.args.key.now next c.requires.there comes.is) in
@@ -154,5 +187,6 @@ returns-clause-tells c =
     c.args.depth c.requires.there c.requires.depth one.note one.note_is
     c.args.push c.requires.legal next comes.came.exact comes.came.state comes.as_many last.absent
     (omega (arith, room, count)) _ refl c.in_ok-standing.ensures.judged q
-    (added-made p (room_of c.insert_next.new.self) (entries_in c.insert_next.new.self) q next (c.args.depth + 1) at _ c.in_ok-at.ensures.room last
+    (added-made p (frame_in c.args.search c.insert_next.new.self) (entries_in c.insert_next.new.self) q next (c.args.depth + 1) at _
+    (same_frame c.args.search c.insert_next.new.self c.in_ok-at.ensures.room) last
     c.in_ok-add.ensures)

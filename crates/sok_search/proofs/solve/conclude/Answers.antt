@@ -7,8 +7,8 @@ pub returns-in_ok-dirs-in-Some : goal.returns-in_ok-dirs-in-Some
 returns-in_ok-dirs-in-Some c = λ limit search.
     let few = c.requires.search.1.few in
     let small = c.requires.search.2 in
-    shown-solved c.args.board.now c.requires.accepted limit (progress_of c.args.search.now) search c.requires.finished (omega (arith, few, small))
-    c.in-Some.pushes c.in_ok-dirs-in-Some.dirs.items
+    shown-solved c.args.board.now c.requires.accepted limit (progress_of c.args.search.now) search c.requires.finished c.requires.whole
+    (omega (arith, few, small)) c.in-Some.pushes c.in_ok-dirs-in-Some.dirs.items
     c.in_ok-cert-in-Some.cert.entries.items c.in-Some.is c.in_ok-cert-in-Some.ensures.entries c.in_ok-cert-in-Some.ensures.fit c.in_ok-dirs-in-Some.ensures
 
 pub solution-requires-clause-search : goal.solution-requires-clause-search
@@ -16,5 +16,5 @@ solution-requires-clause-search c = (c.requires.search.0, c.requires.search.1)
 
 pub returns-in_ok-cert-in-None : goal.returns-in_ok-cert-in-None
 returns-in_ok-cert-in-None c = λ limit search.
-    shown-unsolvable c.args.board.now c.requires.accepted limit (progress_of c.args.search.now) search c.requires.finished
+    shown-unsolvable c.args.board.now c.requires.accepted limit (progress_of c.args.search.now) search c.requires.finished c.requires.whole
     c.in_ok-cert-in-None.cert.entries.items c.in-None.is c.in_ok-cert-in-None.ensures.entries c.in_ok-cert-in-None.ensures.fit

@@ -1,23 +1,17 @@
-use Rattle.std.proofs.Common.{◌∙◌, ap, inl, is_some, refl, subst, sym}
+use Rattle.std.proofs.Common.{inl, refl, subst, sym}
 use Rattle.sok_board.specs.Area.{position_of}
 use Rattle.sok_state.specs.Keys.{IsKeyOf}
 use Rattle.sok_state.proofs.LegalPushes.{LeadsTo-position, clear-legal, key_after}
 use Rattle.sok_search.proofs.Stepped.{clear-after, moved-back, next-made, next_of, placed-after}
 use Rattle.sok_search.proofs.stepping.step.Goals as goal
 
-pub unwrap-ahead-requires : goal.unwrap-ahead-requires
-unwrap-ahead-requires c =
-    let (key, can) = c.requires.pushable in
-    let legal = clear-legal c.args.board.now c.requires.accepted.numbered key can.state.is.placed c.args.push can.legal in
-    ap is_some (c.neighbour.ensures.beside ∙ legal.1.ahead_is)
-
 pub least_square-least-requires-clause-laid : goal.least_square-least-requires-clause-laid
 least_square-least-requires-clause-laid c =
     let b = c.args.board.now in
     let (key, can) = c.requires.pushable in
     let push = c.args.push in
-    let ahead = c.unwrap-ahead.result in
-    let ahead_is = sym c.neighbour.ensures.beside ∙ c.unwrap-ahead.ensures in
+    let ahead = c.args.to in
+    let ahead_is = c.requires.ahead in
     let (next, as_many) = next-made b c.requires.accepted key push ahead 0 c.args.layout.now can ahead_is in
     let boxes = (next_of key push.from ahead 0).boxes in (
       boxes,
@@ -26,15 +20,12 @@ least_square-least-requires-clause-laid c =
           (clear-after b c.requires.accepted key push ahead can.state can.legal ahead_is) next.moved,
     )
 
-pub returns-clause-ahead : goal.returns-clause-ahead
-returns-clause-ahead c = sym c.neighbour.ensures.beside ∙ c.unwrap-ahead.ensures
-
 pub returns-clause-laid : goal.returns-clause-laid
 returns-clause-laid c = λ key can.
     let b = c.args.board.now in
     let push = c.args.push in
-    let ahead = c.unwrap-ahead.result in
-    let ahead_is = sym c.neighbour.ensures.beside ∙ c.unwrap-ahead.ensures in
+    let ahead = c.args.to in
+    let ahead_is = c.requires.ahead in
     let (next, as_many) = next-made b c.requires.accepted key push ahead 0 c.args.layout.now can ahead_is in
     let boxes = (next_of key push.from ahead 0).boxes in
     let there = (clear-legal b c.requires.accepted.numbered key can.state.is.placed push can.legal).0 in
@@ -47,8 +38,8 @@ pub returns-clause-next : goal.returns-clause-next
 returns-clause-next c = λ key next can is.
     let b = c.args.board.now in
     let push = c.args.push in
-    let ahead = c.unwrap-ahead.result in
-    let ahead_is = sym c.neighbour.ensures.beside ∙ c.unwrap-ahead.ensures in
+    let ahead = c.args.to in
+    let ahead_is = c.requires.ahead in
     let there = (clear-legal b c.requires.accepted.numbered key can.state.is.placed push can.legal).0 in
     let free = clear-after b c.requires.accepted key push ahead can.state can.legal ahead_is in
     let placed = placed-after b c.requires.accepted key push ahead next.boxes can.state can.legal ahead_is is.moved is.rising in

@@ -1,0 +1,134 @@
+-- What a finished search shows, whole or not: its states are known, and nothing solves from those that it left out.
+use Rattle.std.proofs.Common.{ℕ, ◌≡◌, ◌≤◌, ◌+◌, ◌⊎◌, inl, inr, ap, [], Some, arith, slice_get}
+use Rattle.std.specs.Map.{values_of}
+use Rattle.std.proofs.lemmas.Bool.{cases_Bool}
+use Rattle.sok_rules.specs.declared.cell.Dir.{Dir}
+use Rattle.sok_rules.specs.Play.{After, NeverFrom, Position, one_if, start, step}
+use Rattle.sok_rules.specs.States.{Same}
+use Rattle.sok_rules.proofs.Man.{IsStanding-start}
+use Rattle.sok_rules.proofs.Walking.{Same-step, Same-sym, Same-trans}
+use Rattle.sok_board.specs.Area.{Numbered, IsAccepted}
+use Rattle.sok_region.specs.Regions.{IsPlaced}
+use Rattle.sok_bar.specs.Bars.{Barring, Bars}
+use Rattle.sok_bar.proofs.ReasonLaws.{reasons-bar}
+use Rattle.sok_cert.specs.Claim.{Claim}
+use Rattle.sok_cert.specs.Claim.TheVariants.{Pushes, Unsolvable}
+use Rattle.sok_cert.specs.Closed.{IsTrueOf, rest_of}
+use Rattle.sok_cert.proofs.Barring.{Agrees-barred, Agrees-deeper}
+use Rattle.sok_cert.proofs.Followed.{leads-pushed}
+use Rattle.sok_cert.proofs.Looking.{standing-after}
+use Rattle.sok_cert.proofs.KnownPositions.{AllAgree, IsTrueOf-known, LeadsOn, solved-Same}
+use Rattle.sok_state.specs.declared.key.Key.{Key}
+use Rattle.sok_state.specs.declared.push.Push.{Push}
+use Rattle.sok_state.specs.Pushes.{IsLegal, LeadsTo}
+use Rattle.sok_state.specs.Tables.{IsAt}
+use Rattle.sok_state.proofs.States.{key_position}
+use Rattle.sok_search.specs.declared.note.Standing.{Standing}
+use Rattle.sok_search.specs.declared.note.Standing.TheVariants.{Open, Expanded, Dead}
+use Rattle.sok_search.specs.Finished.{CostsEnough, claim_of}
+use Rattle.sok_search.specs.Searches.{Progress, IsDead, IsMet, IsSearch, Stands}
+use Rattle.sok_search.proofs.Certified.{stands-done}
+use Rattle.sok_search.proofs.Knowing.{noted-at}
+use Rattle.sok_search.proofs.Reasons.{bound-priced}
+
+-- a known state at most so deep, of a position
+record IsKnownAt (b : Numbered) (p : Progress) (depth : ℕ) (x : Position) : Type 0 where
+  pub index : ℕ
+  pub key : Key
+  pub there : IsAt p.table key index
+  pub deep : ℕ
+  pub depth_is : slice_get (values_of p.table) index ≡ Some deep
+  pub near : deep ≤ depth
+  pub same : Same b.rows (key_position b key) x
+
+-- or nothing solves from it
+abbrev IsKnown : Numbered → Progress → ℕ → Position → Type 0
+IsKnown b p depth x = IsKnownAt b p depth x ⊎ NeverFrom b.rows x
+
+module _ (b : Numbered) (accepted : IsAccepted b) (claim : Claim) (key : Key) (depth deep : ℕ) (x : Position) (placed : IsPlaced b key.boxes key.least)
+    (same : Same b.rows (key_position b key) x) (near : deep ≤ depth) where
+  agree-barred : (reason : Barring) → Bars b key.boxes reason (rest_of claim deep) → AllAgree b.rows claim depth x
+  agree-barred reason bars w solves =
+      Agrees-deeper claim deep depth _ near
+      (Agrees-barred b claim deep key.least key.boxes (reasons-bar b accepted key.least key.boxes reason (rest_of claim deep) placed bars) x same w solves)
+
+  agree-dead : IsDead b key.boxes → AllAgree b.rows claim depth x
+  agree-dead (inl (members, crowd)) = agree-barred (Barring.crowd members) crowd
+  agree-dead (inr (members, jam)) = agree-barred (Barring.frozen members) jam
+
+agree-open : (b : Numbered) → IsAccepted b → (claim : Claim) (key : Key) (depth deep : ℕ) (x : Position) → IsPlaced b key.boxes key.least
+    → Same b.rows (key_position b key) x → deep ≤ depth → CostsEnough b claim key.boxes deep → AllAgree b.rows claim depth x
+agree-open b accepted Unsolvable key depth deep x placed same near (n, prices, none) = absurd none
+agree-open b accepted (Pushes k) key depth deep x placed same near (n, (u, v, priced), enough) =
+    agree-barred b accepted (Pushes k) key depth deep x placed same near (Barring.bound u v) (bound-priced b key.boxes u v n deep k priced enough)
+
+module _ (b : Numbered) (accepted : IsAccepted b) (limit : ℕ) (p : Progress) (search : IsSearch b limit p) (none : p.queue ≡ []) where
+  -- a push from an expanded state leads to what is known
+  known-met : (key : Key) (deep depth : ℕ) (push : Push) (after : Position) → LeadsTo b key push after → deep + 1 ≤ depth → IsMet b p key deep push
+      → IsKnown b p depth after
+  known-met key deep depth push after leads near (inl found) =
+      let close = found.near in
+      inl (record {
+        index = found.index;
+        key = found.next;
+        there = found.there;
+        deep = found.deep;
+        depth_is = found.depth_is;
+        near = omega (arith, near, close);
+        same = Same-sym b.rows after (key_position b found.next) (standing-after b key push after leads) (found.is after leads).same;
+      })
+  known-met key deep depth push after leads near (inr left) = inr (left.nowhere after leads)
+
+  module _ (depth : ℕ) (x : Position) (at : IsKnownAt b p depth x) (placed : IsPlaced b at.key.boxes at.key.least) where
+    -- a letter from an expanded state
+    leads-on : ((push : Push) → IsLegal b at.key push → IsMet b p at.key at.deep push) → (d : Dir) (a : After) → step b.rows d x ≡ Some a
+        → IsKnown b p (depth + one_if a.pushed) a.position
+    leads-on met d a steps =
+        let near = at.near in
+        elim (cases_Bool a.pushed) [
+          | inr quiet ↦ inl (record {
+            index = at.index;
+            key = at.key;
+            there = at.there;
+            deep = at.deep;
+            depth_is = at.depth_is;
+            near = omega (arith, near);
+            same = Same-trans b.rows (key_position b at.key) x a.position at.same (Same-step b.rows d x a steps quiet);
+          })
+          | inl pushed ↦
+              let (from, leads) = leads-pushed b accepted at.key placed x d a at.same steps pushed in
+              let push : Push = record { from = from; dir = d } in
+              let one : one_if a.pushed ≡ 1 = ap one_if pushed in
+              known-met at.key at.deep (depth + one_if a.pushed) push a.position leads (omega (arith, near, one))
+              (met push (record { after = a.position; leads = leads }))
+        ]
+
+    -- by the standing of the state
+    standing-known : (s : Standing) → Stands b p at.index at.key at.deep s
+        → AllAgree b.rows (claim_of p.best) depth x ⊎ LeadsOn b.rows (IsKnown b p) depth x
+    standing-known (Open bound) stands =
+        inl (agree-open b accepted (claim_of p.best) at.key depth at.deep x placed at.same at.near
+        (stands-done b p at.index at.key at.deep none (Open bound) stands))
+    standing-known (Expanded bound) (prices, unsolved, met) =
+        inr (record { unsolved = λ solved. unsolved (solved-Same b.rows (key_position b at.key) x at.same solved); on = leads-on met })
+    standing-known Dead dead = inl (agree-dead b accepted (claim_of p.best) at.key depth at.deep x placed at.same at.near dead)
+
+  known : (depth : ℕ) (x : Position) → IsKnown b p depth x → AllAgree b.rows (claim_of p.best) depth x ⊎ LeadsOn b.rows (IsKnown b p) depth x
+  known depth x (inr never) = inl (λ w solves. absurd (never w solves))
+  known depth x (inl at) =
+      let (note, note_is, noted) = noted-at b limit p search at.index at.key at.deep at.there at.depth_is in
+      standing-known depth x at noted.state.is.placed note.standing noted.stands
+
+  -- the start is known, so the claim is true
+  pub shows : IsTrueOf b.rows (claim_of p.best)
+  shows =
+      let begun = search.begun in
+      IsTrueOf-known b.rows (claim_of p.best) (IsKnown b p) known (inl (record {
+        index = 0;
+        key = begun.key;
+        there = begun.there;
+        deep = 0;
+        depth_is = begun.depth_is;
+        near = omega arith;
+        same = Same-sym b.rows (start b.rows) (key_position b begun.key) (IsStanding-start b.rows accepted.proper) begun.is.same;
+      }))
