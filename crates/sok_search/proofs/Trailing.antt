@@ -14,7 +14,7 @@ use Rattle.sok_search.specs.Steps.{IsPushed, holding}
 use Rattle.sok_state.specs.Pushes.{IsLegal}
 use Rattle.sok_search.specs.declared.reaching.Reached.{Reached}
 use Rattle.sok_search.specs.declared.reaching.Reached.TheVariants.{On, Full}
-use Rattle.sok_search.specs.Views.{HasFollowed, TellsExpanded, TellsFollowed, progress_of}
+use Rattle.sok_search.specs.Views.{HasFollowed, TellsExpanded, TellsFollowed}
 use Rattle.sok_search.proofs.Adding.{taken}
 use Rattle.sok_search.proofs.Keeping.{met-along}
 
@@ -72,12 +72,11 @@ held-stays b limit p q index key depth Followed search there depth_is followed =
     (one.note, followed.stay index key depth one.note (omega arith) (record { there = there; depth_is = depth_is; note_is = one.note_is }))
 
 -- a list of all legal pushes was followed
-pub told-expanded : (b : Numbered) (limit : ℕ) (p : Progress) (index : ℕ) (key : Key) (depth : ℕ) (pushes : List Push)
-    → ((push : Push) → IsLegal b key push → Contains pushes push) → (r : Reached) → TellsFollowed b limit p index key depth pushes r
-    → TellsExpanded b limit p index key depth r
-told-expanded b limit p index key depth pushes whole (On after) followed = followed-along b limit p (progress_of after) index key depth (Contains pushes)
-    (IsLegal b key) whole followed
-told-expanded b limit p index key depth pushes whole Full more = more
+pub told-expanded : (b : Numbered) (limit : ℕ) (p q : Progress) (index : ℕ) (key : Key) (depth : ℕ) (pushes : List Push)
+    → ((push : Push) → IsLegal b key push → Contains pushes push) → (r : Reached) → TellsFollowed b limit p index key depth pushes q r
+    → TellsExpanded b limit p index key depth q r
+told-expanded b limit p q index key depth pushes whole On followed = followed-along b limit p q index key depth (Contains pushes) (IsLegal b key) whole followed
+told-expanded b limit p q index key depth pushes whole Full more = more
 
 -- what holds after an answer, and so what follows
 pub both-ok : {X E P Q R : Type 0} (r : Result X E) → (P → Q → R) → OnOk r P → OnOk r Q → OnOk r R

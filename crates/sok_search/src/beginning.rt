@@ -15,7 +15,7 @@ use sok_rules::fault::Memory;
 use sok_state::key::Key;
 use std::alloc::Global;
 
-/// A search that knows the start alone.
+/// A search that knows the start alone. A whole one keeps each state that it comes to.
 pub(crate) fn begin(
     alloc: Global,
     board: &Board,
@@ -31,7 +31,7 @@ pub(crate) fn begin(
     let standing = judge(alloc, board, tables, &key.boxes)?;
     let mut store = Store::new(alloc, board.squares());
     let (index, _is_new) = store.insert(&key, 0)?;
-    let search = Search {
+    let mut search = Search {
         whole,
         store,
         notes: Vec::new(alloc),
@@ -39,5 +39,6 @@ pub(crate) fn begin(
         best: None,
     };
     let origin = None;
-    add(search, index, 0, Note { origin, standing })
+    add(&mut search, index, 0, Note { origin, standing })?;
+    Ok(search)
 }

@@ -67,7 +67,7 @@ fn follow(
     board: &Board,
     tables: &Tables,
     limit: u32,
-    mut search: Search,
+    search: &mut Search,
     trial: &mut Trial,
     index: usize,
     key: &Key,
@@ -76,27 +76,27 @@ fn follow(
 ) -> Result<Reached, Memory>
     requires accepted { IsAccepted board.now }
     requires tables { tables.now.board ≡ board.now }
-    requires search { IsSearch board.now limit (holding index (progress_of search)) }
+    requires search { IsSearch board.now limit (holding index (progress_of search.old)) }
     requires trial { IsTrial board.now key.now.boxes trial.old.matching trial.old.matched }
     requires laid { IsLaidOut board.now key.now.boxes trial.old.layout }
-    requires there { IsAt (entries_in search.store) key.now index }
-    requires depth { slice_get (values_of (entries_in search.store)) index ≡ Some depth }
+    requires there { IsAt (entries_in search.old.store) key.now index }
+    requires depth { slice_get (values_of (entries_in search.old.store)) index ≡ Some depth }
     requires legal { All (IsLegal board.now key.now) pushes.now }
     ensures trial { OnOk result
         (IsTrial board.now key.now.boxes trial.new.matching trial.new.matched) }
     ensures laid { OnOk result (IsLaidOut board.now key.now.boxes trial.new.layout) }
-    ensures tells { IfOk result
-        (TellsFollowed board.now limit (progress_of search) index key.now depth pushes.now) }
+    ensures tells { IfOk result (TellsFollowed board.now limit (progress_of search.old) index
+        key.now depth pushes.now (progress_of search.new)) }
 {
     for push in pushes {
         match reach(
             alloc, board, tables, limit, search, trial, index, key, depth, *push,
         )? {
-            Reached::On(after) => search = after,
+            Reached::On => {}
             Reached::Full => return Ok(Reached::Full),
         }
     }
-    Ok(Reached::On(search))
+    Ok(Reached::On)
 }
 
 /// Follows each legal push from a state that was taken.
@@ -105,7 +105,7 @@ pub(crate) fn expand(
     board: &Board,
     tables: &Tables,
     limit: u32,
-    search: Search,
+    search: &mut Search,
     scratch: &mut Scratch,
     index: usize,
     key: &Key,
@@ -113,14 +113,14 @@ pub(crate) fn expand(
 ) -> Result<Reached, Memory>
     requires accepted { IsAccepted board.now }
     requires tables { tables.now.board ≡ board.now }
-    requires search { IsSearch board.now limit (holding index (progress_of search)) }
+    requires search { IsSearch board.now limit (holding index (progress_of search.old)) }
     requires ready { IsReady board.now scratch.old.trial.matching scratch.old.trial.layout }
-    requires there { IsAt (entries_in search.store) key.now index }
-    requires depth { slice_get (values_of (entries_in search.store)) index ≡ Some depth }
+    requires there { IsAt (entries_in search.old.store) key.now index }
+    requires depth { slice_get (values_of (entries_in search.old.store)) index ≡ Some depth }
     ensures ready { OnOk result
         (IsReady board.now scratch.new.trial.matching scratch.new.trial.layout) }
-    ensures tells { IfOk result
-        (TellsExpanded board.now limit (progress_of search) index key.now depth) }
+    ensures tells { IfOk result (TellsExpanded board.now limit (progress_of search.old) index
+        key.now depth (progress_of search.new)) }
 {
     scratch.region.again(board, &key.boxes, key.least);
     list_pushes(board, key, &scratch.region, &mut scratch.pushes)?;

@@ -23,10 +23,10 @@ use sok_state::key::Key;
 use sok_state::push::Push;
 use std::alloc::Global;
 
-/// A search that goes on, or that its table is full and lacks a state that is reached.
-#[derive(Drop)]
+/// That a search goes on, or that its table is full and lacks a state that is reached.
+#[derive(Clone, Copy, Debug)]
 pub(crate) enum Reached {
-    On(Search),
+    On,
     Full,
 }
 
@@ -43,19 +43,19 @@ fn reopened(standing: Standing) -> Standing
 
 /// Comes to a known state again, at a depth: it comes nearer, or stays.
 fn approach(
-    search: Search,
+    search: &mut Search,
     index: usize,
     depth: u32,
     origin: Option<Origin>,
-) -> Result<Search, Memory>
-    requires exists { index < length (entries_in search.store) }
+) -> Result<(), Memory>
+    requires exists { index < length (entries_in search.old.store) }
     requires small { index < 2 ^ 32 }
-    requires noted { index < length search.notes.items }
-    ensures { IfOk result (λ after.
-        Nears (progress_of search) index depth origin (progress_of after)) }
+    requires noted { index < length search.old.notes.items }
+    ensures { OnOk result
+        (Nears (progress_of search.old) index depth origin (progress_of search.new)) }
 {
     if depth >= search.store.depth(index) {
-        return Ok(search);
+        return Ok(());
     }
     let standing = reopened(search.notes[index].standing);
     lower(search, index, depth, Note { origin, standing })
@@ -68,7 +68,7 @@ pub(crate) fn reach(
     board: &Board,
     tables: &Tables,
     limit: u32,
-    mut search: Search,
+    search: &mut Search,
     trial: &mut Trial,
     index: usize,
     key: &Key,
@@ -77,22 +77,22 @@ pub(crate) fn reach(
 ) -> Result<Reached, Memory>
     requires accepted { IsAccepted board.now }
     requires tables { tables.now.board ≡ board.now }
-    requires search { IsSearch board.now limit (holding index (progress_of search)) }
+    requires search { IsSearch board.now limit (holding index (progress_of search.old)) }
     requires trial { IsTrial board.now key.now.boxes trial.old.matching trial.old.matched }
     requires laid { IsLaidOut board.now key.now.boxes trial.old.layout }
-    requires there { IsAt (entries_in search.store) key.now index }
-    requires depth { slice_get (values_of (entries_in search.store)) index ≡ Some depth }
+    requires there { IsAt (entries_in search.old.store) key.now index }
+    requires depth { slice_get (values_of (entries_in search.old.store)) index ≡ Some depth }
     requires legal { IsLegal board.now key.now push }
     ensures trial { OnOk result
         (IsTrial board.now key.now.boxes trial.new.matching trial.new.matched) }
     ensures laid { OnOk result (IsLaidOut board.now key.now.boxes trial.new.layout) }
-    ensures tells { IfOk result
-        (TellsReached board.now limit (progress_of search) index key.now depth push) }
+    ensures tells { IfOk result (TellsReached board.now limit (progress_of search.old) index
+        key.now depth push (progress_of search.new)) }
 {
     let from = push.from;
     let to = square_ahead(board, push);
     if !search.whole && tables.stuck(to) {
-        return Ok(Reached::On(search));
+        return Ok(Reached::On);
     }
     let least = step(board, push, to, &mut trial.layout, &mut trial.seen);
     let origin = Some(Origin {
@@ -102,11 +102,13 @@ pub(crate) fn reach(
     let deeper = depth + 1;
     let (at, is_new) = search.store.insert_next(index, from, to, least, deeper)?;
     if !is_new {
-        return Ok(Reached::On(approach(search, at, deeper, origin)?));
+        approach(search, at, deeper, origin)?;
+        return Ok(Reached::On);
     }
     if at >= limit as usize {
         return Ok(Reached::Full);
     }
     let standing = judge_after(alloc, board, tables, trial, &key.boxes, from, to)?;
-    Ok(Reached::On(add(search, at, deeper, Note { origin, standing })?))
+    add(search, at, deeper, Note { origin, standing })?;
+    Ok(Reached::On)
 }

@@ -30,13 +30,12 @@ fn is_beaten(best: Option<u32>, depth: u32, bound: u32) -> bool
 }
 
 /// Gives a state another note.
-fn mark(mut search: Search, index: usize, note: Note) -> Search
-    requires { index < length search.notes.items }
-    ensures { progress_of result
-        ≡ done (progress_of search) (slice_set search.notes.items index note) search.best }
+fn mark(search: &mut Search, index: usize, note: Note)
+    requires { index < length search.old.notes.items }
+    ensures { progress_of search.new ≡ done (progress_of search.old)
+        (slice_set search.old.notes.items index note) search.old.best }
 {
     search.notes[index] = note;
-    search
 }
 
 /// Visits an open state that was taken: it is let go, is solved, or is expanded.
@@ -45,7 +44,7 @@ fn visit(
     board: &Board,
     tables: &Tables,
     limit: u32,
-    mut search: Search,
+    search: &mut Search,
     scratch: &mut Scratch,
     index: usize,
     note: Note,
@@ -53,30 +52,32 @@ fn visit(
 ) -> Result<Reached, Memory>
     requires accepted { IsAccepted board.now }
     requires tables { tables.now.board ≡ board.now }
-    requires search { IsSearch board.now limit (holding index (progress_of search)) }
+    requires search { IsSearch board.now limit (holding index (progress_of search.old)) }
     requires ready { IsReady board.now scratch.old.trial.matching scratch.old.trial.layout }
-    requires noted { slice_get search.notes.items index ≡ Some note }
+    requires noted { slice_get search.old.notes.items index ≡ Some note }
     requires is_open { note.standing ≡ Open bound }
     ensures ready { OnOk result
         (IsReady board.now scratch.new.trial.matching scratch.new.trial.layout) }
-    ensures tells { IfOk result (TellsTurned board.now limit (holding index (progress_of search))) }
+    ensures tells { IfOk result (TellsTurned board.now limit
+        (holding index (progress_of search.old)) (progress_of search.new)) }
 {
     let depth = search.store.depth(index);
     if is_beaten(search.best, depth, bound) {
-        return Ok(Reached::On(search));
+        return Ok(Reached::On);
     }
     let key = search.store.key(alloc, &mut scratch.squares, index)?;
     if is_solved(board, &key.boxes) {
         search.best = Some(depth);
-        return Ok(Reached::On(search));
+        return Ok(Reached::On);
     }
     match expand(
         alloc, board, tables, limit, search, scratch, index, &key, depth,
     )? {
-        Reached::On(after) => {
+        Reached::On => {
             let standing = Standing::Expanded(bound);
             let origin = note.origin;
-            Ok(Reached::On(mark(after, index, Note { origin, standing })))
+            mark(search, index, Note { origin, standing });
+            Ok(Reached::On)
         }
         Reached::Full => Ok(Reached::Full),
     }
@@ -88,25 +89,26 @@ fn turn(
     board: &Board,
     tables: &Tables,
     limit: u32,
-    search: Search,
+    search: &mut Search,
     scratch: &mut Scratch,
     index: usize,
 ) -> Result<Reached, Memory>
     requires accepted { IsAccepted board.now }
     requires tables { tables.now.board ≡ board.now }
-    requires search { IsSearch board.now limit (holding index (progress_of search)) }
+    requires search { IsSearch board.now limit (holding index (progress_of search.old)) }
     requires ready { IsReady board.now scratch.old.trial.matching scratch.old.trial.layout }
     ensures ready { OnOk result
         (IsReady board.now scratch.new.trial.matching scratch.new.trial.layout) }
-    ensures tells { IfOk result (TellsTurned board.now limit (holding index (progress_of search))) }
+    ensures tells { IfOk result (TellsTurned board.now limit
+        (holding index (progress_of search.old)) (progress_of search.new)) }
 {
     let note = search.notes[index];
     match note.standing {
         Standing::Open(bound) => visit(
             alloc, board, tables, limit, search, scratch, index, note, bound,
         ),
-        Standing::Expanded(_) => Ok(Reached::On(search)),
-        Standing::Dead => Ok(Reached::On(search)),
+        Standing::Expanded(_) => Ok(Reached::On),
+        Standing::Dead => Ok(Reached::On),
     }
 }
 
@@ -116,20 +118,21 @@ pub(crate) fn run(
     board: &Board,
     tables: &Tables,
     limit: u32,
-    mut search: Search,
+    search: &mut Search,
     scratch: &mut Scratch,
 ) -> Result<Reached, Memory>
     requires accepted { IsAccepted board.now }
     requires tables { tables.now.board ≡ board.now }
-    requires search { IsSearch board.now limit (progress_of search) }
+    requires search { IsSearch board.now limit (progress_of search.old) }
     requires ready { IsReady board.now scratch.old.trial.matching scratch.old.trial.layout }
-    ensures { IfOk result (TellsFinished board.now limit search.whole) }
+    ensures { IfOk result
+        (TellsFinished board.now limit (progress_of search.old) (progress_of search.new)) }
 {
     while let Some(index) = search.queue.pop() {
         match turn(alloc, board, tables, limit, search, scratch, index as usize)? {
-            Reached::On(after) => search = after,
+            Reached::On => {}
             Reached::Full => return Ok(Reached::Full),
         }
     }
-    Ok(Reached::On(search))
+    Ok(Reached::On)
 }

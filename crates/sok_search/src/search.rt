@@ -1,6 +1,6 @@
 //! What a search knows, and the two ways in which it learns of a state.
 
-ghost use Rattle.std.specs.Prelude.{◌<◌, ◌^◌, IfOk, length};
+ghost use Rattle.std.specs.Prelude.{◌<◌, ◌^◌, IfOk, OnOk, length};
 ghost use Rattle.sok_state.specs.Tables.{depth_at};
 ghost use Rattle.sok_search.specs.Steps.{IsChanged, IsListed, Queues};
 ghost use Rattle.sok_search.specs.Stores.{entries_in};
@@ -39,37 +39,25 @@ fn wait(queue: &mut Queue, index: u32, depth: u32, standing: Standing) -> Result
 }
 
 /// Notes a state that went last into the store.
-pub(crate) fn add(
-    mut search: Search,
-    index: usize,
-    depth: u32,
-    note: Note,
-) -> Result<Search, Memory>
+pub(crate) fn add(search: &mut Search, index: usize, depth: u32, note: Note) -> Result<(), Memory>
     requires { index < 2 ^ 32 }
-    ensures { IfOk result (λ after.
-        IsListed (progress_of search) index note (progress_of after)) }
+    ensures { OnOk result
+        (IsListed (progress_of search.old) index note (progress_of search.new)) }
 {
     search.notes.push(note)?;
-    wait(&mut search.queue, index as u32, depth, note.standing)?;
-    Ok(search)
+    wait(&mut search.queue, index as u32, depth, note.standing)
 }
 
 /// Gives a state a smaller depth and another note.
-pub(crate) fn lower(
-    mut search: Search,
-    index: usize,
-    depth: u32,
-    note: Note,
-) -> Result<Search, Memory>
-    requires exists { index < length (entries_in search.store) }
+pub(crate) fn lower(search: &mut Search, index: usize, depth: u32, note: Note) -> Result<(), Memory>
+    requires exists { index < length (entries_in search.old.store) }
     requires small { index < 2 ^ 32 }
-    requires noted { index < length search.notes.items }
-    requires smaller { depth < depth_at (entries_in search.store) index }
-    ensures { IfOk result (λ after.
-        IsChanged (progress_of search) index depth note (progress_of after)) }
+    requires noted { index < length search.old.notes.items }
+    requires smaller { depth < depth_at (entries_in search.old.store) index }
+    ensures { OnOk result
+        (IsChanged (progress_of search.old) index depth note (progress_of search.new)) }
 {
     let _lowered = search.store.lower_depth(index, depth);
     search.notes[index] = note;
-    wait(&mut search.queue, index as u32, depth, note.standing)?;
-    Ok(search)
+    wait(&mut search.queue, index as u32, depth, note.standing)
 }

@@ -94,8 +94,9 @@ fn answer(alloc: Global, board: &Board, limit: u32) -> Result<Outcome, Memory>
     // Its clauses tell that the level is accepted.
     let _level = board.level();
     let tables = Tables::new(alloc, board)?;
-    match search_all(alloc, board, &tables, limit, true)? {
-        Reached::On(after) => conclude(alloc, board, &tables, &after),
+    let mut search = begin(alloc, board, &tables, true)?;
+    match search_all(alloc, board, &tables, limit, &mut search)? {
+        Reached::On => conclude(alloc, board, &tables, &search),
         Reached::Full => Ok(Outcome::Limit { states: limit }),
     }
 }
@@ -108,27 +109,27 @@ fn find_on(alloc: Global, board: &Board, limit: u32) -> Result<Found, Memory>
     // Its clauses tell that the level is accepted.
     let _level = board.level();
     let tables = Tables::new(alloc, board)?;
-    match search_all(alloc, board, &tables, limit, false)? {
-        Reached::On(after) => find_in(alloc, board, &after),
+    let mut search = begin(alloc, board, &tables, false)?;
+    match search_all(alloc, board, &tables, limit, &mut search)? {
+        Reached::On => find_in(alloc, board, &search),
         Reached::Full => Ok(Found::Limit { states: limit }),
     }
 }
 
-/// Searches until no state waits, or until the table is full. A whole search keeps each state that
-/// it comes to.
+/// Searches until no state waits, or until the table is full.
 fn search_all(
     alloc: Global,
     board: &Board,
     tables: &Tables,
     limit: u32,
-    whole: bool,
+    search: &mut Search,
 ) -> Result<Reached, Memory>
     requires accepted { IsAccepted board.now }
     requires tables { tables.now.board ≡ board.now }
-    requires positive { 0 < limit }
-    ensures { IfOk result (TellsFinished board.now limit whole) }
+    requires search { IsSearch board.now limit (progress_of search.old) }
+    ensures { IfOk result
+        (TellsFinished board.now limit (progress_of search.old) (progress_of search.new)) }
 {
-    let search = begin(alloc, board, tables, whole)?;
     let mut scratch = Scratch::new(alloc, board, tables)?;
     run(alloc, board, tables, limit, search, &mut scratch)
 }

@@ -1,6 +1,5 @@
 use Rattle.std.proofs.Common.{◌≡◌, ◌<◌, [], None, ap, arith, length, refl, subst}
 use Rattle.std.proofs.lemmas.List.Elements.{All-weaker}
-use Rattle.std.proofs.lemmas.Result.{IfOk-weaker}
 use Rattle.sok_state.specs.Tables.{GoesLast}
 use Rattle.sok_search.specs.declared.note.Note.{Note}
 use Rattle.sok_search.specs.Searches.{Frame, Progress}
@@ -40,10 +39,11 @@ returns-clause-search c = λ limit positive.
       queue = c.new-2.ensures i;
       best = None;
     } in
-    IfOk-weaker c.add.result _ _ (λ after listed. begun b limit frame positive (omega (arith, wide, count)) key note (progress_of after)
-    (added-made (nothing frame) inserted table (progress_of after) key 0 c.in_ok-index.index note same last
-    (subst (λ x. IsListed x c.in_ok-index.index note (progress_of after)) bare listed))
-    c.in_ok-key.ensures.of_board c.in_ok-key.ensures.key c.in_ok-key.ensures.as_many refl c.in_ok-standing.ensures) c.add.ensures
+    let after = progress_of c.add.new.search in
+    begun b limit frame positive (omega (arith, wide, count)) key note after
+    (added-made (nothing frame) inserted table after key 0 c.in_ok-index.index note same last
+    (subst (λ x. IsListed x c.in_ok-index.index note after) bare c.in_ok-add.ensures))
+    c.in_ok-key.ensures.of_board c.in_ok-key.ensures.key c.in_ok-key.ensures.as_many refl c.in_ok-standing.ensures
 
 pub returns-clause-whole : goal.returns-clause-whole
-returns-clause-whole c = IfOk-weaker c.add.result _ _ (λ after listed. ap (λ (f : Frame). f.whole) listed.frame) c.add.ensures
+returns-clause-whole c = ap (λ (f : Frame). f.whole) c.in_ok-add.ensures.frame

@@ -10,12 +10,12 @@ use Rattle.sok_search.proofs.expanding.expand.Goals as goal
 
 pub again-requires : goal.again-requires
 again-requires c = (taken-key c.args.board.now c.args.limit c.args.index
-    (progress_of c.args.search) c.args.key.now c.args.depth c.requires.search c.requires.there c.requires.depth).is.placed
+    (progress_of c.args.search.now) c.args.key.now c.args.depth c.requires.search c.requires.there c.requires.depth).is.placed
 
 pub lay-requires-clause-exist : goal.lay-requires-clause-exist
 lay-requires-clause-exist c = subst (λ (squares : List ℕ). All (λ square. square < length c.args.board.now.area) squares) (sym c.list.ensures.list)
     (taken-key c.args.board.now c.args.limit c.args.index
-    (progress_of c.args.search) c.args.key.now c.args.depth c.requires.search c.requires.there c.requires.depth).is.placed.boxes_exist
+    (progress_of c.args.search.now) c.args.key.now c.args.depth c.requires.search c.requires.there c.requires.depth).is.placed.boxes_exist
 
 pub lay-requires-clause-laid : goal.lay-requires-clause-laid
 lay-requires-clause-laid c = (c.requires.ready.boxes, c.requires.ready.laid)
@@ -34,4 +34,4 @@ returns-clause-tells c =
     let whole = subst (λ (items : List Push). (push : Push) → IsLegal b c.args.key.now push → Contains items push)
     (sym c.deref.ensures.value) c.in_ok-list_pushes.ensures.whole in
     IfOk-weaker c.follow.result _ _ (λ r told. told-expanded b c.args.limit
-    (progress_of c.args.search) c.args.index c.args.key.now c.args.depth pushes whole r told) c.follow.ensures.tells
+    (progress_of c.args.search.now) (progress_of c.follow.new.search) c.args.index c.args.key.now c.args.depth pushes whole r told) c.follow.ensures.tells

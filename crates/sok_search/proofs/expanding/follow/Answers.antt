@@ -9,7 +9,7 @@ use Rattle.sok_search.proofs.expanding.follow.Goals as goal
 pub loop-push-init : goal.loop-push-init
 loop-push-init c = record {
   followed = followed-none c.args.board.now c.args.limit
-      (progress_of c.args.search) c.args.index c.args.key.now c.args.depth c.args.pushes.now c.requires.search;
+      (progress_of c.args.search.now) c.args.index c.args.key.now c.args.depth c.args.pushes.now c.requires.search;
   trial = c.requires.trial;
   laid = c.requires.laid;
 }
@@ -19,14 +19,14 @@ reach-requires-clause-search c = c.loop-push.invariant.followed.search
 
 pub reach-requires-clause-there : goal.reach-requires-clause-there
 reach-requires-clause-there c =
-    let (note, state) = held-stays c.args.board.now c.args.limit (progress_of c.args.search)
+    let (note, state) = held-stays c.args.board.now c.args.limit (progress_of c.args.search.now)
     (progress_of c.loop-push.search) c.args.index c.args.key.now c.args.depth
     (Before c.args.pushes.now c.loop-push.push-index) c.requires.search c.requires.there c.requires.depth c.loop-push.invariant.followed in
     state.there
 
 pub reach-requires-clause-depth : goal.reach-requires-clause-depth
 reach-requires-clause-depth c =
-    let (note, state) = held-stays c.args.board.now c.args.limit (progress_of c.args.search)
+    let (note, state) = held-stays c.args.board.now c.args.limit (progress_of c.args.search.now)
     (progress_of c.loop-push.search) c.args.index c.args.key.now c.args.depth
     (Before c.args.pushes.now c.loop-push.push-index) c.requires.search c.requires.there c.requires.depth c.loop-push.invariant.followed in
     state.depth_is
@@ -37,20 +37,20 @@ loop-push-preserved c =
     let n = c.loop-push.push-index in
     let pushes = c.args.pushes.now in
     let push = get_or pushes n no_push in
-    let told : TellsReached b c.args.limit (progress_of c.loop-push.search) c.args.index c.args.key.now c.args.depth push (On c.in-On.after) = subst
-    (TellsReached b c.args.limit (progress_of c.loop-push.search) c.args.index c.args.key.now c.args.depth push) c.in-On.is
-    c.in_ok-after.ensures.tells in record {
-      followed = followed-more b c.args.limit (progress_of c.args.search) (progress_of c.loop-push.search)
-          (progress_of c.in-On.after) c.args.index c.args.key.now c.args.depth pushes n push
+    let told : TellsReached b c.args.limit (progress_of c.loop-push.search) c.args.index c.args.key.now c.args.depth push (progress_of c.reach.new.search) On = subst
+    (TellsReached b c.args.limit (progress_of c.loop-push.search) c.args.index c.args.key.now c.args.depth push (progress_of c.reach.new.search)) c.in-On.is
+    c.in_ok-reach.ensures.tells in record {
+      followed = followed-more b c.args.limit (progress_of c.args.search.now) (progress_of c.loop-push.search)
+          (progress_of c.reach.new.search) c.args.index c.args.key.now c.args.depth pushes n push
           (slice_get-get_or pushes n no_push c.loop-push-test.true) c.loop-push.invariant.followed told;
-      trial = c.in_ok-after.ensures.trial;
-      laid = c.in_ok-after.ensures.laid;
+      trial = c.in_ok-reach.ensures.trial;
+      laid = c.in_ok-reach.ensures.laid;
     }
 
 pub returns-clause-tells : goal.returns-clause-tells
 returns-clause-tells c =
     let pushes = c.args.pushes.now in
     let past = c.loop-push-test.false in
-    followed-along c.args.board.now c.args.limit (progress_of c.args.search) (progress_of c.loop-push.search) c.args.index c.args.key.now c.args.depth
+    followed-along c.args.board.now c.args.limit (progress_of c.args.search.now) (progress_of c.loop-push.search) c.args.index c.args.key.now c.args.depth
     (Before pushes c.loop-push.push-index) (Contains pushes)
     (λ push (k, within, is). (k, omega (arith, within, past), slice_get-get_or pushes k push within ∙ ap Some is)) c.loop-push.invariant.followed

@@ -21,7 +21,7 @@ use Rattle.sok_search.proofs.reaching.reach.Goals as goal
 pub square_ahead-to-requires-clause-legal : goal.square_ahead-to-requires-clause-legal
 square_ahead-to-requires-clause-legal c = (
   c.args.key.now,
-  taken-key c.args.board.now c.args.limit c.args.index (progress_of c.args.search) c.args.key.now c.args.depth c.requires.search c.requires.there
+  taken-key c.args.board.now c.args.limit c.args.index (progress_of c.args.search.now) c.args.key.now c.args.depth c.requires.search c.requires.there
       c.requires.depth,
   c.requires.legal,
 )
@@ -29,7 +29,7 @@ square_ahead-to-requires-clause-legal c = (
 pub returns-then-stuck-clause-tells : goal.returns-then-stuck-clause-tells
 returns-then-stuck-clause-tells c =
     let b = c.args.board.now in
-    let p = progress_of c.args.search in
+    let p = progress_of c.args.search.now in
     let state = taken-key b c.args.limit c.args.index p c.args.key.now c.args.depth c.requires.search c.requires.there c.requires.depth in
     let stuck = subst (λ (board : Numbered). IsStuck board c.square_ahead-to.result) c.requires.tables (c.stuck.ensures.0 c.if-stuck.true) in
     pushed-left_out b c.args.limit c.args.index p c.requires.search c.args.key.now c.args.depth c.args.push (record {
@@ -40,12 +40,12 @@ returns-then-stuck-clause-tells c =
 
 pub step-least-requires-clause-pushable : goal.step-least-requires-clause-pushable
 step-least-requires-clause-pushable c =
-    let can = taken-pushable c.args.board.now c.requires.accepted c.args.limit c.args.index (progress_of c.args.search) c.args.key.now c.args.depth
+    let can = taken-pushable c.args.board.now c.requires.accepted c.args.limit c.args.index (progress_of c.args.search.now) c.args.key.now c.args.depth
     c.requires.search c.requires.there c.requires.depth c.args.push c.requires.legal c.args.trial.now.layout c.requires.laid in
     (c.args.key.now, can)
 
 pub insert_next-requires-clause-exists : goal.insert_next-requires-clause-exists
-insert_next-requires-clause-exists c = at-within (entries_in c.args.search.store) c.args.key.now c.args.index c.requires.there
+insert_next-requires-clause-exists c = at-within (entries_in c.args.search.now.store) c.args.key.now c.args.index c.requires.there
 
 pub insert_next-requires-clause-to : goal.insert_next-requires-clause-to
 insert_next-requires-clause-to c =
@@ -55,14 +55,14 @@ insert_next-requires-clause-to c =
 
 pub overflow_cast-origin : goal.overflow_cast-origin
 overflow_cast-origin c =
-    let within = at-within (entries_in c.args.search.store) c.args.key.now c.args.index c.requires.there in
+    let within = at-within (entries_in c.args.search.now.store) c.args.key.now c.args.index c.requires.there in
     let few = c.requires.search.few in
     omega (arith, within, few, c.ranges.limit.fits)
 
 pub overflow_add-deeper : goal.overflow_add-deeper
 overflow_add-deeper c =
     let deep = taken-deep c.args.board.now c.args.limit c.args.index
-    (progress_of c.args.search) c.args.key.now c.args.depth c.requires.search c.requires.there c.requires.depth in
+    (progress_of c.args.search.now) c.args.key.now c.args.depth c.requires.search c.requires.there c.requires.depth in
     omega (arith, deep, c.ranges.limit.fits)
 
 -- the frame of a search with another store
@@ -73,48 +73,48 @@ same_frame : (search : Search) (store : Store) → room_of store ≡ room_of sea
 same_frame search store same = λ i. record { room = same i; whole = search.whole }
 
 -- the next state is known
-next_in : goal.Then-not-is_new → Key
+next_in : goal.After-approach-arg-1 → Key
 next_in c = next_of c.args.key.now c.args.push.from c.square_ahead-to.result c.step-least.result
 
-stays_in : (c : goal.Then-not-is_new) → Stays (entries_in c.args.search.store) (next_in c) c.in_ok-at.at (entries_in c.insert_next.new.self)
+stays_in : (c : goal.After-approach-arg-1) → Stays (entries_in c.args.search.now.store) (next_in c) c.in_ok-at.at (entries_in c.insert_next.new.self)
 unfolding next_in
 stays_in c =
-    let can = taken-pushable c.args.board.now c.requires.accepted c.args.limit c.args.index (progress_of c.args.search) c.args.key.now c.args.depth
+    let can = taken-pushable c.args.board.now c.requires.accepted c.args.limit c.args.index (progress_of c.args.search.now) c.args.key.now c.args.depth
     c.requires.search c.requires.there c.requires.depth c.args.push c.requires.legal c.args.trial.now.layout c.requires.laid in
     let comes = comes-next c.args.board.now c.requires.accepted c.args.key.now c.args.push c.square_ahead-to.result c.step-least.result
     c.args.trial.now.layout can c.square_ahead-to.ensures c.step-least.ensures.next in
     let next = next_of c.args.key.now c.args.push.from c.square_ahead-to.result c.step-least.result in
-    subst (λ t. Enters (entries_in c.args.search.store) next (c.args.depth + 1) c.in_ok-at.at t (entries_in c.insert_next.new.self))
+    subst (λ t. Enters (entries_in c.args.search.now.store) next (c.args.depth + 1) c.in_ok-at.at t (entries_in c.insert_next.new.self))
     c.if-not-is_new.true (c.in_ok-at.ensures.inserted.enters c.args.key.now next c.requires.there comes.is)
 
 pub approach-requires-clause-exists : goal.approach-requires-clause-exists
 approach-requires-clause-exists c =
     let stays = stays_in c in
-    let within = at-within (entries_in c.args.search.store) (next_in c) c.in_ok-at.at stays.there in
+    let within = at-within (entries_in c.args.search.now.store) (next_in c) c.in_ok-at.at stays.there in
     let same = ap (λ (es : Entries). length es) stays.unchanged in
     omega (arith, within, same)
 
 pub approach-requires-clause-small : goal.approach-requires-clause-small
 approach-requires-clause-small c =
-    let within = at-within (entries_in c.args.search.store) (next_in c) c.in_ok-at.at (stays_in c).there in
+    let within = at-within (entries_in c.args.search.now.store) (next_in c) c.in_ok-at.at (stays_in c).there in
     let few = c.requires.search.few in
     omega (arith, within, few, c.ranges.limit.fits)
 
 pub approach-requires-clause-noted : goal.approach-requires-clause-noted
 approach-requires-clause-noted c = note-within c.args.board.now c.args.limit c.args.index
-    (progress_of c.args.search) c.requires.search c.in_ok-at.at (next_in c) (stays_in c).there
+    (progress_of c.args.search.now) c.requires.search c.in_ok-at.at (next_in c) (stays_in c).there
 
 pub returns-then-not-is_new-clause-laid : goal.returns-then-not-is_new-clause-laid
 returns-then-not-is_new-clause-laid c =
-    let can = taken-pushable c.args.board.now c.requires.accepted c.args.limit c.args.index (progress_of c.args.search) c.args.key.now c.args.depth
+    let can = taken-pushable c.args.board.now c.requires.accepted c.args.limit c.args.index (progress_of c.args.search.now) c.args.key.now c.args.depth
     c.requires.search c.requires.there c.requires.depth c.args.push c.requires.legal c.args.trial.now.layout c.requires.laid in
     c.step-least.ensures.laid c.args.key.now can
 
 pub returns-then-not-is_new-clause-tells : goal.returns-then-not-is_new-clause-tells
 returns-then-not-is_new-clause-tells c =
-    let p = progress_of c.args.search in
+    let p = progress_of c.args.search.now in
     let one = taken c.args.board.now c.args.limit c.args.index p c.args.key.now c.args.depth c.requires.search c.requires.there c.requires.depth in
-    let can = taken-pushable c.args.board.now c.requires.accepted c.args.limit c.args.index (progress_of c.args.search) c.args.key.now c.args.depth
+    let can = taken-pushable c.args.board.now c.requires.accepted c.args.limit c.args.index (progress_of c.args.search.now) c.args.key.now c.args.depth
     c.requires.search c.requires.there c.requires.depth c.args.push c.requires.legal c.args.trial.now.layout c.requires.laid in
     let comes = comes-next c.args.board.now c.requires.accepted c.args.key.now c.args.push c.square_ahead-to.result c.step-least.result
     c.args.trial.now.layout can c.square_ahead-to.ensures c.step-least.ensures.next in
@@ -124,21 +124,21 @@ returns-then-not-is_new-clause-tells c =
     (c.in_ok-at.ensures.inserted.enters c.args.key.now next c.requires.there comes.is) in
     pushed-known c.args.board.now c.args.limit c.args.index p c.requires.search c.args.key.now c.args.depth c.requires.there c.requires.depth
     one.note one.note_is c.args.push c.requires.legal next comes.came.exact comes.came.state comes.as_many
-    c.in_ok-at.at (frame_in c.args.search c.insert_next.new.self) (entries_in c.insert_next.new.self)
-    (same_frame c.args.search c.insert_next.new.self c.in_ok-at.ensures.room) stays
-    (progress_of c.in_ok-approach.field-0) c.in_ok-approach.ensures
+    c.in_ok-at.at (frame_in c.args.search.now c.insert_next.new.self) (entries_in c.insert_next.new.self)
+    (same_frame c.args.search.now c.insert_next.new.self c.in_ok-at.ensures.room) stays
+    (progress_of c.approach.new.search) c.in_ok-approach.ensures
 
 -- it is new
 pub returns-then-at-limit-clause-laid : goal.returns-then-at-limit-clause-laid
 returns-then-at-limit-clause-laid c =
-    let can = taken-pushable c.args.board.now c.requires.accepted c.args.limit c.args.index (progress_of c.args.search) c.args.key.now c.args.depth
+    let can = taken-pushable c.args.board.now c.requires.accepted c.args.limit c.args.index (progress_of c.args.search.now) c.args.key.now c.args.depth
     c.requires.search c.requires.there c.requires.depth c.args.push c.requires.legal c.args.trial.now.layout c.requires.laid in
     c.step-least.ensures.laid c.args.key.now can
 
 pub returns-then-at-limit-clause-tells : goal.returns-then-at-limit-clause-tells
 returns-then-at-limit-clause-tells c =
-    let p = progress_of c.args.search in
-    let can = taken-pushable c.args.board.now c.requires.accepted c.args.limit c.args.index (progress_of c.args.search) c.args.key.now c.args.depth
+    let p = progress_of c.args.search.now in
+    let can = taken-pushable c.args.board.now c.requires.accepted c.args.limit c.args.index (progress_of c.args.search.now) c.args.key.now c.args.depth
     c.requires.search c.requires.there c.requires.depth c.args.push c.requires.legal c.args.trial.now.layout c.requires.laid in
     let comes = comes-next c.args.board.now c.requires.accepted c.args.key.now c.args.push c.square_ahead-to.result c.step-least.result
     c.args.trial.now.layout can c.square_ahead-to.ensures c.step-least.ensures.next in
@@ -154,13 +154,13 @@ returns-then-at-limit-clause-tells c =
 
 pub judge_after-requires-clause-laid : goal.judge_after-requires-clause-laid
 judge_after-requires-clause-laid c =
-    let can = taken-pushable c.args.board.now c.requires.accepted c.args.limit c.args.index (progress_of c.args.search) c.args.key.now c.args.depth
+    let can = taken-pushable c.args.board.now c.requires.accepted c.args.limit c.args.index (progress_of c.args.search.now) c.args.key.now c.args.depth
     c.requires.search c.requires.there c.requires.depth c.args.push c.requires.legal c.args.trial.now.layout c.requires.laid in
     c.step-least.ensures.laid c.args.key.now can
 
 pub judge_after-requires-clause-moved : goal.judge_after-requires-clause-moved
 judge_after-requires-clause-moved c =
-    let can = taken-pushable c.args.board.now c.requires.accepted c.args.limit c.args.index (progress_of c.args.search) c.args.key.now c.args.depth
+    let can = taken-pushable c.args.board.now c.requires.accepted c.args.limit c.args.index (progress_of c.args.search.now) c.args.key.now c.args.depth
     c.requires.search c.requires.there c.requires.depth c.args.push c.requires.legal c.args.trial.now.layout c.requires.laid in
     let comes = comes-next c.args.board.now c.requires.accepted c.args.key.now c.args.push c.square_ahead-to.result c.step-least.result
     c.args.trial.now.layout can c.square_ahead-to.ensures c.step-least.ensures.next in
@@ -169,11 +169,11 @@ judge_after-requires-clause-moved c =
 
 pub returns-clause-tells : goal.returns-clause-tells
 returns-clause-tells c =
-    let p = progress_of c.args.search in
-    let q = progress_of c.in_ok-add.field-0 in
+    let p = progress_of c.args.search.now in
+    let q = progress_of c.add.new.search in
     let at = c.in_ok-at.at in
     let one = taken c.args.board.now c.args.limit c.args.index p c.args.key.now c.args.depth c.requires.search c.requires.there c.requires.depth in
-    let can = taken-pushable c.args.board.now c.requires.accepted c.args.limit c.args.index (progress_of c.args.search) c.args.key.now c.args.depth
+    let can = taken-pushable c.args.board.now c.requires.accepted c.args.limit c.args.index (progress_of c.args.search.now) c.args.key.now c.args.depth
     c.requires.search c.requires.there c.requires.depth c.args.push c.requires.legal c.args.trial.now.layout c.requires.laid in
     let comes = comes-next c.args.board.now c.requires.accepted c.args.key.now c.args.push c.square_ahead-to.result c.step-least.result
     c.args.trial.now.layout can c.square_ahead-to.ensures c.step-least.ensures.next in
@@ -187,6 +187,6 @@ returns-clause-tells c =
     c.args.depth c.requires.there c.requires.depth one.note one.note_is
     c.args.push c.requires.legal next comes.came.exact comes.came.state comes.as_many last.absent
     (omega (arith, room, count)) _ refl c.in_ok-standing.ensures.judged q
-    (added-made p (frame_in c.args.search c.insert_next.new.self) (entries_in c.insert_next.new.self) q next (c.args.depth + 1) at _
-    (same_frame c.args.search c.insert_next.new.self c.in_ok-at.ensures.room) last
+    (added-made p (frame_in c.args.search.now c.insert_next.new.self) (entries_in c.insert_next.new.self) q next (c.args.depth + 1) at _
+    (same_frame c.args.search.now c.insert_next.new.self c.in_ok-at.ensures.room) last
     c.in_ok-add.ensures)

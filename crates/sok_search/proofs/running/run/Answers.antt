@@ -1,6 +1,6 @@
-use Rattle.std.proofs.Common.{◌∙◌, refl, sym, ap, subst, List, ℕ, ◌<◌}
+use Rattle.std.proofs.Common.{◌∙◌, refl, sym, subst, List, ℕ, ◌<◌}
 use Rattle.sok_search.specs.declared.reaching.Reached.TheVariants.{On}
-use Rattle.sok_search.specs.Searches.{Frame, IsSearch, Progress}
+use Rattle.sok_search.specs.Searches.{IsSearch, Progress}
 use Rattle.sok_search.specs.Steps.{holding, work}
 use Rattle.sok_search.specs.Views.{TellsTurned, progress_of}
 use Rattle.sok_search.proofs.Turning.{held-search, work-taken}
@@ -18,16 +18,18 @@ loop-index-preserved c =
     let b = c.args.board.now in
     let p = progress_of c.loop-index.search in
     let taken : Progress = holding c.in-Some.index (record p { queue = c.pop.new.self }) in
-    let told : TellsTurned b c.args.limit taken (On c.in-On.after) = subst (TellsTurned b c.args.limit taken) c.in-On.is c.in_ok-after.ensures.tells in
-    record { search = told.search; frame = told.frame ∙ c.loop-index.invariant.frame; ready = c.in_ok-after.ensures.ready }
+    let q = progress_of c.turn.new.search in
+    let told : TellsTurned b c.args.limit taken q On = subst (TellsTurned b c.args.limit taken q) c.in-On.is c.in_ok-turn.ensures.tells in
+    record { search = told.search; frame = told.frame ∙ c.loop-index.invariant.frame; ready = c.in_ok-turn.ensures.ready }
 
 pub loop-index-smaller : goal.loop-index-smaller
 loop-index-smaller c =
     let b = c.args.board.now in
     let p = progress_of c.loop-index.search in
     let taken : Progress = holding c.in-Some.index (record p { queue = c.pop.new.self }) in
-    let told : TellsTurned b c.args.limit taken (On c.in-On.after) = subst (TellsTurned b c.args.limit taken) c.in-On.is c.in_ok-after.ensures.tells in
-    subst (λ n. work c.args.limit (progress_of c.in-On.after) < n) (work-taken c.args.limit c.in-Some.index p c.pop.new.self c.in-Some.ensures) told.less
+    let q = progress_of c.turn.new.search in
+    let told : TellsTurned b c.args.limit taken q On = subst (TellsTurned b c.args.limit taken q) c.in-On.is c.in_ok-turn.ensures.tells in
+    subst (λ n. work c.args.limit q < n) (work-taken c.args.limit c.in-Some.index p c.pop.new.self c.in-Some.ensures) told.less
 
 pub returns : goal.returns
 returns c =
@@ -35,6 +37,6 @@ returns c =
     record {
       search = subst (λ (queue : List ℕ). IsSearch c.args.board.now c.args.limit (record (progress_of c.loop-index.search) { queue = queue }))
           (before ∙ sym after) c.loop-index.invariant.search;
-      same = ap (λ (f : Frame). f.whole) c.loop-index.invariant.frame;
+      frame = c.loop-index.invariant.frame;
       empty = after;
     }

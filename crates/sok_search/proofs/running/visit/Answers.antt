@@ -9,28 +9,28 @@ use Rattle.sok_search.proofs.Turning.{go-beaten, go-on, go-solved, held-noted, h
 use Rattle.sok_search.proofs.running.visit.Goals as goal
 
 pub depth-depth-requires : goal.depth-depth-requires
-depth-depth-requires c = held-within c.args.board.now c.args.limit c.args.index (progress_of c.args.search) c.requires.search
+depth-depth-requires c = held-within c.args.board.now c.args.limit c.args.index (progress_of c.args.search.now) c.requires.search
 
 pub key-requires-clause-exists : goal.key-requires-clause-exists
-key-requires-clause-exists c = held-within c.args.board.now c.args.limit c.args.index (progress_of c.args.search) c.requires.search
+key-requires-clause-exists c = held-within c.args.board.now c.args.limit c.args.index (progress_of c.args.search.now) c.requires.search
 
 pub key-requires-clause-few : goal.key-requires-clause-few
 key-requires-clause-few c = state-few c.args.board.now c.requires.accepted c.args.limit (holding c.args.index
-    (progress_of c.args.search)) c.requires.search c.args.index
+    (progress_of c.args.search.now)) c.requires.search c.args.index
 
 pub returns-then-is_beaten-clause-tells : goal.returns-then-is_beaten-clause-tells
 returns-then-is_beaten-clause-tells c = go-beaten c.args.board.now c.args.limit c.args.index c.args.bound c.depth-depth.result
-    (progress_of c.args.search) c.args.note c.requires.search c.requires.noted c.requires.is_open c.depth-depth.ensures (c.if-is_beaten.ensures.0 refl)
+    (progress_of c.args.search.now) c.args.note c.requires.search c.requires.noted c.requires.is_open c.depth-depth.ensures (c.if-is_beaten.ensures.0 refl)
 
 pub is_solved-requires : goal.is_solved-requires
 is_solved-requires c = record {
   exist = (taken-key c.args.board.now c.args.limit c.args.index
-      (progress_of c.args.search) c.in_ok-key.key c.depth-depth.result c.requires.search c.in_ok-key.ensures c.depth-depth.ensures).is.placed.boxes_exist;
+      (progress_of c.args.search.now) c.in_ok-key.key c.depth-depth.result c.requires.search c.in_ok-key.ensures c.depth-depth.ensures).is.placed.boxes_exist;
 }
 
 pub returns-then-is_solved-clause-tells : goal.returns-then-is_solved-clause-tells
 returns-then-is_solved-clause-tells c =
-    let p = progress_of c.args.search in
+    let p = progress_of c.args.search.now in
     let key = c.in_ok-key.key in
     let state : IsState p c.args.index key c.depth-depth.result c.args.note = record {
       there = c.in_ok-key.ensures;
@@ -45,22 +45,22 @@ returns-then-is_solved-clause-tells c =
 pub mark-requires : goal.mark-requires
 mark-requires c =
     let b = c.args.board.now in
-    let told : TellsExpanded b c.args.limit (progress_of c.args.search) c.args.index c.in_ok-key.key c.depth-depth.result (On c.in-On.after) = subst
-    (TellsExpanded b c.args.limit (progress_of c.args.search) c.args.index c.in_ok-key.key c.depth-depth.result) c.in-On.is c.in_ok-after.ensures.tells in
-    held-noted b c.args.limit c.args.index (progress_of c.in-On.after) told.search
+    let told : TellsExpanded b c.args.limit (progress_of c.args.search.now) c.args.index c.in_ok-key.key c.depth-depth.result (progress_of c.expand.new.search) On = subst
+    (TellsExpanded b c.args.limit (progress_of c.args.search.now) c.args.index c.in_ok-key.key c.depth-depth.result (progress_of c.expand.new.search)) c.in-On.is c.in_ok-expand.ensures.tells in
+    held-noted b c.args.limit c.args.index (progress_of c.expand.new.search) told.search
 
 pub returns-in-On-clause-tells : goal.returns-in-On-clause-tells
 returns-in-On-clause-tells c =
     let b = c.args.board.now in
-    let p = progress_of c.args.search in
+    let p = progress_of c.args.search.now in
     let key = c.in_ok-key.key in
-    let told : TellsExpanded b c.args.limit p c.args.index key c.depth-depth.result (On c.in-On.after) = subst
-    (TellsExpanded b c.args.limit p c.args.index key c.depth-depth.result) c.in-On.is c.in_ok-after.ensures.tells in
+    let told : TellsExpanded b c.args.limit p c.args.index key c.depth-depth.result (progress_of c.expand.new.search) On = subst
+    (TellsExpanded b c.args.limit p c.args.index key c.depth-depth.result (progress_of c.expand.new.search)) c.in-On.is c.in_ok-expand.ensures.tells in
     let state : IsState p c.args.index key c.depth-depth.result c.args.note = record {
       there = c.in_ok-key.ensures;
       depth_is = c.depth-depth.ensures;
       note_is
           = c.requires.noted;
     } in
-    go-on b c.args.limit c.args.index c.args.bound c.depth-depth.result key p (progress_of c.in-On.after) c.args.note state c.requires.is_open
-    (λ solved. true≢false (sym ((c.if-is_solved.ensures key.least).1 solved))) told (progress_of c.mark.result) c.mark.ensures
+    go-on b c.args.limit c.args.index c.args.bound c.depth-depth.result key p (progress_of c.expand.new.search) c.args.note state c.requires.is_open
+    (λ solved. true≢false (sym ((c.if-is_solved.ensures key.least).1 solved))) told (progress_of c.mark.new.search) c.mark.ensures
