@@ -64,11 +64,6 @@ queues-cases (Open bound) index old new queues i waits = (queues.exact i).0 wait
 queues-cases (Expanded bound) index old new queues i waits = inr (subst (λ queue. Contains queue i) queues waits)
 queues-cases Dead index old new queues i waits = inr (subst (λ queue. Contains queue i) queues waits)
 
-queues-length : (s : Standing) (index : ℕ) (old new : List ℕ) → Queues s index old new → length new ≤ length old + 1
-queues-length (Open bound) index old new queues = let longer = queues.longer in omega (arith, longer)
-queues-length (Expanded bound) index old new queues = let same = ap length queues in omega (arith, same)
-queues-length Dead index old new queues = let same = ap length queues in omega (arith, same)
-
 -- a state that is judged stands, once it waits
 pub stands-judged : (b : Numbered) (q : Progress) (old : List ℕ) (i : ℕ) (key : Key) (depth : ℕ) (s : Standing) → IsJudged b key.boxes s
     → Queues s i old q.queue → Stands b q i key depth s
