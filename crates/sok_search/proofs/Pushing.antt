@@ -1,4 +1,4 @@
--- A push is followed: the state that it leads to is added, comes nearer, or stays.
+-- A push is followed: the state that it leads to is added, comes nearer, or stays, or the push is left out.
 use Rattle.std.proofs.Common.{ℕ, ◌≡◌, ◌<◌, ◌≤◌, ◌+◌, ◌∙◌, inl, inr, refl, sym, ap, subst, true, [], ◌∷◌, ◌++◌, Some, Contains, arith, length, slice_get}
 use Rattle.std.specs.Map.{keys_of, values_of}
 use Rattle.std.proofs.lemmas.Option.{same_Some, slice_get_within}
