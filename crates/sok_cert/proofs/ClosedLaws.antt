@@ -1,10 +1,10 @@
 -- A closed list of entries shows its claim: the positions of its states are known.
-use Rattle.std.proofs.Common.{ℕ, ◌≡◌, ◌≤◌, ◌+◌, ◌⊎◌, inl, inr, ap, subst, List, Some, Bool, true, false, Contains, arith, IsTrue}
+use Rattle.std.proofs.Common.{ℕ, ◌≡◌, ◌≤◌, ◌+◌, ◌⊎◌, inl, inr, subst, List, Some, Bool, true, false, Contains, arith, IsTrue}
 use Rattle.std.proofs.Common.{MatchBool}
 use Rattle.std.proofs.lemmas.Bool.{cases_Bool}
 use Rattle.std.proofs.lemmas.List.Elements.{All-contains}
 use Rattle.sok_rules.specs.declared.cell.Dir.{Dir}
-use Rattle.sok_rules.specs.Play.{Position, After, start, step, one_if, pushes, AllOnGoals}
+use Rattle.sok_rules.specs.Play.{Position, After, start, step, pushes, AllOnGoals}
 use Rattle.sok_rules.specs.States.{Same}
 use Rattle.sok_rules.proofs.Man.{IsStanding-start}
 use Rattle.sok_rules.proofs.Steps.{IsStanding, IsStanding-step}
@@ -42,42 +42,42 @@ module _ (b : Numbered) (accepted : IsAccepted b) (claim : Claim) (entries : Lis
       Agrees-deeper claim e.depth depth (pushes b.rows x w) at.near
       (Agrees-barred b claim e.depth e.player e.boxes barred x at.same w solves)
 
-  -- a letter from an expanded one
-  leads_on : is_expanded at.entry.reason ≡ true → (d : Dir) (a : After) → step b.rows d x ≡ Some a
-      → IsListedAt b entries (depth + one_if a.pushed) a.position
-  leads_on is d a steps =
+  -- a walk stays in the state
+  walked : (d : Dir) (a : After) → step b.rows d x ≡ Some a → a.pushed ≡ false → IsListedAt b entries depth a.position
+  walked d a steps is = record {
+    entry = at.entry;
+    listed = at.listed;
+    near = at.near;
+    same = Same-trans b.rows (entry_position b at.entry) x a.position at.same (Same-step b.rows d x a steps is);
+    standing = IsStanding-step b.rows d x a steps;
+  }
+
+  -- a push from an expanded one is followed
+  pushed : is_expanded at.entry.reason ≡ true → (d : Dir) (a : After) → step b.rows d x ≡ Some a → a.pushed ≡ true
+      → IsListedAt b entries (depth + 1) a.position
+  pushed expanded d a steps is =
       let e = at.entry in
+      let followed : IsFollowed b entries e = All-contains (λ f. IsTrue (is_expanded f.reason) → IsFollowed b entries f) entries e closed.followed at.listed
+      expanded in
+      let (f, follower) = followed x d a at.same steps is in
       let near = at.near in
+      let deeper = follower.near in
       let standing = IsStanding-step b.rows d x a steps in
-      elim (cases_Bool a.pushed) [
-        | inr quiet ↦ record {
-          entry = e;
-          listed = at.listed;
-          near = omega (arith, near);
-          same = Same-trans b.rows (entry_position b e) x a.position at.same (Same-step b.rows d x a steps quiet);
-          standing = standing;
-        }
-        | inl pushed ↦
-            let followed : IsFollowed b entries e = All-contains (λ f. IsTrue (is_expanded f.reason) → IsFollowed b entries f) entries e closed.followed
-            at.listed is in
-            let (f, follower) = followed x d a at.same steps pushed in
-            let deeper = follower.near in
-            let one : one_if a.pushed ≡ 1 = ap one_if pushed in
-            record {
-              entry = f;
-              listed = follower.listed;
-              near = omega (arith, near, deeper, one);
-              same = Same-sym b.rows a.position (entry_position b f) standing follower.same;
-              standing = standing;
-            }
-      ]
+      record {
+        entry = f;
+        listed = follower.listed;
+        near = omega (arith, near, deeper);
+        same = Same-sym b.rows a.position (entry_position b f) standing follower.same;
+        standing = standing;
+      }
 
   listed_known : AllAgree b.rows claim depth x ⊎ LeadsOn b.rows (IsListedAt b entries) depth x
   listed_known = elim (cases_Bool (is_expanded at.entry.reason)) [
     | inr barring ↦ inl (agree_barred barring)
     | inl expanded ↦ inr (record {
       unsolved = λ solved. reasoned true expanded (solved-Same b.rows (entry_position b at.entry) x at.same solved);
-      on = leads_on expanded;
+      walked = walked;
+      pushed = pushed expanded;
     })
   ]
 

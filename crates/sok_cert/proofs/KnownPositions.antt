@@ -1,6 +1,7 @@
 -- Positions that are known, each with a depth: a list that solves from one of them goes with a claim, since it would leave them, or go against a reason.
-use Rattle.std.proofs.Common.{ℕ, ◌≡◌, ◌≤◌, ◌+◌, ◌⊎◌, inl, inr, refl, subst, arith, Bool, IsTrue, List, [], ◌∷◌, Option, Some, None, IsSomeAnd}
+use Rattle.std.proofs.Common.{ℕ, ◌≡◌, ◌≤◌, ◌+◌, ◌⊎◌, inl, inr, refl, ap, subst, arith, Bool, true, false, IsTrue, List, [], ◌∷◌, Option, Some, None, IsSomeAnd}
 use Rattle.std.specs.Option.{option_and_then, option_map_or}
+use Rattle.std.proofs.lemmas.Bool.{cases_Bool}
 use Rattle.sok_rules.specs.declared.cell.Dir.{Dir}
 use Rattle.sok_rules.specs.declared.cell.Spot.{Spot}
 use Rattle.sok_rules.specs.Squares.{Rows, holds, is_goal}
@@ -21,10 +22,11 @@ solved-Same rows x y same solved =
 abbrev pub AllAgree : Rows → Claim → ℕ → Position → Type 0
 AllAgree rows claim depth x = (w : List Dir) → SolvesFrom rows x w → Agrees claim depth (pushes rows x w)
 
--- a box stands off a goal, and each letter leads to a position that is known, deeper by one where it pushes
+-- a box stands off a goal, and what a letter leads to is known: of the same state by a walk, deeper by one by a push
 pub record LeadsOn (rows : Rows) (Known : ℕ → Position → Type 0) (depth : ℕ) (x : Position) : Type 0 where
   pub unsolved : AllOnGoals rows x → ⊥
-  pub on : (d : Dir) (a : After) → step rows d x ≡ Some a → Known (depth + one_if a.pushed) a.position
+  pub walked : (d : Dir) (a : After) → step rows d x ≡ Some a → a.pushed ≡ false → Known depth a.position
+  pub pushed : (d : Dir) (a : After) → step rows d x ≡ Some a → a.pushed ≡ true → Known (depth + 1) a.position
 
 -- what is known goes with a claim, or leads on
 abbrev pub AreKnown : Rows → Claim → (ℕ → Position → Type 0) → Type 0
@@ -43,8 +45,13 @@ module _ (rows : Rows) (claim : Claim) (Known : ℕ → Position → Type 0) (kn
       → Agrees claim depth (option_map_or (λ after. one_if after.pushed + pushes rows after.position w) o 0)
   agree_after d w rest depth x leads None steps solves = absurd solves
   agree_after d w rest depth x leads (Some a) steps solves =
-      Agrees-more claim depth (depth + one_if a.pushed) (one_if a.pushed) (pushes rows a.position w) (omega arith)
-      (rest (depth + one_if a.pushed) a.position (leads.on d a steps) solves)
+      let agrees : (next : ℕ) → next ≤ depth + one_if a.pushed → Known next a.position
+      → Agrees claim depth (one_if a.pushed + pushes rows a.position w) =
+      λ next near there. Agrees-more claim depth next (one_if a.pushed) (pushes rows a.position w) near (rest next a.position there solves) in
+      elim (cases_Bool a.pushed) [
+        | inl is ↦ let one : one_if a.pushed ≡ 1 = ap one_if is in agrees (depth + 1) (omega (arith, one)) (leads.pushed d a steps is)
+        | inr is ↦ agrees depth (omega arith) (leads.walked d a steps is)
+      ]
 
   -- by the letters of the list
   all-agree : (w : List Dir) (depth : ℕ) (x : Position) → Known depth x → SolvesFrom rows x w → Agrees claim depth (pushes rows x w)

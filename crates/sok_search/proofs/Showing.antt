@@ -1,9 +1,8 @@
 -- What a finished search shows, whole or not: its states are known, and nothing solves from those that it left out.
-use Rattle.std.proofs.Common.{ℕ, ◌≡◌, ◌≤◌, ◌+◌, ◌⊎◌, inl, inr, ap, [], Some, arith, slice_get}
+use Rattle.std.proofs.Common.{ℕ, ◌≡◌, ◌≤◌, ◌+◌, ◌⊎◌, inl, inr, [], Some, true, false, arith, slice_get}
 use Rattle.std.specs.Map.{values_of}
-use Rattle.std.proofs.lemmas.Bool.{cases_Bool}
 use Rattle.sok_rules.specs.declared.cell.Dir.{Dir}
-use Rattle.sok_rules.specs.Play.{After, NeverFrom, Position, one_if, start, step}
+use Rattle.sok_rules.specs.Play.{After, NeverFrom, Position, start, step}
 use Rattle.sok_rules.specs.States.{Same}
 use Rattle.sok_rules.proofs.Man.{IsStanding-start}
 use Rattle.sok_rules.proofs.Walking.{Same-step, Same-sym, Same-trans}
@@ -80,28 +79,26 @@ module _ (b : Numbered) (accepted : IsAccepted b) (limit : ℕ) (p : Progress) (
   known-met key deep depth push after leads near (inr left) = inr (left.nowhere after leads)
 
   module _ (depth : ℕ) (x : Position) (at : IsKnownAt b p depth x) (placed : IsPlaced b at.key.boxes at.key.least) where
-    -- a letter from an expanded state
-    leads-on : ((push : Push) → IsLegal b at.key push → IsMet b p at.key at.deep push) → (d : Dir) (a : After) → step b.rows d x ≡ Some a
-        → IsKnown b p (depth + one_if a.pushed) a.position
-    leads-on met d a steps =
+    -- a walk stays in the state
+    walked : (d : Dir) (a : After) → step b.rows d x ≡ Some a → a.pushed ≡ false → IsKnown b p depth a.position
+    walked d a steps is = inl (record {
+      index = at.index;
+      key = at.key;
+      there = at.there;
+      deep = at.deep;
+      depth_is = at.depth_is;
+      near = at.near;
+      same = Same-trans b.rows (key_position b at.key) x a.position at.same (Same-step b.rows d x a steps is);
+    })
+
+    -- a push from an expanded state was met
+    pushed : ((push : Push) → IsLegal b at.key push → IsMet b p at.key at.deep push) → (d : Dir) (a : After) → step b.rows d x ≡ Some a → a.pushed ≡ true
+        → IsKnown b p (depth + 1) a.position
+    pushed met d a steps is =
+        let (from, leads) = leads-pushed b accepted at.key placed x d a at.same steps is in
+        let push : Push = record { from = from; dir = d } in
         let near = at.near in
-        elim (cases_Bool a.pushed) [
-          | inr quiet ↦ inl (record {
-            index = at.index;
-            key = at.key;
-            there = at.there;
-            deep = at.deep;
-            depth_is = at.depth_is;
-            near = omega (arith, near);
-            same = Same-trans b.rows (key_position b at.key) x a.position at.same (Same-step b.rows d x a steps quiet);
-          })
-          | inl pushed ↦
-              let (from, leads) = leads-pushed b accepted at.key placed x d a at.same steps pushed in
-              let push : Push = record { from = from; dir = d } in
-              let one : one_if a.pushed ≡ 1 = ap one_if pushed in
-              known-met at.key at.deep (depth + one_if a.pushed) push a.position leads (omega (arith, near, one))
-              (met push (record { after = a.position; leads = leads }))
-        ]
+        known-met at.key at.deep (depth + 1) push a.position leads (omega (arith, near)) (met push (record { after = a.position; leads = leads }))
 
     -- by the standing of the state
     standing-known : (s : Standing) → Stands b p at.index at.key at.deep s
@@ -109,8 +106,11 @@ module _ (b : Numbered) (accepted : IsAccepted b) (limit : ℕ) (p : Progress) (
     standing-known (Open bound) stands =
         inl (agree-open b accepted (claim_of p.best) at.key depth at.deep x placed at.same at.near
         (stands-done b p at.index at.key at.deep none (Open bound) stands))
-    standing-known (Expanded bound) (prices, unsolved, met) =
-        inr (record { unsolved = λ solved. unsolved (solved-Same b.rows (key_position b at.key) x at.same solved); on = leads-on met })
+    standing-known (Expanded bound) (prices, unsolved, met) = inr (record {
+      unsolved = λ solved. unsolved (solved-Same b.rows (key_position b at.key) x at.same solved);
+      walked = walked;
+      pushed = pushed met;
+    })
     standing-known Dead dead = inl (agree-dead b accepted (claim_of p.best) at.key depth at.deep x placed at.same at.near dead)
 
   known : (depth : ℕ) (x : Position) → IsKnown b p depth x → AllAgree b.rows (claim_of p.best) depth x ⊎ LeadsOn b.rows (IsKnown b p) depth x
