@@ -19,7 +19,7 @@ use Rattle.sok_state.proofs.Placed.{IsStanding-placed}
 use Rattle.sok_state.proofs.States.{IsKeyOf-Same, key_position, keys_equal}
 use Rattle.sok_cert.proofs.Looking.{same_index, standing-after}
 use Rattle.sok_search.specs.Searches.{Progress, IsSearch}
-use Rattle.sok_search.proofs.Knowing.{push_cases, known-at, key-of-itself, key-within, some-at}
+use Rattle.sok_search.proofs.Knowing.{push_cases, key-of-itself, known-key, some-at}
 use Rattle.sok_search.proofs.Chains.{IsReached, reached-more, state-reached}
 
 map_back : {X Y : Type 0} (f : X → Y) (xs : List X) (i : ℕ) (y : Y) → slice_get (map f xs) i ≡ Some y → (x : X) × (slice_get xs i ≡ Some x) × (f x ≡ y)
@@ -75,14 +75,11 @@ many-states b accepted n keys long are =
 new-at : (b : Numbered) → IsAccepted b → (limit : ℕ) (p : Progress) → IsSearch b limit p → (i : ℕ) (key : Key) → IsAt p.table key i
     → IsNew b key
 new-at b accepted limit p search i key there =
-    let known = known-at b limit p search i (key-within p i key there) in
-    let equal : known.key ≡ key = same_Some known.key key (sym known.state.there ∙ there) in
-    let noted = search.noted i known.key known.depth known.note known.state in
-    subst (IsNew b) equal (record {
-      itself = key-of-itself b accepted known.key noted.state;
+    let known = known-key b limit p search i key there in record {
+      itself = key-of-itself b accepted key known.noted.state;
       depth = known.depth;
-      reached = state-reached b limit p search i known.key known.depth known.state.there known.state.depth_is;
-    })
+      reached = state-reached b limit p search i key known.depth there known.state.depth_is;
+    }
 
 pub full-more : (b : Numbered) → IsAccepted b
     → (limit : ℕ) (p : Progress) (i : ℕ) (key next : Key) (push : Push) (after : Position) → IsSearch b limit p

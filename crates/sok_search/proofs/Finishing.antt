@@ -44,14 +44,14 @@ made-at : (b : Numbered) (limit : ℕ) (claim : Claim) (p : Progress) (entries :
 made-at b limit claim p entries search are i e there =
     let within = slice_get_within entries i e there in
     let count = are.as_many in
-    let known = known-at b limit p search i (omega (arith, within, count)) in
+    let (key, known) = known-at b limit p search i (omega (arith, within, count)) in
     record {
-      key = known.key;
+      key = key;
       depth = known.depth;
       note = known.note;
       state = known.state;
-      noted = search.noted i known.key known.depth known.note known.state;
-      entry = are.each i known.key known.depth known.note e known.state there;
+      noted = known.noted;
+      entry = are.each i key known.depth known.note e known.state there;
     }
 
 -- what is known of each entry's place

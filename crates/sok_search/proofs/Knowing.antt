@@ -1,5 +1,5 @@
 -- States of a search by their indices.
-use Rattle.std.proofs.Common.{ℕ, ◌≡◌, ◌<◌, ◌≤◌, ◌⊎◌, ◌∙◌, inl, inr, refl, sym, subst, List, [], ◌∷◌, ◌++◌, Some, zero, suc, arith, length, slice_get}
+use Rattle.std.proofs.Common.{ℕ, ◌≡◌, ◌<◌, ◌≤◌, ◌⊎◌, inl, inr, refl, List, [], ◌∷◌, ◌++◌, Some, zero, suc, arith, length, slice_get}
 use Rattle.std.specs.Map.{keys_of, values_of}
 use Rattle.std.proofs.lemmas.Option.{none-some, same_Some, slice_get_within}
 use Rattle.std.proofs.lemmas.List.{length-map}
@@ -17,23 +17,6 @@ some-at [] i within = absurd (omega (arith, within))
 some-at (x ∷ xs) zero within = (x, refl)
 some-at (x ∷ xs) (suc i) within = some-at xs i (omega (arith, within))
 
--- a state at an index
-pub record Known (p : Progress) (i : ℕ) : Type 0 where
-  pub key : Key
-  pub depth : ℕ
-  pub note : Note
-  pub state : IsState p i key depth note
-
-pub known-at : (b : Numbered) (limit : ℕ) (p : Progress) → IsSearch b limit p → (i : ℕ) → i < length p.table → Known p i
-known-at b limit p search i within =
-    let keys = length-map p.table (λ (entry : Key × ℕ). entry.0) in
-    let depths = length-map p.table (λ (entry : Key × ℕ). entry.1) in
-    let notes = search.a_note_each in
-    let (key, there) = some-at (keys_of p.table) i (omega (arith, within, keys)) in
-    let (depth, depth_is) = some-at (values_of p.table) i (omega (arith, within, depths)) in
-    let (note, note_is) = some-at p.notes i (omega (arith, within, notes)) in
-    record { key = key; depth = depth; note = note; state = record { there = there; depth_is = depth_is; note_is = note_is } }
-
 -- an index at which a key stands
 pub key-within : (p : Progress) (i : ℕ) (key : Key) → IsAt p.table key i → i < length p.table
 key-within p i key there =
@@ -41,14 +24,48 @@ key-within p i key there =
     let within = slice_get_within (keys_of p.table) i key there in
     omega (arith, within, keys)
 
--- what is noted of the state that stands at an index
-pub noted-at : (b : Numbered) (limit : ℕ) (p : Progress) → IsSearch b limit p → (i : ℕ) (key : Key) (depth : ℕ) → IsAt p.table key i
-    → slice_get (values_of p.table) i ≡ Some depth → (note : Note) × (slice_get p.notes i ≡ Some note) × IsNoted b p i key depth note
-noted-at b limit p search i key depth there depth_is =
-    let within = key-within p i key there in
-    let notes = search.a_note_each in
-    let (note, note_is) = some-at p.notes i (omega (arith, within, notes)) in
-    (note, note_is, search.noted i key depth note (record { there = there; depth_is = depth_is; note_is = note_is }))
+-- what is known of a key that stands at an index
+pub record Known (b : Numbered) (p : Progress) (i : ℕ) (key : Key) : Type 0 where
+  pub depth : ℕ
+  pub note : Note
+  pub state : IsState p i key depth note
+  pub noted : IsNoted b p i key depth note
+
+module _ (b : Numbered) (limit : ℕ) (p : Progress) (search : IsSearch b limit p) (i : ℕ) where
+  -- its note, at the depth that it has
+  pub noted-at : (key : Key) (depth : ℕ) → IsAt p.table key i → slice_get (values_of p.table) i ≡ Some depth
+      → (note : Note) × (slice_get p.notes i ≡ Some note) × IsNoted b p i key depth note
+  noted-at key depth there depth_is =
+      let within = key-within p i key there in
+      let notes = search.a_note_each in
+      let (note, note_is) = some-at p.notes i (omega (arith, within, notes)) in
+      (note, note_is, search.noted i key depth note (record { there = there; depth_is = depth_is; note_is = note_is }))
+
+  pub known-key : (key : Key) → IsAt p.table key i → Known b p i key
+  known-key key there =
+      let within = key-within p i key there in
+      let depths = length-map p.table (λ (entry : Key × ℕ). entry.1) in
+      let (depth, depth_is) = some-at (values_of p.table) i (omega (arith, within, depths)) in
+      let (note, note_is, noted) = noted-at key depth there depth_is in
+      record { depth = depth; note = note; state = record { there = there; depth_is = depth_is; note_is = note_is }; noted = noted }
+
+  -- of each index that is one of the table
+  pub known-at : i < length p.table → (key : Key) × Known b p i key
+  known-at within =
+      let keys = length-map p.table (λ (entry : Key × ℕ). entry.0) in
+      let (key, there) = some-at (keys_of p.table) i (omega (arith, within, keys)) in
+      (key, known-key key there)
+
+  -- the key is one of the board
+  pub state-noted : (key : Key) → IsAt p.table key i → IsKey b key
+  state-noted key there = (known-key key there).noted.state
+
+  -- and has few boxes
+  pub state-few : IsAccepted b → (key : Key) → IsAt p.table key i → length key.boxes ≤ 128
+  state-few accepted key there =
+      let as_many = (known-key key there).noted.as_many in
+      let few = accepted.few_boxes in
+      omega (arith, as_many, few)
 
 -- a key that some position has is that of the position that it stands for
 pub key-of-itself : (b : Numbered) → IsAccepted b → (key : Key) → IsKey b key → IsKeyOf b (key_position b key) key
@@ -66,19 +83,3 @@ push_cases (z ∷ zs) y (suc i) x there = elim (push_cases zs y i x there) [
   | inl before ↦ inl before
   | inr (last, is) ↦ inr (omega (arith, last), is)
 ]
-
--- a key that stands at an index is one of the board
-pub state-noted : (b : Numbered) (limit : ℕ) (p : Progress) → IsSearch b limit p → (i : ℕ) (key : Key) → IsAt p.table key i → IsKey b key
-state-noted b limit p search i key there =
-    let known = known-at b limit p search i (key-within p i key there) in
-    let noted = search.noted i known.key known.depth known.note known.state in
-    subst (IsKey b) (same_Some known.key key (sym known.state.there ∙ there)) noted.state
-
--- and has few boxes
-pub state-few : (b : Numbered) → IsAccepted b → (limit : ℕ) (p : Progress) → IsSearch b limit p → (i : ℕ) (key : Key) → IsAt p.table key i
-    → length key.boxes ≤ 128
-state-few b accepted limit p search i key there =
-    let known = known-at b limit p search i (key-within p i key there) in
-    let as_many = (search.noted i known.key known.depth known.note known.state).as_many in
-    let few = accepted.few_boxes in
-    subst (λ (k : Key). length k.boxes ≤ 128) (same_Some known.key key (sym known.state.there ∙ there)) (omega (arith, as_many, few))

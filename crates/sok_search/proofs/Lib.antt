@@ -9,6 +9,7 @@ pub mod Filling
 pub mod Finishing
 pub mod Keeping
 pub mod Knowing
+pub mod LeavingOut
 pub mod Moving
 pub mod Opening
 pub mod Pushing

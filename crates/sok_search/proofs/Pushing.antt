@@ -1,58 +1,25 @@
--- A push is followed: the state that it leads to is added, comes nearer, or stays, or the push is left out.
-use Rattle.std.proofs.Common.{ℕ, ◌≡◌, ◌<◌, ◌≤◌, ◌+◌, ◌∙◌, inl, inr, refl, sym, ap, subst, true, [], ◌∷◌, ◌++◌, Some, Contains, arith, length, slice_get}
+-- A push is followed: the state that it leads to is added, comes nearer, or stays.
+use Rattle.std.proofs.Common.{ℕ, ◌≡◌, ◌<◌, ◌≤◌, ◌+◌, ◌∙◌, inl, inr, refl, sym, ap, subst, [], ◌∷◌, ◌++◌, Some, Contains, arith, length, slice_get}
 use Rattle.std.specs.Map.{keys_of, values_of}
 use Rattle.std.proofs.lemmas.Option.{same_Some, slice_get_within}
 use Rattle.sok_rules.specs.Play.{Position}
-use Rattle.sok_board.specs.Area.{Numbered, InArea, IsAccepted, beside, boxes_of, position_of, spot_of}
-use Rattle.sok_board.proofs.AreaLaws.{InArea-spot_of}
-use Rattle.sok_board.proofs.Beside.{beside-within}
+use Rattle.sok_board.specs.Area.{Numbered, boxes_of}
 use Rattle.sok_board.proofs.Lists.{slice_get-push}
-use Rattle.sok_board.proofs.Positions.{listed_box}
-use Rattle.sok_push.specs.Pushing.{IsStuck}
-use Rattle.sok_region.specs.BoxSets.{put_in_order}
 use Rattle.sok_region.proofs.Floods.{slice_get-append}
-use Rattle.sok_region.proofs.Moves.{IsMoved-put}
-use Rattle.sok_bar.proofs.Kept.{never_stuck}
 use Rattle.sok_state.specs.declared.key.Key.{Key}
 use Rattle.sok_state.specs.declared.push.Push.{Push}
 use Rattle.sok_state.specs.Keys.{IsKey, IsKeyOf}
 use Rattle.sok_state.specs.Pushes.{IsLegal, LeadsTo}
 use Rattle.sok_state.specs.Tables.{Entries, IsAt, Stays}
-use Rattle.sok_state.proofs.LegalPushes.{LeadsTo-position}
 use Rattle.sok_search.specs.declared.note.Note.{Note}
 use Rattle.sok_search.specs.declared.note.Standing.{Standing}
 use Rattle.sok_search.specs.declared.note.Standing.TheVariants.{Open, Expanded, Dead}
-use Rattle.sok_search.specs.Searches.{Frame, Progress, IsCome, IsFrom, IsLeftOut, IsNoted, IsSearch, IsState, LeadsNowhere, Stands}
+use Rattle.sok_search.specs.Searches.{Frame, Progress, IsCome, IsFrom, IsNoted, IsSearch, IsState, Stands}
 use Rattle.sok_search.specs.Steps.{IsAdded, IsChanged, IsJudged, IsPushed, Nears, holding, reopened}
 use Rattle.sok_search.proofs.Doing.{added-holding, changed-holding, work-added, work-changed}
 use Rattle.sok_search.proofs.Changing.{added-grows, changed-grows, depth_count, keeps-added, keeps-changed, key_count, set_other, set_same}
 use Rattle.sok_search.proofs.Keeping.{Grows-refl}
-use Rattle.sok_search.proofs.Knowing.{key-within, some-at}
-
--- nothing solves once a box stands where it reaches no goal
-pub leads-nowhere : (b : Numbered) → IsAccepted b → (key : Key) → IsKey b key → (push : Push) → IsLegal b key push → (to : ℕ)
-    → beside b push.from push.dir ≡ Some to → IsStuck b to → LeadsNowhere b key push
-leads-nowhere b accepted key state push legal to ahead stuck after leads w =
-    let area = accepted.numbered in
-    let moves = IsMoved-put push.from to key.boxes in
-    let boxes = put_in_order push.from to key.boxes in
-    let is : position_of b push.from boxes ≡ after = LeadsTo-position b area key push to boxes after state.is.placed ahead moves leads in
-    let there : after.boxes (spot_of b to) ≡ true =
-    ap (λ (x : Position). x.boxes (spot_of b to)) (sym is) ∙ listed_box b push.from boxes to ((moves to).1 (inl refl)) in
-    never_stuck b area w after to (subst (InArea b.rows) (sym leads.man) (InArea-spot_of b area push.from leads.exists))
-    (beside-within b push.dir push.from to ahead) there stuck
-
--- so it may be left out
-pub pushed-left_out : (b : Numbered) (limit index : ℕ) (p : Progress) → IsSearch b limit (holding index p) → (key : Key) (depth : ℕ) (push : Push)
-    → IsLeftOut b p.frame.whole key push → IsPushed b limit (holding index p) key depth push (holding index p)
-pushed-left_out b limit index p search key depth push left = record {
-  search = search;
-  frame = refl;
-  grows = Grows-refl p.table;
-  stay = λ i k deep n shallow s. s;
-  met = inr left;
-  no_more = omega arith;
-}
+use Rattle.sok_search.proofs.Knowing.{key-within, noted-at}
 
 -- what is open again is judged as before
 judged-reopened : (b : Numbered) (p : Progress) (i : ℕ) (key : Key) (depth : ℕ) (s : Standing) → Stands b p i key depth s → IsJudged b key.boxes (reopened s)
@@ -191,9 +158,7 @@ module _ (b : Numbered) (limit index : ℕ) (p : Progress) (search : IsSearch b 
   pushed-nears : (at : ℕ) → IsAt p.table next at → (q : Progress) → Nears p at (depth + 1) (Some (record { parent = index; push = push })) q
       → IsPushed b limit (holding index p) key depth push (holding index q)
   pushed-nears at at_is q (inl stays) =
-      let held = key-within p at next at_is in
-      let many = search.a_note_each in
-      let (other, other_is) = some-at p.notes at (omega (arith, held, many)) in
+      let (other, other_is, stood) = noted-at b limit (holding index p) search at next stays.old at_is stays.depth_is in
       let state : IsState p at next stays.old other = record { there = at_is; depth_is = stays.depth_is; note_is = other_is } in
       subst (λ r. IsPushed b limit (holding index p) key depth push (holding index r)) (sym stays.same) (pushed-stays at stays.old other state stays.near)
   pushed-nears at at_is q (inr nearer) =

@@ -88,8 +88,8 @@ pub goes-back : (b : Numbered) (limit : ℕ) (p : Progress) → IsSearch b limit
 goes-back b limit p search i note origin note_is is =
     let within = slice_get_within p.notes i note note_is in
     let count = search.a_note_each in
-    let known = known-at b limit p search i (omega (arith, within, count)) in
-    let from : IsFrom b p known.key known.depth origin = come-of b limit p i known.key known.depth note
+    let (key, known) = known-at b limit p search i (omega (arith, within, count)) in
+    let from : IsFrom b p key known.depth origin = come-of b limit p i key known.depth note
     (Some origin) search known.state.there known.state.depth_is note_is is in
     let parent = key-within p origin.parent from.parent from.there in
     let here = get_or_from_slice_get (values_of p.table) i known.depth 0 known.state.depth_is in

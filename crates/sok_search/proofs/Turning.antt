@@ -62,12 +62,13 @@ pub let-go : (b : Numbered) (limit index : ℕ) (p : Progress) (note : Note) →
     → ((key : Key) (depth : ℕ) → slice_get (values_of p.table) index ≡ Some depth → Stands b (holding index p) index key depth note.standing
     → Stands b p index key depth note.standing) → IsTurned b limit (holding index p) p
 let-go b limit index p note search note_is stands =
-    let known = known-at b limit (holding index p) search index (held-within b limit index p search) in
-    let noted = search.noted index known.key known.depth note (record { there = known.state.there; depth_is = known.state.depth_is; note_is = note_is }) in
-    let state : IsState p index known.key known.depth note = record { there = known.state.there; depth_is = known.state.depth_is; note_is = note_is } in
+    let (key, known) = known-at b limit (holding index p) search index (held-within b limit index p search) in
+    let there = known.state.there in
+    let depth_is = known.state.depth_is in
+    let noted = search.noted index key known.depth note (record { there = there; depth_is = depth_is; note_is = note_is }) in
     record {
-      search = keeps-dropped b limit p index known.key known.depth note search state
-          (stands known.key known.depth known.state.depth_is noted.stands);
+      search = keeps-dropped b limit p index key known.depth note search (record { there = there; depth_is = depth_is; note_is = note_is })
+          (stands key known.depth depth_is noted.stands);
       frame = refl;
       less = work-held limit index p;
     }

@@ -7,7 +7,7 @@ use Rattle.sok_search.proofs.certifying.state_at.Goals as goal
 pub key-requires-clause-few : goal.key-requires-clause-few
 key-requires-clause-few c =
     let (b, accepted, (limit, search)) = c.requires.search in
-    state-few b accepted limit (progress_of c.args.search.now) search c.args.index
+    state-few b limit (progress_of c.args.search.now) search c.args.index accepted
 
 pub index-requires : goal.index-requires
 index-requires c =

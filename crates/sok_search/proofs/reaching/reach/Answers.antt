@@ -10,13 +10,16 @@ use Rattle.sok_search.specs.declared.store.Store.{Store}
 use Rattle.sok_search.specs.Searches.{Frame}
 use Rattle.sok_search.specs.Steps.{holding}
 use Rattle.sok_search.specs.Stores.{entries_in, room_of}
+use Rattle.sok_search.specs.Trials.{IsPushable}
 use Rattle.sok_search.specs.Views.{progress_of}
 use Rattle.sok_search.proofs.Adding.{added-made, note-within, taken, taken-deep, taken-key, taken-pushable}
 use Rattle.sok_search.proofs.Filling.{full-more}
 use Rattle.sok_search.proofs.Moving.{moved-next}
-use Rattle.sok_search.proofs.Pushing.{leads-nowhere, pushed-added, pushed-known, pushed-left_out}
-use Rattle.sok_search.proofs.Stepped.{comes-next, next_of}
+use Rattle.sok_search.proofs.LeavingOut.{leads-nowhere, pushed-left_out}
+use Rattle.sok_search.proofs.Pushing.{pushed-added, pushed-known}
+use Rattle.sok_search.proofs.Stepped.{ComesNext, comes-next, next_of}
 use Rattle.sok_search.proofs.reaching.reach.Goals as goal
+use Rattle.sok_search.proofs.reaching.reach.Goals.{After-step-least, Then-not-is_new}
 
 pub square_ahead-to-requires-clause-legal : goal.square_ahead-to-requires-clause-legal
 square_ahead-to-requires-clause-legal c = (
@@ -65,6 +68,16 @@ overflow_add-deeper c =
     (progress_of c.args.search.now) c.args.key.now c.args.depth c.requires.search c.requires.there c.requires.depth in
     omega (arith, deep, c.ranges.limit.fits)
 
+-- the push can be made
+can_in : (c : After-step-least) → IsPushable c.args.board.now c.args.push c.args.trial.now.layout c.args.key.now
+can_in c = taken-pushable c.args.board.now c.requires.accepted c.args.limit c.args.index (progress_of c.args.search.now) c.args.key.now c.args.depth
+    c.requires.search c.requires.there c.requires.depth c.args.push c.requires.legal c.args.trial.now.layout c.requires.laid
+
+-- and leads to a state
+comes_in : (c : After-step-least) → ComesNext c.args.board.now c.args.key.now c.args.push c.square_ahead-to.result c.step-least.result
+comes_in c = comes-next c.args.board.now c.requires.accepted c.args.key.now c.args.push c.square_ahead-to.result c.step-least.result
+    c.args.trial.now.layout (can_in c) c.square_ahead-to.ensures c.step-least.ensures.next
+
 -- the frame of a search with another store
 abbrev frame_in : Search → Store → Frame
 frame_in search store = record { room = room_of store; whole = search.whole }
@@ -73,55 +86,51 @@ same_frame : (search : Search) (store : Store) → room_of store ≡ room_of sea
 same_frame search store same = λ i. record { room = same i; whole = search.whole }
 
 -- the next state is known
-next_in : goal.After-approach-arg-1 → Key
+next_in : Then-not-is_new → Key
 next_in c = next_of c.args.key.now c.args.push.from c.square_ahead-to.result c.step-least.result
 
-stays_in : (c : goal.After-approach-arg-1) → Stays (entries_in c.args.search.now.store) (next_in c) c.in_ok-at.at (entries_in c.insert_next.new.self)
+stays_in : (c : Then-not-is_new) → Stays (entries_in c.args.search.now.store) (next_in c) c.in_ok-at.at (entries_in c.insert_next.new.self)
 unfolding next_in
 stays_in c =
     let can = taken-pushable c.args.board.now c.requires.accepted c.args.limit c.args.index (progress_of c.args.search.now) c.args.key.now c.args.depth
     c.requires.search c.requires.there c.requires.depth c.args.push c.requires.legal c.args.trial.now.layout c.requires.laid in
     let comes = comes-next c.args.board.now c.requires.accepted c.args.key.now c.args.push c.square_ahead-to.result c.step-least.result
     c.args.trial.now.layout can c.square_ahead-to.ensures c.step-least.ensures.next in
-    let next = next_of c.args.key.now c.args.push.from c.square_ahead-to.result c.step-least.result in
-    subst (λ t. Enters (entries_in c.args.search.now.store) next (c.args.depth + 1) c.in_ok-at.at t (entries_in c.insert_next.new.self))
-    c.if-not-is_new.true (c.in_ok-at.ensures.inserted.enters c.args.key.now next c.requires.there comes.is)
+    subst (λ t. Enters (entries_in c.args.search.now.store) (next_in c) (c.args.depth + 1) c.in_ok-at.at t (entries_in c.insert_next.new.self))
+    c.if-not-is_new.true (c.in_ok-at.ensures.inserted.enters c.args.key.now (next_in c) c.requires.there comes.is)
 
 pub approach-requires-clause-exists : goal.approach-requires-clause-exists
 approach-requires-clause-exists c =
-    let stays = stays_in c in
-    let within = at-within (entries_in c.args.search.now.store) (next_in c) c.in_ok-at.at stays.there in
+    let here = (goal.at.approach-requires-clause-exists c).Then-not-is_new in
+    let stays = stays_in here in
+    let within = at-within (entries_in c.args.search.now.store) (next_in here) c.in_ok-at.at stays.there in
     let same = ap (λ (es : Entries). length es) stays.unchanged in
     omega (arith, within, same)
 
 pub approach-requires-clause-small : goal.approach-requires-clause-small
 approach-requires-clause-small c =
-    let within = at-within (entries_in c.args.search.now.store) (next_in c) c.in_ok-at.at (stays_in c).there in
+    let here = (goal.at.approach-requires-clause-small c).Then-not-is_new in
+    let within = at-within (entries_in c.args.search.now.store) (next_in here) c.in_ok-at.at (stays_in here).there in
     let few = c.requires.search.few in
     omega (arith, within, few, c.ranges.limit.fits)
 
 pub approach-requires-clause-noted : goal.approach-requires-clause-noted
-approach-requires-clause-noted c = note-within c.args.board.now c.args.limit c.args.index
-    (progress_of c.args.search.now) c.requires.search c.in_ok-at.at (next_in c) (stays_in c).there
+approach-requires-clause-noted c =
+    let here = (goal.at.approach-requires-clause-noted c).Then-not-is_new in
+    note-within c.args.board.now c.args.limit c.args.index (progress_of c.args.search.now) c.requires.search c.in_ok-at.at (next_in here) (stays_in here).there
 
 pub returns-then-not-is_new-clause-laid : goal.returns-then-not-is_new-clause-laid
 returns-then-not-is_new-clause-laid c =
-    let can = taken-pushable c.args.board.now c.requires.accepted c.args.limit c.args.index (progress_of c.args.search.now) c.args.key.now c.args.depth
-    c.requires.search c.requires.there c.requires.depth c.args.push c.requires.legal c.args.trial.now.layout c.requires.laid in
-    c.step-least.ensures.laid c.args.key.now can
+    c.step-least.ensures.laid c.args.key.now (can_in ((goal.at.returns-then-not-is_new-clause-laid c).After-step-least))
 
 pub returns-then-not-is_new-clause-tells : goal.returns-then-not-is_new-clause-tells
+unfolding next_in
 returns-then-not-is_new-clause-tells c =
     let p = progress_of c.args.search.now in
     let one = taken c.args.board.now c.args.limit c.args.index p c.args.key.now c.args.depth c.requires.search c.requires.there c.requires.depth in
-    let can = taken-pushable c.args.board.now c.requires.accepted c.args.limit c.args.index (progress_of c.args.search.now) c.args.key.now c.args.depth
-    c.requires.search c.requires.there c.requires.depth c.args.push c.requires.legal c.args.trial.now.layout c.requires.laid in
-    let comes = comes-next c.args.board.now c.requires.accepted c.args.key.now c.args.push c.square_ahead-to.result c.step-least.result
-    c.args.trial.now.layout can c.square_ahead-to.ensures c.step-least.ensures.next in
+    let comes = comes_in ((goal.at.returns-then-not-is_new-clause-tells c).After-step-least) in
     let next = next_of c.args.key.now c.args.push.from c.square_ahead-to.result c.step-least.result in
-    let stays : Stays p.table next c.in_ok-at.at (entries_in c.insert_next.new.self) = subst
-    (λ t. Enters p.table next (c.args.depth + 1) c.in_ok-at.at t (entries_in c.insert_next.new.self)) c.if-not-is_new.true
-    (c.in_ok-at.ensures.inserted.enters c.args.key.now next c.requires.there comes.is) in
+    let stays = stays_in ((goal.at.returns-then-not-is_new-clause-tells c).Then-not-is_new) in
     pushed-known c.args.board.now c.args.limit c.args.index p c.requires.search c.args.key.now c.args.depth c.requires.there c.requires.depth
     one.note one.note_is c.args.push c.requires.legal next comes.came.exact comes.came.state comes.as_many
     c.in_ok-at.at (frame_in c.args.search.now c.insert_next.new.self) (entries_in c.insert_next.new.self)
@@ -131,17 +140,12 @@ returns-then-not-is_new-clause-tells c =
 -- it is new
 pub returns-then-at-limit-clause-laid : goal.returns-then-at-limit-clause-laid
 returns-then-at-limit-clause-laid c =
-    let can = taken-pushable c.args.board.now c.requires.accepted c.args.limit c.args.index (progress_of c.args.search.now) c.args.key.now c.args.depth
-    c.requires.search c.requires.there c.requires.depth c.args.push c.requires.legal c.args.trial.now.layout c.requires.laid in
-    c.step-least.ensures.laid c.args.key.now can
+    c.step-least.ensures.laid c.args.key.now (can_in ((goal.at.returns-then-at-limit-clause-laid c).After-step-least))
 
 pub returns-then-at-limit-clause-tells : goal.returns-then-at-limit-clause-tells
 returns-then-at-limit-clause-tells c =
     let p = progress_of c.args.search.now in
-    let can = taken-pushable c.args.board.now c.requires.accepted c.args.limit c.args.index (progress_of c.args.search.now) c.args.key.now c.args.depth
-    c.requires.search c.requires.there c.requires.depth c.args.push c.requires.legal c.args.trial.now.layout c.requires.laid in
-    let comes = comes-next c.args.board.now c.requires.accepted c.args.key.now c.args.push c.square_ahead-to.result c.step-least.result
-    c.args.trial.now.layout can c.square_ahead-to.ensures c.step-least.ensures.next in
+    let comes = comes_in ((goal.at.returns-then-at-limit-clause-tells c).After-step-least) in
     let next = next_of c.args.key.now c.args.push.from c.square_ahead-to.result c.step-least.result in
     let last : GoesLast p.table next (c.args.depth + 1) c.in_ok-at.at (entries_in c.insert_next.new.self) = subst
     (λ t. Enters p.table next (c.args.depth + 1) c.in_ok-at.at t (entries_in c.insert_next.new.self)) c.if-not-is_new.false
@@ -154,16 +158,13 @@ returns-then-at-limit-clause-tells c =
 
 pub judge_after-requires-clause-laid : goal.judge_after-requires-clause-laid
 judge_after-requires-clause-laid c =
-    let can = taken-pushable c.args.board.now c.requires.accepted c.args.limit c.args.index (progress_of c.args.search.now) c.args.key.now c.args.depth
-    c.requires.search c.requires.there c.requires.depth c.args.push c.requires.legal c.args.trial.now.layout c.requires.laid in
-    c.step-least.ensures.laid c.args.key.now can
+    c.step-least.ensures.laid c.args.key.now (can_in ((goal.at.judge_after-requires-clause-laid c).After-step-least))
 
 pub judge_after-requires-clause-moved : goal.judge_after-requires-clause-moved
 judge_after-requires-clause-moved c =
-    let can = taken-pushable c.args.board.now c.requires.accepted c.args.limit c.args.index (progress_of c.args.search.now) c.args.key.now c.args.depth
-    c.requires.search c.requires.there c.requires.depth c.args.push c.requires.legal c.args.trial.now.layout c.requires.laid in
-    let comes = comes-next c.args.board.now c.requires.accepted c.args.key.now c.args.push c.square_ahead-to.result c.step-least.result
-    c.args.trial.now.layout can c.square_ahead-to.ensures c.step-least.ensures.next in
+    let here = (goal.at.judge_after-requires-clause-moved c).After-step-least in
+    let can = can_in here in
+    let comes = comes_in here in
     moved-next c.args.board.now c.requires.accepted c.args.key.now _ c.args.push c.square_ahead-to.result can.state can.few comes.came.state c.requires.legal
     comes.came.exact c.square_ahead-to.ensures
 
@@ -173,10 +174,7 @@ returns-clause-tells c =
     let q = progress_of c.add.new.search in
     let at = c.in_ok-at.at in
     let one = taken c.args.board.now c.args.limit c.args.index p c.args.key.now c.args.depth c.requires.search c.requires.there c.requires.depth in
-    let can = taken-pushable c.args.board.now c.requires.accepted c.args.limit c.args.index (progress_of c.args.search.now) c.args.key.now c.args.depth
-    c.requires.search c.requires.there c.requires.depth c.args.push c.requires.legal c.args.trial.now.layout c.requires.laid in
-    let comes = comes-next c.args.board.now c.requires.accepted c.args.key.now c.args.push c.square_ahead-to.result c.step-least.result
-    c.args.trial.now.layout can c.square_ahead-to.ensures c.step-least.ensures.next in
+    let comes = comes_in ((goal.at.returns-clause-tells c).After-step-least) in
     let next = next_of c.args.key.now c.args.push.from c.square_ahead-to.result c.step-least.result in
     let last : GoesLast p.table next (c.args.depth + 1) at (entries_in c.insert_next.new.self) = subst
     (λ t. Enters p.table next (c.args.depth + 1) at t (entries_in c.insert_next.new.self)) c.if-not-is_new.false

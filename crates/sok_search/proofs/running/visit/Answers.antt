@@ -15,8 +15,8 @@ pub key-requires-clause-exists : goal.key-requires-clause-exists
 key-requires-clause-exists c = held-within c.args.board.now c.args.limit c.args.index (progress_of c.args.search.now) c.requires.search
 
 pub key-requires-clause-few : goal.key-requires-clause-few
-key-requires-clause-few c = state-few c.args.board.now c.requires.accepted c.args.limit (holding c.args.index
-    (progress_of c.args.search.now)) c.requires.search c.args.index
+key-requires-clause-few c = state-few c.args.board.now c.args.limit (holding c.args.index
+    (progress_of c.args.search.now)) c.requires.search c.args.index c.requires.accepted
 
 pub returns-then-is_beaten-clause-tells : goal.returns-then-is_beaten-clause-tells
 returns-then-is_beaten-clause-tells c = go-beaten c.args.board.now c.args.limit c.args.index c.args.bound c.depth-depth.result

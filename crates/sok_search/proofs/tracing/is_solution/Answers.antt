@@ -14,8 +14,8 @@ returns-then-depth-pushes c = (
 )
 
 pub key-requires-clause-few : goal.key-requires-clause-few
-key-requires-clause-few c = state-few c.args.board.now c.requires.accepted c.requires.search.0
-    (progress_of c.args.search.now) c.requires.search.1 c.args.index
+key-requires-clause-few c = state-few c.args.board.now c.requires.search.0
+    (progress_of c.args.search.now) c.requires.search.1 c.args.index c.requires.accepted
 
 pub is_solved-requires : goal.is_solved-requires
 is_solved-requires c = record {
