@@ -10,7 +10,7 @@ ghost use Rattle.sok_search.specs.Outcomes.{IsAnswer, IsFound};
 ghost use Rattle.sok_search.specs.Searches.{IsSearch, IsSearching, IsSmallSearch};
 ghost use Rattle.sok_search.specs.Stores.{entries_in};
 ghost use Rattle.sok_search.specs.Trails.{IsSolvedWithin};
-ghost use Rattle.sok_search.specs.Views.{progress_of, TellsFinished};
+ghost use Rattle.sok_search.specs.Views.{progress_of, TellsSearched};
 ghost use Rattle.sok_search.specs.declared.fault.SolveFault.TheVariants as fault;
 
 use crate::beginning::begin;
@@ -94,10 +94,9 @@ fn answer(alloc: Global, board: &Board, limit: u32) -> Result<Outcome, Memory>
     // Its clauses tell that the level is accepted.
     let _level = board.level();
     let tables = Tables::new(alloc, board)?;
-    let mut search = begin(alloc, board, &tables, true)?;
-    match search_all(alloc, board, &tables, limit, &mut search)? {
-        Reached::On => conclude(alloc, board, &tables, &search),
-        Reached::Full => Ok(Outcome::Limit { states: limit }),
+    match searched(alloc, board, &tables, true, limit)? {
+        Some(search) => conclude(alloc, board, &tables, &search),
+        None => Ok(Outcome::Limit { states: limit }),
     }
 }
 
@@ -109,29 +108,31 @@ fn find_on(alloc: Global, board: &Board, limit: u32) -> Result<Found, Memory>
     // Its clauses tell that the level is accepted.
     let _level = board.level();
     let tables = Tables::new(alloc, board)?;
-    let mut search = begin(alloc, board, &tables, false)?;
-    match search_all(alloc, board, &tables, limit, &mut search)? {
-        Reached::On => find_in(alloc, board, &search),
-        Reached::Full => Ok(Found::Limit { states: limit }),
+    match searched(alloc, board, &tables, false, limit)? {
+        Some(search) => find_in(alloc, board, &search),
+        None => Ok(Found::Limit { states: limit }),
     }
 }
 
-/// Searches until no state waits, or until the table is full.
-fn search_all(
+/// A search of a board that goes on until no state waits, or None where its table is full before.
+fn searched(
     alloc: Global,
     board: &Board,
     tables: &Tables,
+    whole: bool,
     limit: u32,
-    search: &mut Search,
-) -> Result<Reached, Memory>
+) -> Result<Option<Search>, Memory>
     requires accepted { IsAccepted board.now }
     requires tables { tables.now.board ≡ board.now }
-    requires search { IsSearch board.now limit (progress_of search.old) }
-    ensures { IfOk result
-        (TellsFinished board.now limit (progress_of search.old) (progress_of search.new)) }
+    requires positive { 0 < limit }
+    ensures { IfOk result (TellsSearched board.now limit whole) }
 {
+    let mut search = begin(alloc, board, tables, whole)?;
     let mut scratch = Scratch::new(alloc, board, tables)?;
-    run(alloc, board, tables, limit, search, &mut scratch)
+    match run(alloc, board, tables, limit, &mut search, &mut scratch)? {
+        Reached::On => Ok(Some(search)),
+        Reached::Full => Ok(None),
+    }
 }
 
 /// What a finished search has found.

@@ -1,48 +1,22 @@
-use Rattle.std.proofs.Common.{ap, refl, subst, ◌∙◌}
-use Rattle.sok_search.specs.declared.reaching.Reached.TheVariants.{Full, On}
-use Rattle.sok_search.specs.Searches.{Frame}
-use Rattle.sok_search.specs.Views.{TellsFinished, progress_of}
+use Rattle.std.proofs.Common.{refl, subst, true}
+use Rattle.sok_search.specs.Views.{IsSearched, TellsSearched, progress_of}
 use Rattle.sok_search.proofs.solve.answer.Goals as goal
+use Rattle.sok_search.proofs.solve.answer.Goals.{In-Some}
 
-pub search_all-requires-clause-search : goal.search_all-requires-clause-search
-search_all-requires-clause-search c = c.in_ok-search.ensures.search c.args.limit c.requires.positive
+told : (c : In-Some) → IsSearched c.args.board.now c.args.limit true (progress_of c.in-Some.search)
+told c = subst (TellsSearched c.args.board.now c.args.limit true) c.in-Some.is c.in_ok-search.ensures
 
 pub conclude-requires-clause-search : goal.conclude-requires-clause-search
-conclude-requires-clause-search c =
-    let b = c.args.board.now in
-    let p = progress_of c.in_ok-search.search in
-    let q = progress_of c.search_all.new.search in
-    let told : TellsFinished b c.args.limit p q On = subst (TellsFinished b c.args.limit p q) c.in-On.is c.in_ok-search_all.ensures in
-    (c.args.limit, told.search, c.requires.small)
+conclude-requires-clause-search c = (c.args.limit, (told (goal.at.conclude-requires-clause-search c).In-Some).search, c.requires.small)
 
 pub conclude-requires-clause-whole : goal.conclude-requires-clause-whole
-conclude-requires-clause-whole c =
-    let b = c.args.board.now in
-    let p = progress_of c.in_ok-search.search in
-    let q = progress_of c.search_all.new.search in
-    let told : TellsFinished b c.args.limit p q On = subst (TellsFinished b c.args.limit p q) c.in-On.is c.in_ok-search_all.ensures in
-    ap (λ (frame : Frame). frame.whole) told.frame ∙ c.in_ok-search.ensures.whole
+conclude-requires-clause-whole c = (told (goal.at.conclude-requires-clause-whole c).In-Some).kept
 
 pub conclude-requires-clause-finished : goal.conclude-requires-clause-finished
-conclude-requires-clause-finished c =
-    let b = c.args.board.now in
-    let p = progress_of c.in_ok-search.search in
-    let q = progress_of c.search_all.new.search in
-    let told : TellsFinished b c.args.limit p q On = subst (TellsFinished b c.args.limit p q) c.in-On.is c.in_ok-search_all.ensures in
-    told.empty
+conclude-requires-clause-finished c = (told (goal.at.conclude-requires-clause-finished c).In-Some).empty
 
-pub returns-in-On : goal.returns-in-On
-returns-in-On c =
-    let b = c.args.board.now in
-    let p = progress_of c.in_ok-search.search in
-    let q = progress_of c.search_all.new.search in
-    let told : TellsFinished b c.args.limit p q On = subst (TellsFinished b c.args.limit p q) c.in-On.is c.in_ok-search_all.ensures in
-    c.conclude.ensures c.args.limit told.search
+pub returns-in-Some : goal.returns-in-Some
+returns-in-Some c = c.conclude.ensures c.args.limit (told (goal.at.returns-in-Some c).In-Some).search
 
 pub returns : goal.returns
-returns c =
-    let b = c.args.board.now in
-    let p = progress_of c.in_ok-search.search in
-    let q = progress_of c.search_all.new.search in
-    let told : TellsFinished b c.args.limit p q Full = subst (TellsFinished b c.args.limit p q) c.in-Full.is c.in_ok-search_all.ensures in
-    record { more = told; is = refl }
+returns c = record { more = subst (TellsSearched c.args.board.now c.args.limit true) c.in-None.is c.in_ok-search.ensures; is = refl }

@@ -1,34 +1,19 @@
-use Rattle.std.proofs.Common.{refl, subst}
-use Rattle.sok_search.specs.declared.reaching.Reached.TheVariants.{Full, On}
-use Rattle.sok_search.specs.Views.{TellsFinished, progress_of}
+use Rattle.std.proofs.Common.{refl, subst, false}
+use Rattle.sok_search.specs.Views.{IsSearched, TellsSearched, progress_of}
 use Rattle.sok_search.proofs.solve.find_on.Goals as goal
+use Rattle.sok_search.proofs.solve.find_on.Goals.{In-Some}
 
-pub search_all-requires-clause-search : goal.search_all-requires-clause-search
-search_all-requires-clause-search c = c.in_ok-search.ensures.search c.args.limit c.requires
+told : (c : In-Some) → IsSearched c.args.board.now c.args.limit false (progress_of c.in-Some.search)
+told c = subst (TellsSearched c.args.board.now c.args.limit false) c.in-Some.is c.in_ok-search.ensures
 
 pub find_in-requires-clause-search : goal.find_in-requires-clause-search
-find_in-requires-clause-search c =
-    let b = c.args.board.now in
-    let p = progress_of c.in_ok-search.search in
-    let q = progress_of c.search_all.new.search in
-    let told : TellsFinished b c.args.limit p q On = subst (TellsFinished b c.args.limit p q) c.in-On.is c.in_ok-search_all.ensures in
-    (c.args.limit, told.search)
+find_in-requires-clause-search c = (c.args.limit, (told (goal.at.find_in-requires-clause-search c).In-Some).search)
 
 pub find_in-requires-clause-finished : goal.find_in-requires-clause-finished
-find_in-requires-clause-finished c =
-    let b = c.args.board.now in
-    let p = progress_of c.in_ok-search.search in
-    let q = progress_of c.search_all.new.search in
-    let told : TellsFinished b c.args.limit p q On = subst (TellsFinished b c.args.limit p q) c.in-On.is c.in_ok-search_all.ensures in
-    told.empty
+find_in-requires-clause-finished c = (told (goal.at.find_in-requires-clause-finished c).In-Some).empty
 
-pub returns-in-On : goal.returns-in-On
-returns-in-On c = c.find_in.ensures c.args.limit
+pub returns-in-Some : goal.returns-in-Some
+returns-in-Some c = c.find_in.ensures c.args.limit
 
 pub returns : goal.returns
-returns c =
-    let b = c.args.board.now in
-    let p = progress_of c.in_ok-search.search in
-    let q = progress_of c.search_all.new.search in
-    let told : TellsFinished b c.args.limit p q Full = subst (TellsFinished b c.args.limit p q) c.in-Full.is c.in_ok-search_all.ensures in
-    record { more = told; is = refl }
+returns c = record { more = subst (TellsSearched c.args.board.now c.args.limit false) c.in-None.is c.in_ok-search.ensures; is = refl }

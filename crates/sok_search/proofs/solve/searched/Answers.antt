@@ -1,0 +1,21 @@
+use Rattle.std.proofs.Common.{ap, subst, ◌∙◌}
+use Rattle.sok_search.specs.declared.reaching.Reached.TheVariants.{On}
+use Rattle.sok_search.specs.Searches.{Frame}
+use Rattle.sok_search.specs.Views.{TellsFinished, progress_of}
+use Rattle.sok_search.proofs.solve.searched.Goals as goal
+
+pub run-requires-clause-search : goal.run-requires-clause-search
+run-requires-clause-search c = c.in_ok-search.ensures.search c.args.limit c.requires.positive
+
+pub returns-in-On : goal.returns-in-On
+returns-in-On c =
+    let p = progress_of c.in_ok-search.search in
+    let q = progress_of c.run.new.search in
+    let told : TellsFinished c.args.board.now c.args.limit p q On = subst (TellsFinished c.args.board.now c.args.limit p q) c.in-On.is c.in_ok-run.ensures in
+    record { search = told.search; kept = ap (λ (frame : Frame). frame.whole) told.frame ∙ c.in_ok-search.ensures.whole; empty = told.empty }
+
+pub returns-in-Full : goal.returns-in-Full
+returns-in-Full c =
+    let p = progress_of c.in_ok-search.search in
+    let q = progress_of c.run.new.search in
+    subst (TellsFinished c.args.board.now c.args.limit p q) c.in-Full.is c.in_ok-run.ensures
