@@ -13,8 +13,8 @@ use Rattle.sok_rules.specs.declared.cell.Dir.TheVariants.{Left, Up}
 use Rattle.sok_rules.specs.Squares.{opposite}
 use Rattle.sok_board.specs.Area.{Numbered, beside}
 use Rattle.sok_price.specs.Prices.{AreMembers, IsMember}
-use Rattle.sok_bar.specs.Jam.{Held, IsHeld, IsJam}
-use Rattle.sok_bar.specs.Settings.{AreAllMembers, HasJams}
+use Rattle.sok_bar.specs.Jam.{HasJams, Held, IsHeld, IsJam}
+use Rattle.sok_bar.specs.Settings.{AreAllMembers}
 use Rattle.sok_bar.proofs.Rising.{below_later, Contains-member}
 
 one_of_more : (o : Option ℕ) (P Q : ℕ → Type 0) → ((s : ℕ) → P s → Q s) → IsSomeAnd o P → IsSomeAnd o Q

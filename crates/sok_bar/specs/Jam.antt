@@ -1,5 +1,5 @@
 -- Boxes that hold each other for ever (Sokoban Wiki, "Deadlocks", freeze deadlocks).
-use Rattle.std.specs.Prelude.{ℕ, ◌⊎◌, List, false, IsTrue, IsSomeAnd}
+use Rattle.std.specs.Prelude.{ℕ, ◌⊎◌, List, Contains, false, IsTrue, IsSomeAnd}
 use Rattle.std.specs.Option.{option_map_or}
 use Rattle.sok_rules.specs.declared.cell.Dir.{Dir}
 use Rattle.sok_rules.specs.declared.cell.Dir.TheVariants.{Left, Up}
@@ -55,3 +55,8 @@ pub record IsJam (b : Numbered) (boxes members : List ℕ) : Type 0 where
 -- there is a jam with the box on a square
 abbrev pub HasJamWith : Numbered → List ℕ → ℕ → Type 0
 HasJamWith b boxes s = (members : List ℕ) × IsJam b boxes members × IsMember boxes members s
+
+-- the members of each jam are among these
+pub record HasJams (b : Numbered) (boxes members : List ℕ) : Type 0 where
+  pub listed : AreMembers boxes members
+  pub most : (jam : List ℕ) → IsJam b boxes jam → (i : ℕ) → Contains jam i → Contains members i

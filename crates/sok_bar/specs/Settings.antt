@@ -8,7 +8,6 @@ use Rattle.sok_push.specs.Distances.{Distances}
 use Rattle.sok_price.specs.Prices.{AreMembers, IsMember}
 use Rattle.sok_bar.specs.declared.held.Holders.{Holders}
 use Rattle.sok_bar.specs.declared.held.Holders.TheVariants.{Every, Members, Drawn}
-use Rattle.sok_bar.specs.Jam.{IsJam}
 
 pub record IsSetting (b : Numbered) (t : Distances) (boxes : List ℕ) : Type 0 where
   pub tables : t.board ≡ b
@@ -35,8 +34,3 @@ AreHolders boxes (Drawn squares) = Unit {0}
 pub record AreAllMembers (boxes members : List ℕ) : Type 0 where
   pub listed : AreMembers boxes members
   pub each : (i : ℕ) → i < length boxes → Contains members i
-
--- members of which some may be taken away: those of each jam are among them
-pub record HasJams (b : Numbered) (boxes members : List ℕ) : Type 0 where
-  pub listed : AreMembers boxes members
-  pub most : (jam : List ℕ) → IsJam b boxes jam → (i : ℕ) → Contains jam i → Contains members i

@@ -5,9 +5,9 @@ ghost use Rattle.std.specs.Prelude.{IfSome, All, Contains, length, vec_len};
 ghost use Rattle.sok_board.specs.Limits.{box_limit};
 ghost use Rattle.sok_price.specs.Prices.{AreMembers, IsMember};
 ghost use Rattle.sok_bar.specs.Bars.{Barring, Bars};
-ghost use Rattle.sok_bar.specs.Jam.{AreHeld, HasOneOffGoal, IsJam};
+ghost use Rattle.sok_bar.specs.Jam.{AreHeld, HasJams, HasOneOffGoal, IsJam};
 ghost use Rattle.sok_bar.specs.Rests.{IsBarred};
-ghost use Rattle.sok_bar.specs.Settings.{AreAllMembers, HasJams, IsSetting};
+ghost use Rattle.sok_bar.specs.Settings.{AreAllMembers, IsSetting};
 
 use crate::bar::Bar;
 use crate::held::{Holders, are_held, is_held};
@@ -62,10 +62,35 @@ impl Bar for Frozen<'_> {
     }
 }
 
-/// The members of a jam with the box on a square, exactly where there is one: the most boxes of
-/// which each is held by the others, if that box and one off a goal are among them. Boxes that are
-/// not held are taken away until there is none (Sokoban Wiki, "Deadlocks", freeze deadlocks). It
-/// refuses only for want of memory.
+/// The members of a jam, exactly where there is one: the most boxes of which each is held by the
+/// others, if one of them stands off a goal. Boxes that are not held are taken away until there is
+/// none (Sokoban Wiki, "Deadlocks", freeze deadlocks). It refuses only for want of memory.
+pub fn find_jam(
+    alloc: Global,
+    board: &Board,
+    tables: &Tables,
+    boxes: &BoxSet,
+) -> Result<Option<Vec<u32>>, Memory>
+    requires tables { tables.now.board ≡ board.now }
+    requires boxes_exist { All (λ square. square < length board.now.area) boxes.now }
+    ensures jam { IfOk result (λ found. IfSome found
+        (λ members. IsJam board.now boxes.now members.items)) }
+    ensures most { IfOk result (λ found. IfSome found
+        (λ members. HasJams board.now boxes.now members.items)) }
+    ensures none { IfOk result (λ found. IfNone found ((members : List ℕ)
+        → IsJam board.now boxes.now members → ⊥)) }
+{
+    let boxes = boxes.list();
+    let all = all_members(alloc, boxes)?;
+    let members = held_members(board, tables, boxes, all);
+    if has_one_off_goal(board, boxes, &members) {
+        return Ok(Some(members));
+    }
+    Ok(None)
+}
+
+/// The members of a jam with the box on a square, exactly where there is one: those that `find_jam`
+/// finds, if that box is among them.
 pub fn find_frozen(
     alloc: Global,
     board: &Board,
@@ -83,17 +108,17 @@ pub fn find_frozen(
     ensures none { IfOk result (λ found. IfNone found ((members : List ℕ)
         → IsJam board.now boxes.now members → IsMember boxes.now members square → ⊥)) }
 {
-    let boxes = boxes.list();
     // Most boxes are free where they stand, and need no list.
-    if !is_held(board, tables, boxes, Holders::Every, square) {
+    if !is_held(board, tables, boxes.list(), Holders::Every, square) {
         return Ok(None);
     }
-    let all = all_members(alloc, boxes)?;
-    let members = held_members(board, tables, boxes, all);
-    if is_member(boxes, &members, square) && has_one_off_goal(board, boxes, &members) {
-        return Ok(Some(members));
+    let Some(members) = find_jam(alloc, board, tables, boxes)? else {
+        return Ok(None);
+    };
+    if !is_member(boxes.list(), &members, square) {
+        return Ok(None);
     }
-    Ok(None)
+    Ok(Some(members))
 }
 
 /// Whether a member stands off a goal.

@@ -1,15 +1,13 @@
 -- The reason of a state that is found again bars as far as before.
-use Rattle.std.proofs.Common.{ℕ, ◌≡◌, ◌<◌, ◌≤◌, ◌+◌, ◌-◌, inl, inr, subst, List, ◌∷◌, IfNone, below_more, Option, None, zero, suc, All, Vec}
+use Rattle.std.proofs.Common.{ℕ, ◌<◌, ◌≤◌, ◌+◌, ◌-◌, inl, inr, List, ◌∷◌, zero, suc, All}
 use Rattle.std.proofs.Common.{arith, length, get_or}
-use Rattle.std.specs.declared.alloc.Global.{Global}
 use Rattle.std.specs.List.Sorted.{IsStrictlyIncreasing}
 use Rattle.std.proofs.lemmas.Bool.{cases_lt}
 use Rattle.std.proofs.lemmas.List.Kept.{AllPairs-from_increasing}
-use Rattle.std.proofs.lemmas.Option.{slice_get-get_or, slice_get_within}
 use Rattle.sok_board.specs.Area.{Numbered}
 use Rattle.sok_board.specs.Limits.{box_limit}
 use Rattle.sok_price.specs.Matches.{ArePrices}
-use Rattle.sok_price.specs.Prices.{AreMembers, IsMember, Priced}
+use Rattle.sok_price.specs.Prices.{AreMembers, Priced}
 use Rattle.sok_price.proofs.AssignmentLaws.{AtLeast-IsAssignment}
 use Rattle.sok_bar.specs.declared.rest.Rest.{Rest}
 use Rattle.sok_bar.specs.Bars.{Barring, Bars}
@@ -20,7 +18,7 @@ use Rattle.sok_cert.specs.Reason.{Reason}
 use Rattle.sok_cert.specs.Reason.TheVariants as reason
 use Rattle.sok_cert.specs.Text.{IsSmall}
 use Rattle.sok_cert.specs.Closed.{rest_of}
-use Rattle.sok_search.specs.Finished.{CostsEnough, HasNoJam, IsAssigned, ReasonBars}
+use Rattle.sok_search.specs.Finished.{CostsEnough, IsAssigned, ReasonBars}
 use Rattle.sok_search.specs.Searches.{IsDead}
 
 -- prices of a bound that is enough
@@ -54,35 +52,14 @@ assigned-again b boxes depth claim enough (reason.Crowd members) crowd = crowd
 assigned-again b boxes depth claim enough (reason.Frozen members) none = absurd none
 
 -- a dead state without a jam has a crowd, which is found
-pub crowd-again : (b : Numbered) (boxes : List ℕ) → HasNoJam b boxes → IsDead b boxes → (why : Reason)
+pub crowd-again : (b : Numbered) (boxes : List ℕ) → ((members : List ℕ) → IsJam b boxes members → ⊥) → IsDead b boxes → (why : Reason)
     → IsAssigned b boxes why → (rest : Rest) → ReasonBars b boxes why rest
 crowd-again b boxes none dead reason.Expanded assigned rest = absurd assigned
 crowd-again b boxes none dead reason.Spent assigned rest = absurd assigned
 crowd-again b boxes none (inl (members, crowd)) (reason.Bound u v) (total, goal_of, are) rest = absurd (are.no_crowd members crowd)
-crowd-again b boxes none (inr jam) (reason.Bound u v) assigned rest = absurd (none jam)
+crowd-again b boxes none (inr (members, jam)) (reason.Bound u v) assigned rest = absurd (none members jam)
 crowd-again b boxes none dead (reason.Crowd members) crowd rest = crowd
 crowd-again b boxes none dead (reason.Frozen members) assigned rest = absurd assigned
-
--- no jam has one of the first boxes
-abbrev pub HasNoJamBefore : Numbered → List ℕ → ℕ → Type 0
-HasNoJamBefore b boxes n = (k : ℕ) → k < n → (members : List ℕ) → IsJam b boxes members → IsMember boxes members (get_or boxes k 0) → ⊥
-
--- so there is none where all boxes were tried
-pub no-jam : (b : Numbered) (boxes : List ℕ) (n : ℕ) → length boxes ≤ n → HasNoJamBefore b boxes n → HasNoJam b boxes
-no-jam b boxes n past before (members, jam) =
-    let (s, (i, listed, there), off) = jam.off_goal in
-    let within = slice_get_within boxes i s there in
-    before i (omega (arith, within, past)) members jam (i, listed, slice_get-get_or boxes i 0 within)
-
--- one box more was tried
-pub no-jam-more : (b : Numbered) (boxes items : List ℕ) (n : ℕ) (found : Option (Vec ℕ Global)) → items ≡ boxes → found ≡ None
-    → IfNone found ((members : List ℕ) → IsJam b boxes members → IsMember boxes members (get_or items n 0) → ⊥) → HasNoJamBefore b boxes n
-    → HasNoJamBefore b boxes (n + 1)
-no-jam-more b boxes items n found list is none before =
-    let told : (members : List ℕ) → IsJam b boxes members → IsMember boxes members (get_or boxes n 0) → ⊥ =
-    subst (λ (xs : List ℕ). (members : List ℕ) → IsJam b boxes members → IsMember boxes members (get_or xs n 0) → ⊥) list
-    (subst (λ (o : Option (Vec ℕ Global)). IfNone o ((members : List ℕ) → IsJam b boxes members → IsMember boxes members (get_or items n 0) → ⊥)) is none) in
-    below_more (λ k. (members : List ℕ) → IsJam b boxes members → IsMember boxes members (get_or boxes k 0) → ⊥) n before told
 
 -- a number of a rising list is no less than its place
 place-below : (ns : List ℕ) → IsStrictlyIncreasing ns → (i : ℕ) → i < length ns → i ≤ get_or ns i 0

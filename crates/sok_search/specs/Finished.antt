@@ -1,6 +1,5 @@
 -- What a search shows that is finished: nothing waits.
-use Rattle.std.specs.Prelude.{ℕ, ◌≡◌, ◌≤◌, ◌+◌, List, Option, Some, None, IsSomeAnd, Vec, length, slice_get}
-use Rattle.std.specs.declared.alloc.Global.{Global}
+use Rattle.std.specs.Prelude.{ℕ, ◌≡◌, ◌≤◌, ◌+◌, List, Option, Some, None, IsSomeAnd, length, slice_get}
 use Rattle.sok_board.specs.Area.{Numbered}
 use Rattle.sok_cert.specs.Claim.{Claim}
 use Rattle.sok_cert.specs.Claim.TheVariants.{Pushes, Unsolvable}
@@ -12,13 +11,12 @@ use Rattle.sok_price.specs.Matches.{ArePrices}
 use Rattle.sok_price.specs.Prices.{IsCrowd}
 use Rattle.sok_bar.specs.declared.rest.Rest.{Rest}
 use Rattle.sok_bar.specs.Bars.{Bars}
-use Rattle.sok_bar.specs.Jam.{IsJam}
 use Rattle.sok_state.specs.declared.key.Key.{Key}
 use Rattle.sok_cert.specs.Closed.{barring, rest_of}
 use Rattle.sok_search.specs.declared.note.Note.{Note}
 use Rattle.sok_search.specs.declared.note.Standing.{Standing}
 use Rattle.sok_search.specs.declared.note.Standing.TheVariants as standing
-use Rattle.sok_search.specs.Searches.{Progress, HasPrices, HasJam, IsDead, IsState}
+use Rattle.sok_search.specs.Searches.{Progress, HasPrices, IsDead, IsState}
 
 -- what is claimed in the end
 abbrev pub claim_of : Option ℕ → Claim
@@ -76,12 +74,3 @@ IsAssigned b boxes _ = ⊥
 -- the reason has a text
 abbrev pub HasText : List ℕ → Reason → Type 0
 HasText boxes why = FitsReason why (length boxes)
-
--- no members of the boxes are a jam
-abbrev pub HasNoJam : Numbered → List ℕ → Type 0
-HasNoJam b boxes = HasJam b boxes → ⊥
-
--- what is found of jams: members that are one, and None exactly where there is none
-abbrev pub TellsJam : Numbered → List ℕ → Option (Vec ℕ Global) → Type 0
-TellsJam b boxes None = HasNoJam b boxes
-TellsJam b boxes (Some members) = IsJam b boxes members.items

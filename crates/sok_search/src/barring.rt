@@ -6,10 +6,10 @@ ghost use Rattle.sok_bar.specs.declared.rest.Rest.{Rest};
 ghost use Rattle.sok_cert.specs.Closed.{rest_of};
 ghost use Rattle.sok_search.specs.Searches.{IsDead};
 ghost use Rattle.sok_search.specs.Finished.{CostsEnough, HasText, IsAssigned, IsAtMost, IsDone};
-ghost use Rattle.sok_search.specs.Finished.{IsReasonOf, ReasonBars, TellsJam};
+ghost use Rattle.sok_search.specs.Finished.{IsReasonOf, ReasonBars};
 
 use crate::note::Standing;
-use sok_bar::frozen::find_frozen;
+use sok_bar::frozen::find_jam;
 use sok_board::board::Board;
 use sok_cert::claim::Claim;
 use sok_cert::entry::{Numbers, Reason};
@@ -19,25 +19,6 @@ use sok_push::tables::Tables;
 use sok_region::box_set::BoxSet;
 use sok_rules::fault::Memory;
 use std::alloc::Global;
-
-/// Boxes that are a jam, and None where there are none.
-pub(crate) fn find_jam(
-    alloc: Global,
-    board: &Board,
-    tables: &Tables,
-    boxes: &BoxSet,
-) -> Result<Option<Vec<u32>>, Memory>
-    requires tables { tables.now.board ≡ board.now }
-    requires exist { All (λ square. square < length board.now.area) boxes.now }
-    ensures { IfOk result (TellsJam board.now boxes.now) }
-{
-    for square in boxes.list() {
-        if let Some(members) = find_frozen(alloc, board, tables, boxes, *square)? {
-            return Ok(Some(members));
-        }
-    }
-    Ok(None)
-}
 
 /// The reason why a state of a finished search may stand in a certificate.
 pub(crate) fn reason_of(

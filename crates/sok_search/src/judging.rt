@@ -5,8 +5,8 @@ ghost use Rattle.sok_rules.specs.Play.{AllOnGoals};
 ghost use Rattle.sok_board.specs.Area.{position_of};
 ghost use Rattle.sok_search.specs.Steps.{IsJudged};
 
-use crate::barring::find_jam;
 use crate::note::Standing;
+use sok_bar::frozen::find_jam;
 use sok_board::area::Sq;
 use sok_board::board::Board;
 use sok_price::assign::{Match, assign};

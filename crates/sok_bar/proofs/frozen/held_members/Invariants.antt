@@ -1,5 +1,5 @@
 use Rattle.std.proofs.Common.{vec_len}
-use Rattle.sok_bar.specs.Settings.{HasJams}
+use Rattle.sok_bar.specs.Jam.{HasJams}
 use Rattle.sok_bar.proofs.frozen.held_members.Given as goal
 
 abbrev pub invariant-passes : goal.invariant-passes

@@ -1,8 +1,7 @@
 use Rattle.std.proofs.Common.{ℕ, ◌≡◌, ◌<◌, ◌∙◌, sym, subst, true≢false, List, arith, below_more, length, get_or}
 use Rattle.std.proofs.lemmas.List.{get_or_default}
 use Rattle.sok_price.specs.Prices.{IsMember}
-use Rattle.sok_bar.specs.Jam.{IsHeld}
-use Rattle.sok_bar.specs.Settings.{HasJams}
+use Rattle.sok_bar.specs.Jam.{HasJams, IsHeld}
 use Rattle.sok_bar.proofs.Removal.{HasJams-remove}
 use Rattle.sok_bar.proofs.Rising.{each_member}
 use Rattle.sok_bar.proofs.frozen.without_loose.Goals as goal

@@ -1,7 +1,6 @@
 use Rattle.std.proofs.Common.{ℕ, ◌≡◌, ◌<◌, ◌≤◌, ◌-◌, vec_len, get_or}
 use Rattle.sok_price.specs.Prices.{IsMember}
-use Rattle.sok_bar.specs.Jam.{IsHeld}
-use Rattle.sok_bar.specs.Settings.{HasJams}
+use Rattle.sok_bar.specs.Jam.{HasJams, IsHeld}
 use Rattle.sok_bar.proofs.frozen.without_loose.Given as goal
 
 abbrev pub invariant-loop-place : goal.invariant-loop-place
