@@ -30,6 +30,7 @@ use Rattle.sok_row.proofs.Changes.{IsKeptPage-new}
 use Rattle.sok_row.proofs.Books.{IsKeptBook-push, leaves_of-push, length-leaves_of}
 use Rattle.sok_store.specs.Calls.{IsCaused, Keeps, MakesNone, Stops, Turns, id_number, title_kept}
 use Rattle.sok_store.specs.Entries.{AddsPage, IsCausedAdding, IsFull, IsNewPage, StopsAdding}
+use Rattle.sok_store.specs.Running.{RunsAdding}
 use Rattle.sok_store.proofs.Calls.{held, rests_stops, stops_later}
 use Rattle.sok_store.proofs.Caused.{cause_before, kept_apart, last_get}
 
@@ -167,7 +168,7 @@ module _ (old mid : State) (rows : Rows) (text : List ℕ) (text_is : text ≡ l
     page_is book unknown = new_page_is book rows text title text_is level accepted unknown
 
     module _ (new : State) (early : HasCleanDisk new → HasCleanDisk mid) where
-      pub level_added : (result : Result ℤ BookFault) → IfOk result (AddsPage mid new text (title_kept title))
+      level_added : (result : Result ℤ BookFault) → IfOk result (AddsPage mid new text (title_kept title))
           → IfOk result (λ id. Turns old new (λ book after. Adds book rows (title_kept title) (id_number id) after))
       level_added (Ok id) added = λ clean book holds.
           let (shows, unknown) = not_there (early clean) book holds in
@@ -175,7 +176,7 @@ module _ (old mid : State) (rows : Rows) (text : List ℕ) (text_is : text ≡ l
           (book ++ added_page ∷ [], is_new unknown room (ap id_number id_is) refl, after)
       level_added (Err fault) added = tt
 
-      pub level_refused : (result : Result ℤ BookFault) → IfErr result (λ fault. Keeps mid new (λ book. IsOutside fault ⊎ IsFull book fault))
+      level_refused : (result : Result ℤ BookFault) → IfErr result (λ fault. Keeps mid new (λ book. IsOutside fault ⊎ IsFull book fault))
           → IfErr result (λ fault. Keeps old new (λ book. IsOutside fault ⊎ IsNotAdded book rows fault))
       level_refused (Ok id) refused = tt
       level_refused (Err fault) refused = λ clean book holds.
@@ -187,7 +188,7 @@ module _ (old mid : State) (rows : Rows) (text : List ℕ) (text_is : text ≡ l
           ] in
           (cause, after)
 
-      pub level_caused : (result : Result ℤ BookFault) → IfErr result (IsCausedAdding mid new text (title_kept title))
+      level_caused : (result : Result ℤ BookFault) → IfErr result (IsCausedAdding mid new text (title_kept title))
           → (P Q : Trees → Type 0) → Survives old mid P → Survives mid new Q
           → IfErr result (IsCaused old new (λ book after. (id : ℕ) × Adds book rows (title_kept title) id after))
       level_caused (Ok id) caused P Q one two = tt
@@ -198,7 +199,7 @@ module _ (old mid : State) (rows : Rows) (text : List ℕ) (text_is : text ≡ l
             | inr cause ↦ inr (cause_before old mid new P Q one two clean cause)
           ]
 
-      pub level_stops : Rests old mid → StopsAdding mid new text (title_kept title)
+      level_stops : Rests old mid → StopsAdding mid new text (title_kept title)
           → Stops old new (λ book after. (id : ℕ) × Adds book rows (title_kept title) id after)
       level_stops rests two =
           stops_later old mid new (λ book after. (id : ℕ) × Adds book rows (title_kept title) id after) (rests_stops old mid rests MakesNone) _
@@ -207,3 +208,14 @@ module _ (old mid : State) (rows : Rows) (text : List ℕ) (text_is : text ≡ l
           let (room, after) = has book added_page shows (page_is book unknown) in
           (book ++ added_page ∷ [], (length book + 1, is_new unknown room refl refl), after))
           two
+
+      -- all of it
+      pub level_runs : Rests old mid → (result : Result ℤ BookFault) → IfOk result (AddsPage mid new text (title_kept title))
+          → IfErr result (λ fault. Keeps mid new (λ book. IsOutside fault ⊎ IsFull book fault)) → StopsAdding mid new text (title_kept title)
+          → IfErr result (IsCausedAdding mid new text (title_kept title)) → RunsAdding old new rows (title_kept title) result
+      level_runs rests result added refused stop caused = record {
+        done = level_added result added;
+        refused = level_refused result refused;
+        stop = level_stops rests stop;
+        cause = level_caused result caused _ _ rests.stop stop;
+      }

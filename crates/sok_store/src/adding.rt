@@ -4,10 +4,11 @@ ghost use Rattle.std.specs.Prelude.{◌≡◌, ◌≢◌, ◌⊎◌, IfErr, IfOk
 ghost use Rattle.sqlite.specs.Held.{state};
 ghost use Rattle.sok_board.specs.Refusals.{IsAcceptable};
 ghost use Rattle.sok_book.specs.Books.{Book};
-ghost use Rattle.sok_book.specs.Commands.{Adds};
 ghost use Rattle.sok_book.specs.Refusals.{IsNotAdded};
 ghost use Rattle.sok_row.specs.Faults.{IsOutside};
-ghost use Rattle.sok_store.specs.Calls.{IsCaused, Keeps, Stops, Turns, id_number, title_kept};
+ghost use Rattle.sok_store.specs.Calls.{Keeps, title_kept};
+ghost use Rattle.sok_store.specs.Entries.{AddsPage, IsCausedAdding, IsFull, StopsAdding};
+ghost use Rattle.sok_store.specs.Running.{RunsAdding};
 
 use sok_board::board::Board;
 use sok_book::fault::BookFault;
@@ -29,18 +30,8 @@ pub(crate) fn add_to<S: Alter>(
     title: Option<&[u8]>,
 ) -> Result<i64, BookFault>
     ensures accepted { OnOk result (IsAcceptable level.now) }
-    ensures added { IfOk result (λ id. Turns (state S.Store conn.old) (state S.Store conn.new)
-        (λ book after. Adds book level.now
-        (title_kept (option_map (λ bytes. bytes.now) title.entry)) (id_number id) after)) }
-    ensures refused { IfErr result (λ fault.
-        Keeps (state S.Store conn.old) (state S.Store conn.new)
-        (λ book. IsOutside fault ⊎ IsNotAdded book level.now fault)) }
-    ensures stop { Stops (state S.Store conn.old) (state S.Store conn.new)
-        (λ book after. (id : _) × Adds book level.now
-        (title_kept (option_map (λ bytes. bytes.now) title.entry)) id after) }
-    ensures cause { IfErr result (IsCaused (state S.Store conn.old) (state S.Store conn.new)
-        (λ book after. (id : _) × Adds book level.now
-        (title_kept (option_map (λ bytes. bytes.now) title.entry)) id after)) }
+    ensures runs { RunsAdding (state S.Store conn.old) (state S.Store conn.new)
+        level.now (title_kept (option_map (λ bytes. bytes.now) title.entry)) result }
 {
     match judge_level(alloc, level) {
         Ok(()) => add_accepted(conn, alloc, level, title),
@@ -69,18 +60,8 @@ fn add_accepted<S: Alter>(
     title: Option<&[u8]>,
 ) -> Result<i64, BookFault>
     requires { IsAcceptable level.now }
-    ensures added { IfOk result (λ id. Turns (state S.Store conn.old) (state S.Store conn.new)
-        (λ book after. Adds book level.now
-        (title_kept (option_map (λ bytes. bytes.now) title.entry)) (id_number id) after)) }
-    ensures refused { IfErr result (λ fault.
-        Keeps (state S.Store conn.old) (state S.Store conn.new)
-        (λ book. IsOutside fault ⊎ IsNotAdded book level.now fault)) }
-    ensures stop { Stops (state S.Store conn.old) (state S.Store conn.new)
-        (λ book after. (id : _) × Adds book level.now
-        (title_kept (option_map (λ bytes. bytes.now) title.entry)) id after) }
-    ensures cause { IfErr result (IsCaused (state S.Store conn.old) (state S.Store conn.new)
-        (λ book after. (id : _) × Adds book level.now
-        (title_kept (option_map (λ bytes. bytes.now) title.entry)) id after)) }
+    ensures { RunsAdding (state S.Store conn.old) (state S.Store conn.new)
+        level.now (title_kept (option_map (λ bytes. bytes.now) title.entry)) result }
 {
     // A level tells with its rows that it is one.
     let _rows = level.rows();
@@ -95,8 +76,6 @@ fn add_accepted<S: Alter>(
         Err(error) => Err(fault_of(error)),
     }
 }
-
-ghost use Rattle.sok_store.specs.Entries.{AddsPage, IsCausedAdding, IsFull, StopsAdding};
 
 /// Adds the page of a level that is not in the book.
 fn add_new<S: Alter>(

@@ -1,12 +1,9 @@
 //! A solution is offered.
 
-ghost use Rattle.std.specs.Prelude.{◌⊎◌, ◌<◌, IfErr, IfOk};
+ghost use Rattle.std.specs.Prelude.{◌<◌};
 ghost use Rattle.sqlite.specs.Held.{state};
-ghost use Rattle.sok_book.specs.Commands.{Offers};
-ghost use Rattle.sok_book.specs.Refusals.{IsNotOffered};
-ghost use Rattle.sok_book.specs.declared.record.Offer.{Offer};
-ghost use Rattle.sok_row.specs.Faults.{IsOutside};
-ghost use Rattle.sok_store.specs.Calls.{IsCaused, Keeps, Stops, Turns, id_number};
+ghost use Rattle.sok_store.specs.Calls.{id_number};
+ghost use Rattle.sok_store.specs.Running.{RunsOffering};
 
 use crate::entry::entry_at;
 use crate::reading::place_of;
@@ -26,16 +23,8 @@ pub(crate) fn offer_to<S: Alter>(
     id: i64,
     letters: &[Dir],
 ) -> Result<Offer, BookFault>
-    ensures offered { IfOk result (λ answer.
-        Turns (state S.Store conn.old) (state S.Store conn.new)
-        (λ book after. Offers book (id_number id) letters.now answer after)) }
-    ensures refused { IfErr result (λ fault.
-        Keeps (state S.Store conn.old) (state S.Store conn.new)
-        (λ book. IsOutside fault ⊎ IsNotOffered book (id_number id) letters.now fault)) }
-    ensures stop { Stops (state S.Store conn.old) (state S.Store conn.new)
-        (λ book after. (answer : Offer) × Offers book (id_number id) letters.now answer after) }
-    ensures cause { IfErr result (IsCaused (state S.Store conn.old) (state S.Store conn.new)
-        (λ book after. (answer : Offer) × Offers book (id_number id) letters.now answer after)) }
+    ensures { RunsOffering (state S.Store conn.old) (state S.Store conn.new)
+        (id_number id) letters.now result }
 {
     match place_of(id) {
         Some(place) => offer_at(conn, alloc, place, letters),
@@ -51,16 +40,8 @@ fn offer_at<S: Alter>(
     letters: &[Dir],
 ) -> Result<Offer, BookFault>
     requires { 0 < id }
-    ensures offered { IfOk result (λ answer.
-        Turns (state S.Store conn.old) (state S.Store conn.new)
-        (λ book after. Offers book id letters.now answer after)) }
-    ensures refused { IfErr result (λ fault.
-        Keeps (state S.Store conn.old) (state S.Store conn.new)
-        (λ book. IsOutside fault ⊎ IsNotOffered book id letters.now fault)) }
-    ensures stop { Stops (state S.Store conn.old) (state S.Store conn.new)
-        (λ book after. (answer : Offer) × Offers book id letters.now answer after) }
-    ensures cause { IfErr result (IsCaused (state S.Store conn.old) (state S.Store conn.new)
-        (λ book after. (answer : Offer) × Offers book id letters.now answer after)) }
+    ensures { RunsOffering (state S.Store conn.old) (state S.Store conn.new)
+        id letters.now result }
 {
     let entry = match entry_at(conn, alloc, id) {
         Ok(entry) => entry,

@@ -2,11 +2,13 @@
 
 ghost use Rattle.std.specs.Prelude.{◌≡◌, ◌⊎◌, ◌<◌, IfErr, IfOk};
 ghost use Rattle.sqlite.specs.Held.{state};
-ghost use Rattle.sok_book.specs.Commands.{IsCertificate, Meets, Proves, verdict_of};
-ghost use Rattle.sok_book.specs.Refusals.{IsNotProved};
-ghost use Rattle.sok_cert.specs.Claim.{Claim};
-ghost use Rattle.sok_row.specs.Faults.{IsOutside};
-ghost use Rattle.sok_store.specs.Calls.{IsCaused, Keeps, Stops, Turns, id_number};
+ghost use Rattle.sok_book.specs.Books.{Page};
+ghost use Rattle.sok_book.specs.Commands.{IsCertificate, Meets, verdict_of};
+ghost use Rattle.sok_book.specs.Refusals.{IsUnproved};
+ghost use Rattle.sok_page.specs.Kept.{IsKeptPage};
+ghost use Rattle.sok_store.specs.Calls.{id_number};
+ghost use Rattle.sok_store.specs.Entries.{IsEntryOf};
+ghost use Rattle.sok_store.specs.Running.{RunsProving};
 
 use crate::entry::{Entry, entry_at};
 use crate::reading::place_of;
@@ -26,16 +28,8 @@ pub(crate) fn prove_to<S: Alter>(
     id: i64,
     bytes: &[u8],
 ) -> Result<Claim, BookFault>
-    ensures proved { IfOk result (λ shown.
-        Turns (state S.Store conn.old) (state S.Store conn.new)
-        (λ book after. Proves book (id_number id) bytes.now shown after)) }
-    ensures refused { IfErr result (λ fault.
-        Keeps (state S.Store conn.old) (state S.Store conn.new)
-        (λ book. IsOutside fault ⊎ IsNotProved book (id_number id) bytes.now fault)) }
-    ensures stop { Stops (state S.Store conn.old) (state S.Store conn.new)
-        (λ book after. (shown : Claim) × Proves book (id_number id) bytes.now shown after) }
-    ensures cause { IfErr result (IsCaused (state S.Store conn.old) (state S.Store conn.new)
-        (λ book after. (shown : Claim) × Proves book (id_number id) bytes.now shown after)) }
+    ensures { RunsProving (state S.Store conn.old) (state S.Store conn.new)
+        (id_number id) bytes.now result }
 {
     match place_of(id) {
         Some(place) => prove_at(conn, alloc, place, bytes),
@@ -51,16 +45,8 @@ fn prove_at<S: Alter>(
     bytes: &[u8],
 ) -> Result<Claim, BookFault>
     requires { 0 < id }
-    ensures proved { IfOk result (λ shown.
-        Turns (state S.Store conn.old) (state S.Store conn.new)
-        (λ book after. Proves book id bytes.now shown after)) }
-    ensures refused { IfErr result (λ fault.
-        Keeps (state S.Store conn.old) (state S.Store conn.new)
-        (λ book. IsOutside fault ⊎ IsNotProved book id bytes.now fault)) }
-    ensures stop { Stops (state S.Store conn.old) (state S.Store conn.new)
-        (λ book after. (shown : Claim) × Proves book id bytes.now shown after) }
-    ensures cause { IfErr result (IsCaused (state S.Store conn.old) (state S.Store conn.new)
-        (λ book after. (shown : Claim) × Proves book id bytes.now shown after)) }
+    ensures { RunsProving (state S.Store conn.old) (state S.Store conn.new)
+        id bytes.now result }
 {
     let entry = match entry_at(conn, alloc, id) {
         Ok(entry) => entry,
@@ -75,12 +61,6 @@ fn prove_at<S: Alter>(
         Err(fault) => Err(fault),
     }
 }
-
-ghost use Rattle.sok_book.specs.Books.{Page};
-ghost use Rattle.sok_book.specs.Commands.{best_pushes};
-ghost use Rattle.sok_book.specs.Refusals.{IsUnproved};
-ghost use Rattle.sok_page.specs.Kept.{IsKeptPage};
-ghost use Rattle.sok_store.specs.Entries.{IsEntryOf};
 
 /// The claim that bytes show of a level and its best solution.
 fn judge_entry(alloc: Global, entry: &Entry, bytes: &[u8]) -> Result<Claim, BookFault>

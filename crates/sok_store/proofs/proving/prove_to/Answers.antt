@@ -1,43 +1,24 @@
-use Rattle.std.proofs.Common.{◌⊎◌, inr, subst, IfErr, IfOk, ◌∙◌, ap, w64, IsNone}
+use Rattle.std.proofs.Common.{inr, subst, ◌∙◌, ap, w64, IsNone}
 use Rattle.std.proofs.lemmas.Int.{to_z-of_z}
 use Rattle.sqlite.specs.Held.{state}
-use Rattle.sok_cert.specs.Claim.{Claim}
-use Rattle.sok_book.specs.Commands.{Proves}
-use Rattle.sok_book.specs.Refusals.{IsNotProved}
 use Rattle.sok_book.specs.Books.{page_at}
-use Rattle.sok_row.specs.Faults.{IsOutside}
-use Rattle.sok_store.specs.Calls.{Keeps, Stops, Turns, id_number, IsCaused}
+use Rattle.sok_store.specs.Calls.{id_number}
+use Rattle.sok_store.specs.Running.{RunsProving}
 use Rattle.sok_store.proofs.Calls.{stops_same}
 use Rattle.sok_store.proofs.proving.prove_to.Goals as goal
 
-pub returns-in-Some-clause-proved : goal.returns-in-Some-clause-proved
-returns-in-Some-clause-proved g c =
+pub returns-in-Some : goal.returns-in-Some
+returns-in-Some g c =
     let same = c.in-Some.ensures.0 ∙ ap id_number (to_z-of_z w64 c.args.id c.ranges.id) in
-    subst (λ n. IfOk c.prove_at.result (λ shown. Turns (state g.S.Store c.args.conn.now) (state g.S.Store c.prove_at.new.conn)
-    (λ book after. Proves book n c.args.bytes.now shown after))) same c.prove_at.ensures.proved
+    subst (λ n. RunsProving (state g.S.Store c.args.conn.now) (state g.S.Store c.prove_at.new.conn) n c.args.bytes.now c.prove_at.result) same
+    c.prove_at.ensures
 
-pub returns-in-Some-clause-refused : goal.returns-in-Some-clause-refused
-returns-in-Some-clause-refused g c =
-    let same = c.in-Some.ensures.0 ∙ ap id_number (to_z-of_z w64 c.args.id c.ranges.id) in
-    subst (λ n. IfErr c.prove_at.result (λ fault. Keeps (state g.S.Store c.args.conn.now) (state g.S.Store c.prove_at.new.conn)
-    (λ book. IsOutside fault ⊎ IsNotProved book n c.args.bytes.now fault))) same c.prove_at.ensures.refused
-
-pub returns-in-Some-clause-stop : goal.returns-in-Some-clause-stop
-returns-in-Some-clause-stop g c =
-    let same = c.in-Some.ensures.0 ∙ ap id_number (to_z-of_z w64 c.args.id c.ranges.id) in
-    subst (λ n. Stops (state g.S.Store c.args.conn.now) (state g.S.Store c.prove_at.new.conn)
-    (λ book after. (shown : Claim) × Proves book n c.args.bytes.now shown after)) same c.prove_at.ensures.stop
-
-pub returns-in-None-clause-refused : goal.returns-in-None-clause-refused
-returns-in-None-clause-refused g c clean book holds =
-    let missing = subst (λ z. IsNone (page_at book (id_number z))) (to_z-of_z w64 c.args.id c.ranges.id) (c.in-None.ensures book holds.0.few) in
-    (inr missing, holds)
-
-pub returns-in-None-clause-stop : goal.returns-in-None-clause-stop
-returns-in-None-clause-stop g c = stops_same (state g.S.Store c.args.conn.now) _
-
-pub returns-in-Some-clause-cause : goal.returns-in-Some-clause-cause
-returns-in-Some-clause-cause g c =
-    let same = c.in-Some.ensures.0 ∙ ap id_number (to_z-of_z w64 c.args.id c.ranges.id) in
-    subst (λ n. IfErr c.prove_at.result (IsCaused (state g.S.Store c.args.conn.now) (state g.S.Store c.prove_at.new.conn)
-    (λ book after. (shown : Claim) × Proves book n c.args.bytes.now shown after))) same c.prove_at.ensures.cause
+pub returns-in-None : goal.returns-in-None
+returns-in-None g c = record {
+  done = tt;
+  refused = λ clean book holds.
+      let missing = subst (λ z. IsNone (page_at book (id_number z))) (to_z-of_z w64 c.args.id c.ranges.id) (c.in-None.ensures book holds.0.few) in
+      (inr missing, holds);
+  stop = stops_same (state g.S.Store c.args.conn.now) _;
+  cause = λ database. absurd cc;
+}

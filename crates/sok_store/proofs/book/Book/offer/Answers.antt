@@ -3,7 +3,7 @@ use Rattle.std.proofs.lemmas.Int.{to_z-of_z}
 use Rattle.sok_store.proofs.book.Book.offer.Goals as goal
 
 pub returns-clause-offered : goal.returns-clause-offered
-returns-clause-offered g c = rw (← c.self.view_is) (rw (to_z-of_z w64 c.args.id c.ranges.id) at c.offer_to.ensures.offered)
+returns-clause-offered g c = rw (← c.self.view_is) (rw (to_z-of_z w64 c.args.id c.ranges.id) at c.offer_to.ensures.done)
 
 pub returns-clause-refused : goal.returns-clause-refused
 returns-clause-refused g c = rw (← c.self.view_is) (rw (to_z-of_z w64 c.args.id c.ranges.id) at c.offer_to.ensures.refused)

@@ -3,7 +3,7 @@ use Rattle.std.proofs.lemmas.Int.{to_z-of_z}
 use Rattle.sok_store.proofs.book.Book.prove.Goals as goal
 
 pub returns-clause-proved : goal.returns-clause-proved
-returns-clause-proved g c = rw (← c.self.view_is) (rw (to_z-of_z w64 c.args.id c.ranges.id) at c.prove_to.ensures.proved)
+returns-clause-proved g c = rw (← c.self.view_is) (rw (to_z-of_z w64 c.args.id c.ranges.id) at c.prove_to.ensures.done)
 
 pub returns-clause-refused : goal.returns-clause-refused
 returns-clause-refused g c = rw (← c.self.view_is) (rw (to_z-of_z w64 c.args.id c.ranges.id) at c.prove_to.ensures.refused)

@@ -1,0 +1,39 @@
+-- What a command does with the book that a connection holds, to whichever of its ends it comes.
+use Rattle.std.specs.Prelude.{ℕ, ℤ, ◌⊎◌, List, Option, Result, IfErr, IfOk}
+use Rattle.sqlite.specs.State.{State}
+use Rattle.sok_rules.specs.declared.cell.Dir.{Dir}
+use Rattle.sok_rules.specs.Squares.{Rows}
+use Rattle.sok_cert.specs.Claim.{Claim}
+use Rattle.sok_book.specs.declared.fault.BookFault.{BookFault}
+use Rattle.sok_book.specs.declared.record.Offer.{Offer}
+use Rattle.sok_book.specs.Books.{Book}
+use Rattle.sok_book.specs.Commands.{Adds, Offers, Proves}
+use Rattle.sok_book.specs.Refusals.{IsNotAdded, IsNotOffered, IsNotProved}
+use Rattle.sok_row.specs.Faults.{IsOutside}
+use Rattle.sok_store.specs.Calls.{IsCaused, Keeps, Stops, Turns, id_number}
+
+-- a command that makes a book with what it answers; of one that it refuses the book stays, and a stop in its middle makes what it may make
+pub record Runs {X : Type 0} (old new : State) (Makes : X → Book → Book → Type 0) (MayMake : Book → Book → Type 0)
+    (Refuses : Book → BookFault → Type 0) (result : Result X BookFault) : Type 0 where
+  pub done : IfOk result (λ x. Turns old new (Makes x))
+  pub refused : IfErr result (λ fault. Keeps old new (λ book. IsOutside fault ⊎ Refuses book fault))
+  pub stop : Stops old new MayMake
+  pub cause : IfErr result (IsCaused old new MayMake)
+
+-- a level is added, with a title if there is one
+abbrev pub RunsAdding : State → State → Rows → Option (List ℕ) → Result ℤ BookFault → Type 0
+RunsAdding old new rows title =
+    Runs old new (λ id book after. Adds book rows title (id_number id) after) (λ book after. (id : ℕ) × Adds book rows title id after)
+    (λ book fault. IsNotAdded book rows fault)
+
+-- letters are offered as a solution of the level with an id
+abbrev pub RunsOffering : State → State → ℕ → List Dir → Result Offer BookFault → Type 0
+RunsOffering old new id letters =
+    Runs old new (λ answer book after. Offers book id letters answer after) (λ book after. (answer : Offer) × Offers book id letters answer after)
+    (λ book fault. IsNotOffered book id letters fault)
+
+-- a verdict of the level with an id is proved by bytes
+abbrev pub RunsProving : State → State → ℕ → List ℕ → Result Claim BookFault → Type 0
+RunsProving old new id bytes =
+    Runs old new (λ shown book after. Proves book id bytes shown after) (λ book after. (shown : Claim) × Proves book id bytes shown after)
+    (λ book fault. IsNotProved book id bytes fault)
