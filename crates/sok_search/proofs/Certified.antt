@@ -8,6 +8,7 @@ use Rattle.sok_board.specs.Area.{Numbered, IsAccepted}
 use Rattle.sok_cert.specs.Claim.{Claim}
 use Rattle.sok_cert.specs.Entry.{Entry}
 use Rattle.sok_cert.specs.Text.{FitsEntry, FitsReason, IsSmall, numbers_of_position, numbers_of_reason}
+use Rattle.sok_region.proofs.Floods.{slice_get-push_cases}
 use Rattle.sok_state.specs.declared.key.Key.{Key}
 use Rattle.sok_search.specs.declared.note.Note.{Note}
 use Rattle.sok_search.specs.declared.note.Standing.{Standing}
@@ -15,7 +16,7 @@ use Rattle.sok_search.specs.declared.note.Standing.TheVariants.{Open, Expanded, 
 use Rattle.sok_search.specs.Finished.{AreFirstEntries, HasText, IsAtMost, IsDone, IsEntryAt, IsEntryOf, claim_of}
 use Rattle.sok_search.specs.Limits.{state_limit}
 use Rattle.sok_search.specs.Searches.{Progress, IsBeaten, IsSearch, IsState, Stands}
-use Rattle.sok_search.proofs.Knowing.{key-within, push_cases}
+use Rattle.sok_search.proofs.Knowing.{key-within}
 
 none_waits : (queue : List ℕ) (i : ℕ) → queue ≡ [] → Contains queue i → ⊥
 none_waits queue i none (k, within, is) = let empty = ap length none in omega (arith, empty, within)
@@ -94,7 +95,7 @@ pub first-more : (b : Numbered) (claim : Claim) (p : Progress) (n : ℕ) (entrie
     → AreFirstEntries b claim p (n + 1) after
 first-more b claim p n entries after e are one more = subst (AreFirstEntries b claim p (n + 1)) (sym more) (record {
   as_many = let longer = length-append entries (e ∷ []) in let long = are.as_many in omega (arith, longer, long);
-  each = λ i key depth note other state there. elim (push_cases entries e i other there) [
+  each = λ i key depth note other state there. elim (slice_get-push_cases entries e i other there) [
     | inl before ↦ are.each i key depth note other state before
     | inr (last, same) ↦
         let at : n ≡ i = sym are.as_many ∙ sym last in

@@ -8,7 +8,7 @@ use Rattle.std.proofs.lemmas.Bool.{cases_eq}
 use Rattle.std.proofs.lemmas.List.{get_or_default, length-append, length-map, length-set}
 use Rattle.sok_board.specs.Area.{Numbered, boxes_of}
 use Rattle.sok_board.proofs.Lists.{AllPairs-append}
-use Rattle.sok_region.proofs.Floods.{slice_get-append}
+use Rattle.sok_region.proofs.Floods.{slice_get-append, slice_get-push_cases}
 use Rattle.sok_state.specs.Keys.{IsKey}
 use Rattle.sok_state.specs.declared.key.Key.{Key}
 use Rattle.sok_state.specs.Tables.{Entries, HasDistinctKeys}
@@ -17,7 +17,7 @@ use Rattle.sok_search.specs.declared.note.Standing.{Standing}
 use Rattle.sok_search.specs.declared.note.Standing.TheVariants.{Open, Expanded, Dead}
 use Rattle.sok_search.specs.Searches.{Progress, IsBeaten, IsCome, IsNoted, IsSearch, IsSolvedIn, IsState, Stands}
 use Rattle.sok_search.specs.Steps.{Grows, IsAdded, IsChanged, IsJudged, Queues}
-use Rattle.sok_search.proofs.Knowing.{key-within, push_cases}
+use Rattle.sok_search.proofs.Knowing.{key-within}
 use Rattle.sok_search.proofs.Keeping.{come-along, IsUnchanged, best-along, keeps}
 
 -- an element of a list that has another at one place
@@ -45,10 +45,10 @@ set_other (z ∷ zs) (suc j) y zero x other there = there
 set_other (z ∷ zs) (suc j) y (suc i) x other there = set_other zs j y i x (λ same. other (omega (arith, same))) there
 
 push-before : {X : Type 0} (xs : List X) (y : X) (i : ℕ) (x : X) → i < length xs → slice_get (xs ++ y ∷ []) i ≡ Some x → slice_get xs i ≡ Some x
-push-before xs y i x within there = elim (push_cases xs y i x there) [ inl before ↦ before | inr (last, is) ↦ absurd (omega (arith, last, within)) ]
+push-before xs y i x within there = elim (slice_get-push_cases xs y i x there) [ inl before ↦ before | inr (last, is) ↦ absurd (omega (arith, last, within)) ]
 
 push-last : {X : Type 0} (xs : List X) (y : X) (i : ℕ) (x : X) → i ≡ length xs → slice_get (xs ++ y ∷ []) i ≡ Some x → y ≡ x
-push-last xs y i x last there = elim (push_cases xs y i x there) [
+push-last xs y i x last there = elim (slice_get-push_cases xs y i x there) [
   | inl before ↦ let within = slice_get_within xs i x before in absurd (omega (arith, last, within))
   | inr (_, is) ↦ is
 ]
@@ -143,7 +143,7 @@ module _ (b : Numbered) (limit : ℕ) (p q : Progress) (key : Key) (depth : ℕ)
       let there : slice_get (keys_of p.table ++ key ∷ []) i ≡ Some k = subst (λ xs. slice_get xs i ≡ Some k) added.keys state.there in
       let depth_is : slice_get (values_of p.table ++ depth ∷ []) i ≡ Some d = subst (λ xs. slice_get xs i ≡ Some d) added.depths state.depth_is in
       let note_is : slice_get (p.notes ++ note ∷ []) i ≡ Some n = subst (λ xs. slice_get xs i ≡ Some n) added.notes state.note_is in
-      elim (push_cases (keys_of p.table) key i k there) [
+      elim (slice_get-push_cases (keys_of p.table) key i k there) [
         | inl before ↦
             let within = slice_get_within (keys_of p.table) i k before in
             inl (record {

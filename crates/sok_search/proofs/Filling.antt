@@ -10,6 +10,7 @@ use Rattle.sok_rules.proofs.Runs.{run-append}
 use Rattle.std.specs.Option.{option_and_then}
 use Rattle.sok_board.specs.Area.{Numbered, IsAccepted}
 use Rattle.sok_board.proofs.Lists.{Contains-at}
+use Rattle.sok_region.proofs.Floods.{slice_get-push_cases}
 use Rattle.sok_state.specs.declared.key.Key.{Key}
 use Rattle.sok_state.specs.declared.push.Push.{Push}
 use Rattle.sok_state.specs.Keys.{IsKeyOf}
@@ -19,7 +20,7 @@ use Rattle.sok_state.proofs.Placed.{IsStanding-placed}
 use Rattle.sok_state.proofs.States.{IsKeyOf-Same, key_position, keys_equal}
 use Rattle.sok_cert.proofs.Looking.{same_index, standing-after}
 use Rattle.sok_search.specs.Searches.{Progress, IsSearch}
-use Rattle.sok_search.proofs.Knowing.{push_cases, key-of-itself, known-key, some-at}
+use Rattle.sok_search.proofs.Knowing.{key-of-itself, known-key, some-at}
 use Rattle.sok_search.proofs.Chains.{IsReached, reached-more, state-reached}
 
 map_back : {X Y : Type 0} (f : X → Y) (xs : List X) (i : ℕ) (y : Y) → slice_get (map f xs) i ≡ Some y → (x : X) × (slice_get xs i ≡ Some x) × (f x ≡ y)
@@ -97,16 +98,16 @@ full-more b accepted limit p i key next push after search full there leads is ab
     let count = length-map p.table (λ (entry : Key × ℕ). entry.0) in
     let longer = length-append keys (next ∷ []) in
     many-states b accepted limit (keys ++ next ∷ []) (omega (arith, full, few, count, longer)) (record {
-      each = λ j other at. elim (push_cases keys next j other at) [
+      each = λ j other at. elim (slice_get-push_cases keys next j other at) [
         | inl before ↦ new-at b accepted limit p search j other before
         | inr (last, same) ↦ subst (IsNew b) same next_new
       ];
-      distinct = λ j k other j_at k_at. elim (push_cases keys next j other j_at) [
-        | inl j_before ↦ elim (push_cases keys next k other k_at) [
+      distinct = λ j k other j_at k_at. elim (slice_get-push_cases keys next j other j_at) [
+        | inl j_before ↦ elim (slice_get-push_cases keys next k other k_at) [
           | inl k_before ↦ same_index p.table search.distinct other j k j_before k_before
           | inr (last, same) ↦ absurd (absent (subst (Contains keys) (sym same) (Contains-at keys other j j_before)))
         ]
-        | inr (j_last, j_same) ↦ elim (push_cases keys next k other k_at) [
+        | inr (j_last, j_same) ↦ elim (slice_get-push_cases keys next k other k_at) [
           | inl k_before ↦ absurd (absent (subst (Contains keys) (sym j_same) (Contains-at keys other k k_before)))
           | inr (k_last, k_same) ↦ j_last ∙ sym k_last
         ]

@@ -1,7 +1,7 @@
 -- States of a search by their indices.
-use Rattle.std.proofs.Common.{ℕ, ◌≡◌, ◌<◌, ◌≤◌, ◌⊎◌, inl, inr, refl, List, [], ◌∷◌, ◌++◌, Some, zero, suc, arith, length, slice_get}
+use Rattle.std.proofs.Common.{ℕ, ◌≡◌, ◌<◌, ◌≤◌, refl, List, [], ◌∷◌, Some, zero, suc, arith, length, slice_get}
 use Rattle.std.specs.Map.{keys_of, values_of}
-use Rattle.std.proofs.lemmas.Option.{none-some, same_Some, slice_get_within}
+use Rattle.std.proofs.lemmas.Option.{slice_get_within}
 use Rattle.std.proofs.lemmas.List.{length-map}
 use Rattle.sok_board.specs.Area.{Numbered, IsAccepted, position_of}
 use Rattle.sok_state.specs.declared.key.Key.{Key}
@@ -72,14 +72,3 @@ pub key-of-itself : (b : Numbered) → IsAccepted b → (key : Key) → IsKey b 
 key-of-itself b accepted key state =
     IsKeyOf-Same b (position_of b state.player state.boxes) (key_position b key) key
     (IsStanding-placed b accepted.numbered accepted.proper state.player state.boxes state.placed) state.is.same state.is
-
--- an element of a list with one more at the end
-pub push_cases : {X : Type 0} (xs : List X) (y : X) (i : ℕ) (x : X) → slice_get (xs ++ y ∷ []) i ≡ Some x
-    → (slice_get xs i ≡ Some x) ⊎ ((i ≡ length xs) × (y ≡ x))
-push_cases [] y zero x there = inr (refl, same_Some y x there)
-push_cases [] y (suc i) x there = absurd (none-some x there)
-push_cases (z ∷ zs) y zero x there = inl there
-push_cases (z ∷ zs) y (suc i) x there = elim (push_cases zs y i x there) [
-  | inl before ↦ inl before
-  | inr (last, is) ↦ inr (omega (arith, last), is)
-]

@@ -3,7 +3,7 @@ use Rattle.std.proofs.Common.{ℕ, ◌≡◌, ◌<◌, ◌+◌, ◌∙◌, inl, 
 use Rattle.std.proofs.Common.{length}
 use Rattle.std.specs.Option.{option_and_then, IsSomeAnd}
 use Rattle.std.proofs.lemmas.List.{length-append}
-use Rattle.std.proofs.lemmas.Option.{option_and_then_some, same_Some}
+use Rattle.std.proofs.lemmas.Option.{same_Some}
 use Rattle.sok_rules.specs.declared.cell.Dir.{Dir}
 use Rattle.sok_rules.specs.Squares.{next, opposite}
 use Rattle.sok_rules.specs.Play.{AllOnGoals, Position, moved, run, start, step}
@@ -11,10 +11,9 @@ use Rattle.sok_rules.specs.States.{Same}
 use Rattle.sok_rules.proofs.Man.{IsStanding-start}
 use Rattle.sok_rules.proofs.Runs.{pushes-append, run-append}
 use Rattle.sok_rules.proofs.Walking.{Same-refl, Same-sym, boxes-Same}
-use Rattle.sok_rules.proofs.Spots.{next-opposite, opposite-twice}
 use Rattle.sok_rules.proofs.Steps.{step-box}
-use Rattle.sok_board.specs.Area.{Numbered, IsAccepted, beside, number_of, position_of, spot_of}
-use Rattle.sok_board.proofs.AreaLaws.{InArea-spot_of, spot_of-number_of}
+use Rattle.sok_board.specs.Area.{Numbered, IsAccepted, beside, position_of, spot_of}
+use Rattle.sok_board.proofs.AreaLaws.{InArea-spot_of}
 use Rattle.sok_board.proofs.Beside.{beside-within}
 use Rattle.sok_board.proofs.Inside.{InArea-open}
 use Rattle.sok_board.proofs.Positions.{listed_box, no_box}
@@ -23,18 +22,13 @@ use Rattle.sok_state.specs.declared.key.Key.{Key}
 use Rattle.sok_state.specs.declared.push.Push.{Push}
 use Rattle.sok_state.specs.Keys.{IsKey, IsKeyOf}
 use Rattle.sok_state.specs.Pushes.{IsLegal, LeadsTo}
-use Rattle.sok_state.proofs.LegalPushes.{IsFree, clear-legal, free-legal}
+use Rattle.sok_state.proofs.LegalPushes.{IsFree, beside-next, clear-legal, free-legal, next_behind}
 use Rattle.sok_state.proofs.States.{keys_equal, key_position}
 use Rattle.sok_cert.proofs.Looking.{standing-after}
 use Rattle.sok_search.specs.declared.trail.Trail.{Trail}
 use Rattle.sok_search.specs.Searches.{IsSolved}
 use Rattle.sok_search.specs.Trails.{GoesOn, IsBegun, IsFollowed, IsSolvedWith, IsSolvingTrace, IsTrail, LeadBy, Leads, pushes_of}
 use Rattle.sok_search.proofs.Chains.{pushes-push, run-push}
-
--- the square beside a numbered one
-beside-next : (b : Numbered) (d : Dir) (n m : ℕ) → beside b n d ≡ Some m → next d (spot_of b n) ≡ Some (spot_of b m)
-beside-next b d n m is = option_and_then_some (number_of b) (next d (spot_of b n)) m is (λ s ahead number. ahead
-    ∙ ap Some (sym (spot_of-number_of b s m number).1))
 
 -- the first push of a chain, which stands last
 LeadBy-first : (b : Numbered) (key to : Key) (later : List Push) (push : Push) → LeadBy b key (later ++ push ∷ []) to
@@ -186,11 +180,6 @@ module _ (b : Numbered) (old new : Trail) (push : Push) (trail : IsTrail b old) 
 -- a walk to behind a box and a push of it
 module _ (b : Numbered) (accepted : IsAccepted b) (key : Key) (region : List ℕ) (is : IsRegion b key.boxes key.least region)
     (push : Push) (legal : IsLegal b key push) where
-  next_behind : (behind : ℕ) → beside b push.from (opposite push.dir) ≡ Some behind → next push.dir (spot_of b behind) ≡ Some (spot_of b push.from)
-  next_behind behind behind_is =
-      ap (λ e. next e (spot_of b behind)) (sym (opposite-twice push.dir))
-      ∙ next-opposite (opposite push.dir) (spot_of b push.from) (spot_of b behind) (beside-next b (opposite push.dir) push.from behind behind_is)
-
   pub free : IsFree b key region push
   free = free-legal b accepted.numbered key region is push legal
 
@@ -217,7 +206,7 @@ module _ (b : Numbered) (accepted : IsAccepted b) (key : Key) (region : List ℕ
       let before : Position = position_of b behind key.boxes in
       let after : Position = record { man = spot_of b push.from; boxes = moved before.boxes (spot_of b push.from) (spot_of b ahead) } in
       let steps : step b.rows push.dir before ≡ Some (record { position = after; pushed = true }) =
-      step-box b.rows push.dir before (spot_of b push.from) (spot_of b ahead) false (next_behind behind behind_is)
+      step-box b.rows push.dir before (spot_of b push.from) (spot_of b ahead) false (next_behind b push.dir push.from behind behind_is)
       from_open (listed_box b behind key.boxes push.from among) (beside-next b push.dir push.from ahead free.onward.ahead_is) ahead_open
       (no_box b accepted.numbered behind key.boxes is.placed.boxes_exist ahead ahead_exists free.onward.clear) in
       record {

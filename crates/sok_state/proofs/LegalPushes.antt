@@ -28,12 +28,12 @@ use Rattle.sok_state.proofs.Moves.{boxes_moved, IsPlaced-moved}
 use Rattle.sok_state.proofs.States.{key_position}
 
 -- the square beside a numbered one
-beside-next : (b : Numbered) (d : Dir) (n m : ℕ) → beside b n d ≡ Some m → next d (spot_of b n) ≡ Some (spot_of b m)
+pub beside-next : (b : Numbered) (d : Dir) (n m : ℕ) → beside b n d ≡ Some m → next d (spot_of b n) ≡ Some (spot_of b m)
 beside-next b d n m is = option_and_then_some (number_of b) (next d (spot_of b n)) m is
     (λ s ahead number. ahead ∙ ap Some (sym (spot_of-number_of b s m number).1))
 
 -- a number beside a square, and one that is beside it
-next_behind : (b : Numbered) (d : Dir) (n m : ℕ) → beside b n (opposite d) ≡ Some m → next d (spot_of b m) ≡ Some (spot_of b n)
+pub next_behind : (b : Numbered) (d : Dir) (n m : ℕ) → beside b n (opposite d) ≡ Some m → next d (spot_of b m) ≡ Some (spot_of b n)
 next_behind b d n m is = ap (λ e. next e (spot_of b m)) (sym (opposite-twice d)) ∙ next-opposite (opposite d) (spot_of b n) (spot_of b m)
     (beside-next b (opposite d) n m is)
 
