@@ -1,8 +1,6 @@
 //! The places and options of a subcommand, with their help.
 
-ghost use Rattle.std.specs.Prelude.{◌≡◌, false};
-ghost use Rattle.clap.specs.Words.{rule_of};
-ghost use Rattle.sok_words.specs.Shapes.{cert_rule, id_rule, limit_rule, number_rule};
+ghost use Rattle.sok_words.specs.Shapes.{Follows, cert_rule, id_rule, limit_rule, number_rule};
 ghost use Rattle.sok_words.specs.Shapes.{required_rule};
 
 use clap::{Arg, value_parser};
@@ -10,16 +8,14 @@ use std::alloc::Global;
 
 /// A place that has to be filled.
 pub(crate) fn required_arg<'a>(alloc: Global, name: &'a str, help: &'a str) -> Arg<'a>
-    ensures rule { rule_of result ≡ required_rule name.entry.now }
-    ensures local { result.global ≡ false }
+    ensures { Follows (required_rule name.entry.now) result }
 {
     Arg::new(alloc, name).required(true).help(help)
 }
 
 /// A place for a number.
 pub(crate) fn number_arg<'a>(alloc: Global, name: &'a str, help: &'a str) -> Arg<'a>
-    ensures rule { rule_of result ≡ number_rule name.entry.now }
-    ensures local { result.global ≡ false }
+    ensures { Follows (number_rule name.entry.now) result }
 {
     Arg::new(alloc, name)
         .required(true)
@@ -29,8 +25,7 @@ pub(crate) fn number_arg<'a>(alloc: Global, name: &'a str, help: &'a str) -> Arg
 
 /// A place for the id of a level in a book.
 pub(crate) fn id_arg<'a>(alloc: Global, name: &'a str, help: &'a str) -> Arg<'a>
-    ensures rule { rule_of result ≡ id_rule name.entry.now }
-    ensures local { result.global ≡ false }
+    ensures { Follows (id_rule name.entry.now) result }
 {
     Arg::new(alloc, name)
         .required(true)
@@ -40,8 +35,7 @@ pub(crate) fn id_arg<'a>(alloc: Global, name: &'a str, help: &'a str) -> Arg<'a>
 
 /// The option for the most states that the solver keeps.
 pub(crate) fn limit_arg<'a>(alloc: Global) -> Arg<'a>
-    ensures rule { rule_of result ≡ limit_rule }
-    ensures local { result.global ≡ false }
+    ensures { Follows limit_rule result }
 {
     Arg::new(alloc, "limit")
         .long("limit")
@@ -53,8 +47,7 @@ pub(crate) fn limit_arg<'a>(alloc: Global) -> Arg<'a>
 
 /// The option for the path of the certificate.
 pub(crate) fn cert_arg<'a>(alloc: Global) -> Arg<'a>
-    ensures rule { rule_of result ≡ cert_rule }
-    ensures local { result.global ≡ false }
+    ensures { Follows cert_rule result }
 {
     Arg::new(alloc, "cert").long("cert").value_name("PATH").help(
         "Write the certificate to this file, which is created or emptied first",
