@@ -6,11 +6,10 @@ use sok_cert::claim::Claim;
 use sok_cert::fault::CertFault;
 use sok_cert::reading::read;
 use sok_rules::cell::Dir;
-use sok_sketch::sketch;
+use sok_sketch::{sets, sketch};
 use std::alloc::Global;
+use std::process::Abort;
 use std::test::Fail;
-
-type Case = (&'static str, &'static str, Result<Claim, CertFault>);
 
 const NO_PUSHES: Result<Claim, CertFault> = Ok(Claim::Pushes(0));
 
@@ -20,196 +19,141 @@ const SIX_PUSHES: Result<Claim, CertFault> = Ok(Claim::Pushes(6));
 
 const UNSOLVABLE: Result<Claim, CertFault> = Ok(Claim::Unsolvable);
 
-/// A board, the lines of a certificate behind the first, and what comes of it.
-const CASES: [Case; 44] = [
+/// The lines of a certificate behind the first, and what comes of it.
+type Case = (&'static str, Result<Claim, CertFault>);
+
+const ONE_PUSH: [Case; 10] = [
+    ("pushes 1\nb 0 0 1 1 1 0\nend\n", Ok(Claim::Pushes(1))),
+    ("pushes 1\ns 1 0 1 1\nend\n", Err(CertFault::Start)),
+    ("pushes 1\nend\n", Err(CertFault::Start)),
+    ("pushes 1\ns 0 0 1 9\nend\n", Err(CertFault::BadEntry(0))),
+    ("pushes 1\ns 0 0 1 9", Err(CertFault::Truncated)),
+    ("pushes 1\nb 0 0 1 1 1 0\n", Err(CertFault::Truncated)),
+    ("pushes 1\nb 0 0 1 1 1 0\nend\n\n", Err(CertFault::Line(5))),
+    ("pushes 1\nb 0 00 1 1 1 0\nend\n", Err(CertFault::Line(3))),
+    ("unsolvable\ns 0 0 1 1\nend\n", Err(CertFault::BadReason(0))),
     (
-        sketch::ONE_PUSH,
-        "pushes 1\nb 0 0 1 1 1 0\nend\n",
-        Ok(Claim::Pushes(1)),
-    ),
-    (
-        sketch::ONE_PUSH,
-        "pushes 1\ns 1 0 1 1\nend\n",
-        Err(CertFault::Start),
-    ),
-    (sketch::ONE_PUSH, "pushes 1\nend\n", Err(CertFault::Start)),
-    (
-        sketch::ONE_PUSH,
-        "pushes 1\ns 0 0 1 9\nend\n",
-        Err(CertFault::BadEntry(0)),
-    ),
-    (
-        sketch::ONE_PUSH,
-        "pushes 1\ns 0 0 1 9",
-        Err(CertFault::Truncated),
-    ),
-    (
-        sketch::ONE_PUSH,
-        "pushes 1\nb 0 0 1 1 1 0\n",
-        Err(CertFault::Truncated),
-    ),
-    (
-        sketch::ONE_PUSH,
-        "pushes 1\nb 0 0 1 1 1 0\nend\n\n",
-        Err(CertFault::Line(5)),
-    ),
-    (
-        sketch::ONE_PUSH,
-        "pushes 1\nb 0 00 1 1 1 0\nend\n",
-        Err(CertFault::Line(3)),
-    ),
-    (
-        sketch::ONE_PUSH,
-        "unsolvable\ns 0 0 1 1\nend\n",
-        Err(CertFault::BadReason(0)),
-    ),
-    (
-        sketch::ONE_PUSH,
         "pushes 1\nx 0 0 1 1\nend\n",
         Err(CertFault::OpenPush(0, 1, Dir::Right)),
     ),
-    (sketch::SOLVED, "pushes 0\ns 0 0 1 2\nend\n", NO_PUSHES),
+];
+
+const SOLVED: [Case; 3] = [
+    ("pushes 0\ns 0 0 1 2\nend\n", NO_PUSHES),
+    ("pushes 0\nx 0 0 1 2\nend\n", Err(CertFault::SolvedEntry(0))),
     (
-        sketch::SOLVED,
-        "pushes 0\nx 0 0 1 2\nend\n",
-        Err(CertFault::SolvedEntry(0)),
-    ),
-    (
-        sketch::SOLVED,
         "unsolvable\nf 0 0 1 2 1 0\nend\n",
         Err(CertFault::BadReason(0)),
     ),
+];
+
+const ROOM_OF_TWO_ROWS: [Case; 2] = [
+    ("pushes 2\nb 0 6 1 5 2 0\nend\n", TWO_PUSHES),
     (
-        sketch::ROOM_OF_TWO_ROWS,
-        "pushes 2\nb 0 6 1 5 2 0\nend\n",
-        TWO_PUSHES,
-    ),
-    (
-        sketch::ROOM_OF_TWO_ROWS,
         "unsolvable\nf 0 6 1 5 1 0\nend\n",
         Err(CertFault::BadReason(0)),
     ),
+];
+
+const TWO_BOXES_AND_THREE_GOALS: [Case; 3] = [
+    ("pushes 2\nb 0 0 2 8 10 1 1 0 0 0\nend\n", TWO_PUSHES),
     (
-        sketch::TWO_BOXES_AND_THREE_GOALS,
-        "pushes 2\nb 0 0 2 8 10 1 1 0 0 0\nend\n",
-        TWO_PUSHES,
-    ),
-    (
-        sketch::TWO_BOXES_AND_THREE_GOALS,
         "pushes 2\nb 0 0 2 8 10 1 1 1 0 0\nend\n",
         Err(CertFault::BadReason(0)),
     ),
     (
-        sketch::TWO_BOXES_AND_THREE_GOALS,
         "pushes 3\nb 0 0 2 8 10 2 2 0 1 1\nend\n",
         Err(CertFault::BadReason(0)),
     ),
-    (
-        sketch::TWO_IN_A_ROW,
-        "unsolvable\nf 0 0 2 1 2 2 0 1\nend\n",
-        UNSOLVABLE,
-    ),
+];
+
+const TWO_IN_A_ROW: [Case; 2] = [
+    ("unsolvable\nf 0 0 2 1 2 2 0 1\nend\n", UNSOLVABLE),
     // no push is there
-    (
-        sketch::TWO_IN_A_ROW,
-        "unsolvable\nx 0 0 2 1 2\nend\n",
-        UNSOLVABLE,
-    ),
+    ("unsolvable\nx 0 0 2 1 2\nend\n", UNSOLVABLE),
+];
+
+const CORRIDOR_OF_SIX_PUSHES: [Case; 10] = [
     // in each order
     (
-        sketch::CORRIDOR_OF_SIX_PUSHES,
         "pushes 6\nx 0 4 1 5\nx 1 5 1 6\nb 2 6 1 7 4 0\nend\n",
         SIX_PUSHES,
     ),
     (
-        sketch::CORRIDOR_OF_SIX_PUSHES,
         "pushes 6\nx 0 4 1 5\nb 2 6 1 7 4 0\nx 1 5 1 6\nend\n",
         SIX_PUSHES,
     ),
     (
-        sketch::CORRIDOR_OF_SIX_PUSHES,
         "pushes 6\nx 1 5 1 6\nx 0 4 1 5\nb 2 6 1 7 4 0\nend\n",
         SIX_PUSHES,
     ),
     (
-        sketch::CORRIDOR_OF_SIX_PUSHES,
         "pushes 6\nx 1 5 1 6\nb 2 6 1 7 4 0\nx 0 4 1 5\nend\n",
         SIX_PUSHES,
     ),
     (
-        sketch::CORRIDOR_OF_SIX_PUSHES,
         "pushes 6\nb 2 6 1 7 4 0\nx 0 4 1 5\nx 1 5 1 6\nend\n",
         SIX_PUSHES,
     ),
     (
-        sketch::CORRIDOR_OF_SIX_PUSHES,
         "pushes 6\nb 2 6 1 7 4 0\nx 1 5 1 6\nx 0 4 1 5\nend\n",
         SIX_PUSHES,
     ),
     // without the entry that the one push leads to
     (
-        sketch::CORRIDOR_OF_SIX_PUSHES,
         "pushes 6\nx 0 4 1 5\nb 2 6 1 7 4 0\nend\n",
         Err(CertFault::OpenPush(0, 5, Dir::Right)),
     ),
     // with a price that is too high
     (
-        sketch::CORRIDOR_OF_SIX_PUSHES,
         "pushes 6\nx 0 4 1 5\nx 1 5 1 6\nb 2 6 1 7 5 0\nend\n",
         Err(CertFault::BadReason(2)),
     ),
     // with the start twice, the player on two squares of it
     (
-        sketch::CORRIDOR_OF_SIX_PUSHES,
         "pushes 6\nx 0 4 1 5\nx 0 3 1 5\nx 1 5 1 6\nb 2 6 1 7 4 0\nend\n",
         Err(CertFault::Duplicate(1)),
     ),
     // with the box on one square twice, the player on either side
     (
-        sketch::CORRIDOR_OF_SIX_PUSHES,
         "pushes 6\nx 0 4 1 5\nx 1 5 1 6\nb 2 6 1 7 4 0\nb 3 8 1 6 3 0\nend\n",
         SIX_PUSHES,
     ),
-    // with other claims
+];
+
+/// The corridor with other claims.
+const CORRIDOR_OF_OTHER_PUSHES: [Case; 8] = [
     (
-        sketch::CORRIDOR_OF_SIX_PUSHES,
         "pushes 5\nx 0 4 1 5\nx 1 5 1 6\nb 2 6 1 7 4 0\nend\n",
         Ok(Claim::Pushes(5)),
     ),
     (
-        sketch::CORRIDOR_OF_SIX_PUSHES,
         "pushes 7\nx 0 4 1 5\nx 1 5 1 6\nb 2 6 1 7 4 0\nend\n",
         Err(CertFault::BadReason(2)),
     ),
     (
-        sketch::CORRIDOR_OF_SIX_PUSHES,
         "unsolvable\nx 0 4 1 5\nx 1 5 1 6\nb 2 6 1 7 4 0\nend\n",
         Err(CertFault::BadReason(2)),
     ),
     // two pushes are made, and no more is claimed
     (
-        sketch::CORRIDOR_OF_SIX_PUSHES,
         "pushes 2\nx 0 4 1 5\nx 1 5 1 6\ns 2 6 1 7\nend\n",
         TWO_PUSHES,
     ),
     (
-        sketch::CORRIDOR_OF_SIX_PUSHES,
         "pushes 3\nx 0 4 1 5\nx 1 5 1 6\ns 2 6 1 7\nend\n",
         Err(CertFault::BadReason(2)),
     ),
     (
-        sketch::CORRIDOR_OF_SIX_PUSHES,
         "pushes 2\nx 0 4 1 5\ns 2 6 1 7\nend\n",
         Err(CertFault::OpenPush(0, 5, Dir::Right)),
     ),
     (
-        sketch::CORRIDOR_OF_SIX_PUSHES,
         "pushes 2\nx 1 5 1 6\nx 0 4 1 5\ns 2 6 1 7\nend\n",
         TWO_PUSHES,
     ),
     // a box with the player on one side of it only does not stand for the other side
     (
-        sketch::CORRIDOR_OF_SIX_PUSHES,
         "\
 unsolvable
 x 0 4 1 5
@@ -222,33 +166,28 @@ end
 ",
         Err(CertFault::OpenPush(2, 7, Dir::Left)),
     ),
-    (sketch::NO_BOX_INSIDE, "pushes 0\ns 0 0 0\nend\n", NO_PUSHES),
-    (
-        sketch::BOX_BEYOND_THE_GOAL,
-        "unsolvable\nc 0 0 1 2 1 0\nend\n",
-        UNSOLVABLE,
-    ),
-    (
-        sketch::TWO_BOXES_FOR_ONE_GOAL,
-        "unsolvable\nc 0 12 2 1 3 2 0 1\nend\n",
-        UNSOLVABLE,
-    ),
-    (
-        sketch::ONE_PUSH_LEFT,
-        "pushes 1\nx 0 2 1 1\nend\n",
-        Err(CertFault::OpenPush(0, 1, Dir::Left)),
-    ),
-    (
-        sketch::ONE_PUSH_UP,
-        "pushes 1\nx 0 2 1 1\nend\n",
-        Err(CertFault::OpenPush(0, 1, Dir::Up)),
-    ),
-    (
-        sketch::ONE_PUSH_DOWN,
-        "pushes 1\nx 0 0 1 1\nend\n",
-        Err(CertFault::OpenPush(0, 1, Dir::Down)),
-    ),
 ];
+
+const NO_BOX_INSIDE: [Case; 1] = [("pushes 0\ns 0 0 0\nend\n", NO_PUSHES)];
+
+const BOX_BEYOND_THE_GOAL: [Case; 1] = [("unsolvable\nc 0 0 1 2 1 0\nend\n", UNSOLVABLE)];
+
+const TWO_BOXES_FOR_ONE_GOAL: [Case; 1] = [("unsolvable\nc 0 12 2 1 3 2 0 1\nend\n", UNSOLVABLE)];
+
+const ONE_PUSH_LEFT: [Case; 1] = [(
+    "pushes 1\nx 0 2 1 1\nend\n",
+    Err(CertFault::OpenPush(0, 1, Dir::Left)),
+)];
+
+const ONE_PUSH_UP: [Case; 1] = [(
+    "pushes 1\nx 0 2 1 1\nend\n",
+    Err(CertFault::OpenPush(0, 1, Dir::Up)),
+)];
+
+const ONE_PUSH_DOWN: [Case; 1] = [(
+    "pushes 1\nx 0 0 1 1\nend\n",
+    Err(CertFault::OpenPush(0, 1, Dir::Down)),
+)];
 
 /// The claim that a text shows of a board, or its first fault.
 fn judged(alloc: Global, board: &Board, text: &[u8]) -> Result<Claim, CertFault> {
@@ -256,17 +195,59 @@ fn judged(alloc: Global, board: &Board, text: &[u8]) -> Result<Claim, CertFault>
     Ok(check(alloc, board, &claim, &cert)?.claim())
 }
 
+/// Judges each case of a board.
+fn judge(rt: &impl Abort, alloc: Global, rows: &str, cases: &[Case]) -> Result<(), Fail> {
+    let board = sets::board(alloc, rows)?;
+    for (lines, told) in cases {
+        let mut text = String::from_str(alloc, "sokoban-certificate 1\n")?;
+        text.push_str(lines)?;
+        let found = judged(alloc, &board, text.as_bytes());
+        assert_eq!(rt; found, *told, "{text}{rows}");
+    }
+    Ok(())
+}
+
 #[test]
 fn certificates_of_levels(rt: HostRuntime) -> Result<(), Fail> {
     let alloc = rt.alloc();
-    for (board, lines, told) in CASES {
-        let level = sketch::level(alloc, board)?;
-        let mut text = String::from_str(alloc, "sokoban-certificate 1\n")?;
-        text.push_str(lines)?;
-        let judged = judged(alloc, &Board::new(alloc, &level)?, text.as_bytes());
-        assert_eq!(rt; judged, told, "{text}{board}");
-    }
-    Ok(())
+    judge(&rt, alloc, sketch::ONE_PUSH, &ONE_PUSH)?;
+    judge(&rt, alloc, sketch::SOLVED, &SOLVED)?;
+    judge(&rt, alloc, sketch::ROOM_OF_TWO_ROWS, &ROOM_OF_TWO_ROWS)?;
+    judge(
+        &rt,
+        alloc,
+        sketch::TWO_BOXES_AND_THREE_GOALS,
+        &TWO_BOXES_AND_THREE_GOALS,
+    )?;
+    judge(&rt, alloc, sketch::TWO_IN_A_ROW, &TWO_IN_A_ROW)?;
+    judge(
+        &rt,
+        alloc,
+        sketch::CORRIDOR_OF_SIX_PUSHES,
+        &CORRIDOR_OF_SIX_PUSHES,
+    )?;
+    judge(
+        &rt,
+        alloc,
+        sketch::CORRIDOR_OF_SIX_PUSHES,
+        &CORRIDOR_OF_OTHER_PUSHES,
+    )?;
+    judge(&rt, alloc, sketch::NO_BOX_INSIDE, &NO_BOX_INSIDE)?;
+    judge(
+        &rt,
+        alloc,
+        sketch::BOX_BEYOND_THE_GOAL,
+        &BOX_BEYOND_THE_GOAL,
+    )?;
+    judge(
+        &rt,
+        alloc,
+        sketch::TWO_BOXES_FOR_ONE_GOAL,
+        &TWO_BOXES_FOR_ONE_GOAL,
+    )?;
+    judge(&rt, alloc, sketch::ONE_PUSH_LEFT, &ONE_PUSH_LEFT)?;
+    judge(&rt, alloc, sketch::ONE_PUSH_UP, &ONE_PUSH_UP)?;
+    judge(&rt, alloc, sketch::ONE_PUSH_DOWN, &ONE_PUSH_DOWN)
 }
 
 /// A certificate that is cut off anywhere is refused. Only its last line may lack its end. Nothing
@@ -277,8 +258,7 @@ fn corridor_cut_at_each_length(rt: HostRuntime) -> Result<(), Fail> {
     let once = "sokoban-certificate 1\npushes 6\nx 0 4 1 5\nx 1 5 1 6\nb 2 6 1 7 4 0\nend\n";
     let twice = once.repeat(alloc, 2)?;
     let text = twice.as_bytes();
-    let level = sketch::level(alloc, sketch::CORRIDOR_OF_SIX_PUSHES)?;
-    let board = Board::new(alloc, &level)?;
+    let board = sets::board(alloc, sketch::CORRIDOR_OF_SIX_PUSHES)?;
     for length in 0..=text.len() {
         let told = match length {
             0..=29 => Err(CertFault::Header),

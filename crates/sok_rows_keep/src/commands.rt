@@ -1,12 +1,9 @@
 //! Commands one after another, each on the book that the last one left.
 
-use crate::rows::{Command, Row, book_in, first_other, first_other_in_file};
+use crate::rows::{Command, Row, answer, book_in, first_other};
 use sok_engine::fault::ToolFault;
-use sok_keep::add::add_bytes;
-use sok_keep::offer::offer_bytes;
 use sok_sketch::sketch::{BOX_BEYOND_THE_GOAL, ROOM_OF_TWO_ROWS, SOLVED};
 use sqlite::Connection;
-use std::fs;
 use std::test::Fail;
 
 /// That the room cannot be solved with fewer than two pushes.
@@ -53,17 +50,6 @@ const ROOM: [Row; 14] = [
 #[test]
 fn a_room_is_added_solved_and_proved(rt: HostRuntime) -> Result<(), Fail> {
     assert_eq!(rt; first_other(rt.alloc(), &ROOM)?, None);
-    Ok(())
-}
-
-#[test]
-fn a_file_is_closed_after_each_command(rt: HostRuntime) -> Result<(), Fail> {
-    let folder = "sok_rows_keep_book";
-    let _ = fs::remove_dir_all(&rt, folder);
-    fs::create_dir(&rt, folder)?;
-    let other = first_other_in_file(&rt, "sok_rows_keep_book/room.db", &ROOM)?;
-    assert_eq!(rt; other, None);
-    fs::remove_dir_all(&rt, folder)?;
     Ok(())
 }
 
@@ -142,12 +128,13 @@ fn a_command_stands_without_its_answer(rt: HostRuntime) -> Result<(), Fail> {
     let alloc = rt.alloc();
     let mut book = book_in(alloc, Connection::open_in_memory(alloc)?)?;
     let mut out = Vec::new(alloc);
-    add_bytes(alloc, &mut book, &mut ROOM_OF_TWO_ROWS.as_bytes(), &mut out)?;
+    answer(alloc, &mut book, Command::Add(ROOM_OF_TWO_ROWS), &mut out)?;
     let mut room = [0u8; 4];
-    let offered = offer_bytes(alloc, &mut book, 1, b"ulldRR", &mut room.as_mut_slice());
+    let offer = Command::Offer(1, "ulldRR");
+    let offered = answer(alloc, &mut book, offer, &mut room.as_mut_slice());
     assert_eq!(rt; offered, Err(ToolFault::WriteFailed));
     assert_eq!(rt; room.as_slice(), b"stor".as_slice());
-    let again = offer_bytes(alloc, &mut book, 1, b"ulldRR", &mut out);
+    let again = answer(alloc, &mut book, offer, &mut out);
     assert_eq!(rt; again, Ok(1));
     assert_eq!(rt; out.as_slice(), b"1 id 1\nkept 2 6\n".as_slice());
     Ok(())

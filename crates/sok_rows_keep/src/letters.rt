@@ -1,10 +1,7 @@
 //! A text of as many letters as may be offered.
 
-use crate::rows::book_in;
+use crate::rows::{Command, answer, book_in};
 use sok_engine::fault::ToolFault;
-use sok_keep::add::add_bytes;
-use sok_keep::offer::offer_bytes;
-use sok_keep::show::show_bytes;
 use sok_sketch::sketch::ROOM_OF_TWO_ROWS;
 use sok_store::book::Book;
 use sqlite::{Connection, MemStore};
@@ -18,7 +15,7 @@ fn told(
     text: &str,
 ) -> Result<Result<Vec<u8>, ToolFault>, Fail> {
     let mut out = Vec::new(alloc);
-    match offer_bytes(alloc, book, 1, text.as_bytes(), &mut out) {
+    match answer(alloc, book, Command::Offer(1, text), &mut out) {
         Ok(_) => Ok(Ok(out)),
         Err(fault) => Ok(Err(fault)),
     }
@@ -30,7 +27,7 @@ fn a_million_letters_are_stored(rt: HostRuntime) -> Result<(), Fail> {
     let alloc = rt.alloc();
     let mut book = book_in(alloc, Connection::open_in_memory(alloc)?)?;
     let mut out = Vec::new(alloc);
-    add_bytes(alloc, &mut book, &mut ROOM_OF_TWO_ROWS.as_bytes(), &mut out)?;
+    answer(alloc, &mut book, Command::Add(ROOM_OF_TWO_ROWS), &mut out)?;
     let steps = "ud".repeat(alloc, 499_997)?;
     let longer = format!(in alloc; "{steps}ulldRRl")?;
     assert!(rt; told(alloc, &mut book, longer.as_str())? == Err(ToolFault::TooLong));
@@ -38,7 +35,7 @@ fn a_million_letters_are_stored(rt: HostRuntime) -> Result<(), Fail> {
     let stored = told(alloc, &mut book, letters.as_str())?;
     assert!(rt; stored == Ok(b"stored 2 1000000\n".to_vec(alloc)?));
     let mut shown = Vec::new(alloc);
-    show_bytes(alloc, &mut book, 1, &mut shown)?;
+    answer(alloc, &mut book, Command::Show(1), &mut shown)?;
     let whole = format!(in alloc;
         "{ROOM_OF_TWO_ROWS}best 2 1000000 {letters}\nverdict untested\n"
     )?;

@@ -1,5 +1,6 @@
 //! Tests of a book that is kept in a database: of its table, of the book over it and of the engines
-//! on the book, in memory and in a file, with answers that were worked out by hand.
+//! on the book, in memory, with answers that were worked out by hand. A book in a file is tested
+//! through the program.
 //!
 //! | Module | What it tests |
 //! |---|---|

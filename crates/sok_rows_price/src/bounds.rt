@@ -5,6 +5,8 @@ use sok_bar::bound::Bound;
 use sok_bar::rest::Rest;
 use sok_bar::spent::Spent;
 use sok_sketch::sketch;
+use std::alloc::Global;
+use std::process::Abort;
 use std::test::Fail;
 
 #[test]
@@ -29,30 +31,22 @@ fn no_prices_show_that_there_is_no_solution(rt: HostRuntime) -> Result<(), Fail>
 
 const AFTER_A_PUSH: Position<'_> = (sketch::CORRIDOR_OF_SIX_PUSHES, &[7], 6);
 
-/// A position, how many pushes are to be shown, prices of boxes and of goals, and whether they
-/// show it.
-type Case<'a> = (Position<'a>, u32, &'a [u32], &'a [u32], bool);
+/// How many pushes are to be shown, prices of boxes and of goals, and whether they show it.
+type Case<'a> = (u32, &'a [u32], &'a [u32], bool);
 
-const PRICES: [Case<'_>; 14] = [
-    (TO_THE_GOAL, 1, &[1], &[0], true),
-    (TO_THE_GOAL, 2, &[1], &[0], false),
-    // a price of the distance, and one above it
-    (IN_THE_ROOM, 2, &[2], &[0], true),
-    (AFTER_A_PUSH, 4, &[4], &[0], true),
-    (AFTER_A_PUSH, 4, &[5], &[0], false),
-    (TWO_AND_THREE_GOALS, 2, &[1, 1], &[0, 0, 0], true),
+const ON_TWO_AND_THREE_GOALS: [Case<'_>; 9] = [
+    (2, &[1, 1], &[0, 0, 0], true),
     // the price of a goal that no box needs is subtracted
-    (TWO_AND_THREE_GOALS, 2, &[1, 1], &[1, 0, 0], false),
-    (TWO_AND_THREE_GOALS, 2, &[2, 2], &[0, 1, 1], true),
-    (TWO_AND_THREE_GOALS, 3, &[2, 2], &[0, 1, 1], false),
+    (2, &[1, 1], &[1, 0, 0], false),
+    (2, &[2, 2], &[0, 1, 1], true),
+    (3, &[2, 2], &[0, 1, 1], false),
     // lists of other lengths
-    (TWO_AND_THREE_GOALS, 0, &[1], &[0, 0, 0], false),
-    (TWO_AND_THREE_GOALS, 0, &[1, 1], &[0, 0], false),
-    (TWO_AND_THREE_GOALS, 0, &[1, 1], &[0, 0, 0, 0], false),
-    (TWO_AND_THREE_GOALS, 0, &[], &[], false),
+    (0, &[1], &[0, 0, 0], false),
+    (0, &[1, 1], &[0, 0], false),
+    (0, &[1, 1], &[0, 0, 0, 0], false),
+    (0, &[], &[], false),
     // prices whose sums do not fit a price
     (
-        TWO_AND_THREE_GOALS,
         0,
         &[u32::MAX, u32::MAX],
         &[u32::MAX, u32::MAX, u32::MAX],
@@ -60,12 +54,34 @@ const PRICES: [Case<'_>; 14] = [
     ),
 ];
 
-#[test]
-fn prices_that_bound(rt: HostRuntime) -> Result<(), Fail> {
-    for (position, pushes, u, v, answer) in PRICES {
+/// A price of the distance, and one above it.
+const ON_AFTER_A_PUSH: [Case<'_>; 2] = [(4, &[4], &[0], true), (4, &[5], &[0], false)];
+
+/// Asks of prices of a position whether they show so many pushes.
+fn ask(
+    rt: &impl Abort,
+    alloc: Global,
+    position: Position<'_>,
+    cases: &[Case<'_>],
+) -> Result<(), Fail> {
+    for (pushes, u, v, answer) in cases {
         let bound = Bound { u, v };
-        let found = holds(&rt, rt.alloc(), &bound, position, Rest::AtLeast(pushes))?;
-        assert_eq!(rt; found, answer, "{pushes} by {bound:?}");
+        let found = holds(rt, alloc, &bound, position, Rest::AtLeast(*pushes))?;
+        assert_eq!(rt; found, *answer, "{pushes} by {bound:?}");
     }
     Ok(())
+}
+
+#[test]
+fn prices_that_bound(rt: HostRuntime) -> Result<(), Fail> {
+    let to_the_goal: &[Case<'_>] = &[(1, &[1], &[0], true), (2, &[1], &[0], false)];
+    ask(&rt, rt.alloc(), TO_THE_GOAL, to_the_goal)?;
+    ask(&rt, rt.alloc(), IN_THE_ROOM, &[(2, &[2], &[0], true)])?;
+    ask(&rt, rt.alloc(), AFTER_A_PUSH, &ON_AFTER_A_PUSH)?;
+    ask(
+        &rt,
+        rt.alloc(),
+        TWO_AND_THREE_GOALS,
+        &ON_TWO_AND_THREE_GOALS,
+    )
 }

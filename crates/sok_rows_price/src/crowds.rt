@@ -4,33 +4,45 @@ use crate::setting::{BEYOND_THE_GOAL, Position, TWO_AND_THREE_GOALS, TWO_FOR_ONE
 use sok_bar::crowd::Crowd;
 use sok_bar::rest::Rest;
 use sok_sketch::sketch;
+use std::alloc::Global;
+use std::process::Abort;
 use std::test::Fail;
 
-/// A position, members, and whether they are a crowd.
-type Case<'a> = (Position<'a>, &'a [u32], bool);
+/// Members, and whether they are a crowd.
+type Case<'a> = (&'a [u32], bool);
 
-const MEMBERS: [Case<'_>; 8] = [
-    (BEYOND_THE_GOAL, &[0], true),
-    (TWO_FOR_ONE_GOAL, &[0], false),
-    (TWO_FOR_ONE_GOAL, &[0, 1], true),
-    (TWO_AND_THREE_GOALS, &[0, 1], false),
+const FOR_ONE_GOAL: [Case<'_>; 6] = [
+    (&[0], false),
+    (&[0, 1], true),
     // numbers that fall, that stay, that are no indices, and none at all
-    (TWO_FOR_ONE_GOAL, &[1, 0], false),
-    (TWO_FOR_ONE_GOAL, &[0, 0], false),
-    (TWO_FOR_ONE_GOAL, &[0, 1, 2], false),
-    (TWO_FOR_ONE_GOAL, &[], false),
+    (&[1, 0], false),
+    (&[0, 0], false),
+    (&[0, 1, 2], false),
+    (&[], false),
 ];
 
-#[test]
-fn members_of_crowds(rt: HostRuntime) -> Result<(), Fail> {
-    for (position, members, answer) in MEMBERS {
+/// Asks of members of a position whether they are a crowd.
+fn ask(
+    rt: &impl Abort,
+    alloc: Global,
+    position: Position<'_>,
+    cases: &[Case<'_>],
+) -> Result<(), Fail> {
+    for (members, answer) in cases {
         let crowd = Crowd { members };
         for rest in [Rest::Never, Rest::AtLeast(7)] {
-            let found = holds(&rt, rt.alloc(), &crowd, position, rest)?;
-            assert_eq!(rt; found, answer, "{crowd:?} for {rest:?}");
+            let found = holds(rt, alloc, &crowd, position, rest)?;
+            assert_eq!(rt; found, *answer, "{crowd:?} for {rest:?}");
         }
     }
     Ok(())
+}
+
+#[test]
+fn members_of_crowds(rt: HostRuntime) -> Result<(), Fail> {
+    ask(&rt, rt.alloc(), BEYOND_THE_GOAL, &[(&[0], true)])?;
+    ask(&rt, rt.alloc(), TWO_FOR_ONE_GOAL, &FOR_ONE_GOAL)?;
+    ask(&rt, rt.alloc(), TWO_AND_THREE_GOALS, &[(&[0, 1], false)])
 }
 
 /// The box alone, on a square from which it comes to the goal or does not.

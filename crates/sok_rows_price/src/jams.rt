@@ -11,31 +11,41 @@ use std::alloc::Global;
 use std::process::Abort;
 use std::test::Fail;
 
-/// A position, members, and whether they are frozen.
-type Case<'a> = (Position<'a>, &'a [u32], bool);
+/// Members, and whether they are frozen.
+type Case<'a> = (&'a [u32], bool);
 
-const MEMBERS: [Case<'_>; 8] = [
-    (TWO_IN_A_ROW, &[0, 1], true),
-    (TWO_IN_A_ROW, &[0], false),
-    (ON_THE_GOAL, &[0], false),
-    (IN_THE_ROOM, &[0], false),
+const IN_A_ROW: [Case<'_>; 6] = [
+    (&[0, 1], true),
+    (&[0], false),
     // numbers that fall, that stay, that are no indices, and none at all
-    (TWO_IN_A_ROW, &[1, 0], false),
-    (TWO_IN_A_ROW, &[0, 0], false),
-    (TWO_IN_A_ROW, &[0, 1, 2], false),
-    (TWO_IN_A_ROW, &[], false),
+    (&[1, 0], false),
+    (&[0, 0], false),
+    (&[0, 1, 2], false),
+    (&[], false),
 ];
 
-#[test]
-fn members_that_are_frozen(rt: HostRuntime) -> Result<(), Fail> {
-    for (position, members, answer) in MEMBERS {
+/// Asks of members of a position whether they are frozen.
+fn ask(
+    rt: &impl Abort,
+    alloc: Global,
+    position: Position<'_>,
+    cases: &[Case<'_>],
+) -> Result<(), Fail> {
+    for (members, answer) in cases {
         let frozen = Frozen { members };
         for rest in [Rest::Never, Rest::AtLeast(3)] {
-            let found = holds(&rt, rt.alloc(), &frozen, position, rest)?;
-            assert_eq!(rt; found, answer, "{frozen:?} for {rest:?}");
+            let found = holds(rt, alloc, &frozen, position, rest)?;
+            assert_eq!(rt; found, *answer, "{frozen:?} for {rest:?}");
         }
     }
     Ok(())
+}
+
+#[test]
+fn members_that_are_frozen(rt: HostRuntime) -> Result<(), Fail> {
+    ask(&rt, rt.alloc(), TWO_IN_A_ROW, &IN_A_ROW)?;
+    ask(&rt, rt.alloc(), ON_THE_GOAL, &[(&[0], false)])?;
+    ask(&rt, rt.alloc(), IN_THE_ROOM, &[(&[0], false)])
 }
 
 /// The members of the jam that is found with a box on a square, None where none is.

@@ -20,15 +20,9 @@ use std::test::Fail;
 fn least(alloc: Global, tables: &Tables, boxes: &BoxSet) -> Result<Option<u32>, Fail>
     requires { All (λ square. square < length tables.now.board.area) boxes.now }
 {
-    let found = assign(alloc, tables, boxes)?;
-    match &found {
-        Match::Prices {
-            u: _,
-            v: _,
-            total,
-            goal_of: _,
-        } => Ok(Some(*total)),
-        Match::Crowd { members: _ } => Ok(None),
+    match assign(alloc, tables, boxes)? {
+        Match::Prices { total, .. } => Ok(Some(total)),
+        Match::Crowd { .. } => Ok(None),
     }
 }
 

@@ -1,5 +1,10 @@
 //! Which goal each box could go to at the least cost, and crowds.
 
+ghost use Rattle.std.specs.Prelude.{◌≤◌, ◌<◌, All, length};
+ghost use Rattle.std.specs.List.Sorted.{IsStrictlyIncreasing};
+ghost use Rattle.sok_board.specs.Limits.{box_limit};
+
+use sok_board::area::Sq;
 use sok_price::assign::{Match, assign};
 use sok_push::tables::Tables;
 use sok_region::box_set::BoxSet;
@@ -13,8 +18,16 @@ fn assigned(alloc: Global, text: &str) -> Result<Match, Fail> {
     let board = board(alloc, text)?;
     let tables = Tables::new(alloc, &board)?;
     let (_, boxes) = board.start();
-    let boxes = BoxSet::of(alloc, boxes)?;
-    Ok(assign(alloc, &tables, &boxes)?)
+    assigned_on(alloc, &tables, boxes)
+}
+
+fn assigned_on(alloc: Global, tables: &Tables, squares: &[Sq]) -> Result<Match, Fail>
+    requires rising { IsStrictlyIncreasing squares.now }
+    requires few { length squares.now ≤ box_limit }
+    requires within { All (λ square. square < length tables.now.board.area) squares.now }
+{
+    let boxes = BoxSet::of(alloc, squares)?;
+    Ok(assign(alloc, tables, &boxes)?)
 }
 
 /// A level, the least total, the goals of the boxes, and the count of all goals.
@@ -61,12 +74,7 @@ fn crowds(rt: HostRuntime) -> Result<(), Fail> {
     for (text, crowd) in CROWDS {
         match assigned(rt.alloc(), text)? {
             Match::Crowd { members } => assert_eq!(rt; members.as_slice(), crowd, "{text}"),
-            Match::Prices {
-                u: _,
-                v: _,
-                total: _,
-                goal_of: _,
-            } => assert!(rt; false, "no crowd in {text}"),
+            Match::Prices { .. } => assert!(rt; false, "no crowd in {text}"),
         }
     }
     Ok(())

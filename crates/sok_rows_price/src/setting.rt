@@ -1,6 +1,6 @@
 //! The positions, and whether a reason holds of one.
 
-ghost use Rattle.std.specs.Prelude.{◌<◌, All, IfOk, length};
+ghost use Rattle.std.specs.Prelude.{◌≡◌, ◌<◌, All, IfOk, length};
 
 use sok_bar::bar::Bar;
 use sok_bar::rest::Rest;
@@ -62,8 +62,24 @@ pub(crate) fn holds<B: Bar>(
     let (level, boxes, player) = position;
     let board = board(alloc, level)?;
     let tables = Tables::new(alloc, &board)?;
-    assert!(rt; (player as usize) < board.squares());
     let boxes = boxes_on(rt, alloc, &board, boxes)?;
+    holds_on(rt, alloc, reason, &board, &tables, &boxes, player, rest)
+}
+
+fn holds_on<B: Bar>(
+    rt: &impl Abort,
+    alloc: Global,
+    reason: &B,
+    board: &Board,
+    tables: &Tables,
+    boxes: &BoxSet,
+    player: Sq,
+    rest: Rest,
+) -> Result<bool, Fail>
+    requires tables { tables.now.board ≡ board.now }
+    requires boxes { All (λ square. square < length board.now.area) boxes.now }
+{
+    assert!(rt; (player as usize) < board.squares());
     assert!(rt; !boxes.has(player));
-    Ok(reason.holds(alloc, &board, &tables, &boxes, player, rest)?)
+    Ok(reason.holds(alloc, board, tables, boxes, player, rest)?)
 }

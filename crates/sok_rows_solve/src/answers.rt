@@ -1,10 +1,7 @@
 //! Worked levels, the limits, and levels whose states were all searched.
 
-use sok_judge::check::check_bytes;
-use sok_play::play::replay_bytes;
+use crate::engines::{check_bytes, find_bytes, replay_bytes, solve_bytes};
 use sok_sketch::sketch;
-use sok_solve::find::find_bytes;
-use sok_solve::solve::solve_bytes;
 use sok_text::line::cut_line;
 use std::alloc::Global;
 use std::process::Abort;

@@ -1,11 +1,10 @@
 //! What is refused, and writers that are full.
 
 use crate::answers::answered;
+use crate::engines::{find_bytes, solve_bytes};
 use crate::solves::ZERKALO;
 use sok_engine::fault::ToolFault;
 use sok_sketch::sketch;
-use sok_solve::find::find_bytes;
-use sok_solve::solve::solve_bytes;
 use std::alloc::Global;
 use std::io;
 use std::io::Write;

@@ -4,12 +4,15 @@
 //! | Module | What it tests |
 //! |---|---|
 //! | `answers` | worked levels, the limits, and levels whose states were all searched |
+//! | `engines` | the engines, without their contracts (no test) |
 //! | `faults` | what is refused, and writers that are full |
 //! | `solves` | the fewest pushes of worked levels, or that there are none, and what limits mean |
 #![tactic(auto)]
 
 #[cfg(test)]
 mod answers;
+#[cfg(test)]
+mod engines;
 #[cfg(test)]
 mod faults;
 #[cfg(test)]
