@@ -5,6 +5,7 @@ use sok_sketch::{rooms, sketch};
 use sok_tool::check::check_bytes;
 use sok_tool::fault::ToolFault;
 use std::alloc::Global;
+use std::io::{Read, Write};
 use std::process::Abort;
 use std::test::Fail;
 
@@ -13,6 +14,17 @@ fn certificate(alloc: Global, lines: &str) -> Result<String, Fail> {
     let mut text = String::from_str(alloc, "sokoban-certificate 1\n")?;
     text.push_str(lines)?;
     Ok(text)
+}
+
+/// Judges a certificate. It passes on nothing of the engine's contract, which no test needs.
+fn checked<R: Read, C: Read, W: Write>(
+    alloc: Global,
+    input: &mut R,
+    n: usize,
+    cert_input: &mut C,
+    out: &mut W,
+) -> Result<u8, ToolFault> {
+    check_bytes(alloc, input, n, cert_input, out)
 }
 
 /// A level, the lines of a certificate behind the first, and the line that is written, with the
@@ -98,7 +110,7 @@ fn answers(rt: HostRuntime) -> Result<(), Fail> {
         let text = certificate(rt.alloc(), lines)?;
         let (mut input, mut cert_input) = (boards.as_bytes(), text.as_bytes());
         let mut out = Vec::new(rt.alloc());
-        let told = check_bytes(rt.alloc(), &mut input, 2, &mut cert_input, &mut out);
+        let told = checked(rt.alloc(), &mut input, 2, &mut cert_input, &mut out);
         assert_eq!(rt; out.as_slice(), line.as_bytes(), "{text}");
         assert_eq!(rt; told, Ok(status), "{text}");
     }
@@ -124,7 +136,7 @@ fn faults_of_levels_and_boards(rt: HostRuntime) -> Result<(), Fail> {
     ] {
         let mut cert_input = Source::new(b"no certificate", 2);
         let mut out = Vec::new(rt.alloc());
-        let told = check_bytes(
+        let told = checked(
             rt.alloc(),
             &mut boards.as_bytes(),
             n,
@@ -147,12 +159,12 @@ fn reads_that_fail_and_inputs_without_end(rt: HostRuntime) -> Result<(), Fail> {
     let mut out = Vec::new(alloc);
     for (fails_at, reads, fault) in [(2, 2, ToolFault::ReadFailed), (0, 4097, ToolFault::TooMuch)] {
         let mut input = Source::new(&[b'#'; 4096], fails_at);
-        let told = check_bytes(alloc, &mut input, 1, &mut b"".as_slice(), &mut out);
+        let told = checked(alloc, &mut input, 1, &mut b"".as_slice(), &mut out);
         assert_eq!(rt; told, Err(fault));
         assert_eq!(rt; input.reads, reads);
     }
     let mut cert_input = Source::new(&[b'#'; 4096], 0);
-    let told = check_bytes(
+    let told = checked(
         alloc,
         &mut sketch::ONE_PUSH.as_bytes(),
         1,
@@ -174,7 +186,7 @@ fn writes_that_fail_once(rt: HostRuntime) -> Result<(), Fail> {
         for taken in 0..line.len() {
             let (mut input, mut cert_input) = (sketch::ONE_PUSH.as_bytes(), text.as_bytes());
             let mut out = Sink::new(rt.alloc(), taken + 1, failure);
-            let told = check_bytes(rt.alloc(), &mut input, 1, &mut cert_input, &mut out);
+            let told = checked(rt.alloc(), &mut input, 1, &mut cert_input, &mut out);
             assert_eq!(rt; told, Err(ToolFault::WriteFailed));
             assert_eq!(rt; out.taken.as_slice(), &line[..taken]);
             assert_eq!(rt; out.writes, taken + 1);

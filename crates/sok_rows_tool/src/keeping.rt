@@ -1,6 +1,7 @@
 //! The commands on a book in a file, which is opened anew by each.
 
-use crate::rows::{OPEN_FAILED, Row, first_other, prepare};
+use crate::rows::{OPEN_FAILED, first_other, prepare};
+use sok_sketch::tutorial::Row;
 use std::fs;
 use std::test::Fail;
 

@@ -7,6 +7,7 @@
 //! | `checks` | the judgement of a certificate for a level of a collection |
 //! | `devices` | readers and writers that fail, or that give and take little (no test) |
 //! | `keeping` | the commands on a book in a file |
+//! | `lines` | what lines of words ask for, and the texts that are printed for some of them |
 //! | `listing` | `list` on files |
 //! | `plays` | the replay of a text, its words and its streams |
 //! | `printing` | the line of each fault |
@@ -14,6 +15,7 @@
 //! | `replaying` | `replay` on files |
 //! | `rows` | command lines on the files of a folder (no test) |
 //! | `solving` | `solve` on files |
+//! | `tutorial` | the session of the tutorial |
 #![tactic(auto)]
 
 #[cfg(test)]
@@ -24,6 +26,8 @@ mod checks;
 mod devices;
 #[cfg(test)]
 mod keeping;
+#[cfg(test)]
+mod lines;
 #[cfg(test)]
 mod listing;
 #[cfg(test)]
@@ -38,3 +42,5 @@ mod replaying;
 mod rows;
 #[cfg(test)]
 mod solving;
+#[cfg(test)]
+mod tutorial;

@@ -1,11 +1,10 @@
 //! The replay of a text, its words and its streams.
 
 use crate::devices::{Failure, Sink, Source};
-use crate::rows::Ended;
+use crate::rows::{Ended, run_on};
 use sok_sketch::sketch;
-use sok_tool::program::run;
 use std::alloc::{AllocError, Global};
-use std::io::{Read, Write};
+use std::io::Read;
 use std::test::Fail;
 
 /// Runs the program without words.
@@ -14,7 +13,7 @@ fn played<R: Read>(rt: &HostRuntime, input: &mut R) -> Result<Ended, AllocError>
     let mut err = Vec::new(rt.alloc());
     let mut words = Vec::new(rt.alloc());
     words.push(String::from_str(rt.alloc(), "sok")?)?;
-    let status = run(rt, words.as_slice(), input, &mut out, &mut err);
+    let status = run_on(rt, words.as_slice(), input, &mut out, &mut err);
     Ok(Ended { status, out, err })
 }
 
@@ -151,7 +150,7 @@ fn writes_that_fail_once(rt: HostRuntime) -> Result<(), Fail> {
         for taken in 0..line.len() {
             let mut out = Sink::new(rt.alloc(), taken + 1, failure);
             let mut err = Vec::new(rt.alloc());
-            let status = run(&rt, &[], &mut input.as_bytes(), &mut out, &mut err);
+            let status = run_on(&rt, &[], &mut input.as_bytes(), &mut out, &mut err);
             assert_eq!(rt; err.as_slice(), b"fault 51 WriteFailed\n".as_slice());
             assert_eq!(rt; status, 5);
             assert_eq!(rt; out.taken.as_slice(), &line[..taken]);
@@ -165,7 +164,7 @@ fn writes_that_fail_once(rt: HostRuntime) -> Result<(), Fail> {
 fn no_fault_can_be_printed(rt: HostRuntime) {
     let mut out = Vec::new(rt.alloc());
     let mut err = Sink::new(rt.alloc(), 1, Failure::Error);
-    let status = run(&rt, &[], &mut b"".as_slice(), &mut out, &mut err);
+    let status = run_on(&rt, &[], &mut b"".as_slice(), &mut out, &mut err);
     assert_eq!(rt; status, 3);
     assert_eq!(rt; err.writes, 1);
     assert_eq!(rt; err.taken.len(), 0);

@@ -1,8 +1,7 @@
 //! Help, and words that ask for nothing.
 
 use crate::devices::{Failure, Sink};
-use crate::rows::{ran, words};
-use sok_tool::program::run;
+use crate::rows::{ran, run_on, words};
 use std::test::Fail;
 
 /// A line, a part of what is written to the output, or where the status is 2 to the error stream,
@@ -58,7 +57,7 @@ fn help_to_an_output_that_fails(rt: HostRuntime) -> Result<(), Fail> {
     let words = words(rt.alloc(), "sok --help")?;
     let mut out = Sink::new(rt.alloc(), 1, Failure::Error);
     let mut err = Vec::new(rt.alloc());
-    let status = run(&rt, &words, &mut b"".as_slice(), &mut out, &mut err);
+    let status = run_on(&rt, &words, &mut b"".as_slice(), &mut out, &mut err);
     assert_eq!(rt; status, 5);
     assert_eq!(rt; err.as_slice(), b"fault 51 WriteFailed\n".as_slice());
     Ok(())

@@ -1,12 +1,11 @@
 //! Command lines on the files of a folder, and what the program tells of each.
 
+use sok_sketch::tutorial::Row;
 use sok_tool::program::run;
 use std::alloc::{AllocError, Global};
 use std::fs;
+use std::io::{Read, Write};
 use std::test::Fail;
-
-/// A line, what is written to the output, and to the error stream, and the status.
-pub(crate) type Row = (&'static str, &'static str, &'static str, u8);
 
 /// What is told of a file that can't be opened.
 pub(crate) const OPEN_FAILED: &str = "fault 50 ReadFailed\n";
@@ -59,6 +58,18 @@ pub(crate) fn words(alloc: Global, line: &str) -> Result<Vec<String>, AllocError
     Ok(words)
 }
 
+/// Runs the program. It passes on nothing of the program's contract, which no test needs: each test
+/// that called it by itself would be checked over all that it says.
+pub(crate) fn run_on<R: Read, W: Write, E: Write>(
+    rt: &HostRuntime,
+    words: &[String],
+    input: &mut R,
+    out: &mut W,
+    err: &mut E,
+) -> u8 {
+    run(rt, words, input, out, err)
+}
+
 /// What the program leaves behind.
 #[derive(Drop)]
 pub(crate) struct Ended {
@@ -73,7 +84,7 @@ pub(crate) fn ran(rt: &HostRuntime, line: &str) -> Result<Ended, AllocError> {
     let mut out = Vec::new(rt.alloc());
     let mut err = Vec::new(rt.alloc());
     let mut input = b"".as_slice();
-    let status = run(rt, words.as_slice(), &mut input, &mut out, &mut err);
+    let status = run_on(rt, words.as_slice(), &mut input, &mut out, &mut err);
     Ok(Ended { status, out, err })
 }
 

@@ -1,6 +1,7 @@
 //! `solve` on files.
 
-use crate::rows::{OPEN_FAILED, Row, first_other, prepare};
+use crate::rows::{OPEN_FAILED, first_other, prepare};
+use sok_sketch::tutorial::Row;
 use std::fs;
 use std::test::Fail;
 

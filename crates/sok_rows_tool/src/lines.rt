@@ -1,16 +1,13 @@
 //! Words, and the texts that are printed for some of them.
 
+use crate::rows::words;
 use sok_words::job::{Job, JobRefused};
 use sok_words::words::job;
 use std::test::Fail;
 
 /// What is asked for by the words of a line, which blanks separate.
 fn read(rt: &HostRuntime, line: &str) -> Result<Result<Job, JobRefused>, Fail> {
-    let mut words = Vec::new(rt.alloc());
-    for word in line.split(' ') {
-        words.push(String::from_str(rt.alloc(), word)?)?;
-    }
-    Ok(job(rt.alloc(), &words))
+    Ok(job(rt.alloc(), &words(rt.alloc(), line)?))
 }
 
 /// Each form, and what it asks for.

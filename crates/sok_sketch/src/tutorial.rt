@@ -1,0 +1,96 @@
+//! The session of the tutorial: what is typed, and what is printed. The tests play it, and the
+//! program `sok_tutorial` compares it with the page.
+
+/// A command line, what it writes to the output, and to the error stream, and its status.
+pub type Row = (&'static str, &'static str, &'static str, u8);
+
+/// The file that is typed first.
+pub const FILE: &str = "small.xsb";
+
+/// What is typed into it.
+pub const TEXT: &str = "\
+; Around the box
+######
+#    #
+# $@.#
+######
+
+; Stuck at the wall
+#####
+#@.$#
+#####
+";
+
+/// The commands behind it, in their order.
+pub const SESSION: [Row; 15] = [
+    (
+        "sok list small.xsb",
+        "1 4 6 1 1 Around the box\n2 3 5 1 1 Stuck at the wall\n",
+        "",
+        0,
+    ),
+    ("sok replay small.xsb 1 ulldRR", "solved 2 6\n", "", 0),
+    ("sok replay small.xsb 1 uu", "", "fault 12 Blocked 1\n", 3),
+    (
+        "sok solve small.xsb 1 --cert first.cert",
+        "solved 2 6\nulldRR\n",
+        "",
+        0,
+    ),
+    (
+        "sok solve small.xsb 2 --cert second.cert",
+        "unsolvable\n",
+        "",
+        0,
+    ),
+    (
+        "sok check small.xsb 1 first.cert",
+        "accepted at least 2 pushes\n",
+        "",
+        0,
+    ),
+    (
+        "sok check small.xsb 2 second.cert",
+        "accepted unsolvable\n",
+        "",
+        0,
+    ),
+    (
+        "sok check small.xsb 1 second.cert",
+        "refused 23 Start\n",
+        "",
+        1,
+    ),
+    ("sok add small.db small.xsb", "1 id 1\n2 id 2\n", "", 0),
+    (
+        "sok offer small.db 1 rlulldRurrdLulldRR",
+        "stored 4 18\n",
+        "",
+        0,
+    ),
+    ("sok offer small.db 1 ulldRR", "stored 2 6\n", "", 0),
+    (
+        "sok prove small.db 1 first.cert",
+        "proved optimal 2\n",
+        "",
+        0,
+    ),
+    (
+        "sok prove small.db 2 second.cert",
+        "proved unsolvable\n",
+        "",
+        0,
+    ),
+    (
+        "sok show small.db 1",
+        "######\n#    #\n# $@.#\n######\ntitle Around the box\nbest 2 6 ulldRR\nverdict optimal\n",
+        "",
+        0,
+    ),
+    (
+        "sok export small.db",
+        "; Around the box\n######\n#    #\n# $@.#\n######\n\n; Stuck at the wall\n#####\n#@.$#\n#####\n\n",
+        "",
+        0,
+    ),
+];
