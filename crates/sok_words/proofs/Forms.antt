@@ -1,21 +1,18 @@
 -- What the command makes of a form.
-use Rattle.std.proofs.Common.{◌≡◌, ◌∙◌, sym, true≢false, false, ℕ, true, refl, ap, List, [], ◌∷◌, Option, Some, None, codes, lit<, String, Global}
+use Rattle.std.proofs.Common.{◌≡◌, ◌&&◌, ◌∙◌, sym, true≢false, false, ℕ, true, refl, ap, List, [], ◌∷◌, map, Option, Some, None, codes, lit<, String, Global}
 use Rattle.std.specs.Prelude.{option_map, string_bytes}
 use Rattle.std.specs.Str.{bytes_eq}
-use Rattle.std.specs.Str.Parse.{digits_value}
+use Rattle.std.specs.Str.Parse.{IsNumeral, digits_value}
 use Rattle.clap.specs.Lexer.{without_minus}
-use Rattle.clap.specs.Walk.{Row, Text, first_of, one_of}
+use Rattle.clap.specs.Walk.{Row, Text, first_of, one_of, walked}
 use Rattle.clap.specs.Simple.{subcommand_of}
 use Rattle.clap.specs.Takes.{takes}
 use Rattle.sok_words.specs.Forms.{Form, IsNumber, IsPlain, Means, list, replay, solve, check, add, offer, prove, show, export, limit_of, words_of}
 use Rattle.sok_words.specs.Rows.{HasValues, limit_text}
 use Rattle.sok_words.specs.Shapes.{sok_app}
 use Rattle.sok_words.specs.declared.job.Job.TheVariants as job
-use Rattle.sok_words.proofs.Lines.{Runs, solve_entered, solve_taken}
-use Rattle.sok_words.proofs.SolveLines.{HasSolve, solve_both, solve_cert, solve_limit, solve_shape, solve_short}
-use Rattle.sok_words.proofs.PlaceLines.{list_entered, list_runs, list_taken, replay_entered, replay_runs, replay_taken, check_entered, check_runs}
-use Rattle.sok_words.proofs.PlaceLines.{check_taken, add_entered, add_runs, add_taken, offer_entered, offer_runs, offer_taken, prove_entered, prove_runs}
-use Rattle.sok_words.proofs.PlaceLines.{prove_taken, show_entered, show_runs, show_taken, export_entered, export_runs, export_taken}
+use Rattle.sok_words.proofs.WordSteps.{AllPass, Said, named, number_is_value, value, word_of}
+use Rattle.sok_words.proofs.Lines.{IsSub, id_passes, number_passes, TakesSaid, rows_said, runs}
 
 -- the command takes the words, and gives the values of the form
 pub record Reads (program : Text) (form : Form) : Type 0 where
@@ -25,80 +22,65 @@ pub record Reads (program : Text) (form : Form) : Type 0 where
   pub enters : subcommand_of sok_app (program ∷ words_of form) ≡ Some (name, rows)
   pub values : HasValues form name rows
 
-solve_reads : (program file number : Text) (limit cert : Option Text) (words : List Text) → words_of (solve file number limit cert) ≡ codes "solve" ∷ words
-    → (rows : List Row) × Runs solve_shape words rows × HasSolve rows file number (limit_text limit) cert
-    → Reads program (solve file number limit cert)
-solve_reads program file number limit cert words is found = record {
-  takes = ap (λ (ws : List Text). takes sok_app (program ∷ ws)) is ∙ solve_taken program words found.1.passes;
-  name = codes "solve";
-  rows = found.0;
-  enters = ap (λ (ws : List Text). subcommand_of sok_app (program ∷ ws)) is ∙ solve_entered program words
-      ∙ ap (λ (rows : List Row). Some (codes "solve", rows)) found.1.found;
-  values = (refl, found.2.file_is, found.2.number_is, found.2.limit_is, found.2.cert_is);
-}
+by : (program : Text) (form : Form) (name : Text) (said : List Said) → words_of form ≡ name ∷ map word_of said → IsSub name (map word_of said)
+    → TakesSaid name said → HasValues form name (rows_said name said) → Reads program form
+by program form name said is sub well values =
+    let runs = runs program name said sub well in record {
+      takes = ap (λ (words : List Text). takes sok_app (program ∷ words)) is ∙ runs.takes;
+      name = name;
+      rows = rows_said name said;
+      enters = ap (λ (words : List Text). subcommand_of sok_app (program ∷ words)) is ∙ runs.enters;
+      values = values;
+    }
+
+-- digits are a value
+abbrev digits : (text : Text) → IsNumeral 10 text → Said
+digits text numeral = value text (number_is_value text numeral)
 
 pub reads : (program : Text) (form : Form) → IsPlain form → Reads program form
-reads program (list file) plain = let found = list_runs file plain in record {
-  takes = list_taken program (file ∷ []) found.1.passes;
-  name = codes "list";
-  rows = found.0;
-  enters = list_entered program (file ∷ []) ∙ ap (λ (rows : List Row). Some (codes "list", rows)) found.1.found;
-  values = (refl, found.2);
-}
-reads program (replay file number text) plain = let found = replay_runs file number text plain.0 plain.1 plain.2 in record {
-  takes = replay_taken program (file ∷ number ∷ text ∷ []) found.1.passes;
-  name = codes "replay";
-  rows = found.0;
-  enters = replay_entered program (file ∷ number ∷ text ∷ []) ∙ ap (λ (rows : List Row). Some (codes "replay", rows)) found.1.found;
-  values = (refl, found.2.0, found.2.1, found.2.2);
-}
-reads program (check file number cert) plain = let found = check_runs file number cert plain.0 plain.1 plain.2 in record {
-  takes = check_taken program (file ∷ number ∷ cert ∷ []) found.1.passes;
-  name = codes "check";
-  rows = found.0;
-  enters = check_entered program (file ∷ number ∷ cert ∷ []) ∙ ap (λ (rows : List Row). Some (codes "check", rows)) found.1.found;
-  values = (refl, found.2.0, found.2.1, found.2.2);
-}
-reads program (add db file) plain = let found = add_runs db file plain.0 plain.1 in record {
-  takes = add_taken program (db ∷ file ∷ []) found.1.passes;
-  name = codes "add";
-  rows = found.0;
-  enters = add_entered program (db ∷ file ∷ []) ∙ ap (λ (rows : List Row). Some (codes "add", rows)) found.1.found;
-  values = (refl, found.2.0, found.2.1);
-}
-reads program (offer db id text) plain = let found = offer_runs db id text plain.0 plain.1 plain.2 in record {
-  takes = offer_taken program (db ∷ id ∷ text ∷ []) found.1.passes;
-  name = codes "offer";
-  rows = found.0;
-  enters = offer_entered program (db ∷ id ∷ text ∷ []) ∙ ap (λ (rows : List Row). Some (codes "offer", rows)) found.1.found;
-  values = (refl, found.2.0, found.2.1, found.2.2);
-}
-reads program (prove db id cert) plain = let found = prove_runs db id cert plain.0 plain.1 plain.2 in record {
-  takes = prove_taken program (db ∷ id ∷ cert ∷ []) found.1.passes;
-  name = codes "prove";
-  rows = found.0;
-  enters = prove_entered program (db ∷ id ∷ cert ∷ []) ∙ ap (λ (rows : List Row). Some (codes "prove", rows)) found.1.found;
-  values = (refl, found.2.0, found.2.1, found.2.2);
-}
-reads program (show db id) plain = let found = show_runs db id plain.0 plain.1 in record {
-  takes = show_taken program (db ∷ id ∷ []) found.1.passes;
-  name = codes "show";
-  rows = found.0;
-  enters = show_entered program (db ∷ id ∷ []) ∙ ap (λ (rows : List Row). Some (codes "show", rows)) found.1.found;
-  values = (refl, found.2.0, found.2.1);
-}
-reads program (export db) plain = let found = export_runs db plain in record {
-  takes = export_taken program (db ∷ []) found.1.passes;
-  name = codes "export";
-  rows = found.0;
-  enters = export_entered program (db ∷ []) ∙ ap (λ (rows : List Row). Some (codes "export", rows)) found.1.found;
-  values = (refl, found.2);
-}
-reads program (solve file number None None) plain = solve_reads program file number None None _ refl (solve_short file number plain.0 plain.1)
-reads program (solve file number (Some l) None) plain = solve_reads program file number (Some l) None _ refl (solve_limit file number l plain.0 plain.1 plain.2)
-reads program (solve file number None (Some c)) plain = solve_reads program file number None (Some c) _ refl (solve_cert file number c plain.0 plain.1 plain.3)
-reads program (solve file number (Some l) (Some c)) plain =
-    solve_reads program file number (Some l) (Some c) _ refl (solve_both file number l c plain.0 plain.1 plain.2 plain.3)
+unfolding walked AllPass
+reads program (list file) is =
+    by program (list file) (codes "list") (value file is ∷ []) refl refl (record { passes = (refl, tt); ends = refl }) (refl, refl)
+reads program (replay file number text) (f, n, t) =
+    by program (replay file number text) (codes "replay") (value file f ∷ digits number n.0 ∷ value text t ∷ []) refl refl
+    (record { passes = (refl, (refl, (rw (number_passes (codes "N") number n) refl, tt))); ends = refl }) (refl, refl, refl, refl)
+reads program (check file number cert) (f, n, c) =
+    by program (check file number cert) (codes "check") (value file f ∷ digits number n.0 ∷ value cert c ∷ []) refl refl
+    (record { passes = (refl, (refl, (rw (number_passes (codes "N") number n) refl, tt))); ends = refl }) (refl, refl, refl, refl)
+reads program (add db file) (d, f) =
+    by program (add db file) (codes "add") (value db d ∷ value file f ∷ []) refl refl (record { passes = (refl, (refl, tt)); ends = refl }) (refl, refl, refl)
+reads program (offer db id text) (d, i, t) =
+    by program (offer db id text) (codes "offer") (value db d ∷ digits id i.0 ∷ value text t ∷ []) refl refl
+    (record { passes = (refl, (refl, (rw (id_passes (codes "ID") id i) refl, tt))); ends = refl }) (refl, refl, refl, refl)
+reads program (prove db id cert) (d, i, c) =
+    by program (prove db id cert) (codes "prove") (value db d ∷ digits id i.0 ∷ value cert c ∷ []) refl refl
+    (record { passes = (refl, (refl, (rw (id_passes (codes "ID") id i) refl, tt))); ends = refl }) (refl, refl, refl, refl)
+reads program (show db id) (d, i) =
+    by program (show db id) (codes "show") (value db d ∷ digits id i.0 ∷ []) refl refl
+    (record { passes = (refl, (refl, tt)); ends = rw (id_passes (codes "ID") id i) refl }) (refl, refl, refl)
+reads program (export db) is =
+    by program (export db) (codes "export") (value db is ∷ []) refl refl (record { passes = (refl, tt); ends = refl }) (refl, refl)
+reads program (solve file number None None) (f, n, m, c) =
+    by program (solve file number None None) (codes "solve") (value file f ∷ digits number n.0 ∷ []) refl refl
+    (record { passes = (refl, (refl, tt)); ends = rw (number_passes (codes "N") number n) refl }) (refl, refl, refl, refl, refl)
+reads program (solve file number (Some l) None) (f, n, m, c) =
+    by program (solve file number (Some l) None) (codes "solve")
+    (value file f ∷ digits number n.0 ∷ named (codes "--limit") ∷ digits l m.0 ∷ []) refl refl
+    (record {
+      passes = (refl, (refl, (rw (number_passes (codes "N") number n) refl, (refl, tt))));
+      ends = ap (λ b. (b && true) && true) (number_passes (codes "limit") l m);
+    }) (refl, refl, refl, refl, refl)
+reads program (solve file number None (Some path)) (f, n, m, c) =
+    by program (solve file number None (Some path)) (codes "solve")
+    (value file f ∷ digits number n.0 ∷ named (codes "--cert") ∷ value path c ∷ []) refl refl
+    (record { passes = (refl, (refl, (rw (number_passes (codes "N") number n) refl, (refl, tt)))); ends = refl }) (refl, refl, refl, refl, refl)
+reads program (solve file number (Some l) (Some path)) (f, n, m, c) =
+    by program (solve file number (Some l) (Some path)) (codes "solve")
+    (value file f ∷ digits number n.0 ∷ named (codes "--limit") ∷ digits l m.0 ∷ named (codes "--cert") ∷ value path c ∷ []) refl refl
+    (record {
+      passes = (refl, (refl, (rw (number_passes (codes "N") number n) refl, (refl, (rw (number_passes (codes "limit") l m) refl, (refl, tt))))));
+      ends = refl;
+    }) (refl, refl, refl, refl, refl)
 
 -- ---- a job of the values
 

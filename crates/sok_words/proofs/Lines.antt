@@ -1,5 +1,5 @@
 -- What the command makes of the words of each form.
-use Rattle.std.proofs.Common.{◌≡◌, ◌∙◌, ◌&&◌, ◌==◌, Bool, true, false, refl, sym, ap, ap₂, List, [], ◌∷◌, ◌++◌, Some, arith, pos, negsuc, codes}
+use Rattle.std.proofs.Common.{◌≡◌, ◌∙◌, ◌&&◌, ◌==◌, Bool, true, false, refl, sym, ap, ap₂, List, [], ◌∷◌, ◌++◌, map, Option, Some, arith, pos, negsuc, codes}
 use Rattle.std.specs.List.{fold, find, list_all}
 use Rattle.std.specs.Prelude.{unwrap_or, is_some}
 use Rattle.std.specs.Str.{bytes_eq}
@@ -17,7 +17,7 @@ use Rattle.clap.proofs.ValueTestLemmas.{Accepts-accepts}
 use Rattle.clap.proofs.WalkLemmas.{walk_stopped}
 use Rattle.sok_words.specs.Forms.{IsId, IsNumber}
 use Rattle.sok_words.specs.Shapes.{id_rule, number_rule, sok_app}
-use Rattle.sok_words.proofs.WordSteps.{Leads, no_minus, no_plus}
+use Rattle.sok_words.proofs.WordSteps.{AllPass, Said, all_steps, all_turns, led, no_minus, no_plus, word_of}
 
 -- ---- the first word
 
@@ -74,31 +74,49 @@ pub entered_at : (program name : Text) (words : List Text) → subcommand_met (n
     → subcommand_of sok_app (program ∷ name ∷ words) ≡ entered made (Some (name, words))
 entered_at program name words named = ap (λ w. entered made w.stopped) (met name words named)
 
-pub solve_taken : (program : Text) (words : List Text) → level_passes (sub_shape (codes "solve")) [] nothing_held words false ≡ true
-    → takes sok_app (program ∷ codes "solve" ∷ words) ≡ true
-solve_taken program words below = taken program (codes "solve") words refl refl (ap (λ b. b && true) below)
-
-pub solve_entered : (program : Text) (words : List Text)
-    → subcommand_of sok_app (program ∷ codes "solve" ∷ words) ≡ Some (codes "solve", rows_after (sub_shape (codes "solve")).rules [] words)
-solve_entered program words = entered_at program (codes "solve") words refl
-
 -- ---- a subcommand's own words
 
 -- what is asked of a subcommand where its walk ends so
-abbrev leaf_ends_well : Shape → Held → Bool
+abbrev pub leaf_ends_well : Shape → Held → Bool
 leaf_ends_well s h = settle_passes s.rules s.args_override_self h && (list_all default_passes s.rules && is_valid s (finished s.rules h) false)
 
--- the subcommand takes the words, and these are its matches
-pub record Runs (s : Shape) (words : List Text) (rows : List Row) : Type 0 where
-  pub passes : level_passes s [] nothing_held words false ≡ true
-  pub found : rows_after s.rules [] words ≡ rows
+-- what is held after the words that are said
+abbrev pub held_after : Shape → List Said → Held
+held_after s said = (fold (led s) (walk_from nothing_held) said).held
 
-pub runs : (s : Shape) (words : List Text) (to : Walk) → Leads s (walk_from nothing_held) words to → leaf_ends_well s to.held ≡ true
-    → Runs s words (finished s.rules to.held)
-runs s words to leads well = record {
-  passes = ap₂ ◌&&◌ leads.passes (ap (λ (w : Walk). leaf_ends_well s w.held) leads.ends ∙ well);
-  found = ap (λ (w : Walk). finished s.rules w.held) leads.ends;
-}
+abbrev pub rows_said : Text → List Said → List Row
+rows_said name said = finished (sub_shape name).rules (held_after (sub_shape name) said)
+
+-- the words that are said pass, and the subcommand's walk ends well behind them
+pub record TakesSaid (name : Text) (said : List Said) : Type 0 where
+  pub passes : AllPass (sub_shape name) (walk_from nothing_held) said
+  pub ends : leaf_ends_well (sub_shape name) (held_after (sub_shape name) said) ≡ true
+
+-- the word is the name of a subcommand and not that for help; what is asked of its words is what they ask, and it is entered with their rows
+abbrev pub IsSub : Text → List Text → Type 0
+IsSub name words =
+    ◌≡◌ {A = Option Text × Bool × Bool × Option (Text × List Row)}
+    (subcommand_met (names_of made) idle name, bytes_eq name (codes "help"), ends_well (stopped_at name words) true, entered made (Some (name, words)))
+    (Some name, false, level_passes (sub_shape name) [] nothing_held words false && true, Some (name, rows_after (sub_shape name).rules [] words))
+
+-- the command takes the words of a subcommand, and these are its matches
+pub record Runs (program name : Text) (words : List Text) (rows : List Row) : Type 0 where
+  pub takes : takes sok_app (program ∷ name ∷ words) ≡ true
+  pub enters : subcommand_of sok_app (program ∷ name ∷ words) ≡ Some (name, rows)
+
+pub runs : (program name : Text) (said : List Said) → IsSub name (map word_of said) → TakesSaid name said
+    → Runs program name (map word_of said) (rows_said name said)
+runs program name said sub well =
+    let words = map word_of said in
+    let met = ap (λ p. p.0) sub in
+    let steps = all_steps (sub_shape name) (walk_from nothing_held) said well.passes in
+    let level : level_passes (sub_shape name) [] nothing_held words false ≡ true =
+    ap₂ ◌&&◌ (all_turns (sub_shape name) (walk_from nothing_held) said well.passes) (ap (λ (w : Walk). leaf_ends_well (sub_shape name) w.held) steps ∙ well.ends) in
+    record {
+      takes = taken program name words met (ap (λ p. p.1) sub) (ap (λ p. p.2) sub ∙ ap (λ b. b && true) level);
+      enters = entered_at program name words met ∙ ap (λ p. p.3) sub
+          ∙ ap (λ (w : Walk). Some (name, finished (sub_shape name).rules w.held)) steps;
+    }
 
 -- ---- numbers
 

@@ -1,9 +1,10 @@
 -- One step of the walk over the words of a subcommand.
-use Rattle.std.proofs.Common.{◌≡◌, ◌∙◌, ◌==◌, ◌&&◌, ℕ, true, false, refl, ap, ap₂, List, [], ◌∷◌, None, arith}
+use Rattle.std.proofs.Common.{◌≡◌, ◌∙◌, ◌==◌, ◌&&◌, Bool, not, ℕ, true, false, true≢false, refl, sym, ap, ap₂, List, [], ◌∷◌, map, Option, Some, None, is_none, arith}
+use Rattle.std.specs.Bool.{⊤}
 use Rattle.std.specs.List.{fold}
 use Rattle.std.specs.Str.{bytes_eq}
 use Rattle.std.specs.Str.Parse.{IsNumeral, without_leading_plus, starts_with_minus}
-use Rattle.std.proofs.lemmas.Bool.{ne_eqb}
+use Rattle.std.proofs.lemmas.Bool.{and_parts, ne_eqb}
 use Rattle.std.proofs.lemmas.Str.Parse.{digit_from_value}
 use Rattle.clap.specs.Lexer.{long_of, short_of}
 use Rattle.clap.specs.Walk.{Held, Rule, Text, Waiting, Walk, after_step, plain_word, walked, word_met, idle, option, positional}
@@ -55,30 +56,66 @@ value_turn s waiting position word h v =
     ap₂ ◌&&◌ (value_asks_nothing s waiting word h v)
     (ap (λ m. step_passes s position m.0 m.1) (value_met s.rules waiting position word h v))
 
--- the words lead from one place to another, and all that they do passes
-pub record Leads (s : Shape) (from : Walk) (words : List Text) (to : Walk) : Type 0 where
-  pub passes : walk_passes s [] from words ≡ true
-  pub ends : fold (walked s.rules []) from words ≡ to
+-- a word that is said: a value, or the name of an option
+pub data Said : Type 0 where
+  value : (word : Text) → IsValue word → Said
+  named : Text → Said
 
-pub leads_nowhere : (s : Shape) (w : Walk) → Leads s w [] w
-unfolding walk_passes
-leads_nowhere s w = record { passes = refl; ends = refl }
+abbrev pub word_of : Said → Text
+word_of (value word is) = word
+word_of (named word) = word
 
-pub leads_on : (s : Shape) (from mid to : Walk) (word : Text) (words : List Text) → turn_passes s [] from word ≡ true
-    → walked s.rules [] from word ≡ mid → Leads s mid words to → Leads s from (word ∷ words) to
-unfolding walk_passes
-leads_on s from mid to word words turn step rest = record {
-  passes = ap₂ ◌&&◌ turn (ap (λ w. walk_passes s [] w words) step ∙ rest.passes);
-  ends = ap (λ w. fold (walked s.rules []) w words) step ∙ rest.ends;
-}
+-- where the walk is after it
+abbrev pub led : Shape → Walk → Said → Walk
+led s w (value word is) = after_step s.rules word w (plain_word s.rules w.waiting word w.held).0 (plain_word s.rules w.waiting word w.held).1
+led s w (named word) = walked s.rules [] w word
 
--- a value
-pub leads_by_value : (s : Shape) (waiting : Waiting) (position : ℕ) (h : Held) (to : Walk) (word : Text) (words : List Text) → IsValue word
-    → step_passes s position (plain_word s.rules waiting word h).0 (plain_word s.rules waiting word h).1 ≡ true
-    → Leads s (after_step s.rules word (at h waiting position) (plain_word s.rules waiting word h).0 (plain_word s.rules waiting word h).1) words to
-    → Leads s (at h waiting position) (word ∷ words) to
-leads_by_value s waiting position h to word words v passes rest =
-    leads_on s _ _ to word words (value_turn s waiting position word h v ∙ passes) (value_walked s.rules waiting position word h v) rest
+-- whether all that it does passes, where no subcommand was met before it
+abbrev pub passes : Shape → Walk → Said → Bool
+passes s w (value word is) = (not w.is_trailing && is_none w.stopped)
+    && step_passes s w.position (plain_word s.rules w.waiting word w.held).0 (plain_word s.rules w.waiting word w.held).1
+passes s w (named word) = turn_passes s [] w word
+
+-- and all of them
+unfoldable pub AllPass : Shape → Walk → List Said → Type 0
+AllPass s w [] = ⊤
+AllPass s w (x ∷ xs) = (passes s w x ≡ true) × AllPass s (led s w x) xs
+
+goes_on : (h : Held) (waiting : Waiting) (position : ℕ) (is_trailing : Bool) (stopped : Option (Text × List Text))
+    → (not is_trailing && is_none stopped) ≡ true
+    → record { held = h; waiting = waiting; position = position; is_trailing = is_trailing; stopped = stopped } ≡ at h waiting position
+goes_on h waiting position false None p = refl
+goes_on h waiting position false (Some x) p = absurd (true≢false (sym p))
+goes_on h waiting position true stopped p = absurd (true≢false (sym p))
+
+turn : (s : Shape) (w : Walk) (x : Said) → passes s w x ≡ true → turn_passes s [] w (word_of x) ≡ true
+turn s w (named word) p = p
+turn s w (value word is) p =
+    let (here, step) = and_parts _ _ p in
+    let on : w ≡ at w.held w.waiting w.position = goes_on w.held w.waiting w.position w.is_trailing w.stopped here in
+    ap (λ w. turn_passes s [] w word) on ∙ value_turn s w.waiting w.position word w.held is ∙ step
+
+step : (s : Shape) (w : Walk) (x : Said) → passes s w x ≡ true → walked s.rules [] w (word_of x) ≡ led s w x
+step s w (named word) p = refl
+step s w (value word is) p =
+    let (here, step) = and_parts _ _ p in
+    let on : w ≡ at w.held w.waiting w.position = goes_on w.held w.waiting w.position w.is_trailing w.stopped here in
+    let met = plain_word s.rules w.waiting word w.held in
+    ap (λ w. walked s.rules [] w word) on ∙ value_walked s.rules w.waiting w.position word w.held is
+    ∙ ap (λ w. after_step s.rules word w met.0 met.1) (sym on)
+
+-- the words that are said pass, and lead where each of them does
+pub all_turns : (s : Shape) (w : Walk) (said : List Said) → AllPass s w said → walk_passes s [] w (map word_of said) ≡ true
+unfolding walk_passes AllPass
+all_turns s w [] p = refl
+all_turns s w (x ∷ xs) (here, later) =
+    ap₂ ◌&&◌ (turn s w x here) (ap (λ w. walk_passes s [] w (map word_of xs)) (step s w x here) ∙ all_turns s (led s w x) xs later)
+
+pub all_steps : (s : Shape) (w : Walk) (said : List Said) → AllPass s w said → fold (walked s.rules []) w (map word_of said) ≡ fold (led s) w said
+unfolding AllPass
+all_steps s w [] p = refl
+all_steps s w (x ∷ xs) (here, later) =
+    ap (λ w. fold (walked s.rules []) w (map word_of xs)) (step s w x here) ∙ all_steps s (led s w x) xs later
 
 -- ---- numbers
 
