@@ -1,9 +1,13 @@
 //! A layout after pushes and back, and jams over it.
 
+ghost use Rattle.std.specs.Prelude.{◌≡◌};
+
 use crate::setting::are_below;
 use sok_bar::layout_jam::has_jam;
 use sok_board::area::Sq;
+use sok_board::board::Board;
 use sok_push::tables::Tables;
+use sok_rules::cell::Spot;
 use sok_sketch::sets::board;
 use sok_sketch::sketch;
 use sok_state::layout::Layout;
@@ -21,11 +25,24 @@ fn jam(
 ) -> Result<bool, Fail> {
     let board = board(alloc, level)?;
     let tables = Tables::new(alloc, &board)?;
+    jam_on(rt, alloc, &board, &tables, boxes, square)
+}
+
+fn jam_on(
+    rt: &impl Abort,
+    alloc: Global,
+    board: &Board,
+    tables: &Tables,
+    boxes: &[Sq],
+    square: Sq,
+) -> Result<bool, Fail>
+    requires { tables.now.board ≡ board.now }
+{
     let squares = board.squares();
     assert!(rt; are_below(boxes, squares) && (square as usize) < squares);
-    let mut layout = Layout::new(alloc, &board);
-    layout.lay(&board, boxes)?;
-    Ok(has_jam(&board, &tables, &layout, square))
+    let mut layout = Layout::new(alloc, board);
+    layout.lay(board, boxes)?;
+    Ok(has_jam(board, tables, &layout, square))
 }
 
 #[test]
@@ -43,23 +60,32 @@ fn jams_over_layouts(rt: HostRuntime) -> Result<(), Fail> {
     Ok(())
 }
 
+/// Whether a spot is free in a layout or has a box, as it is told.
+fn shows(layout: &Layout, spot: Spot, boxed: bool) -> bool {
+    spot.col < 64 && layout.free().has(spot) != boxed && layout.boxed().has(spot) == boxed
+}
+
+/// Whether a layout has these boxes after a push, which left a square free and filled another.
+fn shifts(board: &Board, layout: &mut Layout, from: Sq, to: Sq, boxes: &[Sq]) -> bool {
+    let squares = board.squares();
+    if from as usize >= squares || to as usize >= squares {
+        return false;
+    }
+    layout.shift(board, from, to);
+    layout.boxes() == boxes
+        && shows(layout, board.spot(from), false)
+        && shows(layout, board.spot(to), true)
+}
+
 /// The boxes in a row, of which one is pushed on and comes back.
 #[test]
 fn layout_of_a_push_and_back(rt: HostRuntime) -> Result<(), Fail> {
-    let alloc = rt.alloc();
-    let board = board(alloc, sketch::BOX_IN_THE_OPEN)?;
-    let squares = board.squares();
-    assert_eq!(rt; squares, 9);
-    let mut layout = Layout::new(alloc, &board);
+    let board = board(rt.alloc(), sketch::BOX_IN_THE_OPEN)?;
+    assert!(rt; are_below(&[4, 2], board.squares()));
+    let mut layout = Layout::new(rt.alloc(), &board);
     assert!(rt; layout.boxes().is_empty());
     layout.lay(&board, &[4, 2])?;
-    for (from, to) in [(4, 3), (3, 4)] {
-        let (left, come) = (board.spot(from), board.spot(to));
-        layout.shift(&board, from, to);
-        assert_eq!(rt; layout.boxes(), [to, 2].as_slice());
-        assert!(rt; left.col < 64 && come.col < 64);
-        assert!(rt; layout.free().has(left) && !layout.free().has(come));
-        assert!(rt; layout.boxed().has(come) && !layout.boxed().has(left));
-    }
+    assert!(rt; shifts(&board, &mut layout, 4, 3, &[3, 2]));
+    assert!(rt; shifts(&board, &mut layout, 3, 4, &[4, 2]));
     Ok(())
 }

@@ -1,31 +1,49 @@
-//! Tests of boards and of what is found on them: worked levels, with answers that were worked out
-//! by hand.
+//! Tests of boards, of what is found on them, and of prices and reasons: worked levels and
+//! positions, with answers that were worked out by hand.
 //!
 //! | Module | What it tests |
 //! |---|---|
 //! | `boards` | which levels a solver accepts, and their square numbers |
+//! | `bounds` | prices as a reason, and pushes that are spent |
+//! | `crowds` | crowds as a reason |
 //! | `distances` | how far a box is from each goal, and where it is stuck |
+//! | `jams` | frozen boxes as a reason, and which are found |
 //! | `layouts` | a layout after pushes and back, and jams over it |
+//! | `matching` | a matching that is kept, beside one found from nothing |
 //! | `mazes` | regions of spirals, combs and wide rooms |
 //! | `packed` | packed keys of few and of many words, and a table of them |
+//! | `positions` | positions, and whether a reason holds of one (no test) |
+//! | `prices` | which goal each box could go to at the least cost, and crowds |
 //! | `pushes` | the pushes of a state whose region is at hand, and the state behind one |
 //! | `regions` | where the player comes without a push, and by which letters |
 //! | `rounds` | rounds of squares, in rows of words |
 //! | `sets` | sets of boxes |
-//! | `setting` | squares that are there |
+//! | `setting` | squares that are there, and boxes and a player on them (no test) |
 //! | `states` | the states of a level, their pushes, and tables of them |
 #![tactic(auto)]
 
 #[cfg(test)]
 mod boards;
 #[cfg(test)]
+mod bounds;
+#[cfg(test)]
+mod crowds;
+#[cfg(test)]
 mod distances;
 #[cfg(test)]
+mod jams;
+#[cfg(test)]
 mod layouts;
+#[cfg(test)]
+mod matching;
 #[cfg(test)]
 mod mazes;
 #[cfg(test)]
 mod packed;
+#[cfg(test)]
+mod positions;
+#[cfg(test)]
+mod prices;
 #[cfg(test)]
 mod pushes;
 #[cfg(test)]

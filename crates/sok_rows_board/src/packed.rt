@@ -24,6 +24,21 @@ fn has_all<const N: usize>(packed: &PackedKey<N>, squares: &[Sq], other: Sq) -> 
     !packed.has(other)
 }
 
+/// Whether the squares of a packed key's boxes come back, and the key itself.
+fn comes_back<const N: usize>(
+    rt: &impl Abort,
+    alloc: Global,
+    packed: &PackedKey<N>,
+    key: &Key,
+) -> Result<bool, Fail>
+    requires { N ≤ 16 }
+{
+    let mut list = Vec::new(alloc);
+    packed.list(&mut list)?;
+    assert!(rt; list.len() <= BOX_LIMIT);
+    Ok(list.as_slice() == key.boxes.list() && packed.key(alloc)? == *key)
+}
+
 /// The key with boxes on rising squares, in words; it has these squares and not one other, and
 /// they come back.
 fn pack<const N: usize>(
@@ -34,7 +49,6 @@ fn pack<const N: usize>(
 ) -> Result<PackedKey<N>, Fail>
     requires { N ≤ 16 }
 {
-    assert!(rt; squares.len() <= BOX_LIMIT);
     assert!(rt; are_below(squares, 64 * N));
     let boxes = box_set(alloc, squares)?;
     let key = Key {
@@ -42,11 +56,7 @@ fn pack<const N: usize>(
         least: other,
     };
     let packed = PackedKey::of(&key);
-    assert!(rt; has_all(&packed, squares, other), "{squares:?}");
-    let mut list = Vec::new(alloc);
-    packed.list(&mut list)?;
-    assert_eq!(rt; list.as_slice(), squares);
-    assert!(rt; packed.key(alloc)? == key);
+    assert!(rt; has_all(&packed, squares, other) && comes_back(rt, alloc, &packed, &key)?);
     Ok(packed)
 }
 
@@ -65,33 +75,52 @@ fn packed_keys(rt: HostRuntime) -> Result<(), Fail> {
     Ok(())
 }
 
+/// Whether a table has a key at an index, with a depth.
+fn has_key(table: &PackedTable<2>, index: usize, state: PackedKey<2>, depth: u32) -> bool {
+    index < table.len() && table.depth(index) == depth && table.key(index) == state
+}
+
+/// Whether an insertion tells an index and whether the key is new, and the table then has the key
+/// there with a depth.
+fn inserts(
+    table: &mut PackedTable<2>,
+    state: PackedKey<2>,
+    depth: u32,
+    told: (usize, bool),
+    kept: u32,
+) -> Result<bool, Fail> {
+    let found = table.insert(state, depth)?;
+    Ok(found == told && has_key(table, told.0, state, kept))
+}
+
+/// Whether the depth of the key at 0 is lowered or not, and what it is then.
+fn lowers(table: &mut PackedTable<2>, depth: u32, lowered: bool, kept: u32) -> bool {
+    if table.len() == 0 {
+        return false;
+    }
+    let told = table.lower_depth(0, depth);
+    told == lowered && 0 < table.len() && table.depth(0) == kept
+}
+
 /// A present key keeps its place and its depth. Depths are lowered and never raised.
 #[test]
 fn table_of_packed_keys(rt: HostRuntime) -> Result<(), Fail> {
-    let alloc = rt.alloc();
-    let first: PackedKey<2> = pack(&rt, alloc, &[5, 63], 0)?;
-    let second: PackedKey<2> = pack(&rt, alloc, &[5, 64], 0)?;
-    let third: PackedKey<2> = pack(&rt, alloc, &[5, 64], 1)?;
-    let mut table: PackedTable<2> = PackedTable::new(alloc);
-    for (state, depth, index, new, kept) in [
-        (first, 2, 0, true, 2),
-        (second, 7, 1, true, 7),
-        (third, 7, 2, true, 7),
-        (first, 9, 0, false, 2),
-        (second, 1, 1, false, 7),
+    let first = pack(&rt, rt.alloc(), &[5, 63], 0)?;
+    let second = pack(&rt, rt.alloc(), &[5, 64], 0)?;
+    let third = pack(&rt, rt.alloc(), &[5, 64], 1)?;
+    let mut table = PackedTable::new(rt.alloc());
+    for (state, depth, told, kept) in [
+        (first, 2, (0, true), 2),
+        (second, 7, (1, true), 7),
+        (third, 7, (2, true), 7),
+        (first, 9, (0, false), 2),
+        (second, 1, (1, false), 7),
     ] {
-        let told = table.insert(state, depth)?;
-        assert_eq!(rt; told, (index, new));
-        assert!(rt; index < table.len());
-        assert_eq!(rt; table.depth(index), kept);
-        assert!(rt; table.key(index) == state);
+        assert!(rt; inserts(&mut table, state, depth, told, kept)?, "{told:?}");
     }
     assert_eq!(rt; table.len(), 3);
     for (depth, lowered, kept) in [(3, false, 2), (2, false, 2), (1, true, 1)] {
-        assert!(rt; 0 < table.len());
-        assert_eq!(rt; table.lower_depth(0, depth), lowered);
-        assert!(rt; 0 < table.len());
-        assert_eq!(rt; table.depth(0), kept);
+        assert!(rt; lowers(&mut table, depth, lowered, kept), "{depth}");
     }
     Ok(())
 }

@@ -49,6 +49,14 @@ fn lists(
     Ok(pushes.as_slice() == told)
 }
 
+/// Whether one list is made so, and once more.
+fn lists_twice(alloc: Global, board: &Board, key: &Key, told: &[Push]) -> Result<bool, Fail>
+    requires { IsKey board.now key.now }
+{
+    let mut pushes = Vec::new(alloc);
+    Ok(lists(alloc, board, key, &mut pushes, told)? && lists(alloc, board, key, &mut pushes, told)?)
+}
+
 /// Whether the first push of a state leads to boxes and a least square, and a kept region is then
 /// that of the new state: it has the square that the box left, and not the one it came to.
 fn leads_to(alloc: Global, board: &Board, key: &Key, boxes: &[Sq], least: Sq) -> Result<bool, Fail>
@@ -70,13 +78,9 @@ fn leads_to(alloc: Global, board: &Board, key: &Key, boxes: &[Sq], least: Sq) ->
 /// first of them the player still comes everywhere.
 #[test]
 fn pushes_over_kept_lists(rt: HostRuntime) -> Result<(), Fail> {
-    let alloc = rt.alloc();
-    let board = board(alloc, sketch::BOX_IN_THE_OPEN)?;
-    let key = Key::start(alloc, &board)?;
-    let mut pushes = Vec::new(alloc);
-    for _ in 0..2 {
-        assert!(rt; lists(alloc, &board, &key, &mut pushes, &EACH_PUSH)?);
-    }
-    assert!(rt; leads_to(alloc, &board, &key, &[3], 0)?);
+    let board = board(rt.alloc(), sketch::BOX_IN_THE_OPEN)?;
+    let key = Key::start(rt.alloc(), &board)?;
+    assert!(rt; lists_twice(rt.alloc(), &board, &key, &EACH_PUSH)?);
+    assert!(rt; leads_to(rt.alloc(), &board, &key, &[3], 0)?);
     Ok(())
 }

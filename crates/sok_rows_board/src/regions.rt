@@ -3,11 +3,12 @@
 ghost use Rattle.std.specs.Prelude.{IfOk};
 ghost use Rattle.sok_region.specs.Regions.{IsRegionOf};
 
+use crate::setting::placed;
 use sok_board::area::Sq;
 use sok_board::board::Board;
 use sok_region::region::Region;
 use sok_rules::cell::Dir;
-use sok_sketch::sets::{board, box_set};
+use sok_sketch::sets::board;
 use sok_sketch::sketch;
 use std::alloc::Global;
 use std::process::Abort;
@@ -23,9 +24,7 @@ pub(crate) fn region(
     ensures { IfOk result (IsRegionOf board.now) }
 {
     let (_, boxes) = board.start();
-    let boxes = box_set(alloc, boxes)?;
-    assert!(rt; (player as usize) < board.squares());
-    assert!(rt; !boxes.has(player));
+    let boxes = placed(rt, alloc, board, boxes, player)?;
     Ok(Region::of(alloc, board, &boxes, player)?)
 }
 
@@ -83,10 +82,21 @@ fn walks(
     let board = board(alloc, text)?;
     let (player, _) = board.start();
     let region = region(rt, alloc, &board, player)?;
-    match region.walk(alloc, &board, from, to)? {
-        Some(walk) => Ok(letters == Some(walk.as_slice())),
-        None => Ok(letters.is_none()),
-    }
+    let walk = walk(alloc, &board, &region, from, to)?;
+    Ok(walk.as_deref() == letters)
+}
+
+/// A walk of a region.
+fn walk(
+    alloc: Global,
+    board: &Board,
+    region: &Region,
+    from: Sq,
+    to: Sq,
+) -> Result<Option<Vec<Dir>>, Fail>
+    requires { IsRegionOf board.now region.now }
+{
+    Ok(region.walk(alloc, board, from, to)?)
 }
 
 #[test]
@@ -116,9 +126,7 @@ fn find_again(
     player: Sq,
 ) -> Result<(), Fail> {
     let (_, boxes) = board.start();
-    let boxes = box_set(alloc, boxes)?;
-    assert!(rt; (player as usize) < board.squares());
-    assert!(rt; !boxes.has(player));
+    let boxes = placed(rt, alloc, board, boxes, player)?;
     region.again(board, &boxes, player);
     Ok(())
 }
@@ -136,37 +144,41 @@ fn region_that_is_found_again(rt: HostRuntime) -> Result<(), Fail> {
     Ok(())
 }
 
-/// Asserts that no walk from a square has more letters than it needs: the walk to the square itself
-/// has none, and one to a neighbour has at most one more. So each is a shortest one.
-fn assert_shortest(
-    rt: &impl Abort,
+/// How many letters a walk of a region has.
+fn length(
     alloc: Global,
     board: &Board,
     region: &Region,
     from: Sq,
-) -> Result<(), Fail>
+    to: Sq,
+) -> Result<Option<usize>, Fail>
     requires { IsRegionOf board.now region.now }
 {
-    assert!(rt;
-        region
-            .walk(alloc, board, from, from)?
-            .is_some_and(|walk| walk.is_empty())
-    );
+    match walk(alloc, board, region, from, to)? {
+        Some(walk) => Ok(Some(walk.len())),
+        None => Ok(None),
+    }
+}
+
+/// Whether no walk from a square has more letters than it needs: the walk to the square itself has
+/// none, and one to a neighbour has at most one more. So each is a shortest one.
+fn are_shortest(alloc: Global, board: &Board, region: &Region, from: Sq) -> Result<bool, Fail>
+    requires { IsRegionOf board.now region.now }
+{
     for to in 0..board.squares() {
-        assert!(rt; to < 1024);
-        let Some(walk) = region.walk(alloc, board, from, to as Sq)? else {
+        let Some(letters) = length(alloc, board, region, from, to as Sq)? else {
             continue;
         };
         for dir in [Dir::Left, Dir::Up, Dir::Right, Dir::Down] {
-            let Some(beside) = board.neighbour(to as Sq, dir) else {
-                continue;
-            };
-            if let Some(next) = region.walk(alloc, board, from, beside)? {
-                assert!(rt; next.len() <= walk.len().saturating_add(1));
+            if let Some(beside) = board.neighbour(to as Sq, dir) {
+                let further = length(alloc, board, region, from, beside)?;
+                if further.unwrap_or(0) > letters.saturating_add(1) {
+                    return Ok(false);
+                }
             }
         }
     }
-    Ok(())
+    Ok(length(alloc, board, region, from, from)? == Some(0))
 }
 
 /// Asserts it of each square of a region.
@@ -175,7 +187,7 @@ fn assert_all_shortest(rt: &impl Abort, alloc: Global, text: &str, player: Sq) -
     let region = region(rt, alloc, &board, player)?;
     for from in 0..1024 {
         if region.has(from) {
-            assert_shortest(rt, alloc, &board, &region, from)?;
+            assert!(rt; are_shortest(alloc, &board, &region, from)?, "from {from}");
         }
     }
     Ok(())

@@ -25,7 +25,8 @@ fn moves(
     let set = box_set(alloc, boxes)?;
     assert!(rt; set.has(from) && !set.has(to));
     let after = set.moved(alloc, from, to)?;
-    Ok(after.list().len() == boxes.len() && after.list().starts_with(front))
+    let after = after.list();
+    Ok(after.len() == boxes.len() && after.starts_with(front))
 }
 
 /// Whether a board has so many boxes, whose set can be copied and changed.

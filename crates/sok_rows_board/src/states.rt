@@ -3,13 +3,15 @@
 ghost use Rattle.std.specs.Prelude.{IfOk};
 ghost use Rattle.sok_state.specs.Keys.{IsKey};
 
+use crate::setting::placed;
 use sok_board::area::Sq;
 use sok_board::board::Board;
 use sok_rules::cell::Dir;
-use sok_sketch::sets::{board, box_set};
+use sok_sketch::sets::board;
 use sok_sketch::sketch;
 use sok_state::key::Key;
 use sok_state::legal::{after, pushes};
+use sok_state::push::Push;
 use sok_state::table::Table;
 use std::alloc::Global;
 use std::process::Abort;
@@ -19,11 +21,7 @@ use std::test::Fail;
 fn key(rt: &impl Abort, alloc: Global, board: &Board, boxes: &[Sq], player: Sq) -> Result<Key, Fail>
     ensures { IfOk result (IsKey board.now) }
 {
-    let squares = board.squares();
-    assert!(rt; boxes.iter().all(|square| (*square as usize) < squares));
-    assert!(rt; (player as usize) < squares);
-    let boxes = box_set(alloc, boxes)?;
-    assert!(rt; !boxes.has(player));
+    let boxes = placed(rt, alloc, board, boxes, player)?;
     Ok(Key::of(alloc, board, &boxes, player)?)
 }
 
@@ -63,7 +61,17 @@ fn keys_of_positions(rt: HostRuntime) -> Result<(), Fail> {
     Ok(())
 }
 
-/// Whether the legal pushes of a state are these: from which square, and in which direction.
+/// Whether pushes are these: from which square, and in which direction.
+fn are(pushes: &[Push], told: &[(Sq, Dir)]) -> bool {
+    for (i, push) in pushes.iter().enumerate() {
+        if told.get(i) != Some(&(push.from, push.dir)) {
+            return false;
+        }
+    }
+    pushes.len() == told.len()
+}
+
+/// Whether the legal pushes of a state are these.
 fn has_pushes(
     rt: &impl Abort,
     alloc: Global,
@@ -75,12 +83,18 @@ fn has_pushes(
     let board = board(alloc, text)?;
     let state = key(rt, alloc, &board, boxes, player)?;
     let legal = pushes(alloc, &board, &state)?;
-    for (i, push) in legal.iter().enumerate() {
-        if told.get(i) != Some(&(push.from, push.dir)) {
-            return Ok(false);
-        }
+    Ok(are(&legal, told))
+}
+
+/// The state after the first legal push.
+fn next(alloc: Global, board: &Board, state: &Key) -> Result<Option<Key>, Fail>
+    requires { IsKey board.now state.now }
+{
+    let legal = pushes(alloc, board, state)?;
+    if legal.len() == 0 {
+        return Ok(None);
     }
-    Ok(legal.len() == told.len())
+    Ok(Some(after(alloc, board, state, legal[0])?))
 }
 
 /// Whether the state after the first legal push has these boxes and this least square.
@@ -95,12 +109,10 @@ fn leads_to(
 ) -> Result<bool, Fail> {
     let board = board(alloc, text)?;
     let state = key(rt, alloc, &board, boxes, player)?;
-    let legal = pushes(alloc, &board, &state)?;
-    if legal.len() == 0 {
-        return Ok(false);
+    match next(alloc, &board, &state)? {
+        Some(next) => Ok(next.boxes.list() == boxes_after && next.least == least),
+        None => Ok(false),
     }
-    let next = after(alloc, &board, &state, legal[0])?;
-    Ok(next.boxes.list() == boxes_after && next.least == least)
 }
 
 #[test]
@@ -155,10 +167,11 @@ fn has_state(
     index: usize,
     depth: u32,
 ) -> Result<bool, Fail> {
-    if table.get(state) != Some(index) || index >= table.len() {
+    if index >= table.len() || table.depth(index) != depth {
         return Ok(false);
     }
-    Ok(table.depth(index) == depth && table.key(alloc, index)? == *state)
+    let found = table.key(alloc, index)?;
+    Ok(found == *state && table.get(state) == Some(index))
 }
 
 /// Whether an insertion tells an index, at which the table then has the state with a depth.

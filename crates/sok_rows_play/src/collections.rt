@@ -45,6 +45,20 @@ const NOTES: &str = "\
 #####
 Title: Third";
 
+/// Whether a level of a text is drawn so, or why there is none.
+fn is_drawn(
+    alloc: Global,
+    text: &[u8],
+    n: usize,
+    told: Result<&str, LevelFault>,
+) -> Result<bool, Fail> {
+    let collection = Collection::read(alloc, text)?;
+    match collection.level(alloc, n) {
+        Ok(level) => Ok(told == Ok(drawn(alloc, &level)?.as_str())),
+        Err(fault) => Ok(told == Err(fault)),
+    }
+}
+
 /// Levels of a text by their numbers, or why there are none.
 #[test]
 fn levels_by_their_numbers(rt: HostRuntime) -> Result<(), Fail> {
@@ -72,13 +86,7 @@ fn levels_by_their_numbers(rt: HostRuntime) -> Result<(), Fail> {
             Err(LevelFault::NoPlayer),
         ),
     ] {
-        match Collection::read(rt.alloc(), text)?.level(rt.alloc(), n) {
-            Ok(level) => {
-                let rows = drawn(rt.alloc(), &level)?;
-                assert!(rt; told == Ok(rows.as_str()), "level {n}");
-            }
-            Err(fault) => assert!(rt; told == Err(fault), "level {n}"),
-        }
+        assert!(rt; is_drawn(rt.alloc(), text, n, told)?, "level {n}");
     }
     Ok(())
 }
@@ -126,6 +134,22 @@ fn single_bytes(rt: HostRuntime) -> Result<(), Fail> {
     Ok(())
 }
 
+/// Whether a text has so many levels, and the first one so many rows.
+fn has_levels(
+    alloc: Global,
+    text: &[u8],
+    levels: usize,
+    rows: Option<usize>,
+) -> Result<bool, Fail> {
+    let collection = Collection::read(alloc, text)?;
+    Ok(collection.len() == levels && rows_of(alloc, &collection, 1).ok() == rows)
+}
+
+/// How many rows a level has.
+fn rows_of(alloc: Global, collection: &Collection<'_>, n: usize) -> Result<usize, LevelFault> {
+    Ok(collection.level(alloc, n)?.rows().len())
+}
+
 /// How many levels a text has, and how many rows the first one.
 #[test]
 fn board_lines_and_notes(rt: HostRuntime) -> Result<(), Fail> {
@@ -150,12 +174,7 @@ fn board_lines_and_notes(rt: HostRuntime) -> Result<(), Fail> {
         (b"\xff\x00\n#_@-$ *  .#\n", 1, Some(1)),
         (b"#@$.#\r#####\n", 0, None),
     ] {
-        let collection = Collection::read(rt.alloc(), text)?;
-        assert_eq!(rt; collection.len(), levels, "in {text:?}");
-        match collection.level(rt.alloc(), 1) {
-            Ok(level) => assert!(rt; rows == Some(level.rows().len()), "in {text:?}"),
-            Err(_) => assert!(rt; rows.is_none(), "in {text:?}"),
-        }
+        assert!(rt; has_levels(rt.alloc(), text, levels, rows)?, "in {text:?}");
     }
     Ok(())
 }
@@ -182,8 +201,10 @@ fn sixteen_mebibytes_of_small_levels(rt: HostRuntime) -> Result<(), Fail> {
     let text = small.repeat(rt.alloc(), times)?;
     let collection = Collection::read(rt.alloc(), &text)?;
     assert_eq!(rt; collection.len(), times);
-    assert_eq!(rt; collection.level(rt.alloc(), times)?.rows().len(), 7);
-    let fault = collection.level(rt.alloc(), times + 1).err();
-    assert_eq!(rt; fault, Some(LevelFault::NoSuchLevel));
+    assert_eq!(rt; rows_of(rt.alloc(), &collection, times), Ok(7));
+    assert_eq!(rt;
+        rows_of(rt.alloc(), &collection, times + 1),
+        Err(LevelFault::NoSuchLevel)
+    );
     Ok(())
 }

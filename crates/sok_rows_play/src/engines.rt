@@ -3,6 +3,7 @@
 use sok_engine::fault::ToolFault;
 use sok_play::listing::list_bytes;
 use sok_play::play::replay_bytes;
+use std::alloc::Global;
 use std::test::Fail;
 
 const COLLECTION: &[u8] = b"; First\n#####\n#@$.#\n#####\n\n#####\n#$ .#\n#####\n\
@@ -11,6 +12,13 @@ const COLLECTION: &[u8] = b"; First\n#####\n#@$.#\n#####\n\n#####\n#$ .#\n#####\
 /// A faulty level between others, and the same board with a title behind it.
 const WITH_A_FAULT: &[u8] = b"; First\n#####\n#@$.#\n#####\n\n######\n#@$@.#\n######\n\n\
     #####\n#@$.#\n#####\nTitle: Third";
+
+/// Whether a collection is listed in these lines.
+fn lists(alloc: Global, mut collection: &[u8], lines: &[u8]) -> bool {
+    let mut out = Vec::new(alloc);
+    let result = list_bytes(alloc, &mut collection, &mut out);
+    result == Ok(0) && out.as_slice() == lines
+}
 
 #[test]
 fn lists_levels_and_faults(rt: HostRuntime) -> Result<(), Fail> {
@@ -39,12 +47,22 @@ fn lists_levels_and_faults(rt: HostRuntime) -> Result<(), Fail> {
             b"1 3 5 1 1 \xff\x00\xe9\n",
         ),
     ] {
-        let mut out = Vec::new(rt.alloc());
-        let result = list_bytes(rt.alloc(), &mut &collection[..], &mut out);
-        assert_eq!(rt; out.as_slice(), lines, "of {collection:?}");
-        assert_eq!(rt; result, Ok(0));
+        assert!(rt; lists(rt.alloc(), collection, lines), "of {collection:?}");
     }
     Ok(())
+}
+
+/// Whether a text on a level of the collection is answered by this line.
+fn is_answered(
+    alloc: Global,
+    n: usize,
+    text: &[u8],
+    line: &str,
+    answer: Result<u8, ToolFault>,
+) -> bool {
+    let mut out = Vec::new(alloc);
+    let result = replay_bytes(alloc, &mut &COLLECTION[..], n, text, &mut out);
+    result == answer && out.as_slice() == line.as_bytes()
 }
 
 #[test]
@@ -57,10 +75,7 @@ fn replays_on_a_level_by_its_number(rt: HostRuntime) -> Result<(), Fail> {
         (2, b"x".as_slice(), "", Err(ToolFault::NoPlayer)),
         (4, b"x".as_slice(), "", Err(ToolFault::NoSuchLevel)),
     ] {
-        let mut out = Vec::new(rt.alloc());
-        let result = replay_bytes(rt.alloc(), &mut &COLLECTION[..], n, text, &mut out);
-        assert_eq!(rt; out.as_slice(), line.as_bytes());
-        assert_eq!(rt; result, answer);
+        assert!(rt; is_answered(rt.alloc(), n, text, line, answer), "{n}");
     }
     Ok(())
 }

@@ -2,12 +2,25 @@
 
 use sok_rules::cell::Dir;
 use sok_rules::fault::PlayFault;
+use sok_rules::level::Level;
 use sok_sketch::sketch;
 use sok_text::lurd::{LurdFault, print_lurd, read_lurd};
+use std::alloc::{AllocError, Global};
 use std::test::Fail;
 
 /// So many letters, a text behind them, and what the text spells.
 type Case<'a> = (usize, &'a str, Result<&'a [Dir], LurdFault>);
+
+/// Whether so many letters and a text behind them spell this.
+fn spells(alloc: Global, case: Case<'_>) -> Result<bool, AllocError> {
+    let (times, behind, told) = case;
+    let mut text = "l".repeat(alloc, times)?;
+    text.push_str(behind)?;
+    match read_lurd(alloc, text.as_bytes()) {
+        Ok(letters) => Ok(times <= letters.len() && told == Ok(&letters[times..])),
+        Err(fault) => Ok(told == Err(fault)),
+    }
+}
 
 #[test]
 fn letters_of_a_text(rt: HostRuntime) -> Result<(), Fail> {
@@ -31,18 +44,18 @@ fn letters_of_a_text(rt: HostRuntime) -> Result<(), Fail> {
         (1_000_000, "\nL", Err(LurdFault::TooLong)),
         (1_000_000, "Lx", Err(LurdFault::TooLong)),
     ];
-    for (times, behind, told) in cases {
-        let mut text = "l".repeat(rt.alloc(), times)?;
-        text.push_str(behind)?;
-        match read_lurd(rt.alloc(), text.as_bytes()) {
-            Ok(letters) => {
-                assert!(rt; times <= letters.len(), "{times} before {behind:?}");
-                assert!(rt; told == Ok(&letters[times..]), "{times} before {behind:?}");
-            }
-            Err(fault) => assert!(rt; told == Err(fault), "{times} before {behind:?}"),
-        }
+    for case in cases {
+        assert!(rt; spells(rt.alloc(), case)?, "{} before {:?}", case.0, case.1);
     }
     Ok(())
+}
+
+/// Whether letters are printed so.
+fn prints(alloc: Global, level: &Level, letters: &[Dir], told: Result<&[u8], PlayFault>) -> bool {
+    match print_lurd(alloc, level, letters) {
+        Ok(text) => told == Ok(text.as_slice()),
+        Err(fault) => told == Err(fault),
+    }
 }
 
 /// Letters that push are in upper case, and letters that cannot be played have no text.
@@ -55,10 +68,7 @@ fn text_of_played_letters(rt: HostRuntime) -> Result<(), Fail> {
     ];
     let level = sketch::level(rt.alloc(), sketch::ROOM_OF_TWO_ROWS)?;
     for (letters, told) in cases {
-        match print_lurd(rt.alloc(), &level, letters) {
-            Ok(text) => assert!(rt; told == Ok(text.as_slice()), "{letters:?}"),
-            Err(fault) => assert!(rt; told == Err(fault), "{letters:?}"),
-        }
+        assert!(rt; prints(rt.alloc(), &level, letters, told), "{letters:?}");
     }
     Ok(())
 }

@@ -4,6 +4,7 @@ use sok_rules::cell::{Cell, Spot};
 use sok_rules::fault::LevelFault;
 use sok_rules::level::Level;
 use sok_sketch::sketch;
+use std::alloc::{AllocError, Global};
 use std::test::Fail;
 
 /// Rows without a wall, which no text holds.
@@ -29,10 +30,18 @@ fn rows_without_a_wall(rt: HostRuntime) -> Result<(), Fail> {
     Ok(())
 }
 
+/// Why there is no level of so many columns in the second row, and rows of walls below it.
+fn fault_of(alloc: Global, columns: usize, walls: usize) -> Result<Option<LevelFault>, AllocError> {
+    let mut board = String::from_str(alloc, "#@$.#\n")?;
+    board.push_str("#".repeat(alloc, columns)?.as_str())?;
+    board.push_str("   \n")?;
+    board.push_str("#\n".repeat(alloc, walls)?.as_str())?;
+    Ok(sketch::level(alloc, board.as_str()).err())
+}
+
 /// The widest and the tallest level, and one more. Floor at the end of a row does not count.
 #[test]
 fn sizes_of_levels(rt: HostRuntime) -> Result<(), Fail> {
-    // columns of the second row, rows of walls below it
     for (columns, walls, fault) in [
         (64, 0, None),
         (65, 0, Some(LevelFault::TooWide)),
@@ -41,27 +50,35 @@ fn sizes_of_levels(rt: HostRuntime) -> Result<(), Fail> {
         (1, 1000, Some(LevelFault::TooTall)),
         (65, 63, Some(LevelFault::TooTall)),
     ] {
-        let mut board = String::from_str(rt.alloc(), "#@$.#\n")?;
-        board.push_str("#".repeat(rt.alloc(), columns)?.as_str())?;
-        board.push_str("   \n")?;
-        board.push_str("#\n".repeat(rt.alloc(), walls)?.as_str())?;
-        let found = sketch::level(rt.alloc(), board.as_str()).err();
+        let found = fault_of(rt.alloc(), columns, walls)?;
         assert_eq!(rt; found, fault, "{columns} columns, {walls} rows");
     }
     Ok(())
 }
 
+/// A level with floor at the ends of its rows, and a last row with much of it.
+fn level_with_floor(alloc: Global) -> Result<Level, Fail> {
+    let mut board = String::from_str(alloc, "#####  \n #@$.#\n#####\n#")?;
+    board.push_str(" ".repeat(alloc, 100)?.as_str())?;
+    Ok(sketch::level(alloc, board.as_str())?)
+}
+
+/// Whether the rows of a level have these lengths.
+fn has_rows(level: &Level, lengths: &[usize]) -> bool {
+    let rows = level.rows();
+    for (row, length) in rows.iter().zip(lengths) {
+        if row.len() != *length {
+            return false;
+        }
+    }
+    rows.len() == lengths.len()
+}
+
 #[test]
 fn floor_at_row_ends_is_dropped(rt: HostRuntime) -> Result<(), Fail> {
-    let mut board = String::from_str(rt.alloc(), "#####  \n #@$.#\n#####\n#")?;
-    board.push_str(" ".repeat(rt.alloc(), 100)?.as_str())?;
-    let level = sketch::level(rt.alloc(), board.as_str())?;
+    let level = level_with_floor(rt.alloc())?;
     let copy = level.copy(rt.alloc())?;
-    let mut lengths = Vec::new(rt.alloc());
-    for row in copy.rows() {
-        lengths.push(row.len())?;
-    }
-    assert_eq!(rt; lengths.as_slice(), [5, 6, 5, 1].as_slice());
+    assert!(rt; has_rows(&level, &[5, 6, 5, 1]) && has_rows(&copy, &[5, 6, 5, 1]));
     for (row, col, cell) in [
         (1, 0, Some(Cell::Floor)),
         (1, 2, Some(Cell::ManOff)),
@@ -71,8 +88,10 @@ fn floor_at_row_ends_is_dropped(rt: HostRuntime) -> Result<(), Fail> {
         (4, 0, None),
     ] {
         let spot = Spot { row, col };
-        assert_eq!(rt; level.cell(spot), cell, "row {row}, column {col}");
-        assert_eq!(rt; copy.cell(spot), cell, "row {row}, column {col}");
+        assert!(rt;
+            level.cell(spot) == cell && copy.cell(spot) == cell,
+            "{spot:?}"
+        );
     }
     Ok(())
 }

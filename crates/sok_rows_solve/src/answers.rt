@@ -66,6 +66,20 @@ fn assert_accepted(
     Ok(())
 }
 
+/// Whether a text replays on a board to this line.
+fn replays(alloc: Global, board: &str, text: &[u8], line: &[u8]) -> Result<bool, Fail> {
+    let mut out = Vec::new(alloc);
+    let status = replay_bytes(alloc, &mut board.as_bytes(), 1, text, &mut out)?;
+    Ok(status == 0 && cut_line(out.as_slice()).0 == line)
+}
+
+/// Whether an answer tells so many pushes, and a text that replays to its line.
+fn tells(alloc: Global, board: &str, out: &[u8], pushes: u32) -> Result<bool, Fail> {
+    let (line, text) = cut_line(out);
+    let front = format!(in alloc; "solved {pushes} ")?;
+    Ok(line.starts_with(front.as_bytes()) && replays(alloc, board, text, line)?)
+}
+
 /// Asserts that a level is solved with so many pushes: the text that is written is replayed, and
 /// the certificate judged.
 fn assert_solved(
@@ -77,14 +91,7 @@ fn assert_solved(
 ) -> Result<(), Fail> {
     let reply = answered(alloc, board, limit)?;
     assert_found(rt, alloc, board, limit, &reply)?;
-    let (line, text) = cut_line(reply.out.as_slice());
-    let front = format!(in alloc; "solved {pushes} ")?;
-    assert!(rt; line.starts_with(front.as_bytes()));
-    let mut replayed = Vec::new(alloc);
-    let solved = replay_bytes(alloc, &mut board.as_bytes(), 1, text, &mut replayed)?;
-    assert_eq!(rt; cut_line(replayed.as_slice()).0, line);
-    assert_eq!(rt; solved, 0);
-    assert_eq!(rt; reply.status, 0);
+    assert!(rt; reply.status == 0 && tells(alloc, board, &reply.out, pushes)?);
     let accepted = format!(in alloc; "accepted at least {pushes} pushes\n")?;
     assert_accepted(rt, alloc, board, limit, reply.cert.as_slice(), &accepted)
 }
@@ -200,6 +207,25 @@ fn levels(rt: HostRuntime) -> Result<(), Fail> {
     Ok(())
 }
 
+/// Asserts that a level is answered by this text, with a certificate unless the limit is met.
+fn assert_answered(
+    rt: &impl Abort,
+    alloc: Global,
+    board: &str,
+    limit: u32,
+    text: &str,
+    status: u8,
+) -> Result<(), Fail> {
+    let reply = answered(alloc, board, limit)?;
+    assert_found(rt, alloc, board, limit, &reply)?;
+    assert!(rt; reply.out.as_slice() == text.as_bytes(), "{text}");
+    assert!(rt;
+        reply.status == status && reply.cert.is_empty() == (status == 4),
+        "{text}"
+    );
+    Ok(())
+}
+
 /// Answers that are no other: the text of the solution, or the limit, which has no certificate.
 #[test]
 fn whole_answers(rt: HostRuntime) -> Result<(), Fail> {
@@ -211,11 +237,7 @@ fn whole_answers(rt: HostRuntime) -> Result<(), Fail> {
         (sketch::CORRIDOR_OF_SIX_PUSHES, 1, "limit 1\n", 4),
         (sketch::CORRIDOR_OF_SIX_PUSHES, 2, "limit 2\n", 4),
     ] {
-        let reply = answered(rt.alloc(), board, limit)?;
-        assert_found(&rt, rt.alloc(), board, limit, &reply)?;
-        assert_eq!(rt; reply.out.as_slice(), text.as_bytes());
-        assert_eq!(rt; reply.status, status);
-        assert_eq!(rt; reply.cert.is_empty(), status == 4);
+        assert_answered(&rt, rt.alloc(), board, limit, text, status)?;
     }
     Ok(())
 }

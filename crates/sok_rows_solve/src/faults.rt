@@ -1,6 +1,6 @@
 //! What is refused, and writers that are full.
 
-use crate::answers::answered;
+use crate::answers::{Reply, answered};
 use crate::engines::{find_bytes, solve_bytes};
 use crate::solves::ZERKALO;
 use sok_engine::fault::ToolFault;
@@ -8,7 +8,6 @@ use sok_sketch::sketch;
 use std::alloc::Global;
 use std::io;
 use std::io::Write;
-use std::process::Abort;
 use std::test::Fail;
 
 /// Takes so many bytes, one at each write, and fails from then on.
@@ -26,6 +25,11 @@ impl Full {
             room,
             failed: 0,
         }
+    }
+
+    /// Whether it took a front of a text, as much as it has room for, and was then asked once.
+    fn has(&self, whole: &[u8]) -> bool {
+        self.failed == 1 && Some(self.taken.as_slice()) == whole.get(..self.room)
     }
 }
 
@@ -47,8 +51,17 @@ impl Write for Full {
     }
 }
 
+/// Whether a level is refused by a fault, with nothing written, with a certificate and without.
+fn refuses(alloc: Global, board: &str, n: usize, limit: u32, fault: ToolFault) -> bool {
+    let mut out = Vec::new(alloc);
+    let mut cert = Vec::new(alloc);
+    let solved = solve_bytes(alloc, &mut board.as_bytes(), n, limit, &mut out, &mut cert);
+    let found = find_bytes(alloc, &mut board.as_bytes(), n, limit, &mut out);
+    solved == Err(fault) && found == Err(fault) && out.is_empty() && cert.is_empty()
+}
+
 #[test]
-fn refusals(rt: HostRuntime) -> Result<(), Fail> {
+fn refusals(rt: HostRuntime) {
     for (board, n, limit, fault) in [
         ("", 1, 10, ToolFault::NoSuchLevel),
         (sketch::ONE_PUSH, 0, 10, ToolFault::NoSuchLevel),
@@ -71,39 +84,28 @@ fn refusals(rt: HostRuntime) -> Result<(), Fail> {
         (sketch::STRAY_BOX, 1, 10, ToolFault::BoxOutside(1, 5)),
         (sketch::NO_GOAL, 1, 10, ToolFault::TooFewGoals),
     ] {
-        let mut out = Vec::new(rt.alloc());
-        let mut cert = Vec::new(rt.alloc());
-        let mut input = board.as_bytes();
-        let told = solve_bytes(rt.alloc(), &mut input, n, limit, &mut out, &mut cert);
-        assert_eq!(rt; told, Err(fault), "{board}");
-        assert_eq!(rt; out.len(), 0, "{board}");
-        assert_eq!(rt; cert.len(), 0, "{board}");
-        let mut input = board.as_bytes();
-        let told = find_bytes(rt.alloc(), &mut input, n, limit, &mut out);
-        assert_eq!(rt; told, Err(fault), "{board}");
-        assert_eq!(rt; out.len(), 0, "{board}");
+        assert!(rt; refuses(rt.alloc(), board, n, limit, fault), "{board}");
     }
-    Ok(())
 }
 
-/// Asserts that a writer of a certificate that takes so many bytes has a front of it then, and is
-/// not written to again, and that nothing of the answer is written.
-fn assert_full(
-    rt: &impl Abort,
-    alloc: Global,
-    board: &str,
-    limit: u32,
-    whole: &[u8],
-    room: usize,
-) -> Result<(), Fail> {
+/// Whether a writer of a certificate that takes so many bytes has a front of it then, and is not
+/// written to again, and nothing of the answer is written.
+fn is_full(alloc: Global, board: &str, limit: u32, whole: &[u8], room: usize) -> bool {
     let mut cert = Full::new(alloc, room);
     let mut out = Vec::new(alloc);
     let told = solve_bytes(alloc, &mut board.as_bytes(), 1, limit, &mut out, &mut cert);
-    assert_eq!(rt; told, Err(ToolFault::WriteFailed));
-    assert_eq!(rt; Some(cert.taken.as_slice()), whole.get(..room));
-    assert_eq!(rt; cert.failed, 1);
-    assert_eq!(rt; out.len(), 0);
-    Ok(())
+    told == Err(ToolFault::WriteFailed) && cert.has(whole) && out.is_empty()
+}
+
+/// Whether the certificate is written whole, and a writer of the answer that takes so many bytes
+/// has a front of it then, and is not written to again.
+fn is_full_behind(alloc: Global, board: &str, limit: u32, whole: &Reply, room: usize) -> bool {
+    let mut cert = Vec::new(alloc);
+    let mut out = Full::new(alloc, room);
+    let told = solve_bytes(alloc, &mut board.as_bytes(), 1, limit, &mut out, &mut cert);
+    told == Err(ToolFault::WriteFailed)
+        && cert.as_slice() == whole.cert.as_slice()
+        && out.has(&whole.out)
 }
 
 /// The writer of the certificate is full, and nothing of the answer is written; or it is not, and
@@ -113,17 +115,13 @@ fn full_writers(rt: HostRuntime) -> Result<(), Fail> {
     let board = sketch::ROOM_OF_TWO_ROWS;
     let whole = answered(rt.alloc(), board, 10)?;
     for room in 0..whole.cert.len() {
-        assert_full(&rt, rt.alloc(), board, 10, &whole.cert, room)?;
+        assert!(rt; is_full(rt.alloc(), board, 10, &whole.cert, room), "{room}");
     }
     for room in 0..whole.out.len() {
-        let mut cert = Vec::new(rt.alloc());
-        let mut out = Full::new(rt.alloc(), room);
-        let mut input = board.as_bytes();
-        let told = solve_bytes(rt.alloc(), &mut input, 1, 10, &mut out, &mut cert);
-        assert_eq!(rt; told, Err(ToolFault::WriteFailed));
-        assert_eq!(rt; cert.as_slice(), whole.cert.as_slice());
-        assert_eq!(rt; out.taken.as_slice(), &whole.out[..room]);
-        assert_eq!(rt; out.failed, 1);
+        assert!(rt;
+            is_full_behind(rt.alloc(), board, 10, &whole, room),
+            "{room}"
+        );
     }
     Ok(())
 }
@@ -134,7 +132,10 @@ fn full_writers(rt: HostRuntime) -> Result<(), Fail> {
 fn full_behind_a_block(rt: HostRuntime) -> Result<(), Fail> {
     let whole = answered(rt.alloc(), ZERKALO, 1_000)?;
     for room in [8_000, 8_192, 9_000, 10_000] {
-        assert_full(&rt, rt.alloc(), ZERKALO, 1_000, &whole.cert, room)?;
+        assert!(rt;
+            is_full(rt.alloc(), ZERKALO, 1_000, &whole.cert, room),
+            "{room}"
+        );
     }
     Ok(())
 }

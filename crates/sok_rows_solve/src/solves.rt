@@ -5,7 +5,7 @@ use sok_cert::check::check;
 use sok_cert::claim::Claim;
 use sok_cert::entry::Cert;
 use sok_cert::limits::fits;
-use sok_rules::cell::Spot;
+use sok_rules::cell::{Dir, Spot};
 use sok_rules::level::Level;
 use sok_rules::play::replay;
 use sok_search::fault::SolveFault;
@@ -34,15 +34,19 @@ fn assert_certified(
     Ok(())
 }
 
+/// Whether letters solve a level with so many pushes.
+fn solves(alloc: Global, level: &Level, letters: &[Dir], pushes: u32) -> Result<bool, Fail> {
+    let tally = replay(alloc, level, letters)?;
+    Ok(tally.solved && tally.pushes == u64::from(pushes))
+}
+
 /// The pushes of a level's solution, and None where there is none. Asserts that the letters solve
 /// with as many pushes, and that the certificate is accepted.
 fn pushes_of(rt: &impl Abort, alloc: Global, board: &str, limit: u32) -> Result<Option<u32>, Fail> {
     let level = level(alloc, board)?;
     match solve(alloc, &level, limit)? {
         Outcome::Solved { dirs, pushes, cert } => {
-            let tally = replay(alloc, &level, &dirs)?;
-            assert!(rt; tally.solved);
-            assert_eq!(rt; tally.pushes, u64::from(pushes));
+            assert!(rt; solves(alloc, &level, &dirs, pushes)?);
             assert_certified(rt, alloc, &level, limit, &Claim::Pushes(pushes), &cert)?;
             Ok(Some(pushes))
         }
@@ -68,9 +72,7 @@ fn found_pushes(
     let level = level(alloc, board)?;
     match find(alloc, &level, limit)? {
         Found::Solved { dirs, pushes } => {
-            let tally = replay(alloc, &level, &dirs)?;
-            assert!(rt; tally.solved);
-            assert_eq!(rt; tally.pushes, u64::from(pushes));
+            assert!(rt; solves(alloc, &level, &dirs, pushes)?);
             Ok(Some(pushes))
         }
         _ => Ok(None),

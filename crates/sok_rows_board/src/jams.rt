@@ -1,9 +1,12 @@
 //! Frozen boxes as a reason, and which are found.
 
-use crate::setting::{IN_THE_ROOM, ON_THE_GOAL, Position, TWO_IN_A_ROW, boxes_on, holds};
+ghost use Rattle.std.specs.Prelude.{◌≡◌};
+
+use crate::positions::{IN_THE_ROOM, ON_THE_GOAL, Position, TWO_IN_A_ROW, boxes_on, holds};
 use sok_bar::frozen::{Frozen, find_frozen};
 use sok_bar::rest::Rest;
 use sok_board::area::Sq;
+use sok_board::board::Board;
 use sok_push::tables::Tables;
 use sok_sketch::sets::board;
 use sok_sketch::sketch;
@@ -58,9 +61,22 @@ fn found(
 ) -> Result<Option<Vec<u32>>, Fail> {
     let board = board(alloc, level)?;
     let tables = Tables::new(alloc, &board)?;
-    let boxes = boxes_on(rt, alloc, &board, squares)?;
+    found_on(rt, alloc, &board, &tables, squares, square)
+}
+
+fn found_on(
+    rt: &impl Abort,
+    alloc: Global,
+    board: &Board,
+    tables: &Tables,
+    squares: &[Sq],
+    square: Sq,
+) -> Result<Option<Vec<u32>>, Fail>
+    requires { tables.now.board ≡ board.now }
+{
+    let boxes = boxes_on(rt, alloc, board, squares)?;
     assert!(rt; boxes.has(square));
-    Ok(find_frozen(alloc, &board, &tables, &boxes, square)?)
+    Ok(find_frozen(alloc, board, tables, &boxes, square)?)
 }
 
 /// A level, the squares of boxes on it, one of them, and the members of a jam with it.
@@ -73,13 +89,28 @@ const JAMMED: [Found<'_>; 4] = [
     (sketch::TWO_OF_THREE_STUCK, &[1, 2, 5], 2, &[0, 1]),
 ];
 
+/// Whether the jam that is found has these members.
+fn finds(
+    rt: &impl Abort,
+    alloc: Global,
+    level: &str,
+    squares: &[Sq],
+    square: Sq,
+    told: &[u32],
+) -> Result<bool, Fail> {
+    match found(rt, alloc, level, squares, square)? {
+        Some(members) => Ok(members.as_slice() == told),
+        None => Ok(false),
+    }
+}
+
 #[test]
 fn boxes_that_are_found_frozen(rt: HostRuntime) -> Result<(), Fail> {
     for (level, squares, square, told) in JAMMED {
-        match found(&rt, rt.alloc(), level, squares, square)? {
-            Some(members) => assert_eq!(rt; members.as_slice(), told, "{level}"),
-            None => assert!(rt; false, "no jam in {level}"),
-        }
+        assert!(rt;
+            finds(&rt, rt.alloc(), level, squares, square, told)?,
+            "{level}"
+        );
     }
     Ok(())
 }

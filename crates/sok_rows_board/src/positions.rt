@@ -2,6 +2,7 @@
 
 ghost use Rattle.std.specs.Prelude.{◌≡◌, ◌<◌, All, IfOk, length};
 
+use crate::setting::{are_below, placed};
 use sok_bar::bar::Bar;
 use sok_bar::rest::Rest;
 use sok_board::area::Sq;
@@ -44,10 +45,7 @@ pub(crate) fn boxes_on(
 ) -> Result<BoxSet, Fail>
     ensures { IfOk result (All (λ square. square < length board.now.area)) }
 {
-    let count = board.squares();
-    for square in squares {
-        assert!(rt; (*square as usize) < count);
-    }
+    assert!(rt; are_below(squares, board.squares()));
     box_set(alloc, squares)
 }
 
@@ -62,8 +60,7 @@ pub(crate) fn holds<B: Bar>(
     let (level, boxes, player) = position;
     let board = board(alloc, level)?;
     let tables = Tables::new(alloc, &board)?;
-    let boxes = boxes_on(rt, alloc, &board, boxes)?;
-    holds_on(rt, alloc, reason, &board, &tables, &boxes, player, rest)
+    holds_on(rt, alloc, reason, &board, &tables, boxes, player, rest)
 }
 
 fn holds_on<B: Bar>(
@@ -72,14 +69,12 @@ fn holds_on<B: Bar>(
     reason: &B,
     board: &Board,
     tables: &Tables,
-    boxes: &BoxSet,
+    boxes: &[Sq],
     player: Sq,
     rest: Rest,
 ) -> Result<bool, Fail>
-    requires tables { tables.now.board ≡ board.now }
-    requires boxes { All (λ square. square < length board.now.area) boxes.now }
+    requires { tables.now.board ≡ board.now }
 {
-    assert!(rt; (player as usize) < board.squares());
-    assert!(rt; !boxes.has(player));
-    Ok(reason.holds(alloc, board, tables, boxes, player, rest)?)
+    let boxes = placed(rt, alloc, board, boxes, player)?;
+    Ok(reason.holds(alloc, board, tables, &boxes, player, rest)?)
 }

@@ -1,6 +1,6 @@
 use Rattle.std.proofs.Common.{◌<◌, length}
 use Rattle.std.proofs.lemmas.List.Elements.{All-contains}
-use Rattle.sok_rows_price.proofs.matching.moved_total.Goals as goal
+use Rattle.sok_rows_board.proofs.matching.moved_total.Goals as goal
 
 pub bound_after-requires : goal.bound_after-requires
 bound_after-requires c =

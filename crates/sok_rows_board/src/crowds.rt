@@ -1,6 +1,6 @@
 //! Crowds as a reason.
 
-use crate::setting::{BEYOND_THE_GOAL, Position, TWO_AND_THREE_GOALS, TWO_FOR_ONE_GOAL, holds};
+use crate::positions::{BEYOND_THE_GOAL, Position, TWO_AND_THREE_GOALS, TWO_FOR_ONE_GOAL, holds};
 use sok_bar::crowd::Crowd;
 use sok_bar::rest::Rest;
 use sok_sketch::sketch;

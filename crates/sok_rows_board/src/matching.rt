@@ -3,7 +3,7 @@
 ghost use Rattle.std.specs.Prelude.{◌≡◌, ◌<◌, All, Contains, IfOk, length};
 ghost use Rattle.sok_price.specs.Matched.{Serves};
 
-use crate::setting::boxes_on;
+use crate::positions::boxes_on;
 use sok_board::area::Sq;
 use sok_board::board::Board;
 use sok_price::assign::{Match, assign};

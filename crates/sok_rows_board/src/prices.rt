@@ -43,23 +43,29 @@ const LEAST: [Priced<'_>; 4] = [
     (sketch::NEAREST_GOAL_NEEDED_BY_ANOTHER, 5, &[0, 1], 2),
 ];
 
+/// Whether what is found is an assignment of this total, to these goals of so many.
+fn is_priced(found: Match, least: u32, goals: &[usize], all: usize) -> bool {
+    match found {
+        Match::Prices {
+            u,
+            v,
+            total,
+            goal_of,
+        } => {
+            total == least
+                && goal_of.as_slice() == goals
+                && u.len() == goals.len()
+                && v.len() == all
+        }
+        Match::Crowd { .. } => false,
+    }
+}
+
 #[test]
 fn least_assignments(rt: HostRuntime) -> Result<(), Fail> {
     for (text, least, goals, all) in LEAST {
         let found = assigned(rt.alloc(), text)?;
-        match &found {
-            Match::Prices {
-                u,
-                v,
-                total,
-                goal_of,
-            } => {
-                assert_eq!(rt; *total, least, "{text}");
-                assert_eq!(rt; goal_of.as_slice(), goals, "{text}");
-                assert_eq!(rt; (u.len(), v.len()), (goals.len(), all), "{text}");
-            }
-            Match::Crowd { members } => assert!(rt; false, "crowd {members:?} in {text}"),
-        }
+        assert!(rt; is_priced(found, least, goals, all), "{text}");
     }
     Ok(())
 }
@@ -69,15 +75,34 @@ const CROWDS: [(&str, &[u32]); 2] = [
     (sketch::TWO_BOXES_FOR_ONE_GOAL, &[0, 1]),
 ];
 
+/// Whether what is found is a crowd of these boxes.
+fn is_crowd(found: Match, crowd: &[u32]) -> bool {
+    match found {
+        Match::Crowd { members } => members.as_slice() == crowd,
+        Match::Prices { .. } => false,
+    }
+}
+
 #[test]
 fn crowds(rt: HostRuntime) -> Result<(), Fail> {
     for (text, crowd) in CROWDS {
-        match assigned(rt.alloc(), text)? {
-            Match::Crowd { members } => assert_eq!(rt; members.as_slice(), crowd, "{text}"),
-            Match::Prices { .. } => assert!(rt; false, "no crowd in {text}"),
-        }
+        let found = assigned(rt.alloc(), text)?;
+        assert!(rt; is_crowd(found, crowd), "{text}");
     }
     Ok(())
+}
+
+/// Whether what is found is an assignment of 128 boxes to 128 goals, of this total.
+fn is_priced_throughout(found: Match, least: u32) -> bool {
+    match found {
+        Match::Prices {
+            u,
+            v,
+            total,
+            goal_of,
+        } => total == least && u.len() == 128 && v.len() == 128 && goal_of.len() == 128,
+        Match::Crowd { .. } => false,
+    }
 }
 
 /// In each of the 32 columns the boxes go up by 16 squares in all, and no push is worth more than
@@ -86,17 +111,6 @@ fn crowds(rt: HostRuntime) -> Result<(), Fail> {
 fn room_of_128_boxes_and_128_goals(rt: HostRuntime) -> Result<(), Fail> {
     let text = rooms::ROOM_OF_128_BOXES_BELOW_GOALS.text(rt.alloc())?;
     let found = assigned(rt.alloc(), text.as_str())?;
-    match &found {
-        Match::Prices {
-            u,
-            v,
-            total,
-            goal_of,
-        } => {
-            assert_eq!(rt; *total, 512);
-            assert_eq!(rt; (u.len(), v.len(), goal_of.len()), (128, 128, 128));
-        }
-        Match::Crowd { members } => assert!(rt; false, "crowd {members:?}"),
-    }
+    assert!(rt; is_priced_throughout(found, 512));
     Ok(())
 }

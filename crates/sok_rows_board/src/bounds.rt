@@ -1,6 +1,8 @@
 //! Prices as a reason, and pushes that are spent.
 
-use crate::setting::{IN_THE_ROOM, ON_THE_GOAL, Position, TO_THE_GOAL, TWO_AND_THREE_GOALS, holds};
+use crate::positions::{
+    IN_THE_ROOM, ON_THE_GOAL, Position, TO_THE_GOAL, TWO_AND_THREE_GOALS, holds,
+};
 use sok_bar::bound::Bound;
 use sok_bar::rest::Rest;
 use sok_bar::spent::Spent;
