@@ -190,6 +190,11 @@ module _ (b : Numbered) (boxes rows : List ℕ) (exist : (s : ℕ) → Contains 
     drawn-member s here,
   )
 
+pub IsNarrowed-same : (b : Numbered) (s : ℕ) (squares boxes rows old new : List ℕ) (stays : Bool) → squares ≡ boxes → rows ≡ old
+    → IsNarrowed b squares s rows new stays → IsNarrowed b boxes s old new stays
+IsNarrowed-same b s squares boxes rows old new stays same_squares same_rows narrowed =
+    subst (λ xs. IsNarrowed b xs s old new stays) same_squares (subst (λ xs. IsNarrowed b squares s xs new stays) same_rows narrowed)
+
 module _ (b : Numbered) (area : IsArea b.rows b.area) (boxes : List ℕ) (laid : Laid) (out : IsLaidOut b boxes laid) (held : List ℕ) (s : ℕ) (stays : Bool)
     (narrowed : IsNarrowed b laid.boxes s laid.boxed held stays) where
   left : KeepsJams b boxes held

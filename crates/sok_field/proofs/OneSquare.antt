@@ -16,39 +16,45 @@ same_place s p row col = λ i. record { row = row i; col = col i }
 pub set-same : (rows : List ℕ) (r x k : ℕ) → r < length rows → k ≡ r → get_or (set rows r x) k 0 ≡ x
 set-same rows r x k within same = ap (λ n. get_or (set rows r x) n 0) same ∙ get_or-set_same rows r x 0 within
 
+cases_place : (s p : Spot) → (s ≡ p) ⊎ (s ≡ p → ⊥)
+cases_place s p = elim (cases_eq s.row p.row) [
+  | inl row ↦ elim (cases_eq s.col p.col) [
+    | inl col ↦ inl (same_place s p row col)
+    | inr apart ↦ inr (λ same. apart (ap (λ (t : Spot). t.col) same))
+  ]
+  | inr apart ↦ inr (λ same. apart (ap (λ (t : Spot). t.row) same))
+]
+
+-- the bit of a square in another word of its row
+bit-here : (rows : List ℕ) (p : Spot) (x : ℕ) → p.row < length rows → bit_of (set rows p.row x) p.row p.col ≡ bit_at x p.col
+bit-here rows p x within = ap (λ n. bit_at n p.col) (get_or-set_same rows p.row x 0 within)
+
+-- another word of a row, in which no other bit changes, leaves the other squares
+others_stay : (rows : List ℕ) (p : Spot) (x : ℕ) → p.row < length rows
+    → ((c : ℕ) → (c ≡ p.col → ⊥) → bit_at x c ≡ bit_at (get_or rows p.row 0) c)
+    → (s : Spot) → (s ≡ p → ⊥) → has (set rows p.row x) s ≡ has rows s
+unfolding has
+others_stay rows p x within stays s other = ap (λ n. eqb n 1) (elim (cases_eq s.row p.row) [
+  | inl row ↦
+      ap (λ n. bit_at n s.col) (set-same rows p.row x s.row within row) ∙ stays s.col (λ col. other (same_place s p row col))
+      ∙ sym (ap (λ k. bit_of rows k s.col) row)
+  | inr apart ↦ ap (λ n. bit_at n s.col) (get_or-set_other rows p.row s.row x 0 apart)
+])
+
 -- a square put in, or taken out
 pub put-exact : (rows : List ℕ) (p : Spot) → p.row < length rows → p.col < 64 → (s : Spot)
     → (has (set rows p.row (bit_or (get_or rows p.row 0) (1 * 2 ^ p.col % 2 ^ 64))) s ≡ true) ↔ ((s ≡ p) ⊎ (has rows s ≡ true))
 put-exact rows p within narrow s =
     let word = get_or rows p.row 0 in
     let x = bit_or word (1 * 2 ^ p.col % 2 ^ 64) in
-    elim (cases_eq s.row p.row) [
-      | inl row ↦
-          let new : bit_of (set rows p.row x) s.row s.col ≡ bit_at x s.col = ap (λ n. bit_at n s.col) (set-same rows p.row x s.row within row) in
-          let old : bit_of rows s.row s.col ≡ bit_at word s.col = ap (λ k. bit_of rows k s.col) row in
-          elim (cases_eq s.col p.col) [
-            | inl col ↦ (
-              λ _. inl (same_place s p row col),
-              λ _. on-has (set rows p.row x) s (new ∙ ap (bit_at x) col ∙ bit_at_set_same w64 word p.col narrow),
-            )
-            | inr apart ↦
-                let kept = bit_at_set_other w64 word p.col narrow s.col apart in (
-                  λ e. inr (on-has rows s (old ∙ sym kept ∙ sym new ∙ has-on (set rows p.row x) s e)),
-                  λ one. elim one [
-                    | inl same ↦ absurd (apart (ap (λ (t : Spot). t.col) same))
-                    | inr e ↦ on-has (set rows p.row x) s (new ∙ kept ∙ sym old ∙ has-on rows s e)
-                  ],
-                )
-          ]
-      | inr apart ↦
-          let kept : bit_of (set rows p.row x) s.row s.col ≡ bit_of rows s.row s.col = ap (λ n. bit_at n s.col)
-          (get_or-set_other rows p.row s.row x 0 apart) in (
-            λ e. inr (on-has rows s (sym kept ∙ has-on (set rows p.row x) s e)),
-            λ one. elim one [
-              | inl same ↦ absurd (apart (ap (λ (t : Spot). t.row) same))
-              | inr e ↦ on-has (set rows p.row x) s (kept ∙ has-on rows s e)
-            ],
-          )
+    elim (cases_place s p) [
+      | inl same ↦ (
+        λ _. inl same,
+        λ _. ap (has (set rows p.row x)) same ∙ on-has (set rows p.row x) p (bit-here rows p x within ∙ bit_at_set_same w64 word p.col narrow),
+      )
+      | inr other ↦
+          let kept = others_stay rows p x within (bit_at_set_other w64 word p.col narrow) s other in
+          (λ e. inr (sym kept ∙ e), λ one. elim one [ inl same ↦ absurd (other same) | inr e ↦ kept ∙ e ])
     ]
 
 -- a bit that is not taken away stays, also past the word
@@ -67,28 +73,17 @@ pub take-exact : (rows : List ℕ) (p : Spot) → p.row < length rows → p.col 
 take-exact rows p within narrow s fits =
     let word = get_or rows p.row 0 in
     let x = bit_and word (2 ^ 64 - 1 - 1 * 2 ^ p.col % 2 ^ 64) in
-    elim (cases_eq s.row p.row) [
-      | inl row ↦
-          let new : bit_of (set rows p.row x) s.row s.col ≡ bit_at x s.col = ap (λ n. bit_at n s.col) (set-same rows p.row x s.row within row) in
-          let old : bit_of rows s.row s.col ≡ bit_at word s.col = ap (λ k. bit_of rows k s.col) row in
-          elim (cases_eq s.col p.col) [
-            | inl col ↦
-                let off : bit_at x s.col ≡ 0 = ap (bit_at x) col ∙ bit_at_clear_same w64 word p.col narrow in (
-                  λ e. let on = has-on (set rows p.row x) s e in absurd (omega (arith, on, new, off)),
-                  λ (other, _). absurd (other (same_place s p row col)),
-                )
-            | inr apart ↦
-                let kept = clear-other word p.col s.col fits narrow apart in (
-                  λ e. (λ same. apart (ap (λ (t : Spot). t.col) same), on-has rows s (old ∙ sym kept ∙ sym new ∙ has-on (set rows p.row x) s e)),
-                  λ (_, e). on-has (set rows p.row x) s (new ∙ kept ∙ sym old ∙ has-on rows s e),
-                )
-          ]
-      | inr apart ↦
-          let kept : bit_of (set rows p.row x) s.row s.col ≡ bit_of rows s.row s.col = ap (λ n. bit_at n s.col)
-          (get_or-set_other rows p.row s.row x 0 apart) in (
-            λ e. (λ same. apart (ap (λ (t : Spot). t.row) same), on-has rows s (sym kept ∙ has-on (set rows p.row x) s e)),
-            λ (_, e). on-has (set rows p.row x) s (kept ∙ has-on rows s e),
-          )
+    elim (cases_place s p) [
+      | inl same ↦ (
+        λ e.
+            let on = has-on (set rows p.row x) p (ap (has (set rows p.row x)) (sym same) ∙ e) in
+            let off = bit-here rows p x within ∙ bit_at_clear_same w64 word p.col narrow in
+            absurd (omega (arith, on, off)),
+        λ (other, _). absurd (other same),
+      )
+      | inr other ↦
+          let kept = others_stay rows p x within (λ c. clear-other word p.col c fits narrow) s other in
+          (λ e. (other, sym kept ∙ e), λ (_, e). kept ∙ e)
     ]
 
 -- a square of a set lies in its rows

@@ -26,6 +26,11 @@ spread_row-past seen free r past =
     let rest = bit_or (bit_or (widened (get_or seen r 0)) (above seen r)) (get_or seen (r + 1) 0) in
     ap (λ f. bit_and f rest) (get_or_past free r 0 past) ∙ and_zero_l rest
 
+-- the first rows are those of the round
+pub record AreSpread (seen free out : List ℕ) (r : ℕ) : Type 0 where
+  pub within : r ≤ length seen
+  pub done : (k : ℕ) → k < r → get_or out k 0 ≡ spread_row seen free k
+
 -- so each row is that of the round, if the rows that there are are
 pub every-row : (seen free out : List ℕ) → length free ≡ length out → ((r : ℕ) → r < length out → get_or out r 0 ≡ spread_row seen free r) → (r : ℕ)
     → get_or out r 0 ≡ spread_row seen free r

@@ -1,5 +1,5 @@
 -- A row that is exchanged for another: the last takes its place, and a new one is the last.
-use Rattle.std.specs.Prelude.{ℕ, ◌≡◌, ◌<◌, ◌+◌, List, Bool, IsTrue, false, ◌==◌, if◌then◌else◌, length, slice_index}
+use Rattle.std.specs.Prelude.{ℕ, ◌≡◌, ◌<◌, ◌≤◌, ◌+◌, ◌*◌, List, Bool, IsTrue, false, ◌==◌, if◌then◌else◌, length, slice_index}
 use Rattle.sok_price.specs.declared.costs.Costs.{Costs}
 use Rattle.sok_price.specs.declared.search.Search.{Search}
 use Rattle.sok_price.specs.Costs.{cost_of, AreCosts}
@@ -22,6 +22,11 @@ pub record IsWhole (costs : Costs) (rows : List ℕ) (search : Search) : Type 0 
   pub shaped : AreCosts costs rows
   pub ready : IsReady (cost_of costs rows) (length rows) costs.goals (growth_of search)
   pub whole : length search.goal_of.items ≡ length rows
+
+-- a row of a matching, and the row of a table for which it is exchanged
+pub record IsExchange (costs : Costs) (rows : List ℕ) (row entry : ℕ) : Type 0 where
+  pub within : row < length rows
+  pub below : (entry + 1) * costs.goals ≤ length costs.entries.items
 
 -- how a search ends for all rows: with a goal for each, or with a tree of rows that reach too few
 pub record Tells (costs : Costs) (rows : List ℕ) (search : Search) (found : Bool) : Type 0 where

@@ -1,6 +1,6 @@
 -- A matching with a row for each goal of a board: rows of boxes, and spare rows that cost nothing.
 use Rattle.std.specs.Prelude.{ℕ, ◌≡◌, ◌≢◌, ◌≤◌, ◌<◌, ◌+◌, ◌*◌, List, Option, Some, None, Bool, true, false}
-use Rattle.std.specs.Prelude.{All, Contains, length, slice_index, slice_index_or, sum}
+use Rattle.std.specs.Prelude.{All, Contains, IsTrue, length, slice_index, slice_index_or, sum}
 use Rattle.std.specs.List.Sorted.{IsStrictlyIncreasing}
 use Rattle.sok_board.specs.Area.{Numbered, goals_of}
 use Rattle.sok_price.specs.declared.costs.Costs.{Costs}
@@ -72,6 +72,16 @@ pub record IsShaped (members goals : ℕ) (search : Search) : Type 0 where
   pub a_price_a_goal : length search.v.items ≡ goals
   pub roomy : IsRoomy goals (growth_of search)
   pub room : HasRoom members search
+
+-- rows of a table with prices, a matching if it is said so, that are to be set to the boxes of a list
+pub record CanSettle (end : ℕ) (boxes : List ℕ) (matched : Bool) (marks : List Bool) (costs : Costs) (rows : List ℕ) (search : Search) : Type 0 where
+  pub costs_are : AreCosts costs rows
+  pub are_rows : AreRows end rows
+  pub whole : IsTrue matched → IsWhole costs rows search
+  pub shaped : IsShaped (length rows) costs.goals search
+  pub a_mark_a_square : length marks ≡ end
+  pub entries : (end + 1) * costs.goals ≤ length costs.entries.items
+  pub exist : All (λ square. square < end) boxes
 
 -- a matching of the boxes of a list, whose prices are low enough for one more exchange
 pub record IsSettled (end : ℕ) (boxes : List ℕ) (costs : Costs) (rows : List ℕ) (search : Search) : Type 0 where

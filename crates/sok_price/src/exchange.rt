@@ -7,13 +7,12 @@ ghost use Rattle.std.specs.Prelude.{
   ◌<◌,
   ◌≤◌,
   ◌+◌,
-  ◌*◌,
   All,
   length,
   slice_index,
 };
 ghost use Rattle.sok_price.specs.Costs.{cost_of, AreCosts};
-ghost use Rattle.sok_price.specs.Exchanges.{moved_from, AreMoved, IsWhole, Tells};
+ghost use Rattle.sok_price.specs.Exchanges.{moved_from, AreMoved, IsExchange, IsWhole, Tells};
 ghost use Rattle.sok_price.specs.Kept.{IsShaped};
 ghost use Rattle.sok_price.specs.Limits.{kept_floor_limit};
 ghost use Rattle.sok_price.specs.Searches.{growth_of, HasRoom, IsReady, KeepsRoom};
@@ -77,8 +76,7 @@ fn highest(floor: u32, prices: &[u32]) -> u32
 /// goal, since the goal that the old row had keeps its price.
 fn open_row(row: usize, entry: usize, costs: &Costs, rows: &mut Vec<usize>, search: &mut Search)
     requires whole { IsWhole costs.now rows.old.items search.old }
-    requires row { row < length rows.old.items }
-    requires entry { (entry + 1) * costs.now.goals ≤ length costs.now.entries.items }
+    requires exchange { IsExchange costs.now rows.old.items row entry }
     requires low { search.old.floor ≤ kept_floor_limit }
     ensures costs { AreCosts costs.now rows.new.items }
     ensures moved { AreMoved row entry rows.old.items rows.new.items }
@@ -104,8 +102,7 @@ pub(crate) fn exchange(
 ) -> bool
     requires whole { IsWhole costs.now rows.old.items search.old }
     requires room { HasRoom (length rows.old.items) search.old }
-    requires row { row < length rows.old.items }
-    requires entry { (entry + 1) * costs.now.goals ≤ length costs.now.entries.items }
+    requires exchange { IsExchange costs.now rows.old.items row entry }
     requires low { search.old.floor ≤ kept_floor_limit }
     ensures costs { AreCosts costs.now rows.new.items }
     ensures moved { AreMoved row entry rows.old.items rows.new.items }

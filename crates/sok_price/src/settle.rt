@@ -4,8 +4,6 @@ ghost use Rattle.std.specs.Prelude.{
   ◌≡◌,
   ◌<◌,
   ◌≤◌,
-  ◌+◌,
-  ◌*◌,
   None,
   All,
   Contains,
@@ -16,16 +14,14 @@ ghost use Rattle.std.specs.Prelude.{
 };
 ghost use Rattle.std.specs.List.Sorted.{IsStrictlyIncreasing};
 ghost use Rattle.sok_board.specs.Area.{Numbered};
-ghost use Rattle.sok_price.specs.Costs.{AreCosts};
-ghost use Rattle.sok_price.specs.Exchanges.{IsWhole};
 ghost use Rattle.sok_price.specs.Kept.{
   AreExactly,
   AreListed,
   AreMarksOf,
   AreOf,
-  AreRows,
   AreSet,
   AreTabled,
+  CanSettle,
   IsBounded,
   IsChange,
   IsSettled,
@@ -138,32 +134,6 @@ fn list_rows(squares: usize, boxes: &[Sq], rows: &mut Vec<usize>)
     }
 }
 
-/// Matches some boxes from nothing. False where they have a crowd.
-fn set_anew(
-    squares: usize,
-    boxes: &[Sq],
-    costs: &Costs,
-    rows: &mut Vec<usize>,
-    search: &mut Search,
-) -> bool
-    requires costs { AreCosts costs.now rows.old.items }
-    requires square { length rows.old.items ≡ costs.now.goals }
-    requires entries { (squares + 1) * costs.now.goals ≤ length costs.now.entries.items }
-    requires shaped { IsShaped (length rows.old.items) costs.now.goals search.old }
-    requires enough { length boxes.now ≤ length rows.old.items }
-    requires exist { All (λ square. square < squares) boxes.now }
-    requires rising { IsStrictlyIncreasing boxes.now }
-    ensures kept { AreSet squares costs.now rows.old.items rows.new.items }
-    ensures shaped { IsShaped (length rows.new.items) costs.now.goals search.new }
-    ensures settled { IsTrue result
-        → IsSettled squares boxes.now costs.now rows.new.items search.new }
-    ensures crowd { result ≡ false → (b : Numbered) → length b.area ≡ squares
-        → AreTabled b costs.now.goals costs.now.entries.items → IsBounded b boxes.now None }
-{
-    list_rows(squares, boxes, rows);
-    match_anew(costs, rows, search)
-}
-
 /// Exchanges the rows of a matching until they are those of some boxes. False where there is no
 /// matching, where a price grew too high, or where boxes on the way have a crowd.
 fn settle(
@@ -175,13 +145,7 @@ fn settle(
     rows: &mut Vec<usize>,
     search: &mut Search,
 ) -> bool
-    requires costs { AreCosts costs.now rows.old.items }
-    requires rows { AreRows squares rows.old.items }
-    requires whole { IsTrue matched → IsWhole costs.now rows.old.items search.old }
-    requires shaped { IsShaped (length rows.old.items) costs.now.goals search.old }
-    requires marks { length marks.old ≡ squares }
-    requires entries { (squares + 1) * costs.now.goals ≤ length costs.now.entries.items }
-    requires exist { All (λ square. square < squares) boxes.now }
+    requires { CanSettle squares boxes.now matched marks.old costs.now rows.old.items search.old }
     ensures kept { AreSet squares costs.now rows.old.items rows.new.items }
     ensures shaped { IsShaped (length rows.new.items) costs.now.goals search.new }
     ensures settled { IsTrue result
@@ -207,8 +171,8 @@ fn settle(
 }
 
 /// Matches some boxes, if it can from the matching that stands: then a row whose box is there still
-/// keeps its price and goal, and the others are matched anew by one augmenting path each. False
-/// where they have a crowd.
+/// keeps its price and goal, and the others are matched anew by one augmenting path each. If it
+/// cannot, it matches all from nothing. False where they have a crowd.
 pub(crate) fn match_boxes(
     squares: usize,
     boxes: &[Sq],
@@ -218,15 +182,10 @@ pub(crate) fn match_boxes(
     rows: &mut Vec<usize>,
     search: &mut Search,
 ) -> bool
-    requires costs { AreCosts costs.now rows.old.items }
-    requires rows { AreRows squares rows.old.items }
-    requires whole { IsTrue matched → IsWhole costs.now rows.old.items search.old }
-    requires shaped { IsShaped (length rows.old.items) costs.now.goals search.old }
+    requires can { CanSettle squares boxes.now matched marks.old costs.now rows.old.items
+        search.old }
     requires square { length rows.old.items ≡ costs.now.goals }
-    requires marks { length marks.old ≡ squares }
-    requires entries { (squares + 1) * costs.now.goals ≤ length costs.now.entries.items }
     requires enough { length boxes.now ≤ length rows.old.items }
-    requires exist { All (λ square. square < squares) boxes.now }
     requires rising { IsStrictlyIncreasing boxes.now }
     ensures kept { AreSet squares costs.now rows.old.items rows.new.items }
     ensures shaped { IsShaped (length rows.new.items) costs.now.goals search.new }
@@ -238,5 +197,6 @@ pub(crate) fn match_boxes(
     if settle(squares, boxes, matched, marks, costs, rows, search) {
         return true;
     }
-    set_anew(squares, boxes, costs, rows, search)
+    list_rows(squares, boxes, rows);
+    match_anew(costs, rows, search)
 }

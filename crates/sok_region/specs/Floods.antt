@@ -2,7 +2,7 @@
 use Rattle.std.specs.Prelude.{ℕ, ◌≡◌, ◌<◌, ◌+◌, List, [], ◌∷◌, ◌++◌, Option, Some, None, IfSome, IfNone, Vec, Bool, true, false, not, ◌&&◌, count_by, length}
 use Rattle.std.specs.Prelude.{slice_get, slice_set, slice_index_or, if◌then◌else◌}
 use Rattle.sok_rules.specs.declared.cell.Dir.{Dir}
-use Rattle.sok_board.specs.Area.{Numbered, beside}
+use Rattle.sok_board.specs.Area.{Numbered, IsAccepted, beside}
 use Rattle.sok_region.specs.declared.flood.Step.{Step}
 use Rattle.sok_region.specs.declared.flood.Origin.{Origin}
 use Rattle.sok_region.specs.declared.flood.Flood.{Flood}
@@ -47,6 +47,13 @@ pub record IsFlood (b : Numbered) (lets : ℕ → Bool) (start : ℕ) (f : Met) 
   pub met : (k : ℕ) (step : Step) → slice_get f.steps k ≡ Some step → marked f.marks step.square ≡ true
   pub listed : (s : ℕ) → marked f.marks s ≡ true → (k : ℕ) × (step : Step) × (slice_get f.steps k ≡ Some step) × (step.square ≡ s)
   pub count : length f.steps + left_of f ≡ length b.area
+
+-- a step of a flood over the area of an accepted level
+pub record IsStepAt (b : Numbered) (at : ℕ) (step : Step) (f : Met) : Type 0 where
+  pub accepted : IsAccepted b
+  pub whole : length f.marks ≡ length b.area
+  pub exists : step.square < length b.area
+  pub there : slice_get f.steps at ≡ Some step
 
 -- a flood that has gone on
 pub record Extends (f after : Met) : Type 0 where

@@ -6,7 +6,7 @@ ghost use Rattle.sok_board.specs.Area.{Numbered, IsAccepted};
 ghost use Rattle.sok_field.specs.Numbers.{has_number};
 ghost use Rattle.sok_field.specs.Trails.{trail, Leads};
 ghost use Rattle.sok_region.specs.Floods.{marked, met_of, meet, AreStepsOf, GoesBack, FindsWay};
-ghost use Rattle.sok_region.specs.Floods.{HasMetStart, IsFlood, MeetsBeside, MeetsAround};
+ghost use Rattle.sok_region.specs.Floods.{HasMetStart, IsFlood, IsStepAt, MeetsBeside, MeetsAround};
 
 use sok_board::area::Sq;
 use sok_board::board::Board;
@@ -61,10 +61,7 @@ fn meet_beside(
     dir: Dir,
     flood: Flood,
 ) -> Result<Flood, Memory>
-    requires accepted { IsAccepted board.now }
-    requires whole { length flood.marks.items ≡ length board.now.area }
-    requires exists { step.square < length board.now.area }
-    requires at { slice_get flood.steps.items at ≡ Some step }
+    requires { IsStepAt board.now at step (met_of flood) }
     ensures { IfOk result
         (λ after. MeetsBeside board.now (has_number lets.now) step dir
         (met_of flood) (met_of after)) }
@@ -86,10 +83,7 @@ fn meet_around(
     step: Step,
     flood: Flood,
 ) -> Result<Flood, Memory>
-    requires accepted { IsAccepted board.now }
-    requires whole { length flood.marks.items ≡ length board.now.area }
-    requires exists { step.square < length board.now.area }
-    requires at { slice_get flood.steps.items at ≡ Some step }
+    requires { IsStepAt board.now at step (met_of flood) }
     ensures { IfOk result
         (λ after. MeetsAround board.now (has_number lets.now) step (met_of flood) (met_of after)) }
 {

@@ -359,3 +359,11 @@ pub SameGround-after : (now rows new : Rows) (t : Spot) (who : Occupant) → Sam
 SameGround-after now rows new t who ground is opened =
     subst (SameGround now) (sym is) (SameGround-trans now rows (with_occupant rows t who) ground
     (SameGround-with_occupant rows t who (ground.opened t ∙ opened)))
+
+-- the player has left, on the ground of a scene
+pub SameGround-left : (now inside left : Rows) (man : Spot) (astray : ℕ) → inside ≡ now → IsScene inside man astray
+    → left ≡ with_occupant inside man Nobody
+    → SameGround now left
+SameGround-left now inside left man astray seen scene is =
+    SameGround-after now inside left man Nobody (subst (λ rows. SameGround rows inside) seen (SameGround-refl inside)) is
+    (man_open now man astray (subst (λ rows. IsScene rows man astray) seen scene))

@@ -9,7 +9,7 @@ use Rattle.sok_rules.specs.Levels.{IsProper}
 use Rattle.sok_rules.specs.Play.{After, Position, moved}
 use Rattle.sok_rules.specs.States.{Same}
 use Rattle.sok_rules.proofs.Spots.{next-opposite, opposite-twice, apart_next, same_spot-refl}
-use Rattle.sok_rules.proofs.Steps.{push_step, step-box}
+use Rattle.sok_rules.proofs.Steps.{IsPush, push_step, step-box}
 use Rattle.sok_rules.proofs.Walking.{boxes-Same}
 use Rattle.sok_board.specs.Area.{Numbered, IsArea, InArea, spot_of, number_of, position_of, beside}
 use Rattle.sok_board.proofs.AreaLaws.{InArea-next, InArea-spot_of, number-InArea, spot_of-number_of}
@@ -69,15 +69,23 @@ module _ (b : Numbered) (area : IsArea b.rows b.area) (proper : IsProper b.rows)
           };
         }
 
+-- a push is a letter that pushes, from the square of its box, and the boxes are those of the key
+pushes_box : (b : Numbered) (key : Key) (push : Push) (after : Position) → (leads : LeadsTo b key push after)
+    → (pushed : IsPush b.rows push.dir leads.before (record { position = after; pushed = true })) × (pushed.from ≡ spot_of b push.from)
+    × (leads.before.boxes ≡ (key_position b key).boxes)
+pushes_box b key push after leads =
+    let pushed = push_step b.rows push.dir leads.before (record { position = after; pushed = true }) leads.steps refl in (
+      pushed,
+      ap (λ (y : After). y.position.man) (sym pushed.leads) ∙ leads.man,
+      boxes-Same b.rows (key_position b key) leads.before leads.same,
+    )
+
 -- a legal push is one of a box that can go ahead
 pub clear-legal : (b : Numbered) → IsArea b.rows b.area → (key : Key) → IsPlaced b key.boxes key.least → (push : Push) → IsLegal b key push
     → Contains key.boxes push.from × IsClear b key push
 clear-legal b area key placed push legal =
-    let after = legal.after in
     let leads = legal.leads in
-    let kept = boxes-Same b.rows (key_position b key) leads.before leads.same in
-    let pushed = push_step b.rows push.dir leads.before (record { position = after; pushed = true }) leads.steps refl in
-    let from_is : pushed.from ≡ spot_of b push.from = ap (λ (y : After). y.position.man) (sym pushed.leads) ∙ leads.man in
+    let (pushed, from_is, kept) = pushes_box b key push legal.after leads in
     let from_inside = subst (InArea b.rows) (sym from_is) (InArea-spot_of b area push.from leads.exists) in
     let (ahead, ahead_number, ahead_exists, ahead_spot) = number-InArea b area pushed.to
     (InArea-next b.rows push.dir pushed.from pushed.to from_inside pushed.beyond pushed.to_open) in
@@ -95,11 +103,8 @@ clear-legal b area key placed push legal =
 pub free-legal : (b : Numbered) → IsArea b.rows b.area → (key : Key) (region : List ℕ) → IsRegion b key.boxes key.least region → (push : Push)
     → IsLegal b key push → IsFree b key region push
 free-legal b area key region is push legal =
-    let after = legal.after in
     let leads = legal.leads in
-    let kept = boxes-Same b.rows (key_position b key) leads.before leads.same in
-    let pushed = push_step b.rows push.dir leads.before (record { position = after; pushed = true }) leads.steps refl in
-    let from_is : pushed.from ≡ spot_of b push.from = ap (λ (y : After). y.position.man) (sym pushed.leads) ∙ leads.man in
+    let (pushed, from_is, kept) = pushes_box b key push legal.after leads in
     let man_inside = (confines-play b.rows (key_position b key) leads.before leads.same.0 (InArea-spot_of b area key.least is.placed.player_exists)
     leads.same.1).man in
     let (behind, behind_number, behind_exists, behind_spot) = number-InArea b area leads.before.man man_inside in
@@ -117,9 +122,7 @@ pub LeadsTo-position : (b : Numbered) → IsArea b.rows b.area → (key : Key) (
     → IsPlaced b key.boxes key.least
     → beside b push.from push.dir ≡ Some ahead → IsMoved key.boxes push.from ahead boxes → LeadsTo b key push after → position_of b push.from boxes ≡ after
 LeadsTo-position b area key push ahead boxes after placed ahead_is moves leads =
-    let kept = boxes-Same b.rows (key_position b key) leads.before leads.same in
-    let pushed = push_step b.rows push.dir leads.before (record { position = after; pushed = true }) leads.steps refl in
-    let from_is : pushed.from ≡ spot_of b push.from = ap (λ (y : After). y.position.man) (sym pushed.leads) ∙ leads.man in
+    let (pushed, from_is, kept) = pushes_box b key push after leads in
     let beyond : next push.dir pushed.from ≡ Some (spot_of b ahead) = ap (next push.dir) from_is ∙ beside-next b push.dir push.from ahead ahead_is in
     let to_is : pushed.to ≡ spot_of b ahead = same_Some pushed.to (spot_of b ahead) (sym pushed.beyond ∙ beyond) in
     let new : moved (key_position b key).boxes (spot_of b push.from) (spot_of b ahead) ≡ (position_of b push.from boxes).boxes =

@@ -31,12 +31,13 @@ title_after-none rest line next some first behind has =
     ∙ ap title_after (sym (lines-first rest some))
 
 -- the last line that passes a test, with one more line at the front
-pub find-reverse_more : (test : List ℕ → Bool) (rest line next : List ℕ) (last : Option (List ℕ)) → 0 < length rest → line ≡ first_line rest
-    → next ≡ after_line rest
-    → option_or (find test (reverse (lines rest))) last ≡ option_or (find test (reverse (lines next))) (if test line then Some line else last)
-find-reverse_more test rest line next last some first behind =
+pub find-reverse_more : (test : List ℕ → Bool) (rest line next : List ℕ) (last : Option (List ℕ)) (passes : Bool) → test line ≡ passes → 0 < length rest
+    → line ≡ first_line rest → next ≡ after_line rest
+    → option_or (find test (reverse (lines next))) (if passes then Some line else last) ≡ option_or (find test (reverse (lines rest))) last
+find-reverse_more test rest line next last passes tells some first behind =
     let later = find test (reverse (lines next)) in
     let split : lines rest ≡ line ∷ lines next = lines-first rest some ∙ (λ i. sym first i ∷ lines (sym behind i)) in
-    ap (λ ls. option_or (find test (reverse ls)) last) split
+    sym (ap (λ ls. option_or (find test (reverse ls)) last) split
     ∙ ap (λ ls. option_or (find test ls) last) (reverse-append (line ∷ []) (lines next))
     ∙ ap (λ o. option_or o last) (find-append test (reverse (lines next)) (line ∷ [])) ∙ or_last later (test line) line last
+    ∙ ap (λ b. option_or later (if b then Some line else last)) tells)

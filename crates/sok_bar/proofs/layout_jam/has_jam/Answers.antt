@@ -1,8 +1,8 @@
 use Rattle.std.proofs.Common.{ℕ, sym, ◌∙◌, subst, true≢false, List}
 use Rattle.sok_bar.specs.Jam.{IsHeld}
-use Rattle.sok_bar.specs.Narrowed.{HasDrawnOffGoal, IsNarrowed}
+use Rattle.sok_bar.specs.Narrowed.{HasDrawnOffGoal}
 use Rattle.sok_bar.specs.Settings.{IsDrawn}
-use Rattle.sok_bar.proofs.Narrowing.{HasJamWith-narrowed, KeepsJams-laid, loose-alone, narrowed-jam}
+use Rattle.sok_bar.proofs.Narrowing.{HasJamWith-narrowed, IsNarrowed-same, KeepsJams-laid, loose-alone, narrowed-jam}
 use Rattle.sok_bar.proofs.layout_jam.has_jam.Goals as goal
 
 pub returns-then-not-is_held : goal.returns-then-not-is_held
@@ -18,10 +18,7 @@ pub returns-then-narrow : goal.returns-then-narrow
 returns-then-narrow c = λ boxes laid.
     let b = c.args.board.now in
     let layout = c.args.layout.now in
-    let narrowed : IsNarrowed b layout.boxes c.args.square layout.boxed c.narrow.new.held c.narrow.result =
-    subst (λ (squares : List ℕ). IsNarrowed b squares c.args.square layout.boxed c.narrow.new.held c.narrow.result) c.boxes.ensures
-    (subst (λ (rows : List ℕ). IsNarrowed b c.boxes.result.now c.args.square rows c.narrow.new.held c.narrow.result) (c.copy_from.ensures ∙ c.boxed-2.ensures)
-    c.narrow.ensures) in (
+    let narrowed = IsNarrowed-same _ _ _ _ _ _ _ _ c.boxes.ensures (c.copy_from.ensures ∙ c.boxed-2.ensures) c.narrow.ensures in (
       λ off. HasJamWith-narrowed b c.requires.accepted.numbered boxes layout laid c.narrow.new.held c.args.square c.narrow.result narrowed c.if-narrow.true
           (subst (λ (squares : List ℕ). HasDrawnOffGoal b squares c.narrow.new.held) c.boxes-then-narrow.ensures (c.has_off_goal.ensures.0 off)),
       λ jam.
@@ -33,10 +30,7 @@ pub returns-else-narrow : goal.returns-else-narrow
 returns-else-narrow c = λ boxes laid.
     let b = c.args.board.now in
     let layout = c.args.layout.now in
-    let narrowed : IsNarrowed b layout.boxes c.args.square layout.boxed c.narrow.new.held c.narrow.result =
-    subst (λ (squares : List ℕ). IsNarrowed b squares c.args.square layout.boxed c.narrow.new.held c.narrow.result) c.boxes.ensures
-    (subst (λ (rows : List ℕ). IsNarrowed b c.boxes.result.now c.args.square rows c.narrow.new.held c.narrow.result) (c.copy_from.ensures ∙ c.boxed-2.ensures)
-    c.narrow.ensures) in (
+    let narrowed = IsNarrowed-same _ _ _ _ _ _ _ _ c.boxes.ensures (c.copy_from.ensures ∙ c.boxed-2.ensures) c.narrow.ensures in (
       λ stayed. absurd (true≢false (sym stayed ∙ c.if-narrow.false)),
       λ jam. (narrowed-jam b c.requires.accepted.numbered boxes layout laid c.narrow.new.held c.args.square c.narrow.result narrowed jam).0,
     )

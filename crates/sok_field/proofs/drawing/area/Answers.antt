@@ -12,20 +12,16 @@ loop-run-init c = record {
 
 pub put_run-requires : goal.put_run-requires
 put_run-requires c =
-    let b = c.args.board.now in
-    let (is, _, _) = next-run b c.runs-runs.result.now c.loop-run.run-index c.loop-run.invariant.to _ c.loop-run-test.true c.loop-run.invariant.rest in
+    let (is, _, _) = next-run _ _ _ _ _ c.loop-run-test.true c.loop-run.invariant.rest in
     record { some = is.some; row = is.row; columns = is.columns }
 
 pub loop-run-preserved : goal.loop-run-preserved
 loop-run-preserved c =
-    let b = c.args.board.now in
-    let to = c.loop-run.invariant.to in
-    let run = get_or c.runs-runs.result.now c.loop-run.run-index no_run in
-    let (is, at, rest) = next-run b c.runs-runs.result.now c.loop-run.run-index to _ c.loop-run-test.true c.loop-run.invariant.rest in
+    let (is, at, rest) = next-run _ _ _ _ _ c.loop-run-test.true c.loop-run.invariant.rest in
     record {
-      to = to + run.length;
+      to = c.loop-run.invariant.to + (get_or c.runs-runs.result.now c.loop-run.run-index no_run).length;
       rest = rest;
-      drawn = Draws-run b c.runs-runs.ensures.accepted.numbered c.loop-run.field c.put_run.new.self to run is at c.put_run.ensures c.loop-run.invariant.drawn;
+      drawn = Draws-run _ c.runs-runs.ensures.accepted.numbered _ _ _ _ is at c.put_run.ensures c.loop-run.invariant.drawn;
     }
 
 pub returns : goal.returns

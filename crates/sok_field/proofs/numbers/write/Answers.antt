@@ -15,15 +15,13 @@ loop-run-init c = record {
 
 pub cut-requires : goal.cut-requires
 cut-requires c =
-    let (is, _, _) = next-run c.args.board.now c.runs-runs.result.now c.loop-run.run-index c.loop-run.invariant.to _ c.loop-run-test.true
-    c.loop-run.invariant.rest in
+    let (is, _, _) = next-run _ _ _ _ _ c.loop-run-test.true c.loop-run.invariant.rest in
     record { some = is.some; row = is.row; columns = is.columns }
 
 pub put_word-requires : goal.put_word-requires
 put_word-requires c =
     let run = get_or c.runs-runs.result.now c.loop-run.run-index no_run in
-    let (is, _, _) = next-run c.args.board.now c.runs-runs.result.now c.loop-run.run-index c.loop-run.invariant.to _ c.loop-run-test.true
-    c.loop-run.invariant.rest in
+    let (is, _, _) = next-run _ _ _ _ _ c.loop-run-test.true c.loop-run.invariant.rest in
     let some = is.some in
     let within = is.within in
     let room = c.loop-run.invariant.room in
@@ -37,16 +35,12 @@ put_word-requires c =
 
 pub loop-run-preserved : goal.loop-run-preserved
 loop-run-preserved c =
-    let b = c.args.board.now in
-    let to = c.loop-run.invariant.to in
-    let run = get_or c.runs-runs.result.now c.loop-run.run-index no_run in
-    let (is, at, rest) = next-run b c.runs-runs.result.now c.loop-run.run-index to _ c.loop-run-test.true c.loop-run.invariant.rest in
+    let (is, at, rest) = next-run _ _ _ _ _ c.loop-run-test.true c.loop-run.invariant.rest in
     record {
       room = omega arith;
-      to = to + run.length;
+      to = c.loop-run.invariant.to + (get_or c.runs-runs.result.now c.loop-run.run-index no_run).length;
       rest = rest;
-      done = written-run b c.args.set.now c.loop-run.words c.put_word.new.words to run c.cut.result is at c.cut.ensures c.put_word.ensures
-          c.loop-run.invariant.done;
+      done = written-run _ c.args.set.now _ _ _ _ c.cut.result is at c.cut.ensures c.put_word.ensures c.loop-run.invariant.done;
     }
 
 pub returns : goal.returns

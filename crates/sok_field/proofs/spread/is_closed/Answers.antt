@@ -16,12 +16,14 @@ returns-then-changed-ne0 c = (
 )
 
 pub loop-r-preserved : goal.loop-r-preserved
-loop-r-preserved c = record {
-  begun = omega arith;
-  within = omega arith;
-  done = closed-lanes c.args.seen.now c.args.free.now c.spread_rows.result c.loop-r.r c.spread_rows.ensures.long (omega arith) c.spread_rows.ensures.rows
-      c.if-changed-ne0.false c.loop-r.invariant.done;
-}
+loop-r-preserved c = (
+  omega arith,
+  record {
+    within = omega arith;
+    done = closed-lanes c.args.seen.now c.args.free.now c.spread_rows.result c.loop-r.r c.spread_rows.ensures.long (omega arith) c.spread_rows.ensures.rows
+        c.if-changed-ne0.false c.loop-r.invariant.1.done;
+  },
+)
 
 pub returns : goal.returns
 returns c =

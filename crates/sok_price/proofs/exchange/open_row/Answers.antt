@@ -4,7 +4,7 @@ use Rattle.sok_price.proofs.Exchanging.{IsReady-exchanged, AreCosts-moved}
 use Rattle.sok_price.proofs.exchange.open_row.Goals as goal
 
 pub returns-clause-costs : goal.returns-clause-costs
-returns-clause-costs c = AreCosts-moved c.requires.whole.shaped c.requires.row c.requires.entry c.put_row.ensures
+returns-clause-costs c = AreCosts-moved c.requires.whole.shaped c.requires.exchange.within c.requires.exchange.below c.put_row.ensures
 
 pub returns-clause-ready : goal.returns-clause-ready
 returns-clause-ready c =
@@ -18,7 +18,7 @@ returns-clause-ready c =
     let last_is : length c.free_goal.new.goal_of.items ≡ is.last = omega (arith, c.free_goal.ensures.fewer, whole.whole, is.whole) in
     IsReady-exchanged (cost_of costs rows) (cost_of costs after) (length rows) costs.goals c.args.row is.last (length after) g (growth_of search)
     whole.ready whole.whole is.whole is.kept (record {
-      within = omega (arith, c.requires.row, is.whole);
+      within = omega (arith, c.requires.exchange.within, is.whole);
       goals = last_is;
       goal_is = λ k inside. c.free_goal.ensures.moved k (omega (arith, inside, last_is))
           ∙ ap (λ n. get_or c.args.search.now.goal_of.items (moved_from c.args.row n k) 0) last_is;

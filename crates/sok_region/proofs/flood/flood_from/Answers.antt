@@ -14,18 +14,19 @@ loop-at-init c =
       omega arith,
     )
 
-pub meet_around-requires-clause-at : goal.meet_around-requires-clause-at
-meet_around-requires-clause-at c =
+pub meet_around-requires : goal.meet_around-requires
+meet_around-requires c =
     let within = c.loop-at-test.true in
     let count = c.len.ensures in
-    slice_get-get_or c.loop-at.flood.steps.items c.loop-at.at c.index-step.result.now (omega (arith, within, count)) ∙ ap Some (sym c.index-step.ensures)
-
-pub meet_around-requires-clause-exists : goal.meet_around-requires-clause-exists
-meet_around-requires-clause-exists c =
+    let step = c.index-step.result.now in
     let flood = c.loop-at.invariant.0 in
-    subst (λ n. c.index-step.result.now.square < n) flood.whole
-    (marked-within c.loop-at.flood.marks.items c.index-step.result.now.square
-    (flood.met c.loop-at.at c.index-step.result.now (meet_around-requires-clause-at c)))
+    let there = slice_get-get_or c.loop-at.flood.steps.items c.loop-at.at step (omega (arith, within, count)) ∙ ap Some (sym c.index-step.ensures) in
+    record {
+      accepted = c.squares.ensures.accepted;
+      whole = flood.whole;
+      exists = subst (λ n. step.square < n) flood.whole (marked-within c.loop-at.flood.marks.items step.square (flood.met c.loop-at.at step there));
+      there = there;
+    }
 
 pub loop-at-preserved : goal.loop-at-preserved
 loop-at-preserved c =

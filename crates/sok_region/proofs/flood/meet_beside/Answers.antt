@@ -14,7 +14,7 @@ returns-in-Some c =
     (record { square = c.in-Some.square; origin = Some (record { before = c.args.at; dir = c.args.dir }) }) f)
     (λ after. MeetsBeside b lets c.args.step c.args.dir f (met_of after))
     (λ after is. subst (MeetsBeside b lets c.args.step c.args.dir f) (sym is)
-    (MeetsBeside-meet b lets c.args.at c.args.step c.args.dir c.in-Some.square f c.requires.at (sym c.in-Some.ensures.beside)
+    (MeetsBeside-meet b lets c.args.at c.args.step c.args.dir c.in-Some.square f c.requires.there (sym c.in-Some.ensures.beside)
     (subst (λ n. c.in-Some.square < n) (sym c.requires.whole) c.in-Some.ensures.exists)))
     c.meet.ensures
 

@@ -15,23 +15,13 @@ index_mut-row-requires c = omega (
 
 pub index-cell-requires : goal.index-cell-requires
 index-cell-requires c =
-    let row = c.index_mut-row.result.now in
-    omega (
-      arith,
-      row.ok.0,
-      col_within-cells_of c.args.cells.now.items c.args.spot row
-          (IsWithin-from_holds is_open _ c.args.spot c.requires) c.index_mut-row.ensures.value,
-    )
+    let within = IsWithin-from_holds is_open _ _ c.requires in
+    omega (arith, c.index_mut-row.result.now.ok.0, col_within-cells_of _ _ _ within c.index_mut-row.ensures.value)
 
 pub index_mut-requires : goal.index_mut-requires
 index_mut-requires c =
-    let row = c.index_mut-row.result.now in
-    omega (
-      arith,
-      row.ok.0,
-      col_within-cells_of c.args.cells.now.items c.args.spot row
-          (IsWithin-from_holds is_open _ c.args.spot c.requires) c.index_mut-row.ensures.value,
-    )
+    let within = IsWithin-from_holds is_open _ _ c.requires in
+    omega (arith, c.index_mut-row.result.now.ok.0, col_within-cells_of _ _ _ within c.index_mut-row.ensures.value)
 
 pub returns-clause-goal : goal.returns-clause-goal
 returns-clause-goal c =

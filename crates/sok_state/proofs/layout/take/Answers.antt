@@ -1,14 +1,12 @@
-use Rattle.std.proofs.Common.{◌≡◌, ◌↔◌, sym, subst, true}
+use Rattle.std.proofs.Common.{◌≡◌, ◌↔◌, subst, true}
 use Rattle.sok_rules.specs.declared.cell.Spot.{Spot}
-use Rattle.sok_board.specs.Tables.{HasPlace}
 use Rattle.sok_board.proofs.Accepted.{HasPlace-spot_of}
 use Rattle.sok_field.specs.Fields.{has}
 use Rattle.sok_state.proofs.layout.take.Goals as goal
 
 pub take-requires : goal.take-requires
 take-requires c =
-    let here = subst HasPlace (sym c.spot.ensures.spot) (HasPlace-spot_of c.args.board.now c.requires.accepted c.args.square c.requires.exists) in
-    record { row = here.row; col = here.col }
+    rw c.spot.ensures.spot (assumption (HasPlace-spot_of c.args.board.now c.requires.accepted c.args.square c.requires.exists))
 
 pub returns : goal.returns
 returns c =

@@ -1,11 +1,5 @@
 use Rattle.sok_text.proofs.Letters.{Spells-one, GoesWrong-one, Spells-GoesWrong}
 use Rattle.sok_text.proofs.lurd.texts_have_one_reading.Goals as goal
 
-pub returns-clause-spelled : goal.returns-clause-spelled
-returns-clause-spelled c = Spells-one
-
-pub returns-clause-wrong : goal.returns-clause-wrong
-returns-clause-wrong c = GoesWrong-one
-
-pub returns-clause-apart : goal.returns-clause-apart
-returns-clause-apart c = Spells-GoesWrong
+pub returns : goal.returns
+returns c = record { spelled = Spells-one; wrong = GoesWrong-one; apart = Spells-GoesWrong }

@@ -1,7 +1,5 @@
-use Rattle.std.proofs.Common.{ℕ, List, Some, not, find, reverse, option_map, if◌then◌else◌, length, sym, ◌∙◌, ap, arith}
+use Rattle.std.proofs.Common.{true, false, not, option_map, sym, ◌∙◌, ap, arith, length}
 use Rattle.std.specs.List.{list_all}
-use Rattle.std.specs.Option.{option_or}
-use Rattle.std.specs.Str.Lines.{lines}
 use Rattle.sok_text.specs.Titles.{is_space}
 use Rattle.sok_text.proofs.Lines.{length-after_line}
 use Rattle.sok_text.proofs.Runs.{not_empty}
@@ -20,22 +18,12 @@ loop-rest-smaller c =
 
 pub loop-rest-preserved-then-not-is_blank_line : goal.loop-rest-preserved-then-not-is_blank_line
 loop-rest-preserved-then-not-is_blank_line c =
-    let some = not_empty c.loop-rest.rest.now (sym c.is_empty.ensures ∙ c.loop-rest-test.true) in
-    let line = c.cut_line.result.0.now in
-    let next = c.cut_line.result.1.now in
-    let last = option_map (λ l. l.now) c.loop-rest.last in
-    let later = find (λ (l : List ℕ). not (list_all is_space l)) (reverse (lines next)) in
-    sym (find-reverse_more (λ l. not (list_all is_space l)) c.loop-rest.rest.now line next last some c.cut_line.ensures.line c.cut_line.ensures.rest
-    ∙ ap (λ b. option_or later (if not b then Some line else last)) (sym c.is_blank_line.ensures ∙ c.if-not-is_blank_line.true))
-    ∙ c.loop-rest.invariant
+    find-reverse_more (λ l. not (list_all is_space l)) _ _ _ (option_map (λ l. l.now) c.loop-rest.last) true
+    (ap not (sym c.is_blank_line.ensures ∙ c.if-not-is_blank_line.true)) (not_empty _ (sym c.is_empty.ensures ∙ c.loop-rest-test.true))
+    c.cut_line.ensures.line c.cut_line.ensures.rest ∙ c.loop-rest.invariant
 
 pub loop-rest-preserved : goal.loop-rest-preserved
 loop-rest-preserved c =
-    let some = not_empty c.loop-rest.rest.now (sym c.is_empty.ensures ∙ c.loop-rest-test.true) in
-    let line = c.cut_line.result.0.now in
-    let next = c.cut_line.result.1.now in
-    let last = option_map (λ l. l.now) c.loop-rest.last in
-    let later = find (λ (l : List ℕ). not (list_all is_space l)) (reverse (lines next)) in
-    sym (find-reverse_more (λ l. not (list_all is_space l)) c.loop-rest.rest.now line next last some c.cut_line.ensures.line c.cut_line.ensures.rest
-    ∙ ap (λ b. option_or later (if not b then Some line else last)) (sym c.is_blank_line.ensures ∙ c.if-not-is_blank_line.false))
-    ∙ c.loop-rest.invariant
+    find-reverse_more (λ l. not (list_all is_space l)) _ _ _ (option_map (λ l. l.now) c.loop-rest.last) false
+    (ap not (sym c.is_blank_line.ensures ∙ c.if-not-is_blank_line.false)) (not_empty _ (sym c.is_empty.ensures ∙ c.loop-rest-test.true))
+    c.cut_line.ensures.line c.cut_line.ensures.rest ∙ c.loop-rest.invariant

@@ -22,10 +22,4 @@ returns-clause-exact c = (
 pub returns-clause-law : goal.returns-clause-law
 returns-clause-law c = λ held.
     reasons-bar c.args.board.now c.squares.ensures.accepted c.args.player c.args.boxes.now (Barring.frozen c.args.self.now.members.now) c.args.rest
-    (record {
-      rising = c.list-boxes.ensures.rising;
-      boxes_exist = c.requires.boxes_exist;
-      player_exists = c.requires.player_exists;
-      free =
-          c.requires.player_free;
-    }) (jam c held)
+    (assumption (c.requires, c.list-boxes.ensures)) (jam c held)

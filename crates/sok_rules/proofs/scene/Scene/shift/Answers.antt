@@ -1,10 +1,10 @@
 use Rattle.std.proofs.Common.{◌≡◌, ◌+◌, ap, sym, ◌∙◌, subst, if◌then◌else◌, arith}
 use Rattle.sok_rules.specs.declared.scene.Occupant.TheVariants.{Nobody, Man, Box}
-use Rattle.sok_rules.specs.Squares.{Rows, holds, is_open, is_box, is_goal}
+use Rattle.sok_rules.specs.Squares.{holds, is_box, is_goal}
 use Rattle.sok_rules.specs.Play.{moved}
-use Rattle.sok_rules.specs.Scene.{IsScene, SameGround, with_occupant}
+use Rattle.sok_rules.specs.Scene.{IsScene, with_occupant}
 use Rattle.sok_rules.specs.Levels.{cells_of}
-use Rattle.sok_rules.proofs.Scenes.{Redraws, IsScene-Redraws, SameGround-after, SameGround-refl, start-Redraws, shifts, man_open, some_astray, few_astray}
+use Rattle.sok_rules.proofs.Scenes.{Redraws, IsScene-Redraws, SameGround-after, SameGround-left, start-Redraws, shifts, man_open, some_astray, few_astray}
 use Rattle.sok_rules.proofs.scene.Scene.shift.Goals as goal
 
 pub put-requires : goal.put-requires
@@ -12,43 +12,28 @@ put-requires c = man_open _ _ _ c.self.invariant
 
 pub put-left_goal-requires : goal.put-left_goal-requires
 put-left_goal-requires c =
-    let now = c.args.self.now in
-    let inside = cells_of c.self.inside.cells.items in
-    let man_there = ap (λ (rows : Rows). holds is_open rows c.self.inside.man) (sym c.self.view_is) ∙ man_open inside _ _ c.self.invariant in
-    let opened : SameGround now inside = subst (λ rows. SameGround rows inside) c.self.view_is (SameGround-refl inside) in
-    let left = SameGround-after now inside _ c.self.inside.man Nobody opened c.put.ensures.cells man_there in
+    let left = SameGround-left _ _ _ _ _ c.self.view_is c.self.invariant c.put.ensures.cells in
     left.opened c.args.from ∙ c.requires.from_open
 
 pub put-meets_goal-requires : goal.put-meets_goal-requires
 put-meets_goal-requires c =
-    let now = c.args.self.now in
-    let inside = cells_of c.self.inside.cells.items in
-    let man_there = ap (λ (rows : Rows). holds is_open rows c.self.inside.man) (sym c.self.view_is) ∙ man_open inside _ _ c.self.invariant in
-    let opened : SameGround now inside = subst (λ rows. SameGround rows inside) c.self.view_is (SameGround-refl inside) in
-    let left = SameGround-after now inside _ c.self.inside.man Nobody opened c.put.ensures.cells man_there in
-    let lifted = SameGround-after now (cells_of c.put.new.cells.items) _ c.args.from Nobody left c.put-left_goal.ensures.cells c.requires.from_open in
+    let left = SameGround-left _ _ _ _ _ c.self.view_is c.self.invariant c.put.ensures.cells in
+    let lifted = SameGround-after _ _ _ c.args.from Nobody left c.put-left_goal.ensures.cells c.requires.from_open in
     lifted.opened c.args.to ∙ c.requires.to_open
 
 pub put-requires-2 : goal.put-requires-2
 put-requires-2 c =
-    let now = c.args.self.now in
-    let inside = cells_of c.self.inside.cells.items in
-    let man_there = ap (λ (rows : Rows). holds is_open rows c.self.inside.man) (sym c.self.view_is) ∙ man_open inside _ _ c.self.invariant in
-    let opened : SameGround now inside = subst (λ rows. SameGround rows inside) c.self.view_is (SameGround-refl inside) in
-    let left = SameGround-after now inside _ c.self.inside.man Nobody opened c.put.ensures.cells man_there in
-    let lifted = SameGround-after now (cells_of c.put.new.cells.items) _ c.args.from Nobody left c.put-left_goal.ensures.cells c.requires.from_open in
-    let set_down = SameGround-after now (cells_of c.put-left_goal.new.cells.items) _ c.args.to Box lifted c.put-meets_goal.ensures.cells c.requires.to_open in
+    let left = SameGround-left _ _ _ _ _ c.self.view_is c.self.invariant c.put.ensures.cells in
+    let lifted = SameGround-after _ _ _ c.args.from Nobody left c.put-left_goal.ensures.cells c.requires.from_open in
+    let set_down = SameGround-after _ _ _ c.args.to Box lifted c.put-meets_goal.ensures.cells c.requires.to_open in
     set_down.opened c.args.man ∙ c.requires.man_open
 
 pub astray_after-self-inside-requires-clause-some : goal.astray_after-self-inside-requires-clause-some
 astray_after-self-inside-requires-clause-some c =
-    let now = c.args.self.now in
-    let inside = cells_of c.self.inside.cells.items in
     let man = c.self.inside.man in
     let scene = subst (λ rows. IsScene rows man c.self.inside.astray) c.self.view_is c.self.invariant in
-    let opened : SameGround now inside = subst (λ rows. SameGround rows inside) c.self.view_is (SameGround-refl inside) in
-    let left = SameGround-after now inside _ man Nobody opened c.put.ensures.cells (man_open now man _ scene) in
-    some_astray now man c.args.from c.self.inside.astray scene c.requires.box_there c.put-left_goal.result (c.put-left_goal.ensures.goal
+    let left = SameGround-left _ _ _ _ _ c.self.view_is c.self.invariant c.put.ensures.cells in
+    some_astray c.args.self.now man c.args.from c.self.inside.astray scene c.requires.box_there c.put-left_goal.result (c.put-left_goal.ensures.goal
     ∙ left.goals c.args.from)
 
 pub astray_after-self-inside-requires-clause-few : goal.astray_after-self-inside-requires-clause-few
@@ -58,13 +43,11 @@ leads : (c : goal.After-self-1) → Redraws c.args.self.now (cells_of c.put-2.ne
     (moved (holds is_box c.args.self.now) c.args.from c.args.to) c.astray_after-self-inside.result
 leads c =
     let now = c.args.self.now in
-    let inside = cells_of c.self.inside.cells.items in
     let man = c.self.inside.man in
     let astray = c.self.inside.astray in
     let scene = subst (λ rows. IsScene rows man astray) c.self.view_is c.self.invariant in
-    let opened : SameGround now inside = subst (λ rows. SameGround rows inside) c.self.view_is (SameGround-refl inside) in
-    let left = SameGround-after now inside _ man Nobody opened c.put.ensures.cells (man_open now man _ scene) in
-    let lifted = SameGround-after now (cells_of c.put.new.cells.items) _ c.args.from Nobody left c.put-left_goal.ensures.cells c.requires.from_open in
+    let left = SameGround-left _ _ _ _ _ c.self.view_is c.self.invariant c.put.ensures.cells in
+    let lifted = SameGround-after _ _ _ c.args.from Nobody left c.put-left_goal.ensures.cells c.requires.from_open in
     let left_goal = c.put-left_goal.ensures.goal ∙ left.goals c.args.from in
     let meets_goal = c.put-meets_goal.ensures.goal ∙ lifted.goals c.args.to in
     let balance : c.astray_after-self-inside.result + (if holds is_goal now c.args.from then 0 else 1)

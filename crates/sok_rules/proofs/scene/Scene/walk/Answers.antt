@@ -1,9 +1,9 @@
 use Rattle.std.proofs.Common.{ap, sym, ◌∙◌, subst}
 use Rattle.sok_rules.specs.declared.scene.Occupant.TheVariants.{Nobody, Man}
-use Rattle.sok_rules.specs.Squares.{Rows, holds, is_open, is_box}
-use Rattle.sok_rules.specs.Scene.{IsScene, SameGround, with_occupant}
+use Rattle.sok_rules.specs.Squares.{holds, is_box}
+use Rattle.sok_rules.specs.Scene.{IsScene, with_occupant}
 use Rattle.sok_rules.specs.Levels.{cells_of}
-use Rattle.sok_rules.proofs.Scenes.{Redraws, IsScene-Redraws, start-Redraws, SameGround-after, SameGround-refl, walks, man_open}
+use Rattle.sok_rules.proofs.Scenes.{Redraws, IsScene-Redraws, start-Redraws, SameGround-left, walks, man_open}
 use Rattle.sok_rules.proofs.scene.Scene.walk.Goals as goal
 
 pub put-requires : goal.put-requires
@@ -11,12 +11,7 @@ put-requires c = man_open _ _ _ c.self.invariant
 
 pub put-requires-2 : goal.put-requires-2
 put-requires-2 c =
-    let now = c.args.self.now in
-    let inside = cells_of c.self.inside.cells.items in
-    let man_there = ap (λ (rows : Rows). holds is_open rows c.self.inside.man) (sym c.self.view_is) ∙ man_open inside _ _ c.self.invariant in
-    let opened : SameGround now inside = subst (λ rows. SameGround rows inside) c.self.view_is (SameGround-refl inside) in
-    let left = SameGround-after now inside _ c.self.inside.man Nobody opened c.put.ensures.cells man_there in
-    left.opened c.args.to ∙ c.requires.opened
+    (SameGround-left _ _ _ _ _ c.self.view_is c.self.invariant c.put.ensures.cells).opened c.args.to ∙ c.requires.opened
 
 leads : (c : goal.After-to-1) → Redraws c.args.self.now (cells_of c.put-2.new.cells.items) c.args.to (holds is_box c.args.self.now) c.self.inside.astray
 leads c =
