@@ -1,6 +1,7 @@
 -- What is answered of a level that is refused.
 use Rattle.std.proofs.Common.{ℕ, ◌≡◌, ◌<◌, ◌≤◌, ◌∙◌, inl, inr, refl, sym, ap, subst, Result, Ok, Err, IfOk, arith, true≢false}
-use Rattle.std.specs.Result.{IsOk}
+use Rattle.std.specs.Result.{IsErrAnd, IsOk}
+use Rattle.std.proofs.lemmas.Result.{err_from_is_err_and}
 use Rattle.std.proofs.lemmas.Bool.{cases_lt}
 use Rattle.sok_rules.specs.Squares.{Rows}
 use Rattle.sok_board.specs.declared.fault.BoardFault.{BoardFault}
@@ -47,7 +48,7 @@ same_fault f g e = cc
 no_ok : (A : Type 0) (f : SolveFault) → IsOk (fails A f) → ⊥
 no_ok A f e = true≢false (sym e)
 
-told-board : (A : Type 0) (rows : Rows) (limit : ℕ) → (IsBadLimit limit → ⊥) → (fault : BoardFault) → IsRefused rows fault
+pub told-board : (A : Type 0) (rows : Rows) (limit : ℕ) → (IsBadLimit limit → ⊥) → (fault : BoardFault) → IsRefused rows fault
     → TellsFault rows limit (fails A (of_board fault))
 told-board A rows limit good fault refused = record {
   bad_limit = (λ e. absurd (good-board fault (same_fault (of_board fault) solve.BadLimit e)), λ bad. absurd (good bad));
@@ -58,28 +59,16 @@ told-board A rows limit good fault refused = record {
   );
 }
 
-pub refused-board : (A : Type 0) (rows : Rows) (limit : ℕ) → (IsBadLimit limit → ⊥) → (fault : BoardFault) → IsRefused rows fault
-    → (answer : Result A SolveFault) (told : SolveFault) → answer ≡ Err told → told ≡ of_board fault
-    → TellsFault rows limit answer
-refused-board A rows limit good fault refused answer told is gives = subst (TellsFault rows limit) (sym (is
-    ∙ ap (fails A) gives)) (told-board A rows limit good fault refused)
-
-told-memory : (A : Type 0) (rows : Rows) (limit : ℕ) → (IsBadLimit limit → ⊥) → TellsFault rows limit (fails A solve.Memory)
+pub told-memory : (A : Type 0) (rows : Rows) (limit : ℕ) → (IsBadLimit limit → ⊥) → TellsFault rows limit (fails A solve.Memory)
 told-memory A rows limit good = record {
   bad_limit = (λ e. absurd (good-board board.Memory (same_fault solve.Memory solve.BadLimit e)), λ bad. absurd (good bad));
   refused = tt;
   exact = λ memory _. absurd (memory refl);
 }
 
-pub refused-memory : (A : Type 0) (rows : Rows) (limit : ℕ) → (IsBadLimit limit → ⊥) → (answer : Result A SolveFault) (told : SolveFault)
-    → answer ≡ Err told → told ≡ solve.Memory → TellsFault rows limit answer
-refused-memory A rows limit good answer told is gives =
-    subst (TellsFault rows limit) (sym (is ∙ ap (fails A) gives)) (told-memory A rows limit good)
-
--- the fault is handed on
-pub refused-also : (A B : Type 0) (rows : Rows) (limit : ℕ) (fault : SolveFault) → TellsFault rows limit (fails A fault)
-    → (answer : Result B SolveFault) (told : SolveFault) → answer ≡ Err told → told ≡ fault → TellsFault rows limit answer
-refused-also A B rows limit fault tells answer told is gives = subst (TellsFault rows limit) (sym (is ∙ ap (fails B) gives)) (record {
+-- a fault that another call told
+pub told-also : (A B : Type 0) (rows : Rows) (limit : ℕ) (fault : SolveFault) → TellsFault rows limit (fails A fault) → TellsFault rows limit (fails B fault)
+told-also A B rows limit fault tells = record {
   bad_limit = (
     λ e. tells.bad_limit.0 (ap (fails A) (same_fault fault solve.BadLimit e)),
     λ bad. ap (fails B) (same_fault fault solve.BadLimit (tells.bad_limit.1 bad)),
@@ -87,11 +76,20 @@ refused-also A B rows limit fault tells answer told is gives = subst (TellsFault
   refused = tells.refused;
   exact = λ memory good. let told = tells.exact (λ e. memory (ap (fails B) (same_fault fault solve.Memory e)))
       (λ e. good (ap (fails B) (same_fault fault solve.BadLimit e))) in (λ ok. absurd (no_ok B fault ok), λ may. absurd (no_ok A fault (told.1 may)));
-})
+}
 
--- an error has no answer
-pub no-answer : {A : Type 0} (P : A → Type 0) (answer : Result A SolveFault) (told : SolveFault) → answer ≡ Err told → IfOk answer P
-no-answer {A} P answer told is = subst (λ (r : Result A SolveFault). IfOk r P) (sym is) tt
+-- what is told of a fault is told where it is handed on
+pub handed-on : {A : Type 0} (rows : Rows) (limit : ℕ) (fault : SolveFault) (answer : Result A SolveFault) → IsErrAnd answer (λ told. told ≡ fault)
+    → TellsFault rows limit (fails A fault) → TellsFault rows limit answer
+handed-on {A} rows limit fault answer error =
+    let (told, is, gives) = err_from_is_err_and answer error in
+    subst (TellsFault rows limit) (sym (is ∙ ap (fails A) gives))
+
+-- and there is no answer
+pub no-answer : {A : Type 0} (P : A → Type 0) (Q : SolveFault → Type 0) (answer : Result A SolveFault) → IsErrAnd answer Q → IfOk answer P
+no-answer {A} P Q answer error =
+    let (told, is, _) = err_from_is_err_and answer error in
+    subst (λ (r : Result A SolveFault). IfOk r P) (sym is) tt
 
 -- an answer is no error
 pub no-fault : {A : Type 0} (answer : A) (told : SolveFault) → Ok answer ≡ Err told → ⊥

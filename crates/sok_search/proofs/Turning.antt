@@ -9,10 +9,12 @@ use Rattle.sok_board.proofs.Lists.{Contains-cons, Contains-cons_cases}
 use Rattle.sok_state.specs.declared.key.Key.{Key}
 use Rattle.sok_state.specs.Pushes.{IsLegal}
 use Rattle.sok_search.specs.declared.note.Note.{Note}
+use Rattle.sok_search.specs.declared.reaching.Reached.{Reached}
+use Rattle.sok_search.specs.declared.reaching.Reached.TheVariants.{On}
 use Rattle.sok_search.specs.declared.note.Standing.TheVariants.{Open, Expanded, Dead}
 use Rattle.sok_search.specs.Searches.{Progress, IsBeaten, IsSearch, IsSolved, IsState, Stands}
 use Rattle.sok_search.specs.Steps.{HasOneMore, done, holding, work}
-use Rattle.sok_search.specs.Views.{HasFollowed, IsTurned}
+use Rattle.sok_search.specs.Views.{HasFollowed, IsTurned, TellsTurned}
 use Rattle.sok_search.proofs.Doing.{keeps-dropped, keeps-expanded, keeps-solved}
 use Rattle.sok_search.proofs.Keeping.{keeps-queue}
 use Rattle.sok_search.proofs.Knowing.{known-at}
@@ -56,6 +58,14 @@ pub work-taken : (limit index : ℕ) (p : Progress) (rest : List ℕ) → HasOne
 work-taken limit index p rest taken =
     let longer = taken.longer in
     as_much ((limit - length p.table) * (2 * limit + 2)) (sum_by (λ d. d) (values_of p.table)) (length (index ∷ rest)) (length p.queue) (omega (arith, longer))
+
+-- a turn of an index that was taken out is one of the whole search
+pub turned-taken : (b : Numbered) (limit index : ℕ) (p q : Progress) (rest : List ℕ) (reached : Reached) → HasOneMore rest index p.queue
+    → TellsTurned b limit (holding index (record p { queue = rest })) q reached → reached ≡ On → IsTurned b limit p q
+turned-taken b limit index p q rest reached taken tells on =
+    let held : Progress = holding index (record p { queue = rest }) in
+    let told : IsTurned b limit held q = subst (TellsTurned b limit held q) on tells in
+    record { search = told.search; frame = told.frame; less = subst (λ n. work limit q < n) (work-taken limit index p rest taken) told.less }
 
 -- what is not open stands without waiting
 pub let-go : (b : Numbered) (limit index : ℕ) (p : Progress) (note : Note) → IsSearch b limit (holding index p) → slice_get p.notes index ≡ Some note

@@ -1,5 +1,5 @@
 -- What a search does: a state is added, or comes nearer, or is expanded.
-use Rattle.std.specs.Prelude.{ℕ, ◌≡◌, ◌<◌, ◌≤◌, ◌+◌, ◌-◌, ◌*◌, ◌⊎◌, ◌↔◌, List, [], ◌∷◌, ◌++◌, Option, Some, Contains, length, slice_get, slice_set, sum_by}
+use Rattle.std.specs.Prelude.{ℕ, ◌≡◌, ◌<◌, ◌≤◌, ◌+◌, ◌-◌, ◌*◌, ◌⊎◌, ◌↔◌, List, [], ◌∷◌, ◌++◌, Option, Some, MatchOption, Contains, length, slice_get, slice_set, sum_by}
 use Rattle.std.specs.Map.{keys_of, values_of}
 use Rattle.sok_board.specs.Area.{Numbered}
 use Rattle.sok_state.specs.declared.key.Key.{Key}
@@ -20,6 +20,10 @@ pub record Grows (old new : Entries) : Type 0 where
 pub record HasOneMore (fewer : List ℕ) (index : ℕ) (more : List ℕ) : Type 0 where
   pub longer : length more ≡ length fewer + 1
   pub exact : (i : ℕ) → Contains more i ↔ ((i ≡ index) ⊎ Contains fewer i)
+
+-- what is told where an index is taken out: which one, or that there was none
+abbrev pub TellsTaken : List ℕ → List ℕ → Option ℕ → Type 0
+TellsTaken old new taken = MatchOption taken ((old ≡ []) × (new ≡ [])) (λ index. HasOneMore new index old)
 
 -- an open state waits
 abbrev pub Queues : Standing → ℕ → List ℕ → List ℕ → Type 0

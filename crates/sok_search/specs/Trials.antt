@@ -11,6 +11,7 @@ use Rattle.sok_state.specs.declared.push.Push.{Push}
 use Rattle.sok_state.specs.Keys.{IsKey, IsKeyOf}
 use Rattle.sok_state.specs.Layouts.{IsLaidOut, Laid}
 use Rattle.sok_state.specs.Pushes.{IsLegal, LeadsTo}
+use Rattle.sok_search.specs.declared.trial.Trial.{Trial}
 
 -- a matching for a board, which is that of some boxes if it is said so
 pub record IsTrial (b : Numbered) (boxes : List ℕ) (matching : KeptMatching) (matched : Bool) : Type 0 where
@@ -18,10 +19,10 @@ pub record IsTrial (b : Numbered) (boxes : List ℕ) (matching : KeptMatching) (
   pub holds : matched ≡ true → Holds b boxes matching
 
 -- a matching for a board, and boxes of it that are laid out, whichever they are
-pub record IsReady (b : Numbered) (matching : KeptMatching) (layout : Laid) : Type 0 where
-  pub serves : Serves b matching
+pub record IsReady (b : Numbered) (trial : Trial) : Type 0 where
+  pub serves : Serves b trial.matching
   pub boxes : List ℕ
-  pub laid : IsLaidOut b boxes layout
+  pub laid : IsLaidOut b boxes trial.layout
 
 -- boxes before and after one of them is moved to a square where no box is
 pub record AreMoved (b : Numbered) (boxes : List ℕ) (from to : ℕ) (after : List ℕ) : Type 0 where

@@ -1,7 +1,7 @@
 //! Indices that wait, in buckets by rank.
 
 ghost use Rattle.std.specs.Prelude.{◌≡◌, ◌<◌, [], IfOk, MatchOption, length};
-ghost use Rattle.sok_search.specs.Steps.{HasOneMore};
+ghost use Rattle.sok_search.specs.Steps.{HasOneMore, TellsTaken};
 ghost use Rattle.sok_search.specs.Buckets.{in_buckets, IsFilled};
 
 use sok_rules::fault::Memory;
@@ -83,8 +83,7 @@ impl Buckets {
 
     /// Takes an index of the lowest rank out, the one that came last. None where none waits.
     pub(crate) fn pop(&mut self) -> Option<u32>
-        ensures { MatchOption result ((self.old ≡ []) × (self.new ≡ []))
-            (λ index. HasOneMore self.new index self.old) }
+        ensures { TellsTaken self.old self.new result }
     {
         match find_filled(self.buckets.as_slice(), self.first) {
             Some(rank) => {

@@ -1,16 +1,10 @@
 //! A state is expanded.
 
-ghost use Rattle.std.specs.Prelude.{◌≡◌, IfOk, OnOk, Some, All, slice_get};
-ghost use Rattle.std.specs.Map.{values_of};
-ghost use Rattle.sok_board.specs.Area.{IsAccepted};
+ghost use Rattle.std.specs.Prelude.{◌≡◌, IfOk, OnOk, All};
 ghost use Rattle.sok_state.specs.Layouts.{IsLaidOut};
 ghost use Rattle.sok_state.specs.Pushes.{IsLegal};
-ghost use Rattle.sok_state.specs.Tables.{IsAt};
-ghost use Rattle.sok_search.specs.Searches.{IsSearch};
-ghost use Rattle.sok_search.specs.Steps.{holding};
-ghost use Rattle.sok_search.specs.Stores.{entries_in};
 ghost use Rattle.sok_search.specs.Trials.{IsReady, IsTrial};
-ghost use Rattle.sok_search.specs.Views.{progress_of, TellsFollowed, TellsExpanded};
+ghost use Rattle.sok_search.specs.Views.{progress_of, HoldsState, TellsFollowed, TellsExpanded};
 
 use crate::reaching::{Reached, reach};
 use crate::search::Search;
@@ -42,8 +36,7 @@ impl Scratch {
     /// Room for the states of a board.
     pub(crate) fn new(alloc: Global, board: &Board, tables: &Tables) -> Result<Scratch, Memory>
         requires { tables.now.board ≡ board.now }
-        ensures { IfOk result
-            (λ scratch. IsReady board.now scratch.trial.matching scratch.trial.layout) }
+        ensures { IfOk result (λ scratch. IsReady board.now scratch.trial) }
     {
         let key = Key::start(alloc, board)?;
         let trial = Trial {
@@ -74,13 +67,9 @@ fn follow(
     depth: u32,
     pushes: &[Push],
 ) -> Result<Reached, Memory>
-    requires accepted { IsAccepted board.now }
-    requires tables { tables.now.board ≡ board.now }
-    requires search { IsSearch board.now limit (holding index (progress_of search.old)) }
+    requires state { HoldsState board.now tables.now limit index key.now depth search.old }
     requires trial { IsTrial board.now key.now.boxes trial.old.matching trial.old.matched }
     requires laid { IsLaidOut board.now key.now.boxes trial.old.layout }
-    requires there { IsAt (entries_in search.old.store) key.now index }
-    requires depth { slice_get (values_of (entries_in search.old.store)) index ≡ Some depth }
     requires legal { All (IsLegal board.now key.now) pushes.now }
     ensures trial { OnOk result
         (IsTrial board.now key.now.boxes trial.new.matching trial.new.matched) }
@@ -111,14 +100,9 @@ pub(crate) fn expand(
     key: &Key,
     depth: u32,
 ) -> Result<Reached, Memory>
-    requires accepted { IsAccepted board.now }
-    requires tables { tables.now.board ≡ board.now }
-    requires search { IsSearch board.now limit (holding index (progress_of search.old)) }
-    requires ready { IsReady board.now scratch.old.trial.matching scratch.old.trial.layout }
-    requires there { IsAt (entries_in search.old.store) key.now index }
-    requires depth { slice_get (values_of (entries_in search.old.store)) index ≡ Some depth }
-    ensures ready { OnOk result
-        (IsReady board.now scratch.new.trial.matching scratch.new.trial.layout) }
+    requires state { HoldsState board.now tables.now limit index key.now depth search.old }
+    requires ready { IsReady board.now scratch.old.trial }
+    ensures ready { OnOk result (IsReady board.now scratch.new.trial) }
     ensures tells { IfOk result (TellsExpanded board.now limit (progress_of search.old) index
         key.now depth (progress_of search.new)) }
 {

@@ -1,7 +1,7 @@
 //! States that wait, by the pushes that they need at least.
 
 ghost use Rattle.std.specs.Prelude.{◌≡◌, ◌<◌, [], IfOk, MatchOption, length};
-ghost use Rattle.sok_search.specs.Steps.{HasOneMore};
+ghost use Rattle.sok_search.specs.Steps.{HasOneMore, TellsTaken};
 ghost use Rattle.sok_search.specs.Buckets.{in_layers};
 
 use crate::buckets::Buckets;
@@ -91,8 +91,7 @@ impl Queue {
     /// Takes a state out for which the fewest pushes are known to be needed, and of those one with
     /// the fewest to come. None where none waits.
     pub(crate) fn pop(&mut self) -> Option<u32>
-        ensures { MatchOption result ((self.old ≡ []) × (self.new ≡ []))
-            (λ index. HasOneMore self.new index self.old) }
+        ensures { TellsTaken self.old self.new result }
     {
         match pop_any(&mut self.layers, self.first) {
             Some((place, index)) => {

@@ -1,16 +1,12 @@
 //! A push is followed.
 
-ghost use Rattle.std.specs.Prelude.{◌≡◌, ◌<◌, ◌^◌, IfOk, OnOk, Some, length, slice_get};
-ghost use Rattle.std.specs.Map.{values_of};
-ghost use Rattle.sok_board.specs.Area.{IsAccepted};
+ghost use Rattle.std.specs.Prelude.{◌≡◌, ◌<◌, ◌^◌, IfOk, OnOk, Some, length};
 ghost use Rattle.sok_state.specs.Layouts.{IsLaidOut};
 ghost use Rattle.sok_state.specs.Pushes.{IsLegal};
-ghost use Rattle.sok_state.specs.Tables.{IsAt};
-ghost use Rattle.sok_search.specs.Searches.{IsSearch};
-ghost use Rattle.sok_search.specs.Steps.{Nears, holding, reopened};
+ghost use Rattle.sok_search.specs.Steps.{Nears, reopened};
 ghost use Rattle.sok_search.specs.Stores.{entries_in};
 ghost use Rattle.sok_search.specs.Trials.{IsTrial};
-ghost use Rattle.sok_search.specs.Views.{progress_of, TellsReached};
+ghost use Rattle.sok_search.specs.Views.{progress_of, HoldsState, TellsReached};
 
 use crate::note::{Note, Origin, Standing};
 use crate::search::{Search, add, lower};
@@ -75,13 +71,9 @@ pub(crate) fn reach(
     depth: u32,
     push: Push,
 ) -> Result<Reached, Memory>
-    requires accepted { IsAccepted board.now }
-    requires tables { tables.now.board ≡ board.now }
-    requires search { IsSearch board.now limit (holding index (progress_of search.old)) }
+    requires state { HoldsState board.now tables.now limit index key.now depth search.old }
     requires trial { IsTrial board.now key.now.boxes trial.old.matching trial.old.matched }
     requires laid { IsLaidOut board.now key.now.boxes trial.old.layout }
-    requires there { IsAt (entries_in search.old.store) key.now index }
-    requires depth { slice_get (values_of (entries_in search.old.store)) index ≡ Some depth }
     requires legal { IsLegal board.now key.now push }
     ensures trial { OnOk result
         (IsTrial board.now key.now.boxes trial.new.matching trial.new.matched) }

@@ -2,11 +2,10 @@
 
 ghost use Rattle.std.specs.Prelude.{◌≡◌, ◌<◌, ◌+◌, ◌↔◌, IfOk, IsTrue, OnOk, Some};
 ghost use Rattle.std.specs.Prelude.{length, slice_get, slice_set};
-ghost use Rattle.sok_board.specs.Area.{IsAccepted};
-ghost use Rattle.sok_search.specs.Searches.{IsBeaten, IsSearch};
+ghost use Rattle.sok_search.specs.Searches.{IsBeaten};
 ghost use Rattle.sok_search.specs.Steps.{done, holding};
 ghost use Rattle.sok_search.specs.Trials.{IsReady};
-ghost use Rattle.sok_search.specs.Views.{progress_of, TellsTurned, TellsFinished};
+ghost use Rattle.sok_search.specs.Views.{progress_of, IsRunning, TellsTurned, TellsFinished};
 ghost use Rattle.sok_search.specs.declared.note.Standing.TheVariants.{Open};
 
 use crate::expanding::{Scratch, expand};
@@ -50,14 +49,11 @@ fn visit(
     note: Note,
     bound: u32,
 ) -> Result<Reached, Memory>
-    requires accepted { IsAccepted board.now }
-    requires tables { tables.now.board ≡ board.now }
-    requires search { IsSearch board.now limit (holding index (progress_of search.old)) }
-    requires ready { IsReady board.now scratch.old.trial.matching scratch.old.trial.layout }
+    requires held { IsRunning board.now tables.now limit (holding index (progress_of search.old)) }
+    requires ready { IsReady board.now scratch.old.trial }
     requires noted { slice_get search.old.notes.items index ≡ Some note }
     requires is_open { note.standing ≡ Open bound }
-    ensures ready { OnOk result
-        (IsReady board.now scratch.new.trial.matching scratch.new.trial.layout) }
+    ensures ready { OnOk result (IsReady board.now scratch.new.trial) }
     ensures tells { IfOk result (TellsTurned board.now limit
         (holding index (progress_of search.old)) (progress_of search.new)) }
 {
@@ -93,12 +89,9 @@ fn turn(
     scratch: &mut Scratch,
     index: usize,
 ) -> Result<Reached, Memory>
-    requires accepted { IsAccepted board.now }
-    requires tables { tables.now.board ≡ board.now }
-    requires search { IsSearch board.now limit (holding index (progress_of search.old)) }
-    requires ready { IsReady board.now scratch.old.trial.matching scratch.old.trial.layout }
-    ensures ready { OnOk result
-        (IsReady board.now scratch.new.trial.matching scratch.new.trial.layout) }
+    requires held { IsRunning board.now tables.now limit (holding index (progress_of search.old)) }
+    requires ready { IsReady board.now scratch.old.trial }
+    ensures ready { OnOk result (IsReady board.now scratch.new.trial) }
     ensures tells { IfOk result (TellsTurned board.now limit
         (holding index (progress_of search.old)) (progress_of search.new)) }
 {
@@ -121,10 +114,8 @@ pub(crate) fn run(
     search: &mut Search,
     scratch: &mut Scratch,
 ) -> Result<Reached, Memory>
-    requires accepted { IsAccepted board.now }
-    requires tables { tables.now.board ≡ board.now }
-    requires search { IsSearch board.now limit (progress_of search.old) }
-    requires ready { IsReady board.now scratch.old.trial.matching scratch.old.trial.layout }
+    requires running { IsRunning board.now tables.now limit (progress_of search.old) }
+    requires ready { IsReady board.now scratch.old.trial }
     ensures { IfOk result
         (TellsFinished board.now limit (progress_of search.old) (progress_of search.new)) }
 {

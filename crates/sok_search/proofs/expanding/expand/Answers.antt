@@ -10,12 +10,12 @@ use Rattle.sok_search.proofs.expanding.expand.Goals as goal
 
 pub again-requires : goal.again-requires
 again-requires c = (taken-key c.args.board.now c.args.limit c.args.index
-    (progress_of c.args.search.now) c.args.key.now c.args.depth c.requires.search c.requires.there c.requires.depth).is.placed
+    (progress_of c.args.search.now) c.args.key.now c.args.depth c.requires.state.running.search c.requires.state.there c.requires.state.depth_is).is.placed
 
 pub lay-requires-clause-exist : goal.lay-requires-clause-exist
 lay-requires-clause-exist c = subst (λ (squares : List ℕ). All (λ square. square < length c.args.board.now.area) squares) (sym c.list.ensures.list)
     (taken-key c.args.board.now c.args.limit c.args.index
-    (progress_of c.args.search.now) c.args.key.now c.args.depth c.requires.search c.requires.there c.requires.depth).is.placed.boxes_exist
+    (progress_of c.args.search.now) c.args.key.now c.args.depth c.requires.state.running.search c.requires.state.there c.requires.state.depth_is).is.placed.boxes_exist
 
 pub lay-requires-clause-laid : goal.lay-requires-clause-laid
 lay-requires-clause-laid c = (c.requires.ready.boxes, c.requires.ready.laid)

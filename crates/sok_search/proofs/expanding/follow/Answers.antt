@@ -9,27 +9,22 @@ use Rattle.sok_search.proofs.expanding.follow.Goals as goal
 pub loop-push-init : goal.loop-push-init
 loop-push-init c = record {
   followed = followed-none c.args.board.now c.args.limit
-      (progress_of c.args.search.now) c.args.index c.args.key.now c.args.depth c.args.pushes.now c.requires.search;
+      (progress_of c.args.search.now) c.args.index c.args.key.now c.args.depth c.args.pushes.now c.requires.state.running.search;
   trial = c.requires.trial;
   laid = c.requires.laid;
 }
 
-pub reach-requires-clause-search : goal.reach-requires-clause-search
-reach-requires-clause-search c = c.loop-push.invariant.followed.search
-
-pub reach-requires-clause-there : goal.reach-requires-clause-there
-reach-requires-clause-there c =
-    let (note, state) = held-stays c.args.board.now c.args.limit (progress_of c.args.search.now)
-    (progress_of c.loop-push.search) c.args.index c.args.key.now c.args.depth
-    (Before c.args.pushes.now c.loop-push.push-index) c.requires.search c.requires.there c.requires.depth c.loop-push.invariant.followed in
-    state.there
-
-pub reach-requires-clause-depth : goal.reach-requires-clause-depth
-reach-requires-clause-depth c =
-    let (note, state) = held-stays c.args.board.now c.args.limit (progress_of c.args.search.now)
-    (progress_of c.loop-push.search) c.args.index c.args.key.now c.args.depth
-    (Before c.args.pushes.now c.loop-push.push-index) c.requires.search c.requires.there c.requires.depth c.loop-push.invariant.followed in
-    state.depth_is
+pub reach-requires-clause-state : goal.reach-requires-clause-state
+reach-requires-clause-state c =
+    let held = c.requires.state in
+    let followed = c.loop-push.invariant.followed in
+    let (note, stays) = held-stays c.args.board.now c.args.limit (progress_of c.args.search.now) (progress_of c.loop-push.search) c.args.index c.args.key.now
+    c.args.depth (Before c.args.pushes.now c.loop-push.push-index) held.running.search held.there held.depth_is followed in
+    record {
+      running = record { accepted = held.running.accepted; tables = held.running.tables; search = followed.search };
+      there = stays.there;
+      depth_is = stays.depth_is;
+    }
 
 pub loop-push-preserved : goal.loop-push-preserved
 loop-push-preserved c =

@@ -24,8 +24,8 @@ use Rattle.sok_search.proofs.reaching.reach.Goals.{After-step-least, Then-not-is
 pub square_ahead-to-requires-clause-legal : goal.square_ahead-to-requires-clause-legal
 square_ahead-to-requires-clause-legal c = (
   c.args.key.now,
-  taken-key c.args.board.now c.args.limit c.args.index (progress_of c.args.search.now) c.args.key.now c.args.depth c.requires.search c.requires.there
-      c.requires.depth,
+  taken-key c.args.board.now c.args.limit c.args.index (progress_of c.args.search.now) c.args.key.now c.args.depth c.requires.state.running.search c.requires.state.there
+      c.requires.state.depth_is,
   c.requires.legal,
 )
 
@@ -33,49 +33,49 @@ pub returns-then-stuck-clause-tells : goal.returns-then-stuck-clause-tells
 returns-then-stuck-clause-tells c =
     let b = c.args.board.now in
     let p = progress_of c.args.search.now in
-    let state = taken-key b c.args.limit c.args.index p c.args.key.now c.args.depth c.requires.search c.requires.there c.requires.depth in
-    let stuck = subst (λ (board : Numbered). IsStuck board c.square_ahead-to.result) c.requires.tables (c.stuck.ensures.0 c.if-stuck.true) in
-    pushed-left_out b c.args.limit c.args.index p c.requires.search c.args.key.now c.args.depth c.args.push (record {
+    let state = taken-key b c.args.limit c.args.index p c.args.key.now c.args.depth c.requires.state.running.search c.requires.state.there c.requires.state.depth_is in
+    let stuck = subst (λ (board : Numbered). IsStuck board c.square_ahead-to.result) c.requires.state.running.tables (c.stuck.ensures.0 c.if-stuck.true) in
+    pushed-left_out b c.args.limit c.args.index p c.requires.state.running.search c.args.key.now c.args.depth c.args.push (record {
       part = c.if-not-search.true;
-      nowhere = leads-nowhere b c.requires.accepted c.args.key.now state c.args.push c.requires.legal c.square_ahead-to.result
+      nowhere = leads-nowhere b c.requires.state.running.accepted c.args.key.now state c.args.push c.requires.legal c.square_ahead-to.result
           c.square_ahead-to.ensures stuck;
     })
 
 pub step-least-requires-clause-pushable : goal.step-least-requires-clause-pushable
 step-least-requires-clause-pushable c =
-    let can = taken-pushable c.args.board.now c.requires.accepted c.args.limit c.args.index (progress_of c.args.search.now) c.args.key.now c.args.depth
-    c.requires.search c.requires.there c.requires.depth c.args.push c.requires.legal c.args.trial.now.layout c.requires.laid in
+    let can = taken-pushable c.args.board.now c.requires.state.running.accepted c.args.limit c.args.index (progress_of c.args.search.now) c.args.key.now c.args.depth
+    c.requires.state.running.search c.requires.state.there c.requires.state.depth_is c.args.push c.requires.legal c.args.trial.now.layout c.requires.laid in
     (c.args.key.now, can)
 
 pub insert_next-requires-clause-exists : goal.insert_next-requires-clause-exists
-insert_next-requires-clause-exists c = at-within (entries_in c.args.search.now.store) c.args.key.now c.args.index c.requires.there
+insert_next-requires-clause-exists c = at-within (entries_in c.args.search.now.store) c.args.key.now c.args.index c.requires.state.there
 
 pub insert_next-requires-clause-to : goal.insert_next-requires-clause-to
 insert_next-requires-clause-to c =
     let exists = beside-within c.args.board.now c.args.push.dir c.args.push.from c.square_ahead-to.result c.square_ahead-to.ensures in
-    let wide = c.requires.search.wide in
+    let wide = c.requires.state.running.search.wide in
     omega (arith, exists, wide)
 
 pub overflow_cast-origin : goal.overflow_cast-origin
 overflow_cast-origin c =
-    let within = at-within (entries_in c.args.search.now.store) c.args.key.now c.args.index c.requires.there in
-    let few = c.requires.search.few in
+    let within = at-within (entries_in c.args.search.now.store) c.args.key.now c.args.index c.requires.state.there in
+    let few = c.requires.state.running.search.few in
     omega (arith, within, few, c.ranges.limit.fits)
 
 pub overflow_add-deeper : goal.overflow_add-deeper
 overflow_add-deeper c =
     let deep = taken-deep c.args.board.now c.args.limit c.args.index
-    (progress_of c.args.search.now) c.args.key.now c.args.depth c.requires.search c.requires.there c.requires.depth in
+    (progress_of c.args.search.now) c.args.key.now c.args.depth c.requires.state.running.search c.requires.state.there c.requires.state.depth_is in
     omega (arith, deep, c.ranges.limit.fits)
 
 -- the push can be made
 can_in : (c : After-step-least) → IsPushable c.args.board.now c.args.push c.args.trial.now.layout c.args.key.now
-can_in c = taken-pushable c.args.board.now c.requires.accepted c.args.limit c.args.index (progress_of c.args.search.now) c.args.key.now c.args.depth
-    c.requires.search c.requires.there c.requires.depth c.args.push c.requires.legal c.args.trial.now.layout c.requires.laid
+can_in c = taken-pushable c.args.board.now c.requires.state.running.accepted c.args.limit c.args.index (progress_of c.args.search.now) c.args.key.now c.args.depth
+    c.requires.state.running.search c.requires.state.there c.requires.state.depth_is c.args.push c.requires.legal c.args.trial.now.layout c.requires.laid
 
 -- and leads to a state
 comes_in : (c : After-step-least) → ComesNext c.args.board.now c.args.key.now c.args.push c.square_ahead-to.result c.step-least.result
-comes_in c = comes-next c.args.board.now c.requires.accepted c.args.key.now c.args.push c.square_ahead-to.result c.step-least.result
+comes_in c = comes-next c.args.board.now c.requires.state.running.accepted c.args.key.now c.args.push c.square_ahead-to.result c.step-least.result
     c.args.trial.now.layout (can_in c) c.square_ahead-to.ensures c.step-least.ensures.next
 
 -- the frame of a search with another store
@@ -92,12 +92,12 @@ next_in c = next_of c.args.key.now c.args.push.from c.square_ahead-to.result c.s
 stays_in : (c : Then-not-is_new) → Stays (entries_in c.args.search.now.store) (next_in c) c.in_ok-at.at (entries_in c.insert_next.new.self)
 unfolding next_in
 stays_in c =
-    let can = taken-pushable c.args.board.now c.requires.accepted c.args.limit c.args.index (progress_of c.args.search.now) c.args.key.now c.args.depth
-    c.requires.search c.requires.there c.requires.depth c.args.push c.requires.legal c.args.trial.now.layout c.requires.laid in
-    let comes = comes-next c.args.board.now c.requires.accepted c.args.key.now c.args.push c.square_ahead-to.result c.step-least.result
+    let can = taken-pushable c.args.board.now c.requires.state.running.accepted c.args.limit c.args.index (progress_of c.args.search.now) c.args.key.now c.args.depth
+    c.requires.state.running.search c.requires.state.there c.requires.state.depth_is c.args.push c.requires.legal c.args.trial.now.layout c.requires.laid in
+    let comes = comes-next c.args.board.now c.requires.state.running.accepted c.args.key.now c.args.push c.square_ahead-to.result c.step-least.result
     c.args.trial.now.layout can c.square_ahead-to.ensures c.step-least.ensures.next in
     subst (λ t. Enters (entries_in c.args.search.now.store) (next_in c) (c.args.depth + 1) c.in_ok-at.at t (entries_in c.insert_next.new.self))
-    c.if-not-is_new.true (c.in_ok-at.ensures.inserted.enters c.args.key.now (next_in c) c.requires.there comes.is)
+    c.if-not-is_new.true (c.in_ok-at.ensures.inserted.enters c.args.key.now (next_in c) c.requires.state.there comes.is)
 
 pub approach-requires-clause-exists : goal.approach-requires-clause-exists
 approach-requires-clause-exists c =
@@ -111,13 +111,13 @@ pub approach-requires-clause-small : goal.approach-requires-clause-small
 approach-requires-clause-small c =
     let here = (goal.at.approach-requires-clause-small c).Then-not-is_new in
     let within = at-within (entries_in c.args.search.now.store) (next_in here) c.in_ok-at.at (stays_in here).there in
-    let few = c.requires.search.few in
+    let few = c.requires.state.running.search.few in
     omega (arith, within, few, c.ranges.limit.fits)
 
 pub approach-requires-clause-noted : goal.approach-requires-clause-noted
 approach-requires-clause-noted c =
     let here = (goal.at.approach-requires-clause-noted c).Then-not-is_new in
-    note-within c.args.board.now c.args.limit c.args.index (progress_of c.args.search.now) c.requires.search c.in_ok-at.at (next_in here) (stays_in here).there
+    note-within c.args.board.now c.args.limit c.args.index (progress_of c.args.search.now) c.requires.state.running.search c.in_ok-at.at (next_in here) (stays_in here).there
 
 pub returns-then-not-is_new-clause-laid : goal.returns-then-not-is_new-clause-laid
 returns-then-not-is_new-clause-laid c =
@@ -127,11 +127,11 @@ pub returns-then-not-is_new-clause-tells : goal.returns-then-not-is_new-clause-t
 unfolding next_in
 returns-then-not-is_new-clause-tells c =
     let p = progress_of c.args.search.now in
-    let one = taken c.args.board.now c.args.limit c.args.index p c.args.key.now c.args.depth c.requires.search c.requires.there c.requires.depth in
+    let one = taken c.args.board.now c.args.limit c.args.index p c.args.key.now c.args.depth c.requires.state.running.search c.requires.state.there c.requires.state.depth_is in
     let comes = comes_in ((goal.at.returns-then-not-is_new-clause-tells c).After-step-least) in
     let next = next_of c.args.key.now c.args.push.from c.square_ahead-to.result c.step-least.result in
     let stays = stays_in ((goal.at.returns-then-not-is_new-clause-tells c).Then-not-is_new) in
-    pushed-known c.args.board.now c.args.limit c.args.index p c.requires.search c.args.key.now c.args.depth c.requires.there c.requires.depth
+    pushed-known c.args.board.now c.args.limit c.args.index p c.requires.state.running.search c.args.key.now c.args.depth c.requires.state.there c.requires.state.depth_is
     one.note one.note_is c.args.push c.requires.legal next comes.came.exact comes.came.state comes.as_many
     c.in_ok-at.at (frame_in c.args.search.now c.insert_next.new.self) (entries_in c.insert_next.new.self)
     (same_frame c.args.search.now c.insert_next.new.self c.in_ok-at.ensures.room) stays
@@ -149,12 +149,12 @@ returns-then-at-limit-clause-tells c =
     let next = next_of c.args.key.now c.args.push.from c.square_ahead-to.result c.step-least.result in
     let last : GoesLast p.table next (c.args.depth + 1) c.in_ok-at.at (entries_in c.insert_next.new.self) = subst
     (λ t. Enters p.table next (c.args.depth + 1) c.in_ok-at.at t (entries_in c.insert_next.new.self)) c.if-not-is_new.false
-    (c.in_ok-at.ensures.inserted.enters c.args.key.now next c.requires.there comes.is) in
+    (c.in_ok-at.ensures.inserted.enters c.args.key.now next c.requires.state.there comes.is) in
     let full = c.if-at-limit.true in
     let count = last.last in
-    full-more c.args.board.now c.requires.accepted c.args.limit (holding c.args.index p) c.args.index c.args.key.now next c.args.push
-    c.requires.legal.after c.requires.search (omega (arith, full, count))
-    c.requires.there c.requires.legal.leads (comes.came.exact c.requires.legal.after c.requires.legal.leads) last.absent
+    full-more c.args.board.now c.requires.state.running.accepted c.args.limit (holding c.args.index p) c.args.index c.args.key.now next c.args.push
+    c.requires.legal.after c.requires.state.running.search (omega (arith, full, count))
+    c.requires.state.there c.requires.legal.leads (comes.came.exact c.requires.legal.after c.requires.legal.leads) last.absent
 
 pub judge_after-requires-clause-laid : goal.judge_after-requires-clause-laid
 judge_after-requires-clause-laid c =
@@ -165,7 +165,7 @@ judge_after-requires-clause-moved c =
     let here = (goal.at.judge_after-requires-clause-moved c).After-step-least in
     let can = can_in here in
     let comes = comes_in here in
-    moved-next c.args.board.now c.requires.accepted c.args.key.now _ c.args.push c.square_ahead-to.result can.state can.few comes.came.state c.requires.legal
+    moved-next c.args.board.now c.requires.state.running.accepted c.args.key.now _ c.args.push c.square_ahead-to.result can.state can.few comes.came.state c.requires.legal
     comes.came.exact c.square_ahead-to.ensures
 
 pub returns-clause-tells : goal.returns-clause-tells
@@ -173,16 +173,16 @@ returns-clause-tells c =
     let p = progress_of c.args.search.now in
     let q = progress_of c.add.new.search in
     let at = c.in_ok-at.at in
-    let one = taken c.args.board.now c.args.limit c.args.index p c.args.key.now c.args.depth c.requires.search c.requires.there c.requires.depth in
+    let one = taken c.args.board.now c.args.limit c.args.index p c.args.key.now c.args.depth c.requires.state.running.search c.requires.state.there c.requires.state.depth_is in
     let comes = comes_in ((goal.at.returns-clause-tells c).After-step-least) in
     let next = next_of c.args.key.now c.args.push.from c.square_ahead-to.result c.step-least.result in
     let last : GoesLast p.table next (c.args.depth + 1) at (entries_in c.insert_next.new.self) = subst
     (λ t. Enters p.table next (c.args.depth + 1) at t (entries_in c.insert_next.new.self)) c.if-not-is_new.false
-    (c.in_ok-at.ensures.inserted.enters c.args.key.now next c.requires.there comes.is) in
+    (c.in_ok-at.ensures.inserted.enters c.args.key.now next c.requires.state.there comes.is) in
     let room = c.if-at-limit.false in
     let count = last.last in
-    pushed-added c.args.board.now c.args.limit c.args.index p c.requires.search c.args.key.now
-    c.args.depth c.requires.there c.requires.depth one.note one.note_is
+    pushed-added c.args.board.now c.args.limit c.args.index p c.requires.state.running.search c.args.key.now
+    c.args.depth c.requires.state.there c.requires.state.depth_is one.note one.note_is
     c.args.push c.requires.legal next comes.came.exact comes.came.state comes.as_many last.absent
     (omega (arith, room, count)) _ refl c.in_ok-standing.ensures.judged q
     (added-made p (frame_in c.args.search.now c.insert_next.new.self) (entries_in c.insert_next.new.self) q next (c.args.depth + 1) at _

@@ -1,6 +1,5 @@
 use Rattle.std.proofs.Common.{refl, sym, subst, true≢false}
 use Rattle.sok_search.specs.declared.reaching.Reached.TheVariants.{On}
-use Rattle.sok_search.specs.Searches.{IsState}
 use Rattle.sok_search.specs.Steps.{holding}
 use Rattle.sok_search.specs.Views.{TellsExpanded, progress_of}
 use Rattle.sok_search.proofs.Adding.{taken-key}
@@ -9,37 +8,30 @@ use Rattle.sok_search.proofs.Turning.{go-beaten, go-on, go-solved, held-noted, h
 use Rattle.sok_search.proofs.running.visit.Goals as goal
 
 pub depth-depth-requires : goal.depth-depth-requires
-depth-depth-requires c = held-within c.args.board.now c.args.limit c.args.index (progress_of c.args.search.now) c.requires.search
+depth-depth-requires c = held-within c.args.board.now c.args.limit c.args.index (progress_of c.args.search.now) c.requires.held.search
 
 pub key-requires-clause-exists : goal.key-requires-clause-exists
-key-requires-clause-exists c = held-within c.args.board.now c.args.limit c.args.index (progress_of c.args.search.now) c.requires.search
+key-requires-clause-exists c = held-within c.args.board.now c.args.limit c.args.index (progress_of c.args.search.now) c.requires.held.search
 
 pub key-requires-clause-few : goal.key-requires-clause-few
 key-requires-clause-few c = state-few c.args.board.now c.args.limit (holding c.args.index
-    (progress_of c.args.search.now)) c.requires.search c.args.index c.requires.accepted
+    (progress_of c.args.search.now)) c.requires.held.search c.args.index c.requires.held.accepted
 
 pub returns-then-is_beaten-clause-tells : goal.returns-then-is_beaten-clause-tells
 returns-then-is_beaten-clause-tells c = go-beaten c.args.board.now c.args.limit c.args.index c.args.bound c.depth-depth.result
-    (progress_of c.args.search.now) c.args.note c.requires.search c.requires.noted c.requires.is_open c.depth-depth.ensures (c.if-is_beaten.ensures.0 refl)
+    (progress_of c.args.search.now) c.args.note c.requires.held.search c.requires.noted c.requires.is_open c.depth-depth.ensures (c.if-is_beaten.ensures.0 refl)
 
 pub is_solved-requires : goal.is_solved-requires
 is_solved-requires c = record {
   exist = (taken-key c.args.board.now c.args.limit c.args.index
-      (progress_of c.args.search.now) c.in_ok-key.key c.depth-depth.result c.requires.search c.in_ok-key.ensures c.depth-depth.ensures).is.placed.boxes_exist;
+      (progress_of c.args.search.now) c.in_ok-key.key c.depth-depth.result c.requires.held.search c.in_ok-key.ensures c.depth-depth.ensures).is.placed.boxes_exist;
 }
 
 pub returns-then-is_solved-clause-tells : goal.returns-then-is_solved-clause-tells
 returns-then-is_solved-clause-tells c =
-    let p = progress_of c.args.search.now in
     let key = c.in_ok-key.key in
-    let state : IsState p c.args.index key c.depth-depth.result c.args.note = record {
-      there = c.in_ok-key.ensures;
-      depth_is = c.depth-depth.ensures;
-      note_is
-          = c.requires.noted;
-    } in
-    go-solved c.args.board.now c.args.limit c.args.index c.args.bound c.depth-depth.result key p c.args.note c.requires.search state c.requires.is_open
-    ((c.if-is_solved.ensures key.least).0 refl)
+    go-solved c.args.board.now c.args.limit c.args.index c.args.bound c.depth-depth.result key (progress_of c.args.search.now) c.args.note c.requires.held.search
+    (assumption (c.in_ok-key.ensures, c.depth-depth.ensures, c.requires.noted)) c.requires.is_open ((c.if-is_solved.ensures key.least).0 refl)
     (λ beaten. true≢false (sym (c.if-is_beaten.ensures.1 beaten)))
 
 pub mark-requires : goal.mark-requires
@@ -56,11 +48,6 @@ returns-in-On-clause-tells c =
     let key = c.in_ok-key.key in
     let told : TellsExpanded b c.args.limit p c.args.index key c.depth-depth.result (progress_of c.expand.new.search) On = subst
     (TellsExpanded b c.args.limit p c.args.index key c.depth-depth.result (progress_of c.expand.new.search)) c.in-On.is c.in_ok-expand.ensures.tells in
-    let state : IsState p c.args.index key c.depth-depth.result c.args.note = record {
-      there = c.in_ok-key.ensures;
-      depth_is = c.depth-depth.ensures;
-      note_is
-          = c.requires.noted;
-    } in
-    go-on b c.args.limit c.args.index c.args.bound c.depth-depth.result key p (progress_of c.expand.new.search) c.args.note state c.requires.is_open
+    go-on b c.args.limit c.args.index c.args.bound c.depth-depth.result key p (progress_of c.expand.new.search) c.args.note
+    (assumption (c.in_ok-key.ensures, c.depth-depth.ensures, c.requires.noted)) c.requires.is_open
     (λ solved. true≢false (sym ((c.if-is_solved.ensures key.least).1 solved))) told (progress_of c.mark.new.search) c.mark.ensures

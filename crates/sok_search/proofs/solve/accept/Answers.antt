@@ -1,14 +1,13 @@
 use Rattle.std.proofs.Common.{◌∙◌, sym, true≢false}
-use Rattle.std.proofs.lemmas.Result.{err_from_is_err_and}
 use Rattle.sok_search.specs.Faults.{IsBadLimit, IsAcceptedWithin}
-use Rattle.sok_search.proofs.Refusing.{in-range, refused-board, told-answer}
+use Rattle.sok_search.proofs.Refusing.{handed-on, in-range, told-answer, told-board}
 use Rattle.sok_search.proofs.solve.accept.Goals as goal
 
 pub returns-in_err-board-clause-tells : goal.returns-in_err-board-clause-tells
 returns-in_err-board-clause-tells c =
     let good : IsBadLimit c.args.limit → ⊥ = λ bad. true≢false (sym (c.is_bad.ensures.1 bad) ∙ c.if-is_bad.false) in
-    let (told, is, gives) = err_from_is_err_and c.from_residual.result c.from_residual.ensures.1 in
-    refused-board _ c.args.level.now c.args.limit good c.in_err-board.field-0.0 c.in_err-board.ensures.refused c.from_residual.result told is gives
+    handed-on c.args.level.now c.args.limit _ c.from_residual.result c.from_residual.ensures.1
+    (told-board _ c.args.level.now c.args.limit good c.in_err-board.field-0.0 c.in_err-board.ensures.refused)
 
 pub returns : goal.returns
 returns c =

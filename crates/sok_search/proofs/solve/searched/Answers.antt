@@ -4,8 +4,12 @@ use Rattle.sok_search.specs.Searches.{Frame}
 use Rattle.sok_search.specs.Views.{TellsFinished, progress_of}
 use Rattle.sok_search.proofs.solve.searched.Goals as goal
 
-pub run-requires-clause-search : goal.run-requires-clause-search
-run-requires-clause-search c = c.in_ok-search.ensures.search c.args.limit c.requires.positive
+pub run-requires-clause-running : goal.run-requires-clause-running
+run-requires-clause-running c = record {
+  accepted = c.requires.accepted;
+  tables = c.requires.tables;
+  search = c.in_ok-search.ensures.search c.args.limit c.requires.positive;
+}
 
 pub returns-in-On : goal.returns-in-On
 returns-in-On c =
