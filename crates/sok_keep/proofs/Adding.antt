@@ -3,7 +3,7 @@ use Rattle.std.proofs.Common.{ℕ, ℤ, ◌≡◌, ◌≢◌, ◌⊎◌, ◌∙�
 use Rattle.std.proofs.Common.{Bool, true, false, IfErr, IfOk, IfSome, ap, arith, length, nat_lt, refl, subst, sym}
 use Rattle.std.proofs.lemmas.Bool.Decides.{nat_tests}
 use Rattle.std.proofs.KnownBytes.{Keeps-refl}
-use Rattle.sqlite.specs.State.{State, HasCleanDisk}
+use Rattle.sqlite.specs.State.{State}
 use Rattle.sok_rules.specs.declared.fault.LevelFault.{LevelFault}
 use Rattle.sok_rules.specs.declared.fault.LevelFault.TheVariants as level
 use Rattle.sok_rules.specs.Squares.{Rows}
@@ -30,6 +30,7 @@ use Rattle.sok_store.specs.Calls.{Keeps, Turns, id_number, title_kept}
 use Rattle.sok_keep.specs.Faults.{of_book}
 use Rattle.sok_keep.specs.Adds.{AddsFirst, AddsLevel, WritesAdding, added, faulty, fault_line, id_line, more, none, title_at, unaccepted}
 use Rattle.sok_keep.specs.Adding.{LeavesLevel, LeavesLevels, seen}
+use Rattle.sok_keep.specs.Disk.{NoCleaner}
 
 -- ---- one level
 
@@ -151,17 +152,7 @@ grown whole text bytes line longer same = longer ∙ ap (λ l. text ++ l) same
 pub first_none : (s : State) (blocks : List Block) → Turns s s (λ b after. AddsFirst blocks b 0 [] after)
 first_none s blocks clean book holds = (book, none, holds)
 
--- the first levels, and then one more
-pub first_more : (old mid new : State) (blocks : List Block) (n : ℕ) (text line whole : List ℕ) → (HasCleanDisk new → HasCleanDisk mid) → n < length blocks
-    → Turns old mid (λ b after. AddsFirst blocks b n text after)
-    → Turns mid new (λ b after. LeavesLevel (n + 1) (level_at blocks (n + 1)) (title_at blocks (n + 1)) b after (Ok line)) → whole ≡ text ++ line
-    → Turns old new (λ b after. AddsFirst blocks b (n + 1) whole after)
-first_more old mid new blocks n text line whole early within first adds grown clean book holds =
-    let (middle, before, held) = first (early clean) book holds in
-    let (after, added_one, held_after) = adds clean middle held in
-    (after, adds_more blocks book n text middle line after whole before within added_one grown, held_after)
-
--- the first levels, and then a stop
+-- what is left where the next one stops
 stopped_at : (blocks : List Block) (book : Book) (n : ℕ) (text : List ℕ) (middle after : Book) (fault : ToolFault) → n < length blocks
     → AddsFirst blocks book n text middle → LeavesLevel (n + 1) (level_at blocks (n + 1)) (title_at blocks (n + 1)) middle after (Err fault)
     → LeavesLevels blocks book after (Err fault)
@@ -177,21 +168,32 @@ stopped_at blocks book n text middle after tool.BookFull within first (same, (ro
 )
 stopped_at blocks book n text middle after fault within first never = absurd never
 
-pub first_stopped : (old mid new : State) (blocks : List Block) (n : ℕ) (text : List ℕ) (fault : ToolFault) → (HasCleanDisk new → HasCleanDisk mid)
-    → n < length blocks → Turns old mid (λ b after. AddsFirst blocks b n text after)
-    → Turns mid new (λ b after. LeavesLevel (n + 1) (level_at blocks (n + 1)) (title_at blocks (n + 1)) b after (Err fault))
-    → Turns old new (λ b after. LeavesLevels blocks b after (Err fault))
-first_stopped old mid new blocks n text fault early within first leaves clean book holds =
-    let (middle, before, held) = first (early clean) book holds in
-    let (after, left, held_after) = leaves clean middle held in
-    (after, stopped_at blocks book n text middle after fault within before left, held_after)
+-- the first levels, and then one more, or a stop
+module _ (old mid new : State) (blocks : List Block) (n : ℕ) (text : List ℕ) (cleaner : NoCleaner mid new) (within : n < length blocks)
+    (first : Turns old mid (λ b after. AddsFirst blocks b n text after)) where
+  pub first_more : (line whole : List ℕ)
+      → Turns mid new (λ b after. LeavesLevel (n + 1) (level_at blocks (n + 1)) (title_at blocks (n + 1)) b after (Ok line)) → whole ≡ text ++ line
+      → Turns old new (λ b after. AddsFirst blocks b (n + 1) whole after)
+  first_more line whole adds grown clean book holds =
+      let (middle, before, held) = first (omega (arith, clean, cleaner)) book holds in
+      let (after, added_one, held_after) = adds clean middle held in
+      (after, adds_more blocks book n text middle line after whole before within added_one grown, held_after)
 
--- memory was refused after them
-pub first_unsaid : (old new : State) (blocks : List Block) (n : ℕ) (text : List ℕ) (fault : ToolFault) → fault ≡ tool.Memory
-    → Turns old new (λ b after. AddsFirst blocks b n text after) → Turns old new (λ b after. LeavesLevels blocks b after (Err fault))
-first_unsaid old new blocks n text fault memory first clean book holds =
-    let (after, before, held) = first clean book holds in
-    (after, subst (λ f. LeavesLevels blocks book after (Err f)) (sym memory) (n, text, before, tt), held)
+  pub first_stopped : (fault : ToolFault)
+      → Turns mid new (λ b after. LeavesLevel (n + 1) (level_at blocks (n + 1)) (title_at blocks (n + 1)) b after (Err fault))
+      → Turns old new (λ b after. LeavesLevels blocks b after (Err fault))
+  first_stopped fault leaves clean book holds =
+      let (middle, before, held) = first (omega (arith, clean, cleaner)) book holds in
+      let (after, left, held_after) = leaves clean middle held in
+      (after, stopped_at blocks book n text middle after fault within before left, held_after)
+
+  -- memory was refused for its line
+  pub first_unsaid : (line : List ℕ) (fault : ToolFault) → fault ≡ tool.Memory
+      → Turns mid new (λ b after. LeavesLevel (n + 1) (level_at blocks (n + 1)) (title_at blocks (n + 1)) b after (Ok line))
+      → Turns old new (λ b after. LeavesLevels blocks b after (Err fault))
+  first_unsaid line fault memory adds clean book holds =
+      let (after, all, held) = first_more line (text ++ line) adds refl clean book holds in
+      (after, subst (λ f. LeavesLevels blocks book after (Err f)) (sym memory) (n + 1, text ++ line, all, tt), held)
 
 pub all_added : (old new : State) (blocks : List Block) (n : ℕ) (text : List ℕ) → n ≡ length blocks
     → Turns old new (λ b after. AddsFirst blocks b n text after) → Turns old new (λ b after. LeavesLevels blocks b after (Ok text))

@@ -1,5 +1,5 @@
 -- Letters that are offered: what is foretold of them is what is told.
-use Rattle.std.proofs.Common.{ℕ, zero, suc, ℤ, ◌≡◌, ◌⊎◌, ◌∙◌, ◌-◌, inl, inr, List, [], ◌∷◌, Option, Some, None, Bool, true, false, if◌then◌else◌, nat_lt}
+use Rattle.std.proofs.Common.{ℕ, zero, suc, ℤ, ◌≡◌, ◌⊎◌, ◌∙◌, inl, inr, List, [], ◌∷◌, Option, Some, None, Bool, true, false, if◌then◌else◌, nat_lt}
 use Rattle.std.proofs.Common.{Ok, Err, IsNone, IsSomeAnd, ap, arith, option_map, length, refl, set, slice_get, string_bytes, subst, sym, Result}
 use Rattle.std.proofs.lemmas.Option.{none-some}
 use Rattle.sok_rules.specs.declared.cell.Dir.{Dir}
@@ -11,10 +11,10 @@ use Rattle.sok_book.specs.declared.record.Offer.TheVariants.{Stored, Kept}
 use Rattle.sok_book.specs.declared.record.Verdict.{Verdict}
 use Rattle.sok_book.specs.declared.record.Verdict.TheVariants.{Untested}
 use Rattle.sok_book.specs.Books.{Book, Page, Solution, page_at, solution_of}
-use Rattle.sok_book.specs.Commands.{Offers, offer_answer, with_best, with_page}
+use Rattle.sok_book.specs.Commands.{Offers, best_pushes, is_better, offer_answer, with_best, with_page}
 use Rattle.sok_page.specs.Texts.{solution_text}
 use Rattle.sok_engine.specs.Written.{Answer}
-use Rattle.sqlite.specs.State.{State, HasCleanDisk}
+use Rattle.sqlite.specs.State.{State}
 use Rattle.sok_rules.specs.Play.{pushes, start}
 use Rattle.sok_text.specs.declared.lurd.LurdFault.{LurdFault}
 use Rattle.sok_text.specs.declared.lurd.LurdFault.TheVariants as lurd
@@ -36,19 +36,18 @@ use Rattle.sok_engine.proofs.Answering.{Writes-one}
 use Rattle.sok_row.specs.Faults.{IsOutside}
 use Rattle.sok_row.specs.Told.{IsRecordOf, Told}
 use Rattle.sok_store.specs.Calls.{Keeps, Turns, id_number}
+use Rattle.sok_store.proofs.Found.{kept_at, one_less}
+use Rattle.sok_keep.specs.Disk.{NoCleaner}
 use Rattle.sok_keep.specs.Faults.{of_book}
 use Rattle.sok_keep.specs.Offers.{Foretells, GivesForecast, GivesOffer, IsLetterFault, IsOffer, TellsOffer, WritesOffer, outcome_answer, told_offer}
 use Rattle.sok_keep.proofs.Ending.{book_fault, ends_unwritten, lurd_fault, stays_written}
-use Rattle.sok_keep.proofs.Pages.{each_page, either_page, kept_at, no_page, on_page}
+use Rattle.sok_keep.proofs.Pages.{each_page, either_page, no_page, on_page}
 
 -- a page that changes at an id is there afterwards
 set_there : {X : Type 0} (xs : List X) (n : ℕ) (old new : X) → slice_get xs n ≡ Some old → slice_get (set xs n new) n ≡ Some new
 set_there [] n old new at = absurd (none-some old at)
 set_there (x ∷ xs) zero old new at = refl
 set_there (x ∷ xs) (suc n) old new at = set_there xs n old new at
-
-one_less : (n : ℕ) → suc n - 1 ≡ n
-one_less n = omega arith
 
 page_there : (book : Book) (id : ℕ) (page new : Page) → page_at book id ≡ Some page → page_at (with_page book id new) id ≡ Some new
 page_there book zero page new there = absurd (none-some page there)
@@ -62,24 +61,23 @@ some_page rows title best verdict = record { level = rows; title = title; best =
 abbrev after_offer : Bool → Page → Solution → Page
 after_offer better page best = if better then record page { best = Some best; verdict = Untested } else page
 
+-- what is told is of the best that stands after it
+foretold_best : (page : Page) (letters : List Dir) (better : Bool) (best : Solution)
+    → is_better (solution_of page.level letters).pushes (best_pushes page) ≡ better → (after_offer better page (solution_of page.level letters)).best ≡ Some best
+    → Foretells page letters (told_offer (offer_answer better) best.pushes best.moves)
+foretold_best page letters better best is stands = record {
+  best = best;
+  stands = subst (λ b. (after_offer b page (solution_of page.level letters)).best ≡ Some best) (sym is) stands;
+  told = ap (λ b. told_offer (offer_answer b) best.pushes best.moves) (sym is);
+}
+
 foretold_some : (rows : Rows) (title : Option (List ℕ)) (old : Solution) (verdict : Verdict) (letters : List Dir) (better : Bool)
     → nat_lt (solution_of rows letters).pushes old.pushes ≡ better
     → Foretells (some_page rows title (Some old) verdict) letters
     (if better then told_offer Stored (solution_of rows letters).pushes (solution_of rows letters).moves else told_offer Kept old.pushes old.moves)
 foretold_some rows title old verdict letters true is =
-    let new = solution_of rows letters in
-    let page = some_page rows title (Some old) verdict in record {
-      best = new;
-      stands = subst (λ better. (after_offer better page new).best ≡ Some new) (sym is) refl;
-      told = subst (λ better. told_offer Stored new.pushes new.moves ≡ told_offer (offer_answer better) new.pushes new.moves) (sym is) refl;
-    }
-foretold_some rows title old verdict letters false is =
-    let new = solution_of rows letters in
-    let page = some_page rows title (Some old) verdict in record {
-      best = old;
-      stands = subst (λ better. (after_offer better page new).best ≡ Some old) (sym is) refl;
-      told = subst (λ better. told_offer Kept old.pushes old.moves ≡ told_offer (offer_answer better) old.pushes old.moves) (sym is) refl;
-    }
+    foretold_best (some_page rows title (Some old) verdict) letters true (solution_of rows letters) is refl
+foretold_some rows title old verdict letters false is = foretold_best (some_page rows title (Some old) verdict) letters false old is refl
 
 foretold_by : (rows : Rows) (title : Option (List ℕ)) (best : Option Solution) (verdict : Verdict) (letters : List Dir)
     → Foretells (some_page rows title best verdict) letters
@@ -152,9 +150,10 @@ not_offered book id letters refusal.NoLevel is = absurd (no_page (page_at book i
 not_offered book id letters fault is = is
 
 -- there is no such level
-pub unfound_letters : (old new : State) (id : ℕ) (letters : List Dir) (fault : BookFault) (told : ToolFault) → told ≡ of_book fault
-    → Keeps old new (λ b. IsOutside fault ⊎ ((fault ≡ refusal.NoLevel) × IsNone (page_at b id))) → Keeps old new (λ b. GivesForecast b id letters (Err told))
-unfound_letters old new id letters fault told is keeps clean book holds =
+pub unfound_letters : (old new : State) (id : ℕ) (letters : List Dir) (told : ToolFault)
+    → (fault : BookFault) × (told ≡ of_book fault) × Keeps old new (λ b. IsOutside fault ⊎ ((fault ≡ refusal.NoLevel) × IsNone (page_at b id)))
+    → Keeps old new (λ b. GivesForecast b id letters (Err told))
+unfound_letters old new id letters told (fault, is, keeps) clean book holds =
     let (why, after) = keeps clean book holds in
     let refused : IsOutside fault ⊎ IsNotOffered book id letters fault = elim why [
       | inl outside ↦ inl outside
@@ -173,7 +172,7 @@ pub found_letters : (old new : State) (id : ℕ) (letters : List Dir) (kept : Re
 found_letters old new id letters kept answer keeps foretells clean book holds =
     let (found, after) = keeps clean book holds in (
       each_page (page_at book id) (λ page. IsRecordOf id page kept) (λ page. Foretells page letters answer)
-          (λ page there is. foretells page (kept_at book holds.0 id page there) (texts_at id page kept is)) found,
+          (λ page there is. foretells page (kept_at book id page holds.0 there) (texts_at id page kept is)) found,
       after,
     )
 
@@ -184,7 +183,7 @@ pub refused_solution : (old new : State) (id : ℕ) (letters : List Dir) (kept :
 refused_solution old new id letters kept fault told is keeps refuses clean book holds =
     let (found, after) = keeps clean book holds in
     let whys = each_page (page_at book id) (λ page. IsRecordOf id page kept) (λ page. (fault ≡ refusal.Memory) ⊎ IsNoSolution page.level letters fault)
-    (λ page there same. refuses page (kept_at book holds.0 id page there) (texts_at id page kept same)) found in
+    (λ page there same. refuses page (kept_at book id page holds.0 there) (texts_at id page kept same)) found in
     let refused : IsOutside fault ⊎ IsNotOffered book id letters fault =
     elim (either_page (page_at book id) (fault ≡ refusal.Memory) (λ page. IsNoSolution page.level letters fault) whys) [
       | inl memory ↦ inl (inl memory)
@@ -194,20 +193,20 @@ refused_solution old new id letters kept fault told is keeps refuses clean book 
 
 -- ---- the command
 
-pub offer_done : (old mid new : State) (id : ℕ) (letters : List Dir) (offer : Offer) (answer : Answer) → (HasCleanDisk new → HasCleanDisk mid)
+pub offer_done : (old mid new : State) (id : ℕ) (letters : List Dir) (offer : Offer) (answer : Answer) → NoCleaner mid new
     → Keeps old mid (λ b. GivesForecast b id letters (Ok answer)) → Turns mid new (λ b after. Offers b id letters offer after)
     → Turns old new (λ b after. GivesOffer b id letters after (Ok answer))
-offer_done old mid new id letters offer answer early keeps turns clean book holds =
-    let (says, held) = keeps (early clean) book holds in
+offer_done old mid new id letters offer answer cleaner keeps turns clean book holds =
+    let (says, held) = keeps (omega (arith, clean, cleaner)) book holds in
     let (after, offered, held_after) = turns clean book held in
     (after, tells book id letters offer after answer offered says, held_after)
 
 pub offer_failed : (old mid new : State) (id : ℕ) (letters : List Dir) (answer : Answer) (fault : BookFault) (told : ToolFault)
-    → (HasCleanDisk new → HasCleanDisk mid) → told ≡ of_book fault
+    → NoCleaner mid new → told ≡ of_book fault
     → Keeps old mid (λ b. GivesForecast b id letters (Ok answer)) → Keeps mid new (λ b. IsOutside fault ⊎ IsNotOffered b id letters fault)
     → Turns old new (λ b after. GivesOffer b id letters after (Err told))
-offer_failed old mid new id letters answer fault told early is keeps fails clean book holds =
-    let (says, held) = keeps (early clean) book holds in
+offer_failed old mid new id letters answer fault told cleaner is keeps fails clean book holds =
+    let (says, held) = keeps (omega (arith, clean, cleaner)) book holds in
     let (why, held_after) = fails clean book held in
     (book, (refl, refused_letters book id letters fault told is why), held_after)
 

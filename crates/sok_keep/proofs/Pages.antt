@@ -1,14 +1,6 @@
 -- Pages of a book that a table holds.
-use Rattle.std.proofs.Common.{ℕ, zero, suc, ◌≡◌, ◌⊎◌, Option, Some, None, IsSomeAnd, refl, subst}
-use Rattle.std.proofs.lemmas.Option.{none-some}
-use Rattle.sok_book.specs.Books.{Book, Page, page_at}
-use Rattle.sok_page.specs.Kept.{IsKeptPage}
-use Rattle.sok_row.specs.Kept.{IsKeptBook}
-
--- each may be kept
-pub kept_at : (book : Book) → IsKeptBook book → (id : ℕ) (page : Page) → page_at book id ≡ Some page → IsKeptPage page
-kept_at book kept zero page there = absurd (none-some page there)
-kept_at book kept (suc n) page there = kept.pages n page there
+use Rattle.std.proofs.Common.{◌≡◌, ◌⊎◌, Option, Some, None, IsSomeAnd, refl, subst}
+use Rattle.sok_book.specs.Books.{Page}
 
 -- what is true of the page there
 pub each_page : (o : Option Page) (P Q : Page → Type 0) → ((page : Page) → o ≡ Some page → P page → Q page) → IsSomeAnd o P → IsSomeAnd o Q

@@ -1,8 +1,8 @@
 -- A verdict that is proved: what is foretold of it is what is told.
-use Rattle.std.proofs.Common.{ℕ, ℤ, ◌≡◌, ◌⊎◌, ◌∙◌, ◌≤◌, inl, inr, List, Option, Some, None, Result, Ok, Err}
+use Rattle.std.proofs.Common.{arith, ℕ, ℤ, ◌≡◌, ◌⊎◌, ◌∙◌, ◌≤◌, inl, inr, List, Option, Some, None, Result, Ok, Err}
 use Rattle.std.proofs.Common.{IfErr, IfOk, IfSome, IsNone, IsSomeAnd, ◌<◌, ap, length, option_map, refl, subst}
 use Rattle.std.proofs.Common.{sym}
-use Rattle.sqlite.specs.State.{State, HasCleanDisk}
+use Rattle.sqlite.specs.State.{State}
 use Rattle.sok_cert.specs.Claim.{Claim}
 use Rattle.sok_cert.specs.Claim.TheVariants.{Pushes, Unsolvable}
 use Rattle.sok_cert.specs.CertFault.{CertFault}
@@ -26,6 +26,7 @@ use Rattle.sok_judge.specs.Verdicts.{verdict_answer}
 use Rattle.sok_row.specs.Faults.{IsOutside}
 use Rattle.sok_row.specs.Told.{IsRecordOf, Told}
 use Rattle.sok_store.specs.Calls.{Keeps, Turns, id_number}
+use Rattle.sok_keep.specs.Disk.{NoCleaner}
 use Rattle.sok_keep.specs.Faults.{of_book}
 use Rattle.sok_keep.specs.Proves.{GivesProof, IsProof, TellsProof, WritesProof, claim_about, failed, proved, proved_answer, refused, unproved}
 use Rattle.sok_keep.proofs.Ending.{book_fault, stays_written}
@@ -56,12 +57,12 @@ abbrev pub HasRecord : ℕ → Record → Book → Type 0
 HasRecord id kept b = IsSomeAnd (page_at b id) (λ page. IsRecordOf id page kept)
 
 -- the command is done
-pub proof_done : (old mid new : State) (id : ℕ) (bytes : List ℕ) (kept : Record) (claim : Claim) (answer : Answer) → (HasCleanDisk new → HasCleanDisk mid)
+pub proof_done : (old mid new : State) (id : ℕ) (bytes : List ℕ) (kept : Record) (claim : Claim) (answer : Answer) → NoCleaner mid new
     → Keeps old mid (λ b. IsSomeAnd (page_at b id) (λ page. IsRecordOf id page kept))
     → answer ≡ proved_answer (claim_about (option_map (λ b. b.pushes) kept.best))
     → Turns mid new (λ b after. Proves b id bytes claim after) → Turns old new (λ b after. GivesProof b id bytes after (Ok answer))
-proof_done old mid new id bytes kept claim answer early keeps told turns clean book holds =
-    let (found, held) = keeps (early clean) book holds in
+proof_done old mid new id bytes kept claim answer cleaner keeps told turns clean book holds =
+    let (found, held) = keeps (omega (arith, clean, cleaner)) book holds in
     let (after, proves, held_after) = turns clean book held in
     let is : IsRecordOf id proves.page kept = on_page (page_at book id) proves.page (λ page. IsRecordOf id page kept) proves.there found in
     let says : answer ≡ proved_answer claim = told ∙ ap (λ pushes. proved_answer (claim_about pushes)) (same_pushes id proves.page kept is)
@@ -76,20 +77,20 @@ told_cause b id bytes fault told is (inl (inr database)) = inr (failed refl (ap 
 told_cause b id bytes fault told is (inr none) = inr (unproved fault none refl (ap Err is))
 
 pub proof_failed : (old mid new : State) (id : ℕ) (bytes : List ℕ) (P : Book → Type 0) (fault : BookFault) (told : ToolFault)
-    → (HasCleanDisk new → HasCleanDisk mid) → told ≡ of_book fault → Keeps old mid P → Keeps mid new (λ b. IsOutside fault ⊎ IsNotProved b id bytes fault)
+    → NoCleaner mid new → told ≡ of_book fault → Keeps old mid P → Keeps mid new (λ b. IsOutside fault ⊎ IsNotProved b id bytes fault)
     → Turns old new (λ b after. GivesProof b id bytes after (Err told))
-proof_failed old mid new id bytes P fault told early is keeps fails clean book holds =
-    let (found, held) = keeps (early clean) book holds in
+proof_failed old mid new id bytes P fault told cleaner is keeps fails clean book holds =
+    let (found, held) = keeps (omega (arith, clean, cleaner)) book holds in
     let (why, held_after) = fails clean book held in
     (book, (refl, told_cause book id bytes fault told is why), held_after)
 
 -- the certificate is refused, which is an answer
 pub proof_refused : (old mid new : State) (id : ℕ) (bytes : List ℕ) (P : Book → Type 0) (fault : CertFault) (answer : Answer)
-    → (HasCleanDisk new → HasCleanDisk mid) → answer ≡ verdict_answer (Err fault) → Keeps old mid P
+    → NoCleaner mid new → answer ≡ verdict_answer (Err fault) → Keeps old mid P
     → Keeps mid new (λ b. IsOutside (refusal.Certificate fault) ⊎ IsNotProved b id bytes (refusal.Certificate fault))
     → Turns old new (λ b after. GivesProof b id bytes after (Ok answer))
-proof_refused old mid new id bytes P fault answer early told keeps fails clean book holds =
-    let (found, held) = keeps (early clean) book holds in
+proof_refused old mid new id bytes P fault answer cleaner told keeps fails clean book holds =
+    let (found, held) = keeps (omega (arith, clean, cleaner)) book holds in
     let (why, held_after) = fails clean book held in
     let cause : IsNotProved book id bytes (refusal.Certificate fault) = elim why [
       | inl (inl memory) ↦ let no : ⊥ = cc in absurd no
@@ -99,10 +100,10 @@ proof_refused old mid new id bytes P fault answer early told keeps fails clean b
     (book, refused fault cause refl (ap Ok told), held_after)
 
 -- memory was refused
-pub proof_unsaid : (old mid new : State) (id : ℕ) (bytes : List ℕ) (P Q : Book → Type 0) (told : ToolFault) → (HasCleanDisk new → HasCleanDisk mid)
+pub proof_unsaid : (old mid new : State) (id : ℕ) (bytes : List ℕ) (P Q : Book → Type 0) (told : ToolFault) → NoCleaner mid new
     → told ≡ tool.Memory → Keeps old mid P → Keeps mid new Q → Turns old new (λ b after. GivesProof b id bytes after (Err told))
-proof_unsaid old mid new id bytes P Q told early memory keeps more clean book holds =
-    let (found, held) = keeps (early clean) book holds in
+proof_unsaid old mid new id bytes P Q told cleaner memory keeps more clean book holds =
+    let (found, held) = keeps (omega (arith, clean, cleaner)) book holds in
     let (kept, held_after) = more clean book held in
     (book, (refl, inl memory), held_after)
 
@@ -112,10 +113,10 @@ proof_unsaid_at_once old mid id bytes P told memory keeps clean book holds =
     let (found, held) = keeps clean book holds in (book, (refl, inl memory), held)
 
 -- there is no such level
-pub proof_unfound : (old new : State) (id : ℕ) (bytes : List ℕ) (fault : BookFault) (told : ToolFault) → told ≡ of_book fault
-    → Keeps old new (λ b. IsOutside fault ⊎ ((fault ≡ refusal.NoLevel) × IsNone (page_at b id)))
+pub proof_unfound : (old new : State) (id : ℕ) (bytes : List ℕ) (told : ToolFault)
+    → (fault : BookFault) × (told ≡ of_book fault) × Keeps old new (λ b. IsOutside fault ⊎ ((fault ≡ refusal.NoLevel) × IsNone (page_at b id)))
     → Turns old new (λ b after. GivesProof b id bytes after (Err told))
-proof_unfound old new id bytes fault told is keeps clean book holds =
+proof_unfound old new id bytes told (fault, is, keeps) clean book holds =
     let (why, held) = keeps clean book holds in
     let cause : IsOutside fault ⊎ IsNotProved book id bytes fault = elim why [
       | inl outside ↦ inl outside
@@ -163,14 +164,14 @@ proof_unread s id known held fault much clean book holds =
 
 -- what is told where the book refuses
 pub proof_ended : (old mid new : State) (id : ℕ) (bytes : List ℕ) (P : Book → Type 0) (fault : BookFault) (result : Result Answer ToolFault)
-    → (HasCleanDisk new → HasCleanDisk mid)
+    → NoCleaner mid new
     → IfOk result (λ answer. (cause : CertFault) × (fault ≡ refusal.Certificate cause) × (answer ≡ verdict_answer (Err cause)))
     → IfErr result (λ told. (told ≡ tool.Memory) ⊎ (told ≡ of_book fault)) → Keeps old mid P
     → Keeps mid new (λ b. IsOutside fault ⊎ IsNotProved b id bytes fault) → Turns old new (λ b after. GivesProof b id bytes after result)
-proof_ended old mid new id bytes P fault (Ok answer) early (cause, is, says) none keeps fails =
-    proof_refused old mid new id bytes P cause answer early says keeps
+proof_ended old mid new id bytes P fault (Ok answer) cleaner (cause, is, says) none keeps fails =
+    proof_refused old mid new id bytes P cause answer cleaner says keeps
     (subst (λ f. Keeps mid new (λ b. IsOutside f ⊎ IsNotProved b id bytes f)) is fails)
-proof_ended old mid new id bytes P fault (Err told) early none (inl memory) keeps fails =
-    proof_unsaid old mid new id bytes P (λ b. IsOutside fault ⊎ IsNotProved b id bytes fault) told early memory keeps fails
-proof_ended old mid new id bytes P fault (Err told) early none (inr is) keeps fails =
-    proof_failed old mid new id bytes P fault told early is keeps fails
+proof_ended old mid new id bytes P fault (Err told) cleaner none (inl memory) keeps fails =
+    proof_unsaid old mid new id bytes P (λ b. IsOutside fault ⊎ IsNotProved b id bytes fault) told cleaner memory keeps fails
+proof_ended old mid new id bytes P fault (Err told) cleaner none (inr is) keeps fails =
+    proof_failed old mid new id bytes P fault told cleaner is keeps fails

@@ -72,10 +72,10 @@ not_exported book fault (inr database) = subst (λ f. IsFaultOf (IsExport book) 
 
 -- ---- calls
 
-pub page_unshown : (old new : State) (id : ℤ) (fault : BookFault) (told : ToolFault) → told ≡ of_book fault
-    → Keeps old new (λ b. IsOutside fault ⊎ ((fault ≡ refusal.NoLevel) × IsNone (page_at b (id_number id))))
+pub page_unshown : (old new : State) (id : ℤ) (told : ToolFault)
+    → (fault : BookFault) × (told ≡ of_book fault) × Keeps old new (λ b. IsOutside fault ⊎ ((fault ≡ refusal.NoLevel) × IsNone (page_at b (id_number id))))
     → Keeps old new (λ b. IsFaultOf (IsShow b id) told)
-page_unshown old new id fault told is keeps clean book holds =
+page_unshown old new id told (fault, is, keeps) clean book holds =
     let (why, held) = keeps clean book holds in (subst (IsFaultOf (IsShow book id)) (sym is) (not_shown book id fault why), held)
 
 pub page_unanswered : (old new : State) (id : ℤ) (held : Option (List ℕ)) (fault : ToolFault) → Keeps old new (λ b. IsFaultOf (IsShow b id) fault)

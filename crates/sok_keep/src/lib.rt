@@ -7,6 +7,7 @@
 //! | `fault` | why a command on a book has no answer |
 //! | `offer` | a solution is offered |
 //! | `prove` | a verdict is proved |
+//! | `record` | what a book keeps of a level |
 //! | `show` | one level is shown, or all are exported |
 #![tactic(auto)]
 
@@ -14,4 +15,5 @@ pub mod add;
 pub mod fault;
 pub mod offer;
 pub mod prove;
+mod record;
 pub mod show;

@@ -15,6 +15,7 @@ ghost use Rattle.sok_keep.specs.Offers.{offer_line, offer_status, offer_word, ou
 ghost use Rattle.sok_keep.specs.Offers.{told_offer};
 
 use crate::fault::tool_fault;
+use crate::record::record_at;
 use sok_book::fault::BookFault;
 use sok_book::offering::judge_letters;
 use sok_book::record::Offer;
@@ -83,10 +84,7 @@ fn foretold<S: Alter>(
         GivesForecast pages (id_number id) letters.now result) }
     ensures clean { NoCleaner (state S.Store book.old) (state S.Store book.new) }
 {
-    let kept = match book.get(id) {
-        Ok(kept) => kept,
-        Err(fault) => return Err(tool_fault(fault)),
-    };
+    let kept = record_at(book, id)?;
     match weighed(alloc, &kept, letters) {
         Ok(answer) => Ok(answer),
         Err(fault) => Err(tool_fault(fault)),

@@ -12,6 +12,7 @@ ghost use Rattle.sok_keep.specs.Faults.{of_book};
 ghost use Rattle.sok_keep.specs.Proves.{GivesProof, WritesProof, claim_about, proved_answer};
 
 use crate::fault::tool_fault;
+use crate::record::record_at;
 use sok_book::fault::BookFault;
 use sok_engine::answer::Answer;
 use sok_engine::fault::ToolFault;
@@ -61,10 +62,7 @@ fn proved<S: Alter>(
         GivesProof pages (id_number id) bytes.now after result) }
     ensures clean { NoCleaner (state S.Store book.old) (state S.Store book.new) }
 {
-    let kept = match book.get(id) {
-        Ok(kept) => kept,
-        Err(fault) => return Err(tool_fault(fault)),
-    };
+    let kept = record_at(book, id)?;
     let answer = proved_answer(alloc, &kept.best)?;
     match book.prove(id, bytes) {
         Ok(_) => Ok(answer),

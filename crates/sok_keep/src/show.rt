@@ -7,6 +7,7 @@ ghost use Rattle.sok_keep.specs.Disk.{NoCleaner};
 ghost use Rattle.sok_keep.specs.Shows.{IsExport, IsShow};
 
 use crate::fault::tool_fault;
+use crate::record::record_at;
 use sok_engine::answer::Answer;
 use sok_engine::fault::ToolFault;
 use sok_shelf::export::export_text;
@@ -42,10 +43,8 @@ fn shown<S: Alter>(alloc: Global, book: &mut Book<S>, id: i64) -> Result<Answer,
         (λ pages. Gives (IsShow pages id) result) }
     ensures clean { NoCleaner (state S.Store book.old) (state S.Store book.new) }
 {
-    match book.get(id) {
-        Ok(kept) => Ok(Answer::new(shown_text(alloc, &kept)?, 0)),
-        Err(fault) => Err(tool_fault(fault)),
-    }
+    let kept = record_at(book, id)?;
+    Ok(Answer::new(shown_text(alloc, &kept)?, 0))
 }
 
 /// Writes the levels of a book as a collection, in order of their ids, at status 0: for each `;

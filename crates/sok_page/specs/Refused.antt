@@ -2,6 +2,7 @@
 use Rattle.std.specs.Prelude.{ℕ, ℤ, ◌≡◌, ◌⊎◌, List, Option, IfSome, option_map}
 use Rattle.sok_rules.specs.Squares.{Rows}
 use Rattle.sok_rules.specs.Play.{start}
+use Rattle.sok_rules.specs.declared.play.Tally.{Tally}
 use Rattle.sok_text.specs.Marked.{marked_text}
 use Rattle.sok_book.specs.declared.fault.BookFault.{BookFault}
 use Rattle.sok_book.specs.declared.fault.BookFault.TheVariants.{BadBook, Memory}
@@ -18,6 +19,10 @@ IsBroken id P fault = (fault ≡ Memory) ⊎ ((fault ≡ BadBook id) × ((x : _)
 pub record IsLurdOf (rows : Rows) (lurd : List ℕ) (best : Solution) : Type 0 where
   pub kept : IsKeptSolution rows best
   pub lurd_is : lurd ≡ marked_text rows (start rows) best.letters
+
+-- the pushes and moves of a solution that may be kept, of which this is the marked text
+abbrev pub IsTallyOf : Rows → List ℕ → Tally → Type 0
+IsTallyOf rows lurd tally = (best : Solution) × IsLurdOf rows lurd best × (tally.pushes ≡ best.pushes) × (tally.moves ≡ best.moves)
 
 -- a solution that may be kept, and its text with its numbers
 pub record IsTextOf (rows : Rows) (text : SolutionText) (best : Solution) : Type 0 where

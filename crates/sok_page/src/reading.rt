@@ -11,7 +11,7 @@ ghost use Rattle.sok_board.specs.Refusals.{IsAcceptable};
 ghost use Rattle.sok_book.specs.Books.{Page, Solution};
 ghost use Rattle.sok_book.specs.declared.record.Verdict.{Verdict};
 ghost use Rattle.sok_page.specs.Kept.{IsKeptPage, IsKeptSolution, may_stand};
-ghost use Rattle.sok_page.specs.Refused.{AreOf, IsBroken, IsLurdOf, IsTextOf};
+ghost use Rattle.sok_page.specs.Refused.{AreOf, IsBroken, IsLurdOf, IsTallyOf, IsTextOf};
 ghost use Rattle.sok_page.specs.Rows.{IsRowOf, solution_columns};
 ghost use Rattle.sok_page.specs.Rows.{values_in, verdict_number};
 ghost use Rattle.sok_page.specs.Texts.{best_text, page_text, record_text, solution_text};
@@ -185,9 +185,7 @@ fn solution_in(
 
 /// The pushes and moves of a marked text that solves.
 fn tally_of(alloc: Global, id: i64, level: &Level, lurd: &[u8]) -> Result<Tally, BookFault>
-    ensures read { IfOk result (λ tally. (solution : Solution)
-        × IsLurdOf level.now lurd.now solution
-        × (tally.pushes ≡ solution.pushes) × (tally.moves ≡ solution.moves)) }
+    ensures read { IfOk result (IsTallyOf level.now lurd.now) }
     ensures broken { IfErr result (IsBroken id (IsLurdOf level.now lurd.now)) }
 {
     let letters = match read_lurd(alloc, lurd) {
@@ -209,9 +207,7 @@ fn judged(
     letters: &[Dir],
 ) -> Result<Tally, BookFault>
     requires { Spells lurd.now letters.now }
-    ensures read { IfOk result (λ tally. (solution : Solution)
-        × IsLurdOf level.now lurd.now solution
-        × (tally.pushes ≡ solution.pushes) × (tally.moves ≡ solution.moves)) }
+    ensures read { IfOk result (IsTallyOf level.now lurd.now) }
     ensures broken { IfErr result (IsBroken id (IsLurdOf level.now lurd.now)) }
 {
     let tally = match judge_letters(alloc, level, letters) {

@@ -6,7 +6,6 @@ use sok_tool::check::check_bytes;
 use sok_tool::fault::ToolFault;
 use std::alloc::Global;
 use std::io::{Read, Write};
-use std::process::Abort;
 use std::test::Fail;
 
 /// The text of a certificate, of which these are the lines behind the first.
@@ -101,27 +100,56 @@ const ANSWERS: [(&str, &str, &str, u8); 14] = [
     ),
 ];
 
-/// The level is the second one of a collection, and the first is at fault.
+/// Whether the certificate of these lines is answered so for the second level of a collection, of
+/// which the first is at fault.
+fn is_answered(
+    rt: &HostRuntime,
+    level: &str,
+    lines: &str,
+    line: &str,
+    status: u8,
+) -> Result<bool, Fail> {
+    let mut boards = String::from_str(rt.alloc(), "#####\n#$ .#\n#####\n\n")?;
+    boards.push_str(level)?;
+    let text = certificate(rt.alloc(), lines)?;
+    let mut out = Vec::new(rt.alloc());
+    let told = checked(
+        rt.alloc(),
+        &mut boards.as_bytes(),
+        2,
+        &mut text.as_bytes(),
+        &mut out,
+    );
+    Ok(told == Ok(status) && out.as_slice() == line.as_bytes())
+}
+
 #[test]
 fn answers(rt: HostRuntime) -> Result<(), Fail> {
     for (level, lines, line, status) in ANSWERS {
-        let mut boards = String::from_str(rt.alloc(), "#####\n#$ .#\n#####\n\n")?;
-        boards.push_str(level)?;
-        let text = certificate(rt.alloc(), lines)?;
-        let (mut input, mut cert_input) = (boards.as_bytes(), text.as_bytes());
-        let mut out = Vec::new(rt.alloc());
-        let told = checked(rt.alloc(), &mut input, 2, &mut cert_input, &mut out);
-        assert_eq!(rt; out.as_slice(), line.as_bytes(), "{text}");
-        assert_eq!(rt; told, Ok(status), "{text}");
+        assert!(rt; is_answered(&rt, level, lines, line, status)?, "{lines}");
     }
     Ok(())
+}
+
+/// Whether a level is refused by a fault, with nothing written, before a certificate is read whose
+/// second read fails.
+fn is_refused(rt: &HostRuntime, boards: &str, n: usize, fault: ToolFault) -> bool {
+    let mut cert_input = Source::new(b"no certificate", 2);
+    let mut out = Vec::new(rt.alloc());
+    let told = checked(
+        rt.alloc(),
+        &mut boards.as_bytes(),
+        n,
+        &mut cert_input,
+        &mut out,
+    );
+    let reads = if fault == ToolFault::ReadFailed { 2 } else { 0 };
+    told == Err(fault) && out.is_empty() && cert_input.reads == reads
 }
 
 /// What stops the judgement before the certificate is read, and the failing read of one.
 #[test]
 fn faults_of_levels_and_boards(rt: HostRuntime) -> Result<(), Fail> {
-    let too_large = rooms::ROOM_OF_1025.text(rt.alloc())?;
-    let too_many_boxes = rooms::ROOM_OF_129_BOXES.text(rt.alloc())?;
     for (boards, n, fault) in [
         ("", 1, ToolFault::NoSuchLevel),
         (sketch::ONE_PUSH, 0, ToolFault::NoSuchLevel),
@@ -130,66 +158,71 @@ fn faults_of_levels_and_boards(rt: HostRuntime) -> Result<(), Fail> {
         (sketch::OPEN_AT_THE_SIDE, 1, ToolFault::NotEnclosed(1, 3)),
         (sketch::STRAY_BOX, 1, ToolFault::BoxOutside(1, 5)),
         (sketch::NO_GOAL, 1, ToolFault::TooFewGoals),
-        (too_large.as_str(), 1, ToolFault::TooLarge),
-        (too_many_boxes.as_str(), 1, ToolFault::TooManyBoxes),
         (sketch::ONE_PUSH, 1, ToolFault::ReadFailed),
     ] {
-        let mut cert_input = Source::new(b"no certificate", 2);
-        let mut out = Vec::new(rt.alloc());
-        let told = checked(
-            rt.alloc(),
-            &mut boards.as_bytes(),
-            n,
-            &mut cert_input,
-            &mut out,
-        );
-        assert_eq!(rt; told, Err(fault), "{boards}");
-        assert_eq!(rt; out.len(), 0, "{boards}");
-        let reads = if fault == ToolFault::ReadFailed { 2 } else { 0 };
-        assert_eq!(rt; cert_input.reads, reads, "{boards}");
+        assert!(rt; is_refused(&rt, boards, n, fault), "{boards}");
+    }
+    for (room, fault) in [
+        (rooms::ROOM_OF_1025, ToolFault::TooLarge),
+        (rooms::ROOM_OF_129_BOXES, ToolFault::TooManyBoxes),
+    ] {
+        let boards = room.text(rt.alloc())?;
+        assert!(rt; is_refused(&rt, boards.as_str(), 1, fault), "{fault}");
     }
     Ok(())
 }
 
-/// A collection that cannot be read, one without end, and a certificate without end, in parts of a
-/// whole buffer.
-#[test]
-fn reads_that_fail_and_inputs_without_end(rt: HostRuntime) -> Result<(), Fail> {
-    let alloc = rt.alloc();
-    let mut out = Vec::new(alloc);
-    for (fails_at, reads, fault) in [(2, 2, ToolFault::ReadFailed), (0, 4097, ToolFault::TooMuch)] {
-        let mut input = Source::new(&[b'#'; 4096], fails_at);
-        let told = checked(alloc, &mut input, 1, &mut b"".as_slice(), &mut out);
-        assert_eq!(rt; told, Err(fault));
-        assert_eq!(rt; input.reads, reads);
-    }
+/// Whether a collection without end is read so often, in parts of a whole buffer, and is refused by
+/// a fault.
+fn is_read(rt: &HostRuntime, fails_at: u32, reads: u32, fault: ToolFault) -> bool {
+    let mut input = Source::new(&[b'#'; 4096], fails_at);
+    let mut out = Vec::new(rt.alloc());
+    let told = checked(rt.alloc(), &mut input, 1, &mut b"".as_slice(), &mut out);
+    told == Err(fault) && out.is_empty() && input.reads == reads
+}
+
+/// The same of a certificate.
+fn is_read_for_a_level(rt: &HostRuntime, reads: u32, fault: ToolFault) -> bool {
     let mut cert_input = Source::new(&[b'#'; 4096], 0);
+    let mut out = Vec::new(rt.alloc());
     let told = checked(
-        alloc,
+        rt.alloc(),
         &mut sketch::ONE_PUSH.as_bytes(),
         1,
         &mut cert_input,
         &mut out,
     );
-    assert_eq!(rt; told, Err(ToolFault::TooMuch));
-    assert_eq!(rt; cert_input.reads, 65_537);
-    assert_eq!(rt; out.len(), 0);
-    Ok(())
+    told == Err(fault) && out.is_empty() && cert_input.reads == reads
+}
+
+/// A collection that cannot be read, one without end, and a certificate without end.
+#[test]
+fn reads_that_fail_and_inputs_without_end(rt: HostRuntime) {
+    assert!(rt; is_read(&rt, 2, 2, ToolFault::ReadFailed));
+    assert!(rt; is_read(&rt, 0, 4097, ToolFault::TooMuch));
+    assert!(rt; is_read_for_a_level(&rt, 65_537, ToolFault::TooMuch));
+}
+
+/// Whether a judgement stops at the write behind so many bytes, which goes wrong.
+fn stops_behind(rt: &HostRuntime, cert: &str, taken: usize, failure: Failure) -> bool {
+    let mut out = Sink::new(rt.alloc(), taken.saturating_add(1), failure);
+    let told = checked(
+        rt.alloc(),
+        &mut sketch::ONE_PUSH.as_bytes(),
+        1,
+        &mut cert.as_bytes(),
+        &mut out,
+    );
+    told == Err(ToolFault::WriteFailed) && out.has(b"accepted at least 1 pushes\n", taken)
 }
 
 /// After a write that goes wrong there is no further one, though it would go well.
 #[test]
 fn writes_that_fail_once(rt: HostRuntime) -> Result<(), Fail> {
-    let line = b"accepted at least 1 pushes\n".as_slice();
     let text = certificate(rt.alloc(), "pushes 1\nb 0 0 1 1 1 0\nend\n")?;
     for failure in [Failure::Error, Failure::Nothing] {
-        for taken in 0..line.len() {
-            let (mut input, mut cert_input) = (sketch::ONE_PUSH.as_bytes(), text.as_bytes());
-            let mut out = Sink::new(rt.alloc(), taken + 1, failure);
-            let told = checked(rt.alloc(), &mut input, 1, &mut cert_input, &mut out);
-            assert_eq!(rt; told, Err(ToolFault::WriteFailed));
-            assert_eq!(rt; out.taken.as_slice(), &line[..taken]);
-            assert_eq!(rt; out.writes, taken + 1);
+        for taken in 0..27 {
+            assert!(rt; stops_behind(&rt, text.as_str(), taken, failure), "{taken}");
         }
     }
     Ok(())

@@ -63,6 +63,11 @@ impl Sink {
             failure,
         }
     }
+
+    /// Whether it took so many bytes of a text, and was then asked once more.
+    pub(crate) fn has(&self, text: &[u8], taken: usize) -> bool {
+        self.writes == taken.saturating_add(1) && text.get(..taken) == Some(self.taken.as_slice())
+    }
 }
 
 impl Write for Sink {

@@ -1,35 +1,56 @@
-//! Tests of the program over memory and files: what it writes, its exit status, and the fault that
-//! it prints.
+//! Tests of a book: of its pages, of its table in a database, and of the commands on it, in memory;
+//! and of the program over memory and files: what it writes, its exit status, and the fault that it
+//! prints.
 //!
 //! | Module | What it tests |
 //! |---|---|
+//! | `answering` | commands on a book in memory, with what they write (no test) |
+//! | `books` | levels with titles, and a book that is full |
 //! | `checking` | `check` on files |
 //! | `checks` | the judgement of a certificate for a level of a collection |
+//! | `commands` | commands one after another, each on the book that the last one left |
 //! | `devices` | readers and writers that fail, or that give and take little (no test) |
+//! | `judgements` | solutions and certificates that are offered for a level |
 //! | `keeping` | the commands on a book in a file |
+//! | `letters` | a text of as many letters as may be offered |
 //! | `lines` | what lines of words ask for, and the texts that are printed for some of them |
 //! | `listing` | `list` on files |
+//! | `pages` | rows as records, and what is shown of them |
 //! | `plays` | the replay of a text, its words and its streams |
 //! | `printing` | the line of each fault |
 //! | `refusing` | help, and words that ask for nothing |
 //! | `replaying` | `replay` on files |
 //! | `rows` | command lines on the files of a folder (no test) |
 //! | `solving` | `solve` on files |
+//! | `statements` | each statement once, with ample memory |
+//! | `tables` | tables that are opened as a book, or that are not |
 //! | `tutorial` | the session of the tutorial |
 #![tactic(auto)]
 
+#[cfg(test)]
+mod answering;
+#[cfg(test)]
+mod books;
 #[cfg(test)]
 mod checking;
 #[cfg(test)]
 mod checks;
 #[cfg(test)]
+mod commands;
+#[cfg(test)]
 mod devices;
 #[cfg(test)]
+mod judgements;
+#[cfg(test)]
 mod keeping;
+#[cfg(test)]
+mod letters;
 #[cfg(test)]
 mod lines;
 #[cfg(test)]
 mod listing;
+#[cfg(test)]
+mod pages;
 #[cfg(test)]
 mod plays;
 #[cfg(test)]
@@ -42,5 +63,9 @@ mod replaying;
 mod rows;
 #[cfg(test)]
 mod solving;
+#[cfg(test)]
+mod statements;
+#[cfg(test)]
+mod tables;
 #[cfg(test)]
 mod tutorial;

@@ -78,6 +78,15 @@ pub(crate) struct Ended {
     pub(crate) err: Vec<u8>,
 }
 
+impl Ended {
+    /// Whether it ended so, with these texts on the output and the error stream.
+    pub(crate) fn told(&self, out: &str, err: &str, status: u8) -> bool {
+        self.status == status
+            && self.out.as_slice() == out.as_bytes()
+            && self.err.as_slice() == err.as_bytes()
+    }
+}
+
 /// Runs the program with the words of a line.
 pub(crate) fn ran(rt: &HostRuntime, line: &str) -> Result<Ended, AllocError> {
     let words = words(rt.alloc(), line)?;
@@ -103,10 +112,5 @@ pub(crate) fn first_other(
 
 fn is_told(rt: &HostRuntime, row: Row) -> Result<bool, AllocError> {
     let (line, out, err, status) = row;
-    let ended = ran(rt, line)?;
-    Ok(
-        ended.status == status
-            && ended.out.as_slice() == out.as_bytes()
-            && ended.err.as_slice() == err.as_bytes(),
-    )
+    Ok(ran(rt, line)?.told(out, err, status))
 }

@@ -1,5 +1,5 @@
 -- What a query leaves of a connection that holds the table, and what it answers.
-use Rattle.std.proofs.Common.{◌≡◌, ℕ, ◌+◌, pos, List, [], ◌∷◌, map, false, slice_get, sym, ap, subst, ◌∙◌, is_ok}
+use Rattle.std.proofs.Common.{◌≡◌, ℕ, ◌+◌, pos, List, [], ◌∷◌, map, false, slice_get, sym, ap, subst, ◌∙◌, is_ok, Result, Ok, Err, IfOk, IfErr}
 use Rattle.sqlite.specs.declared.types.Value.TheVariants.{Null, Int, Text as Words}
 use Rattle.sqlite.specs.Order.{Row}
 use Rattle.sqlite.specs.Tree.{Trees}
@@ -17,7 +17,7 @@ use Rattle.sok_sql.proofs.Texts.{all_text, all_is, all_plain, all_unlisted, miss
 use Rattle.sok_sql.proofs.Texts.{last_text, last_is, last_plain, last_unlisted}
 use Rattle.sok_sql.proofs.Choosing.{reads_one}
 use Rattle.sok_sql.proofs.Listing.{lists, lists_table, finds, lasts}
-use Rattle.sok_sql.proofs.Calls.{shown_up, shown_same, unchanged_holds, unchanged_same, unread_holds}
+use Rattle.sok_sql.proofs.Calls.{shown_up, shown_same, unchanged_holds, unchanged_same, undone_holds, unread_undone}
 
 -- a stop in the middle of a query leaves what was there
 query_commits : (s : State) (leaves : List Leaf) (sql : List ℕ) (params : Row) (db : Trees) → IsPlain (understood level_schema sql) → Shows s leaves
@@ -63,16 +63,19 @@ module _ (old new : State) (leaves : List Leaf) (holds : Holds old leaves) where
       (a.0, lasts old.now.trees leaves rows a.1 a.2)
 
 -- a query leaves the rows, whether it is answered or not
-module _ (old new : State) (sql : List ℕ) (params : Row) (plain : IsPlain (understood level_schema sql)) where
-  stopped : Survives old new (CommitsShowing sql params old) → Survives old new (λ db. (leaves : List Leaf) → Shows old leaves → ⊥)
-  stopped stops = survives_weaker old new _ _ (λ _ db h leaves was. query_commits old leaves sql params db plain was h) stops
+module _ {A : Type 0} (items : A → List Row) (old new : State) (sql : List ℕ) (params : Row) (plain : IsPlain (understood level_schema sql)) where
+  rests : HasCleanDisk new → (leaves : List Leaf) → Holds old leaves → (r : Result A Error) → IfOk r (λ rows. Shown sql params old new (items rows))
+      → IfErr r (FailsToQuery sql params old new) → Holds new leaves
+  rests clean leaves holds (Ok rows) h none = query_holds old new leaves holds sql params plain (items rows) h
+  rests clean leaves holds (Err e) none h = undone_holds old new leaves holds (unread_undone old new sql params e h)
 
-  pub answered_rests : Survives old new (CommitsShowing sql params old) → (rows : List Row) → (HasCleanDisk new → Shown sql params old new rows) → Rests old new
-  answered_rests stops rows shown =
-      record { kept = λ clean leaves holds. query_holds old new leaves holds sql params plain rows (shown clean); stop = stopped stops }
-
-  pub refused_rests : Survives old new (CommitsShowing sql params old) → (e : Error) → (HasCleanDisk new → FailsToQuery sql params old new e) → Rests old new
-  refused_rests stops e fails = record { kept = λ clean leaves holds. unread_holds old new leaves holds sql params e (fails clean); stop = stopped stops }
+  pub query_rests : Survives old new (CommitsShowing sql params old) → (result : Result A Error)
+      → (HasCleanDisk new → IfOk result (λ rows. Shown sql params old new (items rows)))
+      → (HasCleanDisk new → IfErr result (FailsToQuery sql params old new)) → Rests old new
+  query_rests stop result shown fails = record {
+    kept = λ clean leaves holds. rests clean leaves holds result (shown clean) (fails clean);
+    stop = survives_weaker old new _ _ (λ _ db h leaves was. query_commits old leaves sql params db plain was h) stop;
+  }
 
 -- the rows that are found, of whatever the table has
 pub found_rows : (old new : State) → IsSettled old → (rows : List Row) → old.now.schema ≡ level_schema → Shown all_text [] old new rows

@@ -1,5 +1,5 @@
 -- What any call leaves of a connection.
-use Rattle.std.proofs.Common.{◌≡◌, inl, inr, ℕ, List, false, Some, None, Option, Ok, Err, IsTrue}
+use Rattle.std.proofs.Common.{◌≡◌, ◌⊎◌, inl, inr, ℕ, List, false, Some, None, Option, Ok, Err, IsTrue}
 use Rattle.std.proofs.Common.{sym, ap, subst, subst₂, ◌∙◌, append-nil}
 use Rattle.std.proofs.lemmas.Bool.{cases_Bool}
 use Rattle.sqlite.specs.declared.error.Error.{Error}
@@ -79,7 +79,33 @@ commits_as sql params s schema has command is plain db h =
     let bare = subst IsPlain (sym known) plain in
     subst₂ (λ k t. MayCommit s None k t params db) (ap command_of known ∙ is) (ap (statement_of sql) known) (rw (bare.0, bare.1, append-nil params) at h.2)
 
--- ---- what is refused leaves the rows
+-- ---- what is refused changes nothing, or is rolled back
+
+-- nothing has changed, or all of it is undone
+abbrev pub IsUndone : State → State → Type 0
+IsUndone old new = IsUnchanged old new ⊎ IsRolledBack old new
+
+module _ (old new : State) (sql : List ℕ) (params : Row) (e : Error) where
+  pub refused_undone : Executes sql params old new (Err e) → IsUndone old new
+  unfolding ExecutesIn IsNotRun
+  refused_undone (inl (inl h)) = inl h.1
+  refused_undone (inl (inr h)) = inr h.3
+  refused_undone (inr h) = elim (cases_Bool (shows_rows false h.0)) [
+    | inl shows ↦ let it = rw shows at h.2 in inl it.1
+    | inr runs ↦ elim (rw runs at h.2) [ inl same ↦ inl same.1 | inr fails ↦ inr fails.3 ]
+  ]
+
+  pub unread_undone : FailsToQuery sql params old new e → IsUndone old new
+  unfolding FailsToQuery IsNotRun
+  unread_undone (inl (inl h)) = inl h.1
+  unread_undone (inl (inr h)) = inr h.3
+  unread_undone (inr h) =
+      elim h.0.returning as (λ r. st.FailsToShow old new sql h.0 (timed params h.0.formats h.1.now) e r → IsUndone old new) [
+        | None ↦ λ it. inl it.3
+        | Some what ↦ λ it. elim it [ inl same ↦ inl same.1 | inr fails ↦ inr fails.3 ]
+      ] h.2
+
+-- so the rows stay
 
 module _ (old new : State) (leaves : List Leaf) (holds : Holds old leaves) where
   pub unchanged_holds : IsUnchanged old new → Holds new leaves
@@ -104,26 +130,11 @@ module _ (old new : State) (leaves : List Leaf) (holds : Holds old leaves) where
         autocommit = back.autocommit;
       }
 
-  pub refused_holds : (sql : List ℕ) (params : Row) (e : Error) → Executes sql params old new (Err e) → Holds new leaves
-  unfolding ExecutesIn IsNotRun
-  refused_holds sql params e (inl (inl h)) = unchanged_holds h.1
-  refused_holds sql params e (inl (inr h)) = rolled_back_holds h.3
-  refused_holds sql params e (inr h) = elim (cases_Bool (shows_rows false h.0)) [
-    | inl shows ↦ let it = rw shows at h.2 in unchanged_holds it.1
-    | inr runs ↦ elim (rw runs at h.2) [ inl same ↦ unchanged_holds same.1 | inr fails ↦ rolled_back_holds fails.3 ]
-  ]
+  pub undone_holds : IsUndone old new → Holds new leaves
+  undone_holds (inl same) = unchanged_holds same
+  undone_holds (inr back) = rolled_back_holds back
 
-  pub unread_holds : (sql : List ℕ) (params : Row) (e : Error) → FailsToQuery sql params old new e → Holds new leaves
-  unfolding FailsToQuery IsNotRun
-  unread_holds sql params e (inl (inl h)) = unchanged_holds h.1
-  unread_holds sql params e (inl (inr h)) = rolled_back_holds h.3
-  unread_holds sql params e (inr h) =
-      elim h.0.returning as (λ r. st.FailsToShow old new sql h.0 (timed params h.0.formats h.1.now) e r → Holds new leaves) [
-        | None ↦ λ it. unchanged_holds it.3
-        | Some what ↦ λ it. elim it [ inl same ↦ unchanged_holds same.1 | inr fails ↦ rolled_back_holds fails.3 ]
-      ] h.2
-
--- ---- and whatever else there is
+-- and whatever else there is
 
 module _ (old new : State) (settled : IsSettled old) where
   pub unchanged_same : IsUnchanged old new → IsSame old new
@@ -137,21 +148,6 @@ module _ (old new : State) (settled : IsSettled old) where
       let undone = back.undone up in
       (open_was, undone.0 ∙ sym (settled open_was).0, undone.1, back.autocommit)
 
-  pub refused_same : (sql : List ℕ) (params : Row) (e : Error) → Executes sql params old new (Err e) → IsSame old new
-  unfolding ExecutesIn IsNotRun
-  refused_same sql params e (inl (inl h)) = unchanged_same h.1
-  refused_same sql params e (inl (inr h)) = rolled_back_same h.3
-  refused_same sql params e (inr h) = elim (cases_Bool (shows_rows false h.0)) [
-    | inl shows ↦ let it = rw shows at h.2 in unchanged_same it.1
-    | inr runs ↦ elim (rw runs at h.2) [ inl same ↦ unchanged_same same.1 | inr fails ↦ rolled_back_same fails.3 ]
-  ]
-
-  pub unread_same : (sql : List ℕ) (params : Row) (e : Error) → FailsToQuery sql params old new e → IsSame old new
-  unfolding FailsToQuery IsNotRun
-  unread_same sql params e (inl (inl h)) = unchanged_same h.1
-  unread_same sql params e (inl (inr h)) = rolled_back_same h.3
-  unread_same sql params e (inr h) =
-      elim h.0.returning as (λ r. st.FailsToShow old new sql h.0 (timed params h.0.formats h.1.now) e r → IsSame old new) [
-        | None ↦ λ it. unchanged_same it.3
-        | Some what ↦ λ it. elim it [ inl same ↦ unchanged_same same.1 | inr fails ↦ rolled_back_same fails.3 ]
-      ] h.2
+  pub undone_same : IsUndone old new → IsSame old new
+  undone_same (inl same) = unchanged_same same
+  undone_same (inr back) = rolled_back_same back

@@ -1,8 +1,8 @@
 -- What a write leaves of a connection that holds the table, and what it may commit.
 use Rattle.std.proofs.Common.{◌≡◌, inl, inr, ℕ, ◌+◌, pos, List, [], ◌∷◌, ◌++◌, length, Some, None, Option, Ok, IsTrue, slice_get, slice_set}
-use Rattle.std.proofs.Common.{refl, sym, ap, subst, ◌∙◌, is_ok, false}
-use Rattle.sqlite.specs.declared.types.Value.TheVariants.{Null, Int, Text as Words}
-use Rattle.sqlite.specs.Order.{Row, column}
+use Rattle.std.proofs.Common.{sym, ap, subst, ◌∙◌, is_ok, false}
+use Rattle.sqlite.specs.declared.types.Value.TheVariants.{Int}
+use Rattle.sqlite.specs.Order.{Row}
 use Rattle.sqlite.specs.Tree.{Trees}
 use Rattle.sqlite.specs.Term.{Term}
 use Rattle.sqlite.specs.Source.TheVariants.{Values}
@@ -16,11 +16,10 @@ use Rattle.sqlite.specs.State.{State, Executes, ExecutesIn, Writes, CommitsBy}
 use Rattle.sqlite.specs.Change.{created, next_tree}
 use Rattle.sqlite.proofs.Callers.{IsPlain, command_of, statement_of, runs_as}
 use Rattle.std.proofs.lemmas.List.Sorted.{IsPermutation-refl}
-use Rattle.sok_sql.specs.Leaves.{Leaf, HasLeaves, level, level_schema, no_schema, seen, shown, new_leaf, with_best, with_verdict}
+use Rattle.sok_sql.specs.Leaves.{Leaf, HasLeaves, level, level_schema, no_schema, seen, shown, new_leaf}
 use Rattle.sok_sql.specs.Connections.{Shows, Holds}
 use Rattle.sok_sql.proofs.Texts.{create_text, create_is, create_plain, create_statement, created_is, create_again_fails, create_defines}
 use Rattle.sok_sql.proofs.Texts.{insert_text, insert_is, insert_plain, insert_terms, pick_query, update_with}
-use Rattle.sok_sql.proofs.Texts.{best_text, best_is, best_plain, best_terms, verdict_text, verdict_is, verdict_plain, verdict_terms}
 use Rattle.sok_sql.proofs.Writes.{DoesOn, went, same_value, new_params, inserted, rewritten, updated}
 use Rattle.sok_sql.proofs.Calls.{ran_up, commits_as}
 
@@ -51,7 +50,7 @@ module _ (old new : State) (leaves : List Leaf) (holds : Holds old leaves) where
   module _ (sql : List ℕ) (project : List Term) (more : Row) (out : Row → Row) (id : ℕ)
       (is : command_of (understood level_schema sql) ≡ update_with project) (plain : IsPlain (understood level_schema sql))
       (puts : (r : Row) → output (pick_query project) ((Int (pos id) ∷ more) ∷ r ∷ []) ≡ ([], out (seen r))) where
-    update_holds : (place : ℕ) (it after : Leaf) (count : ℕ) → id ≡ 1 + place → slice_get leaves place ≡ Some it → out (shown id it) ≡ rewritten id after
+    pub update_holds : (place : ℕ) (it after : Leaf) (count : ℕ) → id ≡ 1 + place → slice_get leaves place ≡ Some it → out (shown id it) ≡ rewritten id after
         → Executes sql (Int (pos id) ∷ more) old new (Ok count) → Holds new (slice_set leaves place after)
     update_holds place it after count at found becomes h up =
         let params = Int (pos id) ∷ more in
@@ -81,7 +80,7 @@ module _ (s : State) (leaves : List Leaf) (was : Shows s leaves) (db : Trees) wh
   module _ (sql : List ℕ) (project : List Term) (more : Row) (out : Row → Row) (id : ℕ)
       (is : command_of (understood level_schema sql) ≡ update_with project) (plain : IsPlain (understood level_schema sql))
       (puts : (r : Row) → output (pick_query project) ((Int (pos id) ∷ more) ∷ r ∷ []) ≡ ([], out (seen r))) where
-    update_commits : (place : ℕ) (it after : Leaf) → id ≡ 1 + place → slice_get leaves place ≡ Some it → out (shown id it) ≡ rewritten id after
+    pub update_commits : (place : ℕ) (it after : Leaf) → id ≡ 1 + place → slice_get leaves place ≡ Some it → out (shown id it) ≡ rewritten id after
         → CommitsBy sql (Int (pos id) ∷ more) s db → HasLeaves db (slice_set leaves place after)
     update_commits place it after at found becomes h =
         let params = Int (pos id) ∷ more in
@@ -92,45 +91,6 @@ module _ (s : State) (leaves : List Leaf) (was : Shows s leaves) (db : Trees) wh
               let does = subst (DoesOn s.now.trees s.step_limit params text (update_with project) w.1 w.2) was.schema w.3 in
               rw w.5 (updated project more out id puts s.step_limit s.now.trees text after it place leaves w.1 w.2 was.rows at found becomes does).1
         ]
-
--- ---- the two updates
-
-abbrev pub best_params : List ℕ → ℕ → ℕ → Row
-best_params lurd pushes moves = Words lurd ∷ Int (pos pushes) ∷ Int (pos moves) ∷ []
-
-abbrev pub best_out : List ℕ → ℕ → ℕ → Row → Row
-best_out lurd pushes moves row =
-    column row 0 ∷ column row 0 ∷ Null ∷ column row 1 ∷ column row 2 ∷ Words lurd ∷ Int (pos pushes) ∷ Int (pos moves) ∷ Int (pos 0) ∷ []
-
-abbrev pub verdict_out : ℕ → Row → Row
-verdict_out verdict row =
-    column row 0 ∷ column row 0 ∷ Null ∷ column row 1 ∷ column row 2 ∷ column row 3 ∷ column row 4 ∷ column row 5 ∷ Int (pos verdict) ∷ []
-
-module _ (id place : ℕ) (it : Leaf) (leaves : List Leaf) (at : id ≡ 1 + place) (found : slice_get leaves place ≡ Some it) where
-  pub best_holds : (old new : State) → Holds old leaves → (lurd : List ℕ) (pushes moves count : ℕ)
-      → Executes best_text (Int (pos id) ∷ best_params lurd pushes moves) old new (Ok count)
-      → Holds new (slice_set leaves place (with_best lurd pushes moves it))
-  best_holds old new holds lurd pushes moves count h =
-      update_holds old new leaves holds best_text best_terms (best_params lurd pushes moves) (best_out lurd pushes moves) id best_is best_plain
-      (λ r. refl) place it (with_best lurd pushes moves it) count at found refl h
-
-  pub best_commits : (s : State) → Shows s leaves → (db : Trees) (lurd : List ℕ) (pushes moves : ℕ)
-      → CommitsBy best_text (Int (pos id) ∷ best_params lurd pushes moves) s db → HasLeaves db (slice_set leaves place (with_best lurd pushes moves it))
-  best_commits s was db lurd pushes moves h =
-      update_commits s leaves was db best_text best_terms (best_params lurd pushes moves) (best_out lurd pushes moves) id best_is best_plain
-      (λ r. refl) place it (with_best lurd pushes moves it) at found refl h
-
-  pub verdict_holds : (old new : State) → Holds old leaves → (verdict count : ℕ)
-      → Executes verdict_text (Int (pos id) ∷ Int (pos verdict) ∷ []) old new (Ok count) → Holds new (slice_set leaves place (with_verdict verdict it))
-  verdict_holds old new holds verdict count h =
-      update_holds old new leaves holds verdict_text verdict_terms (Int (pos verdict) ∷ []) (verdict_out verdict) id verdict_is verdict_plain
-      (λ r. refl) place it (with_verdict verdict it) count at found refl h
-
-  pub verdict_commits : (s : State) → Shows s leaves → (db : Trees) (verdict : ℕ)
-      → CommitsBy verdict_text (Int (pos id) ∷ Int (pos verdict) ∷ []) s db → HasLeaves db (slice_set leaves place (with_verdict verdict it))
-  verdict_commits s was db verdict h =
-      update_commits s leaves was db verdict_text verdict_terms (Int (pos verdict) ∷ []) (verdict_out verdict) id verdict_is verdict_plain (λ r. refl) place it
-      (with_verdict verdict it) at found refl h
 
 -- ---- the table is made
 

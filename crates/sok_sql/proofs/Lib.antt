@@ -10,3 +10,4 @@ pub mod Refused
 pub mod Standing
 pub mod Unwritten
 pub mod Unmade
+pub mod Statements

@@ -32,12 +32,10 @@ use Rattle.sqlite.specs.Listing.{understood}
 use Rattle.sqlite.specs.Clock.{timed}
 use Rattle.sqlite.specs.State.{State, Executes, ExecutesIn, Fails, IsMisplaced, IsNotRun, RunsCommand, is_pragma, mode_of, shows_rows, text_of}
 use Rattle.sqlite.proofs.Callers.{IsPlain, command_of, statement_of}
-use Rattle.sok_sql.specs.Leaves.{Leaf, HasLeaves, level, level_schema, shown, seen, stored, new_leaf, with_best, with_verdict}
+use Rattle.sok_sql.specs.Leaves.{Leaf, HasLeaves, level, level_schema, shown, seen, stored, new_leaf}
 use Rattle.sok_sql.specs.Causes.{AreApart, IsExcused, IsTooBig}
 use Rattle.sok_sql.specs.Connections.{Holds}
 use Rattle.sok_sql.proofs.Texts.{IsPosed, insert_text, insert_is, insert_plain, insert_posed, insert_terms, pick_query, update_with}
-use Rattle.sok_sql.proofs.Texts.{best_text, best_is, best_plain, best_posed, best_terms, verdict_text, verdict_is, verdict_plain, verdict_posed, verdict_terms}
-use Rattle.sok_sql.proofs.Changing.{best_out, best_params, verdict_out}
 use Rattle.sok_sql.proofs.Writes.{mode, new_params, rewritten}
 use Rattle.sok_sql.proofs.Refused.{calm, failed, is_statement}
 use Rattle.sok_sql.proofs.Standing.{keeps_once, left_free, never_refused, next_free, one_stop, putting}
@@ -227,7 +225,7 @@ module _ (old new : State) (e : Error) (leaves : List Leaf) (holds : Holds old l
         (posed : IsPosed sql (length (Int (pos id) ∷ more)) (understood level_schema sql))
         (puts : (r : Row) → output (pick_query project) ((Int (pos id) ∷ more) ∷ r ∷ []) ≡ ([], out (seen r)))
         (typed : accepts_program level_schema [] (pick_query project) (Int (pos id) ∷ more) ≡ true) where
-      update_refused : (after : Leaf) → out (shown id it) ≡ rewritten id after → AreApart (slice_set leaves place after)
+      pub update_refused : (after : Leaf) → out (shown id it) ≡ rewritten id after → AreApart (slice_set leaves place after)
           → Executes sql (Int (pos id) ∷ more) old new (Err e) → IsTooBig id after ⊎ IsExcused old new e
       update_refused after becomes apart h = elim (cases_Bool old.is_open) [
         | inl up ↦
@@ -245,16 +243,3 @@ module _ (old new : State) (e : Error) (leaves : List Leaf) (holds : Holds old l
             ]
         | inr shut ↦ inr (inr (inl shut))
       ]
-
-    pub best_refused : (lurd : List ℕ) (pushes moves : ℕ) → AreApart (slice_set leaves place (with_best lurd pushes moves it))
-        → Executes best_text (Int (pos id) ∷ best_params lurd pushes moves) old new (Err e)
-        → IsTooBig id (with_best lurd pushes moves it) ⊎ IsExcused old new e
-    best_refused lurd pushes moves apart h =
-        update_refused best_text best_terms (best_params lurd pushes moves) (best_out lurd pushes moves) best_is best_plain best_posed
-        (λ r. refl) refl (with_best lurd pushes moves it) refl apart h
-
-    pub verdict_refused : (verdict : ℕ) → AreApart (slice_set leaves place (with_verdict verdict it))
-        → Executes verdict_text (Int (pos id) ∷ Int (pos verdict) ∷ []) old new (Err e) → IsTooBig id (with_verdict verdict it) ⊎ IsExcused old new e
-    verdict_refused verdict apart h =
-        update_refused verdict_text verdict_terms (Int (pos verdict) ∷ []) (verdict_out verdict) verdict_is verdict_plain verdict_posed
-        (λ r. refl) refl (with_verdict verdict it) refl apart h

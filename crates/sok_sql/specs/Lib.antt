@@ -2,3 +2,4 @@
 pub mod Leaves
 pub mod Connections
 pub mod Causes
+pub mod Statements

@@ -32,13 +32,10 @@ pub fn all_rows<S: Alter>(conn: &mut Connection<S>) -> Result<Vec<Row>, Error>
         → IfErr result (λ e. IsMissing e
         ⊎ IsExcused (state S.Store conn.old) (state S.Store conn.new) e) }
 {
-    match conn.query_all(
+    conn.query_all(
         "SELECT id, text, title, lurd, pushes, moves, verdict FROM level ORDER BY id",
         &[],
-    ) {
-        Ok(rows) => Ok(rows),
-        Err(error) => Err(error),
-    }
+    )
 }
 
 /// The row with an id, counted from 1, if there is one.
@@ -123,13 +120,10 @@ fn rows_at<S: Alter>(conn: &mut Connection<S>, id: u32) -> Result<Vec<Row>, Erro
     ensures cause { HasCleanDisk (state S.Store conn.new) → HasTable (state S.Store conn.old)
         → IfErr result (IsExcused (state S.Store conn.old) (state S.Store conn.new)) }
 {
-    match conn.query_all(
+    conn.query_all(
         "SELECT id, text, title, lurd, pushes, moves, verdict FROM level WHERE id = ?1",
         params![id],
-    ) {
-        Ok(rows) => Ok(rows),
-        Err(error) => Err(error),
-    }
+    )
 }
 
 /// The ids of the rows with a text, in order.
@@ -142,13 +136,10 @@ fn ids_of<S: Alter>(conn: &mut Connection<S>, text: &str) -> Result<Vec<Row>, Er
     ensures cause { HasCleanDisk (state S.Store conn.new) → HasTable (state S.Store conn.old)
         → IfErr result (IsExcused (state S.Store conn.old) (state S.Store conn.new)) }
 {
-    match conn.query_all(
+    conn.query_all(
         "SELECT id FROM level WHERE text = ?1 ORDER BY id",
         params![text],
-    ) {
-        Ok(rows) => Ok(rows),
-        Err(error) => Err(error),
-    }
+    )
 }
 
 /// The id of the last row, if there is one.
@@ -161,8 +152,5 @@ fn last_rows<S: Alter>(conn: &mut Connection<S>) -> Result<Vec<Row>, Error>
     ensures cause { HasCleanDisk (state S.Store conn.new) → HasTable (state S.Store conn.old)
         → IfErr result (IsExcused (state S.Store conn.old) (state S.Store conn.new)) }
 {
-    match conn.query_all("SELECT id FROM level ORDER BY id DESC LIMIT 1", &[]) {
-        Ok(rows) => Ok(rows),
-        Err(error) => Err(error),
-    }
+    conn.query_all("SELECT id FROM level ORDER BY id DESC LIMIT 1", &[])
 }

@@ -1,5 +1,5 @@
 -- A page more at the end of a book.
-use Rattle.std.proofs.Common.{◌≡◌, ◌⊎◌, inl, inr, refl, sym, ap, subst, ◌∙◌, ℕ, ℤ, pos, ◌+◌, ◌<◌, ◌≤◌, List, [], ◌∷◌, ◌++◌, Option, Some, None, arith}
+use Rattle.std.proofs.Common.{◌≡◌, ◌⊎◌, inl, inr, refl, sym, ap, subst, ◌∙◌, ℕ, ℤ, pos, ◌+◌, ◌<◌, ◌≤◌, ◌^◌, List, [], ◌∷◌, ◌++◌, Option, Some, None, arith}
 use Rattle.std.proofs.Common.{Result, Ok, Err, IfErr, IfOk, IfSome, length, slice_get}
 use Rattle.sqlite.specs.declared.error.Error.{Error}
 use Rattle.sqlite.specs.Tree.{Trees}
@@ -11,6 +11,7 @@ use Rattle.sok_board.specs.declared.fault.BoardFault.{BoardFault}
 use Rattle.sok_board.specs.declared.fault.BoardFault.TheVariants as board
 use Rattle.sok_board.specs.Area.{IsAccepted, Numbered}
 use Rattle.sok_board.specs.Refusals.{IsAcceptable, IsRefused}
+use Rattle.sok_board.proofs.Lists.{slice_get-push}
 use Rattle.sok_text.specs.Canonical.{level_text}
 use Rattle.sok_book.specs.declared.fault.BookFault.{BookFault}
 use Rattle.sok_book.specs.declared.fault.BookFault.TheVariants.{BookFull, Memory}
@@ -23,6 +24,7 @@ use Rattle.sok_page.proofs.Titles.{kept-are-titles}
 use Rattle.sok_sql.specs.Causes.{AreApart, IsExcused, IsMemory, IsTooBig}
 use Rattle.sok_sql.specs.Connections.{Holds, Rests, Shows}
 use Rattle.sok_sql.specs.Leaves.{Leaf, HasLeaves, ids_with, new_leaf}
+use Rattle.sok_sql.specs.Statements.{Inserts}
 use Rattle.sok_row.specs.Faults.{IsOutside}
 use Rattle.sok_row.specs.Kept.{HoldsBook, IsKeptBook, ShowsBook, leaves_of}
 use Rattle.sok_row.proofs.Finding.{stands_found, unknown_unfound}
@@ -30,9 +32,9 @@ use Rattle.sok_row.proofs.Changes.{IsKeptPage-new}
 use Rattle.sok_row.proofs.Books.{IsKeptBook-push, leaves_of-push, length-leaves_of}
 use Rattle.sok_store.specs.Calls.{IsCaused, Keeps, MakesNone, Stops, Turns, id_number, title_kept}
 use Rattle.sok_store.specs.Entries.{AddsPage, IsCausedAdding, IsFull, IsNewPage, StopsAdding}
-use Rattle.sok_store.specs.Running.{RunsAdding}
-use Rattle.sok_store.proofs.Calls.{held, rests_stops, stops_later}
-use Rattle.sok_store.proofs.Caused.{cause_before, kept_apart, last_get}
+use Rattle.sok_store.specs.Running.{RunsAdding, RunsAddingPage}
+use Rattle.sok_store.proofs.Calls.{held, rests_holds, rests_stops, stops_later}
+use Rattle.sok_store.proofs.Caused.{cause_before, few_leaves, kept_apart}
 
 title_is : (title : Option (List ℕ)) → IfSome (title_kept title) IsTitle
 title_is None = tt
@@ -65,82 +67,110 @@ board_refused book rows fault is = inr ((λ e. cc), is)
 
 -- ---- of the connection
 
-module _ (old mid : State) (text : List ℕ) (count : ℕ)
-    (counted : HasCleanDisk mid → (leaves : List Leaf) → Holds old leaves → Shows mid leaves × (count ≡ length leaves)) where
-  pub counted_pages : HasCleanDisk mid → (book : Book) → HoldsBook old book → ShowsBook mid book × (count ≡ length book)
-  counted_pages clean book holds =
-      let (shows, is) = counted clean (leaves_of book) holds.1 in ((holds.0, shows), is ∙ length-leaves_of book)
-
-  pub book_full : level_limit ≤ count → Keeps old mid (λ book. IsOutside BookFull ⊎ IsFull book BookFull)
-  book_full full clean book holds =
-      let (shows, is) = counted_pages clean book holds in (inr (refl, omega (arith, full, is)), held mid book shows)
-
-  module _ (new : State) (early : HasCleanDisk new → HasCleanDisk mid) (title : Option (List ℕ)) (room : count < level_limit) where
-    -- the leaves with that of a new page
-    abbrev pub with_leaf : List Leaf → List Leaf
-    with_leaf leaves = leaves ++ new_leaf text title ∷ []
-
-    pub page_added : (HasCleanDisk new → (leaves : List Leaf) → Holds mid leaves → count + 1 ≡ 1 + length leaves → Holds new (with_leaf leaves))
-        → AddsPage old new text title (pos (count + 1))
-    page_added done clean book page holds new_is =
-        let (shows, is) = counted_pages (early clean) book holds in
-        let space : length book < level_limit = omega (arith, room, is) in
-        let place = length-leaves_of book in
-        let after = done clean (leaves_of book) (λ _. shows.1) (omega (arith, is, place)) in (
-          ap (λ n. pos (n + 1)) is,
-          space,
-          (pushed_kept book text title page new_is holds.0 space, subst (Holds new) (pushed_leaves book text title page new_is holds.0 space) after),
-        )
-
-    pub page_failed : (fault : BookFault) → IsOutside fault → (HasCleanDisk new → (leaves : List Leaf) → Holds mid leaves → Holds new leaves)
-        → Keeps old new (λ book. IsOutside fault ⊎ IsFull book fault)
-    page_failed fault outside kept clean book holds =
-        let (shows, is) = counted_pages (early clean) book holds in (inl outside, (holds.0, kept clean (leaves_of book) (λ _. shows.1)))
-
-    pub page_caused : (error : Error) (fault : BookFault) → (IsMemory error → fault ≡ Memory)
-        → (HasCleanDisk new → (leaves : List Leaf) → Holds mid leaves → count + 1 ≡ 1 + length leaves → AreApart (with_leaf leaves)
-        → IsTooBig (count + 1) (new_leaf text title) ⊎ IsExcused mid new error)
-        → (P Q : Trees → Type 0) → Survives old mid P → Survives mid new Q → IsCausedAdding old new text title fault
-    page_caused error fault memory why P Q one two database clean book page holds new_is =
-        let (shows, is) = counted_pages (early clean) book holds in
-        let space : length book < level_limit = omega (arith, room, is) in
-        let place = length-leaves_of book in
-        let leaf = new_leaf text title in
-        let leaves = pushed_leaves book text title page new_is holds.0 space in
-        let apart = subst AreApart (sym leaves) (kept_apart (book ++ page ∷ []) (pushed_kept book text title page new_is holds.0 space)) in
-        elim (why clean (leaves_of book) (λ _. shows.1) (omega (arith, is, place)) apart) [
-          | inl big ↦
-              let there = subst (λ l. slice_get l (length (leaves_of book)) ≡ Some leaf) leaves (last_get (leaves_of book) leaf) in
-              let same : count + 1 ≡ 1 + length (leaves_of book) = omega (arith, is, place) in
-              inl (space, (length (leaves_of book), leaf, there, subst (λ i. IsTooBig i leaf) same big))
-          | inr excused ↦ elim excused [
-            | inl none ↦ absurd (let e = memory none in cc)
-            | inr cause ↦ inr (cause_before old mid new P Q one two clean cause)
-          ]
-        ]
-
-    pub page_stops : Rests old mid
-        → Survives mid new (λ db. (leaves : List Leaf) → Shows mid leaves → count + 1 ≡ 1 + length leaves → HasLeaves db (with_leaf leaves))
-        → StopsAdding old new text title
-    page_stops rests two = survives_then old mid new _ _ _
-        (λ _ db none book page shows new_is. absurd (none (leaves_of book) shows.1))
-        (λ clean db has book page shows_old new_is.
-        let (shows, is) = counted_pages (early clean) book (held old book shows_old) in
-        let space : length book < level_limit = omega (arith, room, is) in
-        let place = length-leaves_of book in
-        let after = has (leaves_of book) shows.1 (omega (arith, is, place)) in (
-          space,
-          (
-            pushed_kept book text title page new_is shows_old.0 space,
-            subst (HasLeaves db) (pushed_leaves book text title page new_is shows_old.0 space) after,
-          ),
-        ))
-        rests.stop two
-
 -- no page is added
-pub page_rests : (old new : State) (text : List ℕ) (title : Option (List ℕ)) → Rests old new → StopsAdding old new text title
+page_rests : (old new : State) (text : List ℕ) (title : Option (List ℕ)) → Rests old new → StopsAdding old new text title
 page_rests old new text title rests =
     survives_weaker old new _ _ (λ _ db none book page shows new_is. absurd (none (leaves_of book) shows.1)) rests.stop
+
+module _ (old mid : State) (text : List ℕ) (title : Option (List ℕ)) (rests : Rests old mid) where
+  pub page_uncounted : (error : Error) (fault : BookFault) → IsOutside fault → (IsMemory error → fault ≡ Memory)
+      → (HasCleanDisk mid → (leaves : List Leaf) → Holds old leaves → length leaves < 2 ^ 32 → IsExcused old mid error)
+      → RunsAddingPage old mid text title (Err fault)
+  page_uncounted error fault outside memory why = record {
+    added = tt;
+    refused = λ clean book holds. (inl outside, rests_holds old mid rests clean book holds);
+    stop = page_rests old mid text title rests;
+    cause = λ database clean book page holds new_is. elim (why clean (leaves_of book) holds.1 (few_leaves book holds.0)) [
+      | inl none ↦ absurd (let e = memory none in cc)
+      | inr cause ↦ inr cause
+    ];
+  }
+
+  module _ (count : ℕ) (counted : HasCleanDisk mid → (leaves : List Leaf) → Holds old leaves → Shows mid leaves × (count ≡ length leaves)) where
+    counted_pages : HasCleanDisk mid → (book : Book) → HoldsBook old book → ShowsBook mid book × (count ≡ length book)
+    counted_pages clean book holds =
+        let (shows, is) = counted clean (leaves_of book) holds.1 in ((holds.0, shows), is ∙ length-leaves_of book)
+
+    pub book_full : level_limit ≤ count → RunsAddingPage old mid text title (Err BookFull)
+    book_full full = record {
+      added = tt;
+      refused = λ clean book holds.
+          let (shows, is) = counted_pages clean book holds in (inr (refl, omega (arith, full, is)), held mid book shows);
+      stop = page_rests old mid text title rests;
+      cause = λ database. absurd cc;
+    }
+
+    module _ (new : State) (room : count < level_limit) where
+      -- the leaves with that of a new page
+      abbrev with_leaf : List Leaf → List Leaf
+      with_leaf leaves = leaves ++ new_leaf text title ∷ []
+
+      page_stops : Survives mid new (λ db. (leaves : List Leaf) → Shows mid leaves → count + 1 ≡ 1 + length leaves → HasLeaves db (with_leaf leaves))
+          → StopsAdding old new text title
+      page_stops two = survives_then old mid new _ _ _
+          (λ _ db none book page shows new_is. absurd (none (leaves_of book) shows.1))
+          (λ clean db has book page shows_old new_is.
+          let early : HasCleanDisk mid = omega (arith, clean, two.clean) in
+          let (shows, is) = counted_pages early book (held old book shows_old) in
+          let space : length book < level_limit = omega (arith, room, is) in
+          let place = length-leaves_of book in
+          let after = has (leaves_of book) shows.1 (omega (arith, is, place)) in (
+            space,
+            (
+              pushed_kept book text title page new_is shows_old.0 space,
+              subst (HasLeaves db) (pushed_leaves book text title page new_is shows_old.0 space) after,
+            ),
+          ))
+          rests.stop two
+
+      pub page_added : {X : Type 0} (x : X) (id : ℤ) → id ≡ pos (count + 1) → Inserts mid new (count + 1) (new_leaf text title) (Ok x)
+          → RunsAddingPage old new text title (Ok id)
+      page_added x id named insert = record {
+        added = λ clean book page holds new_is.
+            let early : HasCleanDisk mid = omega (arith, clean, insert.stop.clean) in
+            let (shows, is) = counted_pages early book holds in
+            let space : length book < level_limit = omega (arith, room, is) in
+            let place = length-leaves_of book in
+            let after = insert.done clean (leaves_of book) (λ _. shows.1) (omega (arith, is, place)) in (
+              named ∙ ap (λ n. pos (n + 1)) is,
+              space,
+              (
+                pushed_kept book text title page new_is holds.0 space,
+                subst (Holds new) (pushed_leaves book text title page new_is holds.0 space) after,
+              ),
+            );
+        refused = tt;
+        stop = page_stops insert.stop;
+        cause = tt;
+      }
+
+      pub page_not_added : {X : Type 0} (error : Error) (fault : BookFault) → IsOutside fault → (IsMemory error → fault ≡ Memory)
+          → Inserts {X = X} mid new (count + 1) (new_leaf text title) (Err error) → RunsAddingPage old new text title (Err fault)
+      page_not_added error fault outside memory insert = record {
+        added = tt;
+        refused = λ clean book holds.
+            let early : HasCleanDisk mid = omega (arith, clean, insert.stop.clean) in
+            let (shows, is) = counted_pages early book holds in (inl outside, (holds.0, insert.kept clean (leaves_of book) (λ _. shows.1)));
+        stop = page_stops insert.stop;
+        cause = λ database clean book page holds new_is.
+            let early : HasCleanDisk mid = omega (arith, clean, insert.stop.clean) in
+            let (shows, is) = counted_pages early book holds in
+            let space : length book < level_limit = omega (arith, room, is) in
+            let place = length-leaves_of book in
+            let leaf = new_leaf text title in
+            let leaves = pushed_leaves book text title page new_is holds.0 space in
+            let apart = subst AreApart (sym leaves) (kept_apart (book ++ page ∷ []) (pushed_kept book text title page new_is holds.0 space)) in
+            elim (insert.cause clean (leaves_of book) (λ _. shows.1) (omega (arith, is, place)) apart) [
+              | inl big ↦
+                  let there = subst (λ l. slice_get l (length (leaves_of book)) ≡ Some leaf) leaves (slice_get-push (leaves_of book) leaf) in
+                  let same : count + 1 ≡ 1 + length (leaves_of book) = omega (arith, is, place) in
+                  inl (space, (length (leaves_of book), leaf, there, subst (λ i. IsTooBig i leaf) same big))
+              | inr excused ↦ elim excused [
+                | inl none ↦ absurd (let e = memory none in cc)
+                | inr cause ↦ inr (cause_before old mid new _ _ rests.stop insert.stop clean cause)
+              ]
+            ];
+      }
 
 -- ---- a level that may be there
 
@@ -210,12 +240,11 @@ module _ (old mid : State) (rows : Rows) (text : List ℕ) (text_is : text ≡ l
           two
 
       -- all of it
-      pub level_runs : Rests old mid → (result : Result ℤ BookFault) → IfOk result (AddsPage mid new text (title_kept title))
-          → IfErr result (λ fault. Keeps mid new (λ book. IsOutside fault ⊎ IsFull book fault)) → StopsAdding mid new text (title_kept title)
-          → IfErr result (IsCausedAdding mid new text (title_kept title)) → RunsAdding old new rows (title_kept title) result
-      level_runs rests result added refused stop caused = record {
-        done = level_added result added;
-        refused = level_refused result refused;
-        stop = level_stops rests stop;
-        cause = level_caused result caused _ _ rests.stop stop;
+      pub level_runs : Rests old mid → (result : Result ℤ BookFault) → RunsAddingPage mid new text (title_kept title) result
+          → RunsAdding old new rows (title_kept title) result
+      level_runs rests result runs = record {
+        done = level_added result runs.added;
+        refused = level_refused result runs.refused;
+        stop = level_stops rests runs.stop;
+        cause = level_caused result runs.cause _ _ rests.stop runs.stop;
       }

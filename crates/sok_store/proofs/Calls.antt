@@ -1,13 +1,10 @@
 -- Calls that leave a book as it was, and calls one after another.
-use Rattle.std.proofs.Common.{◌⊎◌, refl, inl, arith}
-use Rattle.std.specs.Prelude.{⊤}
+use Rattle.std.proofs.Common.{refl, inl, arith}
 use Rattle.sqlite.specs.Tree.{Trees}
 use Rattle.sqlite.specs.State.{State, HasCleanDisk, Survives}
 use Rattle.sqlite.proofs.StateLemmas.{survives_weaker, survives_then}
 use Rattle.sok_book.specs.Books.{Book}
 use Rattle.sok_sql.specs.Connections.{Rests}
-use Rattle.sok_book.specs.declared.fault.BookFault.{BookFault}
-use Rattle.sok_row.specs.Faults.{IsOutside}
 use Rattle.sok_row.specs.Kept.{HasBook, HoldsBook, ShowsBook, leaves_of}
 use Rattle.sok_store.specs.Calls.{Keeps, MakesNone, Stops}
 use Rattle.sok_store.specs.Entries.{Finds}
@@ -49,10 +46,3 @@ pub stops_later : (a b c : State) (Makes : Book → Book → Type 0) → Stops a
     → Survives b c Commits → Stops a c Makes
 stops_later a b c Makes one Commits two_makes two =
     survives_then a b c _ _ _ (λ _ db made book shows. let (after, none, has) = made book shows in absurd none) two_makes one two
-
--- what fails after a page was found leaves the book
-pub fails_later : (old mid new : State) (Is P : Book → Type 0) (fault : BookFault) → Finds old mid Is → (HasCleanDisk new → HasCleanDisk mid)
-    → Keeps mid new (λ _. ⊤) → IsOutside fault → Keeps old new (λ book. IsOutside fault ⊎ P book)
-fails_later old mid new Is P fault finds early kept outside clean book holds =
-    let (is, shows) = finds (early clean) book holds in
-    (inl outside, (kept clean book (held mid book shows)).1)

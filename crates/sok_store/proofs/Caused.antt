@@ -1,7 +1,7 @@
 -- Why a call of the book answers `Database`, and what never does.
 use Rattle.std.proofs.Common.{◌≡◌, ◌≢◌, ◌⊎◌, inl, inr, refl, sym, ap, ◌∙◌, ℕ, zero, suc, ℤ, ◌<◌, ◌^◌, arith}
-use Rattle.std.proofs.Common.{List, [], ◌∷◌, ◌++◌, Option, Some, None}
-use Rattle.std.proofs.Common.{Result, Ok, Err, IfErr, IsTrue, false, length, slice_get, slice_set, option_map}
+use Rattle.std.proofs.Common.{List, [], ◌∷◌, Option, Some, None}
+use Rattle.std.proofs.Common.{IsTrue, false, length, slice_get, slice_set, option_map}
 use Rattle.std.proofs.lemmas.Bool.{cases_Bool}
 use Rattle.std.proofs.lemmas.Option.{none-some, same_Some}
 use Rattle.sqlite.specs.declared.error.Error.{Error}
@@ -57,11 +57,9 @@ module _ (old new : State) (Makes : Book → Book → Type 0) where
   pub caused_none : (fault : BookFault) → IsCaused old new MakesNone fault → IsCaused old new Makes fault
   caused_none fault caused database clean book holds = elim (caused database clean book holds) [ inl made ↦ absurd made.1 | inr why ↦ inr why ]
 
-  pub row_told : {A : Type 0} (r : Result A BookFault) (id : ℤ) (X : Type 0) → IfErr r (λ fault. (fault ≡ Memory) ⊎ ((fault ≡ BadBook id) × X))
-      → IfErr r (IsCaused old new Makes)
-  row_told (Ok x) id X why = tt
-  row_told (Err fault) id X (inl memory) = λ database. absurd cc
-  row_told (Err fault) id X (inr bad) = λ database. absurd (let e = bad.0 in cc)
+  pub row_told : (fault : BookFault) (id : ℤ) (X : Type 0) → (fault ≡ Memory) ⊎ ((fault ≡ BadBook id) × X) → IsCaused old new Makes fault
+  row_told fault id X (inl memory) database = absurd cc
+  row_told fault id X (inr bad) database = absurd (let e = bad.0 in cc)
 
 pub of_board-inside : (fault : BoardFault) → of_board fault ≢ Database
 of_board-inside board.Memory database = absurd cc
@@ -88,7 +86,3 @@ pub set_get : {X : Type 0} (xs : List X) (n : ℕ) (x y : X) → slice_get xs n 
 set_get [] n x y at = absurd (none-some x at)
 set_get (z ∷ zs) zero x y at = refl
 set_get (z ∷ zs) (suc n) x y at = set_get zs n x y at
-
-pub last_get : {X : Type 0} (xs : List X) (y : X) → slice_get (xs ++ y ∷ []) (length xs) ≡ Some y
-last_get [] y = refl
-last_get (x ∷ xs) y = last_get xs y

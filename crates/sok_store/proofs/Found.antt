@@ -1,15 +1,18 @@
 -- The row with an id in the table of a book is that of the page with this id.
-use Rattle.std.proofs.Common.{◌≡◌, ◌≢◌, ◌⊎◌, inl, inr, refl, sym, ap, subst, ◌∙◌, ℕ, zero, suc, ◌+◌, ◌-◌, ◌<◌, Option, Some, None, arith}
-use Rattle.std.proofs.Common.{List, Result, Ok, Err, IfErr, IfOk, IsNone, IsSomeAnd, option_map, slice_get}
+use Rattle.std.proofs.Common.{◌≡◌, ◌≢◌, ◌⊎◌, inl, inr, refl, sym, ap, subst, ◌∙◌, ℕ, zero, suc, ◌+◌, ◌-◌, ◌<◌, ◌≤◌, Option, Some, None, arith}
+use Rattle.std.proofs.Common.{List, Result, Ok, Err, IfErr, IfOk, IsNone, IsSomeAnd, length, option_map, slice_get}
 use Rattle.std.proofs.lemmas.Option.{none-some, same_Some}
+use Rattle.sqlite.specs.declared.error.Error.{Error}
 use Rattle.sqlite.specs.Order.{Row, column}
 use Rattle.sqlite.specs.State.{State, HasCleanDisk}
 use Rattle.sok_book.specs.declared.fault.BookFault.{BookFault}
 use Rattle.sok_book.specs.declared.fault.BookFault.TheVariants.{BadBook, Memory, NoLevel}
 use Rattle.sok_book.specs.Books.{Book, Page, page_at}
+use Rattle.sok_book.specs.Commands.{level_limit}
 use Rattle.sok_page.specs.declared.record.Record.{Record}
 use Rattle.sok_page.specs.Kept.{IsKeptPage}
-use Rattle.sok_sql.specs.Connections.{Holds, Shows}
+use Rattle.sok_sql.specs.Causes.{HasTable, IsExcused, IsMemory}
+use Rattle.sok_sql.specs.Connections.{Holds, Rests, Shows}
 use Rattle.sok_sql.specs.Leaves.{Leaf, shown}
 use Rattle.sok_row.specs.Faults.{IsOutside}
 use Rattle.sok_row.specs.Kept.{HoldsBook, IsKeptBook, ShowsBook, leaf_of, leaves_of}
@@ -17,9 +20,10 @@ use Rattle.sok_row.specs.Opening.{id_or_place}
 use Rattle.sok_row.specs.Told.{IsRecordOf}
 use Rattle.sok_row.proofs.Books.{slice_get-leaves_of}
 use Rattle.sok_row.proofs.Pages.{one_page}
-use Rattle.sok_store.specs.Calls.{Keeps}
-use Rattle.sok_store.specs.Entries.{Finds}
-use Rattle.sok_store.proofs.Calls.{finds_keeps, held}
+use Rattle.sok_store.specs.Calls.{MakesNone}
+use Rattle.sok_store.specs.Running.{RunsReading}
+use Rattle.sok_store.proofs.Calls.{held, rests_holds, rests_stops, stops_same}
+use Rattle.sok_store.proofs.Caused.{row_told, told}
 
 -- ---- pages by their ids
 
@@ -90,7 +94,7 @@ record_refused book id row at fault (inr bad) = absurd (bad.1 at.page at.kept at
 
 -- ---- what is answered of it
 
-module _ (old new : State) (id : ℕ) (low : 0 < id) where
+module _ (old new : State) (id : ℕ) (low : 0 < id) (rests : Rests old new) where
   before : id ≡ 1 + (id - 1)
   before = omega (arith, low)
 
@@ -102,33 +106,60 @@ module _ (old new : State) (id : ℕ) (low : 0 < id) where
       (holds.0, (shows clean (leaves_of book) (id - 1) holds.1 before).0),
     )
 
-    pub record_found : (result : Result Record BookFault)
+    pub row_reads : (result : Result Record BookFault)
         → IfOk result (λ kept. (page : Page) × IsKeptPage page × (row ≡ shown id (leaf_of page)) × IsRecordOf id page kept)
-        → IfOk result (λ kept. Finds old new (λ book. IsSomeAnd (page_at book id) (λ page. IsRecordOf id page kept)))
-    record_found (Ok kept) read = λ clean book holds.
-        let (at, shows_book) = row_in clean book holds in (record_read book id row at kept read, shows_book)
-    record_found (Err fault) read = tt
-
-    pub record_unfound : (result : Result Record BookFault)
         → IfErr result (λ fault. (fault ≡ Memory)
         ⊎ ((fault ≡ BadBook (id_or_place id (column row 0))) × ((page : Page) → IsKeptPage page → row ≢ shown id (leaf_of page))))
-        → IfErr result (λ fault. Keeps old new (λ book. IsOutside fault ⊎ ((fault ≡ NoLevel) × IsNone (page_at book id))))
-    record_unfound (Ok kept) broken = tt
-    record_unfound (Err fault) broken = λ clean book holds.
-        let (at, shows_book) = row_in clean book holds in (inl (record_refused book id row at fault broken), held new book shows_book)
+        → RunsReading old new id (IsRecordOf id) result
+    row_reads (Ok kept) read broken = record {
+      found = λ clean book holds. let (at, shows_book) = row_in clean book holds in (record_read book id row at kept read, shows_book);
+      refused = tt;
+      stop = rests_stops old new rests MakesNone;
+      cause = tt;
+    }
+    row_reads (Err fault) read broken = record {
+      found = tt;
+      refused = λ clean book holds.
+          let (at, shows_book) = row_in clean book holds in (inl (record_refused book id row at fault broken), held new book shows_book);
+      stop = rests_stops old new rests MakesNone;
+      cause = row_told old new MakesNone fault _ _ broken;
+    }
 
-  pub record_missing : (HasCleanDisk new → (leaves : List Leaf) (place : ℕ) → Holds old leaves → id ≡ 1 + place
-      → Shows new leaves × (None ≡ option_map (shown id) (slice_get leaves place)))
-      → Keeps old new (λ book. IsOutside NoLevel ⊎ ((NoLevel ≡ NoLevel) × IsNone (page_at book id)))
-  record_missing shows clean book holds = (
-    inr (refl, row_missing book id (λ n is. (shows clean (leaves_of book) n holds.1 is).1)),
-    (holds.0, λ _. (shows clean (leaves_of book) (id - 1) holds.1 before).0),
-  )
+  pub row_misses : (HasCleanDisk new → (leaves : List Leaf) (place : ℕ) → Holds old leaves → id ≡ 1 + place
+      → Shows new leaves × (None ≡ option_map (shown id) (slice_get leaves place))) → RunsReading old new id (IsRecordOf id) (Err NoLevel)
+  row_misses shows = record {
+    found = tt;
+    refused = λ clean book holds. (
+      inr (refl, row_missing book id (λ n is. (shows clean (leaves_of book) n holds.1 is).1)),
+      (holds.0, λ _. (shows clean (leaves_of book) (id - 1) holds.1 before).0),
+    );
+    stop = rests_stops old new rests MakesNone;
+    cause = λ database. absurd cc;
+  }
 
--- the same under an id that is another number
-pub record_found_at : (old new : State) (n id : ℕ) → n ≡ id → (result : Result Record BookFault)
-    → IfOk result (λ kept. Finds old new (λ book. IsSomeAnd (page_at book n) (λ page. IsRecordOf n page kept)))
-    → IfOk result (λ kept. Keeps old new (λ book. IsSomeAnd (page_at book id) (λ page. IsRecordOf id page kept)))
-record_found_at old new n id same (Ok kept) found =
-    subst (λ k. Keeps old new (λ book. IsSomeAnd (page_at book k) (λ page. IsRecordOf k page kept))) same (finds_keeps old new _ found)
-record_found_at old new n id same (Err fault) found = tt
+  pub row_unread : (error : Error) (fault : BookFault) → IsOutside fault → (IsMemory error → fault ≡ Memory)
+      → (HasCleanDisk new → HasTable old → IsExcused old new error) → RunsReading old new id (IsRecordOf id) (Err fault)
+  row_unread error fault outside memory why = record {
+    found = tt;
+    refused = λ clean book holds. (inl outside, rests_holds old new rests clean book holds);
+    stop = rests_stops old new rests MakesNone;
+    cause = told old new MakesNone error fault memory (λ clean book holds. why clean (λ up. (holds.1 up).schema));
+  }
+
+-- an id that is that of no page
+pub reads_nowhere : {X : Type 0} (s : State) (id : ℕ) (Is : Page → X → Type 0) → ((book : Book) → length book ≤ level_limit → IsNone (page_at book id))
+    → RunsReading s s id Is (Err NoLevel)
+reads_nowhere s id Is none = record {
+  found = tt;
+  refused = λ clean book holds. (inr (refl, none book holds.0.few), holds);
+  stop = stops_same s MakesNone;
+  cause = λ database. absurd cc;
+}
+
+-- the page that is read
+pub page_read : {X : Type 0} (old new : State) (id : ℕ) (Is : Page → X → Type 0) (x : X) → RunsReading old new id Is (Ok x) → HasCleanDisk new
+    → (book : Book) → HoldsBook old book → (page : Page) × (page_at book id ≡ Some page) × IsKeptPage page × Is page x × ShowsBook new book
+page_read old new id Is x read clean book holds =
+    let (some, shows) = read.found clean book holds in
+    let (page, at, is) = some_of (page_at book id) (λ page. Is page x) some in
+    (page, at, kept_at book id page holds.0 at, is, shows)

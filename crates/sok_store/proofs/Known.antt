@@ -1,6 +1,6 @@
 -- A record of a page tells its level and the pushes of its best solution.
-use Rattle.std.proofs.Common.{◌≡◌, ◌⊎◌, inl, inr, refl, sym, ap, ◌∙◌, ℕ, ℤ, Option, Some}
-use Rattle.std.proofs.Common.{None, Result, Ok, Err, IfErr, IfOk, IsNone, IsSomeAnd, option_map, string_bytes}
+use Rattle.std.proofs.Common.{◌≡◌, inl, inr, refl, sym, ap, ◌∙◌, ℕ, ℤ, Option, Some}
+use Rattle.std.proofs.Common.{None, Result, Ok, Err, IfErr, IfOk, option_map, string_bytes}
 use Rattle.std.proofs.lemmas.Option.{none-some, same_Some}
 use Rattle.sqlite.specs.State.{State}
 use Rattle.sok_rules.specs.Squares.{Rows}
@@ -8,7 +8,7 @@ use Rattle.sok_rules.specs.Levels.{IsLevel}
 use Rattle.sok_board.specs.Refusals.{IsAcceptable}
 use Rattle.sok_text.specs.Canonical.{level_text}
 use Rattle.sok_book.specs.declared.fault.BookFault.{BookFault}
-use Rattle.sok_book.specs.declared.fault.BookFault.TheVariants.{Memory, NoLevel}
+use Rattle.sok_book.specs.declared.fault.BookFault.TheVariants.{Memory}
 use Rattle.sok_book.specs.Books.{Page, Solution, page_at}
 use Rattle.sok_page.specs.declared.record.Best.{Best}
 use Rattle.sok_page.specs.declared.record.Record.{Record}
@@ -16,13 +16,12 @@ use Rattle.sok_page.specs.Kept.{IsKeptPage}
 use Rattle.sok_page.specs.Refused.{IsBroken}
 use Rattle.sok_page.specs.Texts.{SolutionText, best_text, solution_text}
 use Rattle.sok_page.proofs.Rows.{one_level}
-use Rattle.sok_row.specs.Faults.{IsOutside}
 use Rattle.sok_row.specs.Told.{IsRecordOf, Told}
 use Rattle.sok_store.specs.declared.entry.Entry.{Entry}
-use Rattle.sok_store.specs.Calls.{IsCaused, Keeps, MakesNone}
-use Rattle.sok_store.specs.Entries.{Finds, IsEntryOf}
+use Rattle.sok_store.specs.Entries.{IsEntryOf}
+use Rattle.sok_store.specs.Running.{RunsReading}
 use Rattle.sok_store.proofs.Calls.{held}
-use Rattle.sok_store.proofs.Found.{kept_at, some_and, some_of}
+use Rattle.sok_store.proofs.Found.{page_read, some_and}
 
 -- ---- of the record
 
@@ -51,31 +50,26 @@ module _ (id : ℕ) (page : Page) (kept : IsKeptPage page) (r : Record) (told : 
 
 -- ---- of the connection
 
-module _ (old new : State) (id : ℕ) (r : Record)
-    (found : Finds old new (λ book. IsSomeAnd (page_at book id) (λ page. IsRecordOf id page r))) where
-  pub entry_found : (result : Result Entry BookFault)
+module _ (old new : State) (id : ℕ) (r : Record) (read : RunsReading old new id (IsRecordOf id) (Ok r)) where
+  pub entry_reads : (result : Result Entry BookFault)
       → IfOk result (λ entry. (n : ℕ) (page : Page) → IsKeptPage page → IsRecordOf n page r → IsEntryOf page entry)
-      → IfOk result (λ entry. Finds old new (λ book. IsSomeAnd (page_at book id) (λ page. IsEntryOf page entry)))
-  entry_found (Ok entry) read = λ clean book holds.
-      let (some, shows) = found clean book holds in
-      let (page, at, told) = some_of (page_at book id) (λ page. IsRecordOf id page r) some in
-      (some_and (page_at book id) (λ page. IsEntryOf page entry) page at (read id page (kept_at book id page holds.0 at) told), shows)
-  entry_found (Err fault) read = tt
-
-  pub entry_unfound : (result : Result Entry BookFault)
       → IfErr result (λ fault. (n : ℕ) (page : Page) → IsKeptPage page → IsRecordOf n page r → fault ≡ Memory)
-      → IfErr result (λ fault. Keeps old new (λ book. IsOutside fault ⊎ ((fault ≡ NoLevel) × IsNone (page_at book id))))
-  entry_unfound (Ok entry) refused = tt
-  entry_unfound (Err fault) refused = λ clean book holds.
-      let (some, shows) = found clean book holds in
-      let (page, at, told) = some_of (page_at book id) (λ page. IsRecordOf id page r) some in
-      (inl (inl (refused id page (kept_at book id page holds.0 at) told)), held new book shows)
-
-  pub entry_caused : (result : Result Entry BookFault)
-      → IfErr result (λ fault. (n : ℕ) (page : Page) → IsKeptPage page → IsRecordOf n page r → fault ≡ Memory)
-      → IfErr result (IsCaused old new MakesNone)
-  entry_caused (Ok entry) refused = tt
-  entry_caused (Err fault) refused = λ database clean book holds.
-      let (some, shows) = found clean book holds in
-      let (page, at, told) = some_of (page_at book id) (λ page. IsRecordOf id page r) some in
-      absurd (let memory = refused id page (kept_at book id page holds.0 at) told in cc)
+      → RunsReading old new id IsEntryOf result
+  entry_reads (Ok entry) is refused = record {
+    found = λ clean book holds.
+        let (page, at, kept, told, shows) = page_read old new id (IsRecordOf id) r read clean book holds in
+        (some_and (page_at book id) (λ page. IsEntryOf page entry) page at (is id page kept told), shows);
+    refused = tt;
+    stop = read.stop;
+    cause = tt;
+  }
+  entry_reads (Err fault) is refused = record {
+    found = tt;
+    refused = λ clean book holds.
+        let (page, at, kept, told, shows) = page_read old new id (IsRecordOf id) r read clean book holds in
+        (inl (inl (refused id page kept told)), held new book shows);
+    stop = read.stop;
+    cause = λ database clean book holds.
+        let (page, at, kept, told, shows) = page_read old new id (IsRecordOf id) r read clean book holds in
+        absurd (let memory = refused id page kept told in cc);
+  }

@@ -7,5 +7,6 @@ pub mod Offered
 pub mod Opened
 pub mod Proved
 pub mod Refusing
+pub mod Running
 pub mod Setting
 pub mod Wide

@@ -1,5 +1,5 @@
 -- Why a solution is not kept, or a verdict is not proved, on the page with an id.
-use Rattle.std.proofs.Common.{◌≡◌, ◌⊎◌, inl, inr, sym, subst, ℕ, List, Option, Some, IsNone}
+use Rattle.std.proofs.Common.{◌≡◌, ℕ, List, Option, Some}
 use Rattle.sok_rules.specs.declared.cell.Dir.{Dir}
 use Rattle.sok_cert.specs.Claim.{Claim}
 use Rattle.sok_cert.specs.Claim.TheVariants as claim
@@ -8,7 +8,6 @@ use Rattle.sok_book.specs.declared.fault.BookFault.TheVariants.{Blocked, Databas
 use Rattle.sok_book.specs.Books.{Book, Page, page_at}
 use Rattle.sok_book.specs.Commands.{best_pushes}
 use Rattle.sok_book.specs.Refusals.{Differs, IsNoSolution, IsNotOffered, IsNotProved, IsUnproved}
-use Rattle.sok_row.specs.Faults.{IsOutside}
 use Rattle.sok_store.proofs.Found.{some_and}
 
 pub not_offered : (book : Book) (id : ℕ) (page : Page) (letters : List Dir) (fault : BookFault) → page_at book id ≡ Some page
@@ -36,15 +35,3 @@ pub not_proved : (book : Book) (id : ℕ) (page : Page) (bytes : List ℕ) (faul
     → IsUnproved page bytes fault → IsNotProved book id bytes fault
 not_proved book id page bytes NoLevel at is = absurd (no_level page bytes is)
 not_proved book id page bytes fault at is = some_and (page_at book id) (λ p. IsUnproved p bytes fault) page at is
-
--- ---- there is no page with the id
-
-pub none_offered : (book : Book) (id : ℕ) (letters : List Dir) (fault : BookFault) → IsOutside fault ⊎ ((fault ≡ NoLevel) × IsNone (page_at book id))
-    → IsOutside fault ⊎ IsNotOffered book id letters fault
-none_offered book id letters fault (inl outside) = inl outside
-none_offered book id letters fault (inr missing) = inr (subst (IsNotOffered book id letters) (sym missing.0) missing.1)
-
-pub none_proved : (book : Book) (id : ℕ) (bytes : List ℕ) (fault : BookFault) → IsOutside fault ⊎ ((fault ≡ NoLevel) × IsNone (page_at book id))
-    → IsOutside fault ⊎ IsNotProved book id bytes fault
-none_proved book id bytes fault (inl outside) = inl outside
-none_proved book id bytes fault (inr missing) = inr (subst (IsNotProved book id bytes) (sym missing.0) missing.1)

@@ -1,10 +1,10 @@
 -- Another page of the same level in the place of one.
-use Rattle.std.proofs.Common.{◌≡◌, ◌⊎◌, inl, inr, refl, sym, ap, subst, ◌∙◌, ℕ, zero, suc, ◌+◌, ◌-◌, List, [], ◌∷◌, Some, arith}
-use Rattle.std.proofs.Common.{option_map, slice_get}
+use Rattle.std.proofs.Common.{◌≡◌, inl, inr, refl, sym, ap, subst, ◌∙◌, ℕ, zero, suc, ◌+◌, ◌-◌, List, [], ◌∷◌, Some, arith}
+use Rattle.std.proofs.Common.{Ok, Err, option_map, slice_get}
 use Rattle.std.specs.List.{slice_set}
 use Rattle.std.proofs.lemmas.Option.{none-some, same_Some}
 use Rattle.sqlite.specs.declared.error.Error.{Error}
-use Rattle.sqlite.specs.State.{State, HasCleanDisk, Survives}
+use Rattle.sqlite.specs.State.{State, Survives}
 use Rattle.sqlite.proofs.StateLemmas.{survives_weaker}
 use Rattle.sok_book.specs.declared.record.Verdict.{Verdict}
 use Rattle.sok_book.specs.declared.fault.BookFault.{BookFault}
@@ -15,13 +15,16 @@ use Rattle.sok_page.specs.declared.record.Best.{Best}
 use Rattle.sok_page.specs.Kept.{IsKeptPage}
 use Rattle.sok_page.specs.Rows.{verdict_number}
 use Rattle.sok_page.specs.Texts.{SolutionText, best_text}
-use Rattle.sok_sql.specs.Causes.{AreApart, IsExcused, IsMemory, IsTooBig}
+use Rattle.sok_sql.specs.Causes.{AreApart, IsMemory, IsTooBig}
 use Rattle.sok_sql.specs.Connections.{Holds, Shows}
 use Rattle.sok_sql.specs.Leaves.{Leaf, HasLeaves, with_best, with_verdict}
+use Rattle.sok_sql.specs.Statements.{Updates, UpdatesLeaf}
+use Rattle.sok_row.specs.Faults.{IsOutside}
 use Rattle.sok_row.specs.Kept.{IsKeptBook, leaf_of, leaves_of}
 use Rattle.sok_row.proofs.Changes.{IsKeptPage-solved, solved}
 use Rattle.sok_row.proofs.Books.{IsKeptBook-set, leaves_of-set, slice_get-leaves_of}
-use Rattle.sok_store.specs.Entries.{HasBest, HasVerdict, IsCausedSetting, Sets, StopsSetting}
+use Rattle.sok_store.specs.Entries.{HasBest, HasVerdict, StopsSetting}
+use Rattle.sok_store.specs.Running.{RunsSetting}
 use Rattle.sok_store.proofs.Caused.{kept_apart, set_get}
 use Rattle.sok_store.proofs.Found.{kept_at, one_less}
 
@@ -42,9 +45,9 @@ best_changed best page after kept has =
     record { level = refl; kept = IsKeptPage-solved page has.solution kept has.kept; leaf = leaf } in
     subst (IsChanged change page) (sym has.after_is) changed
 
-pub verdict_changed : (verdict : Verdict) (page after : Page) → HasVerdict verdict page after
+pub verdict_changed : (verdict : Verdict) (page after : Page) → IsKeptPage page → HasVerdict verdict page after
     → IsChanged (with_verdict (verdict_number verdict)) page after
-verdict_changed verdict page after has = record {
+verdict_changed verdict page after kept has = record {
   level = ap (λ (p : Page). p.level) has.after_is;
   kept = has.kept;
   leaf = ap leaf_of has.after_is;
@@ -74,42 +77,46 @@ is_at (suc n) change book page after kept at changed =
       },
     )
 
--- what a statement makes of the leaf with an id
-abbrev pub SetsLeaf : (List Leaf → Type 0) → (List Leaf → Type 0) → ℕ → (Leaf → Leaf) → Type 0
-SetsLeaf Before After id change =
-    (leaves : List Leaf) (place : ℕ) (leaf : Leaf) → Before leaves → id ≡ 1 + place → slice_get leaves place ≡ Some leaf
-    → After (slice_set leaves place (change leaf))
-
 module _ (old new : State) (id : ℕ) (change : Leaf → Leaf) (Makes : Page → Page → Type 0)
     (makes : (page after : Page) → IsKeptPage page → Makes page after → IsChanged change page after) where
   place_of : (book : Book) (page after : Page) → IsKeptBook book → page_at book id ≡ Some page → Makes page after
       → (n : ℕ) × IsAt id change book page after n
   place_of book page after kept at made = is_at id change book page after kept at (makes page after (kept_at book id page kept at) made)
 
-  pub sets : (HasCleanDisk new → SetsLeaf (Holds old) (Holds new) id change) → Sets old new id Makes
-  sets done clean book page after holds at made =
-      let (n, place) = place_of book page after holds.0 at made in
-      (place.keeps, subst (Holds new) place.leaves (done clean (leaves_of book) n (leaf_of page) holds.1 place.id_is place.leaf_at))
-
-  pub set_caused : (error : Error) (fault : BookFault) → (IsMemory error → fault ≡ Memory)
-      → (HasCleanDisk new → (leaves : List Leaf) (place : ℕ) (leaf : Leaf) → Holds old leaves → id ≡ 1 + place → slice_get leaves place ≡ Some leaf
-      → AreApart (slice_set leaves place (change leaf)) → IsTooBig id (change leaf) ⊎ IsExcused old new error)
-      → IsCausedSetting old new id Makes fault
-  set_caused error fault memory why database clean book page after holds at made =
-      let (n, place) = place_of book page after holds.0 at made in
-      let leaf = change (leaf_of page) in
-      let apart = subst AreApart (sym place.leaves) (kept_apart (with_page book id after) place.keeps) in
-      elim (why clean (leaves_of book) n (leaf_of page) holds.1 place.id_is place.leaf_at apart) [
-        | inl big ↦
-            let there = subst (λ l. slice_get l n ≡ Some leaf) place.leaves (set_get (leaves_of book) n (leaf_of page) leaf place.leaf_at) in
-            inl (n, leaf, there, subst (λ i. IsTooBig i leaf) place.id_is big)
-        | inr excused ↦ elim excused [ inl none ↦ absurd (let e = memory none in cc) | inr cause ↦ inr cause ]
-      ]
-
-  pub stops_setting : Survives old new (λ db. SetsLeaf (Shows old) (HasLeaves db) id change) → StopsSetting old new id Makes
-  stops_setting one = survives_weaker old new _ _ (λ _ db done book page after shows at made.
+  page_stops : Survives old new (λ db. UpdatesLeaf (Shows old) (HasLeaves db) id change) → StopsSetting old new id Makes
+  page_stops one = survives_weaker old new _ _ (λ _ db done book page after shows at made.
       let (n, place) = place_of book page after shows.0 at made in
       (place.keeps, subst (HasLeaves db) place.leaves (done (leaves_of book) n (leaf_of page) shows.1 place.id_is place.leaf_at))) one
+
+  pub page_set : {X Y : Type 0} (x : X) (y : Y) → Updates old new id change (Ok y) → RunsSetting old new id Makes (Ok x)
+  page_set x y update = record {
+    stored = λ clean book page after holds at made.
+        let (n, place) = place_of book page after holds.0 at made in
+        (place.keeps, subst (Holds new) place.leaves (update.done clean (leaves_of book) n (leaf_of page) holds.1 place.id_is place.leaf_at));
+    kept = tt;
+    outside = tt;
+    stop = page_stops update.stop;
+    cause = tt;
+  }
+
+  pub page_unset : {X Y : Type 0} (error : Error) (fault : BookFault) → IsOutside fault → (IsMemory error → fault ≡ Memory)
+      → Updates {X = Y} old new id change (Err error) → RunsSetting {X = X} old new id Makes (Err fault)
+  page_unset error fault outside memory update = record {
+    stored = tt;
+    kept = λ clean book holds. (tt, (holds.0, update.kept clean (leaves_of book) holds.1));
+    outside = outside;
+    stop = page_stops update.stop;
+    cause = λ database clean book page after holds at made.
+        let (n, place) = place_of book page after holds.0 at made in
+        let leaf = change (leaf_of page) in
+        let apart = subst AreApart (sym place.leaves) (kept_apart (with_page book id after) place.keeps) in
+        elim (update.cause clean (leaves_of book) n (leaf_of page) holds.1 place.id_is place.leaf_at apart) [
+          | inl big ↦
+              let there = subst (λ l. slice_get l n ≡ Some leaf) place.leaves (set_get (leaves_of book) n (leaf_of page) leaf place.leaf_at) in
+              inl (n, leaf, there, subst (λ i. IsTooBig i leaf) place.id_is big)
+          | inr excused ↦ elim excused [ inl none ↦ absurd (let e = memory none in cc) | inr cause ↦ inr cause ]
+        ];
+  }
 
 -- ---- the same page
 

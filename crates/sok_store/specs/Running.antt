@@ -1,16 +1,40 @@
 -- What a command does with the book that a connection holds, to whichever of its ends it comes.
-use Rattle.std.specs.Prelude.{ℕ, ℤ, ◌⊎◌, List, Option, Result, IfErr, IfOk}
+use Rattle.std.specs.Prelude.{⊤, ℕ, ℤ, ◌≡◌, ◌⊎◌, List, Option, Result, IfErr, IfOk, IsNone, IsSomeAnd, OnErr, OnOk}
 use Rattle.sqlite.specs.State.{State}
 use Rattle.sok_rules.specs.declared.cell.Dir.{Dir}
 use Rattle.sok_rules.specs.Squares.{Rows}
 use Rattle.sok_cert.specs.Claim.{Claim}
 use Rattle.sok_book.specs.declared.fault.BookFault.{BookFault}
+use Rattle.sok_book.specs.declared.fault.BookFault.TheVariants.{NoLevel}
 use Rattle.sok_book.specs.declared.record.Offer.{Offer}
-use Rattle.sok_book.specs.Books.{Book}
+use Rattle.sok_book.specs.Books.{Book, Page, page_at}
 use Rattle.sok_book.specs.Commands.{Adds, Offers, Proves}
 use Rattle.sok_book.specs.Refusals.{IsNotAdded, IsNotOffered, IsNotProved}
 use Rattle.sok_row.specs.Faults.{IsOutside}
-use Rattle.sok_store.specs.Calls.{IsCaused, Keeps, Stops, Turns, id_number}
+use Rattle.sok_store.specs.Calls.{IsCaused, Keeps, MakesNone, Stops, Turns, id_number}
+use Rattle.sok_store.specs.Entries.{AddsPage, Finds, IsCausedAdding, IsCausedSetting, IsFull, Sets, StopsAdding, StopsSetting}
+
+-- the page with an id is read, and this is told of it
+pub record RunsReading {X : Type 0} (old new : State) (id : ℕ) (Is : Page → X → Type 0) (result : Result X BookFault) : Type 0 where
+  pub found : IfOk result (λ x. Finds old new (λ book. IsSomeAnd (page_at book id) (λ page. Is page x)))
+  pub refused : IfErr result (λ fault. Keeps old new (λ book. IsOutside fault ⊎ ((fault ≡ NoLevel) × IsNone (page_at book id))))
+  pub stop : Stops old new MakesNone
+  pub cause : IfErr result (IsCaused old new MakesNone)
+
+-- the page with an id is replaced
+pub record RunsSetting {X : Type 0} (old new : State) (id : ℕ) (Makes : Page → Page → Type 0) (result : Result X BookFault) : Type 0 where
+  pub stored : OnOk result (Sets old new id Makes)
+  pub kept : OnErr result (Keeps old new (λ _. ⊤))
+  pub outside : IfErr result IsOutside
+  pub stop : StopsSetting old new id Makes
+  pub cause : IfErr result (IsCausedSetting old new id Makes)
+
+-- a page is added, with this text and this title
+pub record RunsAddingPage (old new : State) (text : List ℕ) (title : Option (List ℕ)) (result : Result ℤ BookFault) : Type 0 where
+  pub added : IfOk result (AddsPage old new text title)
+  pub refused : IfErr result (λ fault. Keeps old new (λ book. IsOutside fault ⊎ IsFull book fault))
+  pub stop : StopsAdding old new text title
+  pub cause : IfErr result (IsCausedAdding old new text title)
 
 -- a command that makes a book with what it answers; of one that it refuses the book stays, and a stop in its middle makes what it may make
 pub record Runs {X : Type 0} (old new : State) (Makes : X → Book → Book → Type 0) (MayMake : Book → Book → Type 0)

@@ -1,14 +1,13 @@
 //! A level is added.
 
-ghost use Rattle.std.specs.Prelude.{◌≡◌, ◌≢◌, ◌⊎◌, IfErr, IfOk, OnOk, option_map};
+ghost use Rattle.std.specs.Prelude.{◌≡◌, ◌≢◌, ◌⊎◌, IfErr, OnOk, option_map};
 ghost use Rattle.sqlite.specs.Held.{state};
 ghost use Rattle.sok_board.specs.Refusals.{IsAcceptable};
 ghost use Rattle.sok_book.specs.Books.{Book};
 ghost use Rattle.sok_book.specs.Refusals.{IsNotAdded};
 ghost use Rattle.sok_row.specs.Faults.{IsOutside};
-ghost use Rattle.sok_store.specs.Calls.{Keeps, title_kept};
-ghost use Rattle.sok_store.specs.Entries.{AddsPage, IsCausedAdding, IsFull, StopsAdding};
-ghost use Rattle.sok_store.specs.Running.{RunsAdding};
+ghost use Rattle.sok_store.specs.Calls.{title_kept};
+ghost use Rattle.sok_store.specs.Running.{RunsAdding, RunsAddingPage};
 
 use sok_board::board::Board;
 use sok_book::fault::BookFault;
@@ -83,15 +82,8 @@ fn add_new<S: Alter>(
     text: &str,
     title: Option<&[u8]>,
 ) -> Result<i64, BookFault>
-    ensures added { IfOk result (AddsPage (state S.Store conn.old) (state S.Store conn.new)
-        text.now (option_map (λ bytes. bytes.now) title.entry)) }
-    ensures refused { IfErr result (λ fault.
-        Keeps (state S.Store conn.old) (state S.Store conn.new)
-        (λ book. IsOutside fault ⊎ IsFull book fault)) }
-    ensures stop { StopsAdding (state S.Store conn.old) (state S.Store conn.new)
-        text.now (option_map (λ bytes. bytes.now) title.entry) }
-    ensures cause { IfErr result (IsCausedAdding (state S.Store conn.old) (state S.Store conn.new)
-        text.now (option_map (λ bytes. bytes.now) title.entry)) }
+    ensures { RunsAddingPage (state S.Store conn.old) (state S.Store conn.new)
+        text.now (option_map (λ bytes. bytes.now) title.entry) result }
 {
     let count = match count(conn) {
         Ok(count) => count,

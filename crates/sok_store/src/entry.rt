@@ -1,13 +1,12 @@
 //! What a command has to know of a level of the book.
 
-ghost use Rattle.std.specs.Prelude.{◌≡◌, ◌⊎◌, ◌<◌, ℕ, IfErr, IfOk, IsNone, IsSomeAnd};
+ghost use Rattle.std.specs.Prelude.{◌≡◌, ◌<◌, ℕ, IfErr, IfOk};
 ghost use Rattle.sqlite.specs.Held.{state};
-ghost use Rattle.sok_book.specs.Books.{Page, page_at};
+ghost use Rattle.sok_book.specs.Books.{Page};
 ghost use Rattle.sok_page.specs.Kept.{IsKeptPage};
-ghost use Rattle.sok_row.specs.Faults.{IsOutside};
 ghost use Rattle.sok_row.specs.Told.{IsRecordOf};
-ghost use Rattle.sok_store.specs.Calls.{IsCaused, Keeps, MakesNone, Stops};
-ghost use Rattle.sok_store.specs.Entries.{Finds, IsEntryOf};
+ghost use Rattle.sok_store.specs.Entries.{IsEntryOf};
+ghost use Rattle.sok_store.specs.Running.{RunsReading};
 
 use crate::reading::record_of;
 use sok_book::fault::BookFault;
@@ -31,14 +30,7 @@ pub(crate) fn entry_at<S: Alter>(
     id: u32,
 ) -> Result<Entry, BookFault>
     requires { 0 < id }
-    ensures found { IfOk result (λ entry. Finds (state S.Store conn.old) (state S.Store conn.new)
-        (λ book. IsSomeAnd (page_at book id) (λ page. IsEntryOf page entry))) }
-    ensures refused { IfErr result (λ fault.
-        Keeps (state S.Store conn.old) (state S.Store conn.new) (λ book. IsOutside fault
-        ⊎ ((fault ≡ BookFault.NoLevel) × IsNone (page_at book id)))) }
-    ensures stop { Stops (state S.Store conn.old) (state S.Store conn.new) MakesNone }
-    ensures cause { IfErr result
-        (IsCaused (state S.Store conn.old) (state S.Store conn.new) MakesNone) }
+    ensures { RunsReading (state S.Store conn.old) (state S.Store conn.new) id IsEntryOf result }
 {
     match record_of(conn, alloc, id) {
         Ok(kept) => entry_of(alloc, &kept),

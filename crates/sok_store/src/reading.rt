@@ -1,14 +1,12 @@
 //! One level of the book, as its row stands in the table.
 
-ghost use Rattle.std.specs.Prelude.{◌≡◌, ◌+◌, ◌<◌, ◌≤◌, ◌⊎◌, IfErr, IfOk, IsNone, IsSomeAnd};
-ghost use Rattle.std.specs.Prelude.{MatchOption, length};
+ghost use Rattle.std.specs.Prelude.{◌≡◌, ◌<◌, ◌≤◌, IsNone, MatchOption, length};
 ghost use Rattle.sqlite.specs.Held.{state};
 ghost use Rattle.sok_book.specs.Books.{Book, page_at};
 ghost use Rattle.sok_book.specs.Commands.{level_limit};
-ghost use Rattle.sok_row.specs.Faults.{IsOutside};
 ghost use Rattle.sok_row.specs.Told.{IsRecordOf};
-ghost use Rattle.sok_store.specs.Calls.{IsCaused, Keeps, MakesNone, Stops, id_number};
-ghost use Rattle.sok_store.specs.Entries.{Finds};
+ghost use Rattle.sok_store.specs.Calls.{id_number};
+ghost use Rattle.sok_store.specs.Running.{RunsReading};
 
 use sok_book::fault::BookFault;
 use sok_page::record::Record;
@@ -24,15 +22,8 @@ pub(crate) fn record_at<S: Alter>(
     alloc: Global,
     id: i64,
 ) -> Result<Record, BookFault>
-    ensures found { IfOk result (λ kept. Keeps (state S.Store conn.old) (state S.Store conn.new)
-        (λ book. IsSomeAnd (page_at book (id_number id))
-        (λ page. IsRecordOf (id_number id) page kept))) }
-    ensures refused { IfErr result (λ fault.
-        Keeps (state S.Store conn.old) (state S.Store conn.new) (λ book. IsOutside fault
-        ⊎ ((fault ≡ BookFault.NoLevel) × IsNone (page_at book (id_number id))))) }
-    ensures stop { Stops (state S.Store conn.old) (state S.Store conn.new) MakesNone }
-    ensures cause { IfErr result
-        (IsCaused (state S.Store conn.old) (state S.Store conn.new) MakesNone) }
+    ensures { RunsReading (state S.Store conn.old) (state S.Store conn.new)
+        (id_number id) (IsRecordOf (id_number id)) result }
 {
     match place_of(id) {
         Some(place) => record_of(conn, alloc, place),
@@ -59,14 +50,8 @@ pub(crate) fn record_of<S: Alter>(
     id: u32,
 ) -> Result<Record, BookFault>
     requires { 0 < id }
-    ensures found { IfOk result (λ kept. Finds (state S.Store conn.old) (state S.Store conn.new)
-        (λ book. IsSomeAnd (page_at book id) (λ page. IsRecordOf id page kept))) }
-    ensures refused { IfErr result (λ fault.
-        Keeps (state S.Store conn.old) (state S.Store conn.new) (λ book. IsOutside fault
-        ⊎ ((fault ≡ BookFault.NoLevel) × IsNone (page_at book id)))) }
-    ensures stop { Stops (state S.Store conn.old) (state S.Store conn.new) MakesNone }
-    ensures cause { IfErr result
-        (IsCaused (state S.Store conn.old) (state S.Store conn.new) MakesNone) }
+    ensures { RunsReading (state S.Store conn.old) (state S.Store conn.new)
+        id (IsRecordOf id) result }
 {
     match row_at(conn, id) {
         Ok(Some(row)) => record_in(alloc, id, &row),

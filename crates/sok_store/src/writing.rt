@@ -1,12 +1,8 @@
 //! What a command writes of a level of the book.
 
-ghost use Rattle.std.specs.Prelude.{◌≡◌, IfErr, OnErr, OnOk};
 ghost use Rattle.sqlite.specs.Held.{state};
-ghost use Rattle.sok_book.specs.Books.{Book};
-ghost use Rattle.sok_row.specs.Faults.{IsOutside};
-ghost use Rattle.sok_store.specs.Calls.{Keeps};
-ghost use Rattle.sok_store.specs.Entries.{HasBest, HasVerdict, IsCausedSetting, Sets, StopsSetting};
-ghost use Rattle.std.specs.Prelude.{⊤};
+ghost use Rattle.sok_store.specs.Entries.{HasBest, HasVerdict};
+ghost use Rattle.sok_store.specs.Running.{RunsSetting};
 
 use sok_book::fault::BookFault;
 use sok_book::record::Verdict;
@@ -22,15 +18,8 @@ pub(crate) fn store_best<S: Alter>(
     id: u32,
     best: &Best,
 ) -> Result<(), BookFault>
-    ensures stored { OnOk result
-        (Sets (state S.Store conn.old) (state S.Store conn.new) id (HasBest best.now)) }
-    ensures kept { OnErr result
-        (Keeps (state S.Store conn.old) (state S.Store conn.new) (λ _. ⊤)) }
-    ensures outside { IfErr result IsOutside }
-    ensures stop { StopsSetting (state S.Store conn.old) (state S.Store conn.new) id
-        (HasBest best.now) }
-    ensures cause { IfErr result (IsCausedSetting (state S.Store conn.old) (state S.Store conn.new)
-        id (HasBest best.now)) }
+    ensures { RunsSetting (state S.Store conn.old) (state S.Store conn.new)
+        id (HasBest best.now) result }
 {
     match set_best(conn, id, best.lurd.as_str(), best.pushes, best.moves) {
         Ok(()) => Ok(()),
@@ -44,15 +33,8 @@ pub(crate) fn store_verdict<S: Alter>(
     id: u32,
     verdict: Verdict,
 ) -> Result<(), BookFault>
-    ensures stored { OnOk result
-        (Sets (state S.Store conn.old) (state S.Store conn.new) id (HasVerdict verdict)) }
-    ensures kept { OnErr result
-        (Keeps (state S.Store conn.old) (state S.Store conn.new) (λ _. ⊤)) }
-    ensures outside { IfErr result IsOutside }
-    ensures stop { StopsSetting (state S.Store conn.old) (state S.Store conn.new) id
-        (HasVerdict verdict) }
-    ensures cause { IfErr result (IsCausedSetting (state S.Store conn.old) (state S.Store conn.new)
-        id (HasVerdict verdict)) }
+    ensures { RunsSetting (state S.Store conn.old) (state S.Store conn.new)
+        id (HasVerdict verdict) result }
 {
     match set_verdict(conn, id, verdict_number(verdict)) {
         Ok(()) => Ok(()),

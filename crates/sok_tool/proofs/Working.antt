@@ -1,24 +1,29 @@
 -- How a command on a book ends.
-use Rattle.std.proofs.Common.{ℕ, ◌≡◌, ◌⊎◌, inl, inr, List, Option, Err, ap, refl}
+use Rattle.std.proofs.Common.{ℕ, ◌≡◌, ◌∙◌, List, Option, Result, Err, IsErrAnd, ap, refl, subst}
 use Rattle.std.proofs.KnownBytes.{Keeps-refl}
-use Rattle.sqlite.specs.State.{State}
+use Rattle.std.proofs.lemmas.Result.{err_from_is_err_and}
+use Rattle.sqlite.specs.State.{State, HasCleanDisk}
 use Rattle.sok_book.specs.Books.{Book}
 use Rattle.sok_engine.specs.declared.fault.ToolFault.{ToolFault}
-use Rattle.sok_engine.specs.declared.fault.ToolFault.TheVariants as tool
+use Rattle.sok_engine.specs.Certified.{Bytes}
 use Rattle.sok_store.specs.Calls.{Keeps, Turns}
-use Rattle.sok_tool.specs.Databases.{IsNoBook, IsUnready, WorksOn, bookless, unready}
+use Rattle.sok_tool.specs.Databases.{IsWithoutBook, OpensFound, WorksOn, refused, worked}
 
--- the database can't be opened
-pub unopened : (fault : ToolFault) → (fault ≡ tool.Memory) ⊎ (fault ≡ tool.Database) → IsUnready (Err fault)
-unopened fault (inl memory) = inl (ap Err memory)
-unopened fault (inr database) = inr (inl (ap Err database))
+module _ {C : Type 0} (shows : C → State) (keeps leaves : C → Type 0) where
+  -- where there is no book nothing is written
+  pub without_book : (Makes : Book → Book → Type 0) (held : Option (List ℕ)) (fault : ToolFault) (result : Result ℕ ToolFault)
+      → IsErrAnd result (λ told. told ≡ fault) → IsWithoutBook shows keeps leaves fault
+      → WorksOn shows keeps leaves Makes (record { old = held; new = held }) result
+  without_book Makes held fault result is none =
+      let (told, errs, same) = err_from_is_err_and result is in
+      refused fault none (errs ∙ ap Err same) (Keeps-refl held)
 
--- what was found is no book
-pub no_book : {C : Type 0} (shows : C → State) (keeps leaves : C → Type 0) (Makes : Book → Book → Type 0) (found : C) (held : Option (List ℕ))
-    (told : ToolFault) → keeps found → (told ≡ tool.Database) ⊎ ((left : C) × leaves left × IsNoBook (shows found) (shows left) told)
-    → WorksOn shows keeps leaves Makes (record { old = held; new = held }) (Err told)
-no_book shows keeps leaves Makes found held told kept (inl refused) = unready (inr (inl (ap Err refused))) (Keeps-refl held)
-no_book shows keeps leaves Makes found held told kept (inr (left, given, none)) = bookless found left told kept given none refl (Keeps-refl held)
+  -- and where there is one, its connection is given back
+  pub works : (Makes : Book → Book → Type 0) (out : Bytes) (result : Result ℕ ToolFault) (opened left given : C) → OpensFound shows keeps opened
+      → given ≡ left → leaves given → (HasCleanDisk (shows left) → HasCleanDisk (shows opened)) → Turns (shows opened) (shows left) Makes
+      → WorksOn shows keeps leaves Makes out result
+  works Makes out result opened left given (found, kept, opens) same back clean turns =
+      worked found opened left kept (subst leaves same back) (λ is. opens (clean is)) turns
 
 -- what is made of a book is also something else
 pub Turns-weaker : (old new : State) (P Q : Book → Book → Type 0) → ((book after : Book) → P book after → Q book after) → Turns old new P → Turns old new Q

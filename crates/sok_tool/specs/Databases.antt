@@ -22,21 +22,24 @@ pub record Databases : Type 1 where
 abbrev pub OfOpened : (Option (List ℕ) → Type 0) → (Option (List ℕ) → Type 0) → Type 0
 OfOpened reads P = (known : Option (List ℕ)) × reads known × P known
 
--- memory or the database was refused, or a file can't be opened
-abbrev pub IsUnready : Result ℕ ToolFault → Type 0
-IsUnready result = (result ≡ Err tool.Memory) ⊎ (result ≡ Err tool.Database) ⊎ (result ≡ Err tool.ReadFailed)
-
 -- What was found is not opened as a book, and this is told. A database that was empty, or had the table of levels alone, is left as it was.
 abbrev pub IsNoBook : State → State → ToolFault → Type 0
 IsNoBook found left told =
     (cause : BookFault) × (told ≡ of_book cause) × IsUnopened found left cause × (HasCleanDisk left → IsKnown found → IsSame found left)
 
--- How a command on a book ends, over a connection that may be opened and one that was given back. It does not begin where it is not ready, nor where what
--- was found is no book: then nothing is written. Else a book was opened, that of exactly the rows that were found, and the command makes so of it.
+-- A command on a book has none to work on, over a connection that may be opened and one that was given back: memory or the database was refused, or a file
+-- can't be opened; or what was found is no book.
+pub data IsWithoutBook {C : Type 0} (shows : C → State) (keeps leaves : C → Type 0) (told : ToolFault) : Type 0 where
+  unready : (told ≡ tool.Memory) ⊎ (told ≡ tool.Database) ⊎ (told ≡ tool.ReadFailed) → IsWithoutBook shows keeps leaves told
+  bookless : (found left : C) → keeps found → leaves left → IsNoBook (shows found) (shows left) told → IsWithoutBook shows keeps leaves told
+
+-- a book was opened, that of exactly the rows that were found in what may be opened
+abbrev pub OpensFound : {C : Type 0} → (C → State) → (C → Type 0) → C → Type 0
+OpensFound {C} shows keeps opened = (found : C) × keeps found × (HasCleanDisk (shows opened) → Opens (shows found) (shows opened))
+
+-- How a command on a book ends. Where it has none nothing is written. Else a book was opened, and the command makes so of it.
 pub data WorksOn {C : Type 0} (shows : C → State) (keeps leaves : C → Type 0) (Makes : Book → Book → Type 0) (out : Bytes) (result : Result ℕ ToolFault)
     : Type 0 where
-  unready : IsUnready result → Stays out → WorksOn shows keeps leaves Makes out result
-  bookless : (found left : C) (told : ToolFault) → keeps found → leaves left → IsNoBook (shows found) (shows left) told → result ≡ Err told → Stays out
-      → WorksOn shows keeps leaves Makes out result
+  refused : (told : ToolFault) → IsWithoutBook shows keeps leaves told → result ≡ Err told → Stays out → WorksOn shows keeps leaves Makes out result
   worked : (found opened left : C) → keeps found → leaves left → (HasCleanDisk (shows left) → Opens (shows found) (shows opened))
       → Turns (shows opened) (shows left) Makes → WorksOn shows keeps leaves Makes out result

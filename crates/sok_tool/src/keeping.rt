@@ -1,17 +1,14 @@
 //! Each command on a book. The database is opened first, then the file that the command names, and
 //! then the book.
 
-ghost use Rattle.std.specs.Prelude.{◌≡◌, ◌⊎◌, IfErr, IfOk};
-ghost use Rattle.sqlite.specs.Held.{Held, state};
-ghost use Rattle.sqlite.specs.State.{HasCleanDisk};
+ghost use Rattle.std.specs.Prelude.{◌≡◌, IfErr, IfOk};
+ghost use Rattle.sqlite.specs.Held.{state};
 ghost use Rattle.sok_engine.specs.Written.{Writes};
-ghost use Rattle.sok_engine.specs.declared.fault.ToolFault.TheVariants as tool;
 ghost use Rattle.sok_keep.specs.Adds.{WritesAdding};
 ghost use Rattle.sok_keep.specs.Offers.{WritesOffer};
 ghost use Rattle.sok_keep.specs.Proves.{WritesProof};
 ghost use Rattle.sok_keep.specs.Shows.{IsExport, IsShow};
-ghost use Rattle.sok_store.specs.Opening.{Opens};
-ghost use Rattle.sok_tool.specs.Databases.{IsNoBook, OfOpened, WorksOn};
+ghost use Rattle.sok_tool.specs.Databases.{IsWithoutBook, OfOpened, OpensFound, WorksOn};
 
 use crate::databases::Databases;
 use sok_engine::fault::ToolFault;
@@ -37,9 +34,7 @@ pub(crate) fn add<
         WritesAdding book known after (W.contents out.old) (W.contents out.new) result))
         (record { old = W.contents out.old; new = W.contents out.new }) result }
 {
-    let connection = rt.database(db)?;
-    let mut input = open(rt, path)?;
-    let mut book = opened(rt, db, connection)?;
+    let (mut book, mut input) = book_and_file(rt, db, path)?;
     let told = add_bytes(rt.alloc(), &mut book, &mut input, out);
     rt.close(db, book.into_connection());
     told
@@ -58,8 +53,7 @@ pub(crate) fn offer<S: Alter + Drop, F: Databases<Opened = Connection<S>> + Allo
         WritesOffer book id text.now after (W.contents out.old) (W.contents out.new) result)
         (record { old = W.contents out.old; new = W.contents out.new }) result }
 {
-    let connection = rt.database(db)?;
-    let mut book = opened(rt, db, connection)?;
+    let mut book = book_of(rt, db)?;
     let told = offer_bytes(rt.alloc(), &mut book, id, text.as_bytes(), out);
     rt.close(db, book.into_connection());
     told
@@ -76,9 +70,7 @@ pub(crate) fn prove<
         WritesProof book id known after (W.contents out.old) (W.contents out.new) result))
         (record { old = W.contents out.old; new = W.contents out.new }) result }
 {
-    let connection = rt.database(db)?;
-    let mut cert_input = open(rt, path)?;
-    let mut book = opened(rt, db, connection)?;
+    let (mut book, mut cert_input) = book_and_file(rt, db, path)?;
     let told = prove_bytes(rt.alloc(), &mut book, id, &mut cert_input, out);
     rt.close(db, book.into_connection());
     told
@@ -96,8 +88,7 @@ pub(crate) fn show<S: Alter + Drop, F: Databases<Opened = Connection<S>> + Alloc
         × Writes (IsShow book id) (W.contents out.old) (W.contents out.new) result)
         (record { old = W.contents out.old; new = W.contents out.new }) result }
 {
-    let connection = rt.database(db)?;
-    let mut book = opened(rt, db, connection)?;
+    let mut book = book_of(rt, db)?;
     let told = show_bytes(rt.alloc(), &mut book, id, out);
     rt.close(db, book.into_connection());
     told
@@ -114,11 +105,39 @@ pub(crate) fn export<S: Alter + Drop, F: Databases<Opened = Connection<S>> + All
         × Writes (IsExport book) (W.contents out.old) (W.contents out.new) result)
         (record { old = W.contents out.old; new = W.contents out.new }) result }
 {
-    let connection = rt.database(db)?;
-    let mut book = opened(rt, db, connection)?;
+    let mut book = book_of(rt, db)?;
     let told = export_bytes(rt.alloc(), &mut book, out);
     rt.close(db, book.into_connection());
     told
+}
+
+/// Opens the database at a path as a book.
+fn book_of<S: Alter + Drop, F: Databases<Opened = Connection<S>> + AllocGlobal>(
+    rt: &F,
+    db: &str,
+) -> Result<Book<S>, ToolFault>
+    ensures opens { IfOk result (OpensFound (state S.Store) (F.keeps rt.now db.now)) }
+    ensures refused { IfErr result
+        (IsWithoutBook (state S.Store) (F.keeps rt.now db.now) (F.leaves rt.now db.now)) }
+{
+    let connection = rt.database(db)?;
+    opened(rt, db, connection)
+}
+
+/// Opens the database at a path, then the file at another one, and then the book.
+fn book_and_file<S: Alter + Drop, F: Folder + Databases<Opened = Connection<S>> + AllocGlobal>(
+    rt: &F,
+    db: &str,
+    path: &str,
+) -> Result<(Book<S>, F::Input), ToolFault>
+    ensures opens { IfOk result (λ both. OpensFound (state S.Store) (F.keeps rt.now db.now) both.0) }
+    ensures reads { IfOk result (λ both. F.reads rt.now path.now (F.Input.remaining both.1)) }
+    ensures refused { IfErr result
+        (IsWithoutBook (state S.Store) (F.keeps rt.now db.now) (F.leaves rt.now db.now)) }
+{
+    let connection = rt.database(db)?;
+    let input = open(rt, path)?;
+    Ok((opened(rt, db, connection)?, input))
 }
 
 /// Opens a database as a book. Where that is refused the connection is given back. A connection in
@@ -128,11 +147,10 @@ fn opened<S: Alter + Drop, F: Databases<Opened = Connection<S>> + AllocGlobal>(
     db: &str,
     connection: Connection<S>,
 ) -> Result<Book<S>, ToolFault>
-    ensures opens { IfOk result (λ book. HasCleanDisk (state S.Store book)
-        → Opens (state S.Store connection) (state S.Store book)) }
-    ensures refused { IfErr result (λ told. (told ≡ tool.Database)
-        ⊎ ((left : Held S) × F.leaves rt.now db.now left
-        × IsNoBook (state S.Store connection) (state S.Store left) told)) }
+    requires { F.keeps rt.now db.now connection }
+    ensures opens { IfOk result (OpensFound (state S.Store) (F.keeps rt.now db.now)) }
+    ensures refused { IfErr result
+        (IsWithoutBook (state S.Store) (F.keeps rt.now db.now) (F.leaves rt.now db.now)) }
 {
     if !connection.is_autocommit() {
         return Err(ToolFault::Database);

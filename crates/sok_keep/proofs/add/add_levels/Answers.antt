@@ -1,7 +1,6 @@
-use Rattle.std.proofs.Common.{◌≡◌, ◌++◌, ◌<◌, arith, length, refl, string_bytes, subst, sym}
+use Rattle.std.proofs.Common.{◌≡◌, arith, length, string_bytes, subst, sym}
 use Rattle.std.proofs.lemmas.Result.{err_from_is_err_and}
 use Rattle.sqlite.specs.Held.{state}
-use Rattle.sqlite.specs.State.{HasCleanDisk}
 use Rattle.sok_store.specs.Calls.{Turns}
 use Rattle.sok_keep.specs.Adds.{AddsFirst}
 use Rattle.sok_keep.proofs.Adding.{all_added, first_more, first_none, first_stopped, first_unsaid, grown}
@@ -16,44 +15,26 @@ loop-index-init g c =
 pub loop-index-preserved : goal.loop-index-preserved
 loop-index-preserved g c =
     let here = c.loop-index in
-    let blocks = c.args.collection.now in
-    let mid = state g.S.Store here.book in
-    let new = state g.S.Store c.add_level.new.book in
-    let early : HasCleanDisk new → HasCleanDisk mid = λ clean. omega (arith, clean, c.add_level.ensures.clean) in
-    let within : here.index < length blocks = omega arith in
     let line = string_bytes c.in_ok-line.line in
     let whole = c.extend_from_slice.new.self.items in
     let longer = grown whole here.lines.items c.as_bytes.result.now line c.in_ok-extend_from_slice.ensures.items c.as_bytes.ensures.value in
-    let first = first_more (state g.S.Store c.args.book.now) mid new blocks here.index here.lines.items line whole early within
-    here.invariant.0 c.in_ok-line.ensures.leaves longer in
+    let first = first_more (state g.S.Store c.args.book.now) (state g.S.Store here.book) (state g.S.Store c.add_level.new.book) c.args.collection.now here.index
+    here.lines.items c.add_level.ensures.clean (omega arith) here.invariant.0 line whole c.in_ok-line.ensures.leaves longer in
     (first, omega (arith, here.invariant.1, c.add_level.ensures.clean))
 
 pub returns-in_err-line-clause-leaves : goal.returns-in_err-line-clause-leaves
 returns-in_err-line-clause-leaves g c =
     let p = err_from_is_err_and c.from_residual.result c.from_residual.ensures.1 in
     let here = c.loop-index in
-    let blocks = c.args.collection.now in
-    let mid = state g.S.Store here.book in
-    let new = state g.S.Store c.add_level.new.book in
-    let early : HasCleanDisk new → HasCleanDisk mid = λ clean. omega (arith, clean, c.add_level.ensures.clean) in
-    let within : here.index < length blocks = omega arith in
-    rw (p.1, p.2) (first_stopped (state g.S.Store c.args.book.now) mid new blocks here.index here.lines.items c.in_err-line.field-0.0 early within
-    here.invariant.0 c.in_err-line.ensures.leaves)
+    rw (p.1, p.2) (first_stopped (state g.S.Store c.args.book.now) (state g.S.Store here.book) (state g.S.Store c.add_level.new.book) c.args.collection.now
+    here.index here.lines.items c.add_level.ensures.clean (omega arith) here.invariant.0 c.in_err-line.field-0.0 c.in_err-line.ensures.leaves)
 
 pub returns-in_err-extend_from_slice-clause-leaves : goal.returns-in_err-extend_from_slice-clause-leaves
 returns-in_err-extend_from_slice-clause-leaves g c =
     let p = err_from_is_err_and c.from_residual-in_err-extend_from_slice.result c.from_residual-in_err-extend_from_slice.ensures.1 in
     let here = c.loop-index in
-    let blocks = c.args.collection.now in
-    let mid = state g.S.Store here.book in
-    let new = state g.S.Store c.add_level.new.book in
-    let early : HasCleanDisk new → HasCleanDisk mid = λ clean. omega (arith, clean, c.add_level.ensures.clean) in
-    let within : here.index < length blocks = omega arith in
-    let line = string_bytes c.in_ok-line.line in
-    let text = here.lines.items ++ line in
-    let more = first_more (state g.S.Store c.args.book.now) mid new blocks here.index here.lines.items line text early within here.invariant.0
-    c.in_ok-line.ensures.leaves refl in
-    rw p.1 (first_unsaid (state g.S.Store c.args.book.now) new blocks _ text _ p.2 more)
+    rw p.1 (first_unsaid (state g.S.Store c.args.book.now) (state g.S.Store here.book) (state g.S.Store c.add_level.new.book) c.args.collection.now
+    here.index here.lines.items c.add_level.ensures.clean (omega arith) here.invariant.0 (string_bytes c.in_ok-line.line) _ p.2 c.in_ok-line.ensures.leaves)
 
 pub returns-clause-leaves : goal.returns-clause-leaves
 returns-clause-leaves g c =

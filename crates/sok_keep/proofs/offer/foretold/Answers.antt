@@ -1,33 +1,24 @@
-use Rattle.std.proofs.Common.{Err, Ok}
+use Rattle.std.proofs.Common.{w64}
+use Rattle.std.proofs.lemmas.Int.{to_z-of_z}
+use Rattle.std.proofs.lemmas.Result.{err_from_is_err_and}
 use Rattle.sqlite.specs.Held.{state}
-use Rattle.sok_store.specs.Calls.{Keeps, id_number}
-use Rattle.sok_keep.specs.Offers.{GivesForecast}
-use Rattle.sok_keep.proofs.Ids.{of_passed, passed}
+use Rattle.sok_store.specs.Calls.{id_number}
 use Rattle.sok_keep.proofs.Offering.{found_letters, refused_solution, unfound_letters}
 use Rattle.sok_keep.proofs.offer.foretold.Goals as goal
 
-pub returns-in-Err-clause-gives : goal.returns-in-Err-clause-gives
-returns-in-Err-clause-gives g c =
-    let old = state g.S.Store c.args.book.now in
-    let new = state g.S.Store c.get.new.self in
-    let letters = c.args.letters.now in
-    of_passed (λ id. Keeps old new (λ pages. GivesForecast pages (id_number id) letters (Err c.tool_fault.result))) c.args.id c.ranges.id
-    (unfound_letters old new (id_number (passed c.args.id)) letters c.in-Err.fault c.tool_fault.result c.tool_fault.ensures c.in-Err.ensures.refused)
+pub returns-in_err-kept-clause-gives : goal.returns-in_err-kept-clause-gives
+returns-in_err-kept-clause-gives g c =
+    let p = err_from_is_err_and c.from_residual.result c.from_residual.ensures.1 in
+    rw (p.1, p.2) (unfound_letters (state g.S.Store c.args.book.now) (state g.S.Store c.record_at.new.book) (id_number c.args.id) c.args.letters.now
+    c.in_err-kept.field-0.0 (rw (to_z-of_z w64 c.args.id c.ranges.id) at c.in_err-kept.ensures.unfound))
 
-pub returns-in-Ok-weighed-clause-gives : goal.returns-in-Ok-weighed-clause-gives
-returns-in-Ok-weighed-clause-gives g c =
-    let old = state g.S.Store c.args.book.now in
-    let new = state g.S.Store c.get.new.self in
-    let letters = c.args.letters.now in
-    of_passed (λ id. Keeps old new (λ pages. GivesForecast pages (id_number id) letters (Ok c.in-Ok-weighed.answer))) c.args.id c.ranges.id
-    (found_letters old new (id_number (passed c.args.id)) letters c.in-Ok.kept c.in-Ok-weighed.answer c.in-Ok.ensures.found c.in-Ok-weighed.ensures)
+pub returns-in-Ok-clause-gives : goal.returns-in-Ok-clause-gives
+returns-in-Ok-clause-gives g c =
+    found_letters (state g.S.Store c.args.book.now) (state g.S.Store c.record_at.new.book) (id_number c.args.id) c.args.letters.now c.in_ok-kept.kept c.in-Ok.answer
+    (rw (to_z-of_z w64 c.args.id c.ranges.id) at c.in_ok-kept.ensures.found) c.in-Ok.ensures
 
 pub returns-clause-gives : goal.returns-clause-gives
 returns-clause-gives g c =
-    let old = state g.S.Store c.args.book.now in
-    let new = state g.S.Store c.get.new.self in
-    let letters = c.args.letters.now in
-    let told = c.tool_fault-in-Err-weighed in
-    of_passed (λ id. Keeps old new (λ pages. GivesForecast pages (id_number id) letters (Err told.result))) c.args.id c.ranges.id
-    (refused_solution old new (id_number (passed c.args.id)) letters c.in-Ok.kept c.in-Err-weighed.fault told.result told.ensures c.in-Ok.ensures.found
-    c.in-Err-weighed.ensures)
+    let told = c.tool_fault in
+    refused_solution (state g.S.Store c.args.book.now) (state g.S.Store c.record_at.new.book) (id_number c.args.id) c.args.letters.now c.in_ok-kept.kept
+    c.in-Err.fault told.result told.ensures (rw (to_z-of_z w64 c.args.id c.ranges.id) at c.in_ok-kept.ensures.found) c.in-Err.ensures

@@ -1,14 +1,12 @@
+use Rattle.std.proofs.Common.{w64}
+use Rattle.std.proofs.lemmas.Int.{to_z-of_z}
+use Rattle.std.proofs.lemmas.Result.{err_from_is_err_and}
 use Rattle.sqlite.specs.Held.{state}
-use Rattle.sok_engine.specs.Written.{IsFaultOf}
-use Rattle.sok_store.specs.Calls.{Keeps}
-use Rattle.sok_keep.specs.Shows.{IsShow}
-use Rattle.sok_keep.proofs.Ids.{of_passed, passed}
 use Rattle.sok_keep.proofs.Showing.{page_unshown}
 use Rattle.sok_keep.proofs.show.shown.Goals as goal
 
-pub returns-in-Err-clause-gives : goal.returns-in-Err-clause-gives
-returns-in-Err-clause-gives g c =
-    let old = state g.S.Store c.args.book.now in
-    let new = state g.S.Store c.get.new.self in
-    of_passed (λ id. Keeps old new (λ book. IsFaultOf (IsShow book id) c.tool_fault.result)) c.args.id c.ranges.id
-    (page_unshown old new (passed c.args.id) c.in-Err.fault c.tool_fault.result c.tool_fault.ensures c.in-Err.ensures.refused)
+pub returns-in_err-kept-clause-gives : goal.returns-in_err-kept-clause-gives
+returns-in_err-kept-clause-gives g c =
+    let p = err_from_is_err_and c.from_residual.result c.from_residual.ensures.1 in
+    rw (p.1, p.2) (page_unshown (state g.S.Store c.args.book.now) (state g.S.Store c.record_at.new.book) c.args.id c.in_err-kept.field-0.0
+    (rw (to_z-of_z w64 c.args.id c.ranges.id) at c.in_err-kept.ensures.unfound))

@@ -1,5 +1,5 @@
 use Rattle.sqlite.specs.Held.{state}
-use Rattle.sok_sql.proofs.Calls.{refused_same}
+use Rattle.sok_sql.proofs.Calls.{refused_undone, undone_same}
 use Rattle.sok_sql.proofs.Changing.{create_holds, create_refuses}
 use Rattle.sqlite.proofs.StateLemmas.{survives_weaker}
 use Rattle.sok_sql.proofs.Unmade.{create_refused}
@@ -15,7 +15,8 @@ returns-in-Ok-clause-there g c clean was up =
 
 pub returns-in-Err-clause-same : goal.returns-in-Err-clause-same
 returns-in-Err-clause-same g c clean settled =
-    refused_same (state g.S.Store c.args.conn.now) (state g.S.Store c.execute.new.self) settled _ _ c.in-Err.error (c.in-Err.ensures.runs clean)
+    undone_same (state g.S.Store c.args.conn.now) (state g.S.Store c.execute.new.self) settled
+    (refused_undone (state g.S.Store c.args.conn.now) (state g.S.Store c.execute.new.self) _ _ c.in-Err.error (c.in-Err.ensures.runs clean))
 
 pub returns-in-Err-clause-cause : goal.returns-in-Err-clause-cause
 returns-in-Err-clause-cause g c clean empty =

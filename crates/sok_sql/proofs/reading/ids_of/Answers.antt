@@ -1,26 +1,21 @@
+use Rattle.std.proofs.lemmas.Result.{IfErr-weaker, IfOk-weaker}
 use Rattle.sqlite.specs.Held.{state}
 use Rattle.sok_sql.proofs.Texts.{find_plain}
-use Rattle.sok_sql.proofs.Answering.{find_answers, answered_rests, refused_rests}
+use Rattle.sok_sql.proofs.Answering.{find_answers, query_rests}
 use Rattle.sok_sql.proofs.Refused.{find_refused}
 use Rattle.sok_sql.proofs.reading.ids_of.Goals as goal
 
-pub returns-in-Ok-clause-rests : goal.returns-in-Ok-clause-rests
-returns-in-Ok-clause-rests g c =
-    answered_rests (state g.S.Store c.args.conn.now) (state g.S.Store c.query_all.new.self) _ _ find_plain c.query_all.ensures.survives
-    c.in-Ok.rows.items c.in-Ok.ensures.ok
+pub returns-clause-rests : goal.returns-clause-rests
+returns-clause-rests g c =
+    query_rests (λ rows. rows.items) (state g.S.Store c.args.conn.now) (state g.S.Store c.query_all.new.self) _ _ find_plain c.query_all.ensures.survives
+    c.query_all.result c.query_all.ensures.ok c.query_all.ensures.err
 
-pub returns-in-Err-clause-rests : goal.returns-in-Err-clause-rests
-returns-in-Err-clause-rests g c =
-    refused_rests (state g.S.Store c.args.conn.now) (state g.S.Store c.query_all.new.self) _ _ find_plain c.query_all.ensures.survives
-    c.in-Err.error c.in-Err.ensures.err
+pub returns-clause-rows : goal.returns-clause-rows
+returns-clause-rows g c clean leaves holds =
+    IfOk-weaker c.query_all.result _ _ (λ rows. find_answers (state g.S.Store c.args.conn.now) (state g.S.Store c.query_all.new.self) leaves holds c.args.text.now rows.items)
+    (rw c.params-to_sql.ensures at (c.query_all.ensures.ok clean))
 
-pub returns-in-Ok-clause-rows : goal.returns-in-Ok-clause-rows
-returns-in-Ok-clause-rows g c clean leaves holds =
-    let old = state g.S.Store c.args.conn.now in
-    let new = state g.S.Store c.query_all.new.self in
-    find_answers old new leaves holds c.args.text.now c.in-Ok.rows.items (rw c.params-to_sql.ensures at (c.in-Ok.ensures.ok clean))
-
-pub returns-in-Err-clause-cause : goal.returns-in-Err-clause-cause
-returns-in-Err-clause-cause g c clean table =
-    find_refused (state g.S.Store c.args.conn.now) (state g.S.Store c.query_all.new.self) table c.in-Err.error c.args.text.now
-    (rw c.params-to_sql.ensures at (c.in-Err.ensures.err clean))
+pub returns-clause-cause : goal.returns-clause-cause
+returns-clause-cause g c clean table =
+    IfErr-weaker c.query_all.result _ _ (λ e. find_refused (state g.S.Store c.args.conn.now) (state g.S.Store c.query_all.new.self) table e c.args.text.now)
+    (rw c.params-to_sql.ensures at (c.query_all.ensures.err clean))

@@ -46,8 +46,7 @@ returns-in-Ok-None g c =
     let text : c.as_str-text.result.now ≡ level_text c.args.level.now = c.as_str-text.ensures.value ∙ c.in-Ok.ensures in
     level_runs old mid c.args.level.now c.as_str-text.result.now text level (option_map (λ bytes. bytes.now) c.args.title) c.requires
     (rw c.in-Ok-None.field-0-is at c.in-Ok-None.ensures.found) new early c.find.ensures.rests c.add_new.result
-    (rw (← c.kept.ensures) c.add_new.ensures.added) c.add_new.ensures.refused (rw (← c.kept.ensures) c.add_new.ensures.stop)
-    (rw (← c.kept.ensures) c.add_new.ensures.cause)
+    (rw (← c.kept.ensures) c.add_new.ensures)
 
 pub returns : goal.returns
 returns g c =

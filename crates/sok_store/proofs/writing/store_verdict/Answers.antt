@@ -1,35 +1,19 @@
 use Rattle.sqlite.specs.Held.{state}
 use Rattle.sok_sql.specs.Leaves.{with_verdict}
 use Rattle.sok_page.specs.Rows.{verdict_number}
-use Rattle.sok_row.specs.Kept.{leaves_of}
 use Rattle.sok_store.specs.Entries.{HasVerdict}
-use Rattle.sok_store.proofs.Setting.{sets, stops_setting, verdict_changed, set_caused}
+use Rattle.sok_store.proofs.Setting.{page_set, page_unset, verdict_changed}
 use Rattle.sok_store.proofs.writing.store_verdict.Goals as goal
 
-pub returns-in-Ok-clause-stored : goal.returns-in-Ok-clause-stored
-returns-in-Ok-clause-stored g c =
+pub returns-in-Ok : goal.returns-in-Ok
+returns-in-Ok g c =
     let verdict = c.args.verdict in
-    sets (state g.S.Store c.args.conn.now) (state g.S.Store c.set_verdict.new.conn) c.args.id (with_verdict (verdict_number verdict))
-    (HasVerdict verdict) (λ page after _. verdict_changed verdict page after) (rw c.verdict_number.ensures at c.in-Ok.ensures.done)
+    page_set (state g.S.Store c.args.conn.now) (state g.S.Store c.set_verdict.new.conn) c.args.id (with_verdict (verdict_number verdict))
+    (HasVerdict verdict) (verdict_changed verdict) _ _ (rw c.verdict_number.ensures at c.in-Ok.ensures)
 
-pub returns-in-Ok-clause-stop : goal.returns-in-Ok-clause-stop
-returns-in-Ok-clause-stop g c =
+pub returns-in-Err : goal.returns-in-Err
+returns-in-Err g c =
     let verdict = c.args.verdict in
-    stops_setting (state g.S.Store c.args.conn.now) (state g.S.Store c.set_verdict.new.conn) c.args.id (with_verdict (verdict_number verdict))
-    (HasVerdict verdict) (λ page after _. verdict_changed verdict page after) (rw c.verdict_number.ensures at c.set_verdict.ensures.stop)
-
-pub returns-in-Err-clause-stop : goal.returns-in-Err-clause-stop
-returns-in-Err-clause-stop g c =
-    let verdict = c.args.verdict in
-    stops_setting (state g.S.Store c.args.conn.now) (state g.S.Store c.set_verdict.new.conn) c.args.id (with_verdict (verdict_number verdict))
-    (HasVerdict verdict) (λ page after _. verdict_changed verdict page after) (rw c.verdict_number.ensures at c.set_verdict.ensures.stop)
-
-pub returns-in-Err-clause-kept : goal.returns-in-Err-clause-kept
-returns-in-Err-clause-kept g c clean book holds = (tt, (holds.0, c.in-Err.ensures.kept clean (leaves_of book) holds.1))
-
-pub returns-in-Err-clause-cause : goal.returns-in-Err-clause-cause
-returns-in-Err-clause-cause g c =
-    let verdict = c.args.verdict in
-    set_caused (state g.S.Store c.args.conn.now) (state g.S.Store c.set_verdict.new.conn) c.args.id (with_verdict (verdict_number verdict))
-    (HasVerdict verdict) (λ page after _. verdict_changed verdict page after) c.in-Err.error c.fault_of.result c.fault_of.ensures.memory
-    (rw c.verdict_number.ensures at c.in-Err.ensures.cause)
+    page_unset (state g.S.Store c.args.conn.now) (state g.S.Store c.set_verdict.new.conn) c.args.id (with_verdict (verdict_number verdict))
+    (HasVerdict verdict) (verdict_changed verdict) c.in-Err.error c.fault_of.result c.fault_of.ensures.outside c.fault_of.ensures.memory
+    (rw c.verdict_number.ensures at c.in-Err.ensures)

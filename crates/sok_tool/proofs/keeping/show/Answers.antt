@@ -1,39 +1,21 @@
-use Rattle.std.proofs.Common.{arith, subst}
-use Rattle.std.proofs.KnownBytes.{Keeps-refl}
-use Rattle.std.proofs.lemmas.Result.{err_from_is_err_and}
+use Rattle.std.proofs.Common.{arith}
 use Rattle.sqlite.specs.Held.{state}
-use Rattle.sqlite.specs.State.{HasCleanDisk}
 use Rattle.sok_engine.specs.Written.{Writes}
 use Rattle.sok_store.specs.Calls.{Keeps}
 use Rattle.sok_keep.specs.Shows.{IsShow}
 use Rattle.sok_keep.proofs.Ids.{of_passed}
-use Rattle.sok_tool.specs.Databases.{unready, worked}
-use Rattle.sok_tool.proofs.Working.{Keeps-turns, no_book, unopened}
+use Rattle.sok_tool.proofs.Working.{Keeps-turns, without_book, works}
 use Rattle.sok_tool.proofs.keeping.show.Goals as goal
 
-pub returns-in_err-connection : goal.returns-in_err-connection
-returns-in_err-connection g c =
-    let p = err_from_is_err_and c.from_residual.result c.from_residual.ensures.1 in
-    rw (p.1, p.2) (unready (unopened _ c.in_err-connection.ensures.refused) (Keeps-refl _))
-
 pub returns-in_err-book : goal.returns-in_err-book
-returns-in_err-book g c =
-    let p = err_from_is_err_and c.from_residual-in_err-book.result c.from_residual-in_err-book.ensures.1 in
-    let found = c.in_ok-connection in
-    rw (p.1, p.2) (no_book (state g.S.Store) (g.F.Databases.keeps c.args.rt.now c.args.db.now) (g.F.Databases.leaves c.args.rt.now c.args.db.now) _
-    found.connection _ c.in_err-book.field-0.0 found.ensures.kept c.in_err-book.ensures.refused)
+returns-in_err-book g c = without_book (state g.S.Store) _ _ _ _ _ _ c.from_residual.ensures.1 c.in_err-book.ensures.refused
 
 pub returns : goal.returns
 returns g c =
     let call = c.show_bytes-told in
-    let found = c.in_ok-connection in
-    let opened = state g.S.Store c.in_ok-book.book in
-    let left = state g.S.Store call.new.book in
-    let same = c.into_connection.ensures in
-    let opens : HasCleanDisk left → HasCleanDisk opened = λ clean. omega (arith, clean, call.ensures.clean) in
     let before = g.W.Write.contents c.args.out.now in
     let later = g.W.Write.contents call.new.out in
-    let written = of_passed (λ id. Keeps opened left (λ book. Writes (IsShow book id) before later call.result)) c.args.id c.ranges.id call.ensures.writes in
-    let turns = Keeps-turns opened left _ written in
-    worked found.connection c.in_ok-book.book call.new.book found.ensures.kept (subst (g.F.Databases.leaves c.args.rt.now c.args.db.now) same c.close.ensures)
-    (λ clean. c.in_ok-book.ensures.opens (opens clean)) turns
+    let shown = of_passed (λ id. Keeps (state g.S.Store c.in_ok-book.book) (state g.S.Store call.new.book) (λ book. Writes (IsShow book id) before later call.result))
+    c.args.id c.ranges.id call.ensures.writes in
+    works (state g.S.Store) _ _ _ _ _ c.in_ok-book.book call.new.book _ c.in_ok-book.ensures.opens c.into_connection.ensures c.close.ensures
+    (λ clean. omega (arith, clean, call.ensures.clean)) (Keeps-turns _ _ _ shown)

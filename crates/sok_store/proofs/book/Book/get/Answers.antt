@@ -1,12 +1,15 @@
 use Rattle.std.proofs.Common.{w64}
 use Rattle.std.proofs.lemmas.Int.{to_z-of_z}
+use Rattle.std.proofs.lemmas.Result.{IfOk-weaker}
+use Rattle.sok_store.proofs.Calls.{finds_keeps}
 use Rattle.sok_store.proofs.book.Book.get.Goals as goal
 
-pub returns-clause-found : goal.returns-clause-found
-returns-clause-found g c = rw (← c.self.view_is) (rw (to_z-of_z w64 c.args.id c.ranges.id) at c.record_at.ensures.found)
-
-pub returns-clause-refused : goal.returns-clause-refused
-returns-clause-refused g c = rw (← c.self.view_is) (rw (to_z-of_z w64 c.args.id c.ranges.id) at c.record_at.ensures.refused)
-
-pub returns-clause-stop : goal.returns-clause-stop
-returns-clause-stop g c = rw (← c.self.view_is) c.record_at.ensures.stop
+pub returns : goal.returns
+returns g c =
+    let read = rw (to_z-of_z w64 c.args.id c.ranges.id) at c.record_at.ensures in
+    rw (← c.self.view_is) (record {
+      found = IfOk-weaker c.record_at.result _ _ (λ kept. finds_keeps _ _ _) read.found;
+      refused = read.refused;
+      stop = read.stop;
+      cause = read.cause;
+    })

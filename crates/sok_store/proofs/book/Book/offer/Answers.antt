@@ -2,14 +2,7 @@ use Rattle.std.proofs.Common.{w64}
 use Rattle.std.proofs.lemmas.Int.{to_z-of_z}
 use Rattle.sok_store.proofs.book.Book.offer.Goals as goal
 
-pub returns-clause-offered : goal.returns-clause-offered
-returns-clause-offered g c = rw (← c.self.view_is) (rw (to_z-of_z w64 c.args.id c.ranges.id) at c.offer_to.ensures.done)
-
-pub returns-clause-refused : goal.returns-clause-refused
-returns-clause-refused g c = rw (← c.self.view_is) (rw (to_z-of_z w64 c.args.id c.ranges.id) at c.offer_to.ensures.refused)
-
-pub returns-clause-stop : goal.returns-clause-stop
-returns-clause-stop g c = rw (← c.self.view_is) (rw (to_z-of_z w64 c.args.id c.ranges.id) at c.offer_to.ensures.stop)
-
-pub returns-clause-cause : goal.returns-clause-cause
-returns-clause-cause g c = rw (← c.self.view_is) (rw (to_z-of_z w64 c.args.id c.ranges.id) at c.offer_to.ensures.cause)
+pub returns : goal.returns
+returns g c =
+    let runs = rw (to_z-of_z w64 c.args.id c.ranges.id) at c.offer_to.ensures in
+    rw (← c.self.view_is) (record { offered = runs.done; refused = runs.refused; stop = runs.stop; cause = runs.cause })

@@ -1,6 +1,6 @@
 //! Commands one after another, each on the book that the last one left.
 
-use crate::rows::{Command, Row, answer, book_in, first_other};
+use crate::answering::{Command, Row, answer, book_in, first_other};
 use sok_engine::fault::ToolFault;
 use sok_sketch::sketch::{BOX_BEYOND_THE_GOAL, ROOM_OF_TWO_ROWS, SOLVED};
 use sqlite::Connection;

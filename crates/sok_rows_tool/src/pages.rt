@@ -2,10 +2,12 @@
 
 use sok_page::columns::{Columns, columns_of};
 use sok_page::reading::record_of;
+use sok_page::record::Record;
 use sok_page::title::kept_title;
 use sok_shelf::export::export_text;
 use sok_shelf::show::shown_text;
 use std::alloc::{AllocError, Global};
+use std::process::Abort;
 use std::test::Fail;
 
 /// The values of a row.
@@ -59,23 +61,37 @@ fn columns(alloc: Global, row: Row<'_>) -> Result<Columns, AllocError> {
     })
 }
 
+/// The record of a row, which is shown as its text and these lines.
+fn record(
+    rt: &impl Abort,
+    alloc: Global,
+    id: i64,
+    row: Row<'_>,
+    lines: &str,
+) -> Result<Record, Fail> {
+    let kept = record_of(alloc, id, columns(alloc, row)?)?;
+    let shown = shown_text(alloc, &kept)?;
+    let whole = format!(in alloc; "{}{lines}", row.text)?;
+    assert!(rt; shown.as_slice() == whole.as_bytes(), "{lines}");
+    Ok(kept)
+}
+
+/// Whether records are exported as a text.
+fn is_exported(alloc: Global, records: &[Record], whole: &str) -> Result<bool, Fail> {
+    Ok(export_text(alloc, records)?.as_slice() == whole.as_bytes())
+}
+
 #[test]
 fn records_are_shown_and_exported(rt: HostRuntime) -> Result<(), Fail> {
-    let alloc = rt.alloc();
-    let mut records = Vec::new(alloc);
+    let mut records = Vec::new(rt.alloc());
     for (id, row, lines) in [
         (1, ROOM, "title A room\nbest 2 6 ulldRR\nverdict optimal\n"),
         (2, UNTITLED, "best none\nverdict untested\n"),
     ] {
-        let kept = record_of(alloc, id, columns(alloc, row)?)?;
-        let shown = shown_text(alloc, &kept)?;
-        let whole = format!(in alloc; "{}{lines}", row.text)?;
-        assert_eq!(rt; shown.as_slice(), whole.as_bytes());
-        records.push(kept)?;
+        records.push(record(&rt, rt.alloc(), id, row, lines)?)?;
     }
-    let text = export_text(alloc, records.as_slice())?;
-    let whole = format!(in alloc; "; A room\n{}\n{}\n", ROOM.text, UNTITLED.text)?;
-    assert_eq!(rt; text.as_slice(), whole.as_bytes());
+    let whole = format!(in rt.alloc(); "; A room\n{}\n{}\n", ROOM.text, UNTITLED.text)?;
+    assert!(rt; is_exported(rt.alloc(), records.as_slice(), whole.as_str())?);
     for kept in records {
         let again = columns_of(kept);
         assert_eq!(rt; again.pushes.is_some(), again.verdict == 1);

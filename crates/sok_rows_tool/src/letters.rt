@@ -1,6 +1,6 @@
 //! A text of as many letters as may be offered.
 
-use crate::rows::{Command, answer, book_in};
+use crate::answering::{Command, answer, book_in};
 use sok_engine::fault::ToolFault;
 use sok_sketch::sketch::ROOM_OF_TWO_ROWS;
 use sok_store::book::Book;

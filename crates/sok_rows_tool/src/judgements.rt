@@ -1,0 +1,76 @@
+//! Solutions and certificates that are offered for a level.
+
+use sok_board::board::Board;
+use sok_book::fault::BookFault;
+use sok_book::offering::judge_letters;
+use sok_book::proving::judge_proof;
+use sok_cert::claim::Claim;
+use sok_page::writing::best_of;
+use sok_rules::cell::Dir;
+use sok_rules::level::Level;
+use sok_sketch::sets::board;
+use sok_sketch::sketch::{ROOM_OF_TWO_ROWS, level};
+use sok_text::lurd::read_lurd;
+use std::alloc::Global;
+use std::test::Fail;
+
+/// What is told of letters that are offered: their pushes and moves.
+fn judged(alloc: Global, room: &Level, letters: &[Dir]) -> Result<(u64, u64), BookFault> {
+    let tally = judge_letters(alloc, room, letters)?;
+    Ok((tally.pushes, tally.moves))
+}
+
+/// Whether letters are written as a best solution of this text and these numbers, or are refused.
+fn is_written(
+    alloc: Global,
+    room: &Level,
+    letters: &[Dir],
+    text: &str,
+    answer: Result<(u64, u64), BookFault>,
+) -> bool {
+    match best_of(alloc, room, letters) {
+        Ok(best) => {
+            best.lurd.as_str() == text
+                && Ok((u64::from(best.pushes), u64::from(best.moves))) == answer
+        }
+        Err(fault) => Err(fault) == answer,
+    }
+}
+
+#[test]
+fn letters_are_judged_and_written(rt: HostRuntime) -> Result<(), Fail> {
+    let room = level(rt.alloc(), ROOM_OF_TWO_ROWS)?;
+    for (text, answer) in [
+        ("ulldRR", Ok((2, 6))),
+        ("rlulldRurrdLulldRR", Ok((4, 18))),
+        ("ulld", Err(BookFault::NotSolved)),
+        ("uu", Err(BookFault::Blocked(1))),
+    ] {
+        let letters = read_lurd(rt.alloc(), text.as_bytes())?;
+        assert!(rt; judged(rt.alloc(), &room, &letters) == answer, "{text}");
+        assert!(rt;
+            is_written(rt.alloc(), &room, &letters, text, answer),
+            "{text}"
+        );
+    }
+    Ok(())
+}
+
+/// What is told of a certificate for a level with so many pushes of its best.
+fn proved(alloc: Global, board: &Board, best: Option<u64>) -> Result<Claim, BookFault> {
+    let text = b"sokoban-certificate 1\npushes 2\nb 0 6 1 5 2 0\nend\n";
+    judge_proof(alloc, board, best, text.as_slice())
+}
+
+#[test]
+fn a_proof_is_about_the_best(rt: HostRuntime) -> Result<(), Fail> {
+    let board = board(rt.alloc(), ROOM_OF_TWO_ROWS)?;
+    for (best, answer) in [
+        (None, Err(BookFault::NoBest)),
+        (Some(4), Err(BookFault::ClaimDiffers)),
+        (Some(2), Ok(Claim::Pushes(2))),
+    ] {
+        assert_eq!(rt; proved(rt.alloc(), &board, best), answer);
+    }
+    Ok(())
+}
