@@ -13,7 +13,7 @@ use Rattle.sok_board.proofs.Lists.{Contains-filter, Contains-from_filter}
 use Rattle.sok_board.proofs.Numbering.{rising-chosen}
 use Rattle.sok_field.specs.Fields.{has}
 use Rattle.sok_price.specs.Prices.{AreMembers, IsMember}
-use Rattle.sok_state.specs.Layouts.{IsLaidOut, Laid}
+use Rattle.sok_region.specs.Layouts.{IsLaidOut, Laid}
 use Rattle.sok_bar.specs.Jam.{HasJamWith, IsGoalSquare, IsHeld}
 use Rattle.sok_bar.specs.Narrowed.{HasDrawnOffGoal, IsLeft, IsLeftHeld, IsNarrowed, IsTaken, KeepsJams, TellsPass, TellsTaken}
 use Rattle.sok_bar.specs.Settings.{IsDrawn}

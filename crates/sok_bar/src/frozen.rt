@@ -15,8 +15,8 @@ use crate::members::{are_members, is_member};
 use crate::rest::Rest;
 use sok_board::area::{SQUARE_LIMIT, Sq};
 use sok_board::board::Board;
+use sok_board::box_set::BoxSet;
 use sok_push::tables::Tables;
-use sok_region::box_set::BoxSet;
 use sok_rules::fault::Memory;
 use std::alloc::Global;
 

@@ -2,7 +2,7 @@
 
 ghost use Rattle.std.specs.Prelude.{ℕ, List, ◌≡◌, ◌<◌, ◌↔◌, IsTrue, All, length};
 ghost use Rattle.sok_board.specs.Area.{IsAccepted};
-ghost use Rattle.sok_state.specs.Layouts.{IsLaidOut};
+ghost use Rattle.sok_region.specs.Layouts.{IsLaidOut};
 ghost use Rattle.sok_bar.specs.Jam.{HasJamWith};
 ghost use Rattle.sok_bar.specs.Narrowed.{HasDrawnOffGoal, IsNarrowed, TellsPass, TellsTaken};
 
@@ -11,7 +11,7 @@ use sok_board::area::Sq;
 use sok_board::board::Board;
 use sok_field::field::Field;
 use sok_push::tables::Tables;
-use sok_state::layout::Layout;
+use sok_region::layout::Layout;
 
 /// Whether the boxes of a layout have a jam with the box on a square: exactly where `find_frozen`
 /// finds one. Most boxes are free where they stand; only else boxes are taken away that are not

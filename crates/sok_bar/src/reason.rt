@@ -12,9 +12,9 @@ use crate::rest::Rest;
 use crate::spent::Spent;
 use sok_board::area::Sq;
 use sok_board::board::Board;
+use sok_board::box_set::BoxSet;
 use sok_entry::entry::Reason;
 use sok_push::tables::Tables;
-use sok_region::box_set::BoxSet;
 use sok_rules::fault::Memory;
 use std::alloc::Global;
 

@@ -7,10 +7,12 @@ pub mod Covering
 pub mod Floods
 pub mod Inside
 pub mod Lists
+pub mod Moves
 pub mod Numbering
 pub mod OneRefusal
 pub mod Positions
 pub mod Premises
+pub mod Putting
 pub mod ReadingOrder
 pub mod Refusals
 pub mod Tables

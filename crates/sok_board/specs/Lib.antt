@@ -1,5 +1,6 @@
 -- words of public contracts
 pub mod Area
+pub mod BoxSets
 pub mod Confined
 pub mod Faults
 pub mod Limits

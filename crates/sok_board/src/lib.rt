@@ -4,6 +4,7 @@
 //! |---|---|
 //! | `area` | the squares of an area, their numbers, and those of goals and boxes |
 //! | `board` | an accepted level with its squares |
+//! | `box_set` | the squares of the boxes of a position |
 //! | `cells` | what stands on a level's squares |
 //! | `fault` | why a level is not accepted |
 //! | `flood` | the flood that finds the squares of an area |
@@ -18,6 +19,7 @@
 
 pub mod area;
 pub mod board;
+pub mod box_set;
 mod cells;
 pub mod fault;
 mod flood;

@@ -10,10 +10,10 @@ use crate::reason::{is_expanded, rest_of};
 use sok_bar::reason::reason_holds;
 use sok_board::area::Sq;
 use sok_board::board::Board;
+use sok_board::box_set::BoxSet;
 use sok_entry::claim::Claim;
 use sok_entry::entry::Entry;
 use sok_push::tables::Tables;
-use sok_region::box_set::BoxSet;
 use sok_rules::fault::Memory;
 use std::alloc::Global;
 

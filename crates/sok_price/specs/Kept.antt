@@ -9,7 +9,7 @@ use Rattle.sok_price.specs.Costs.{cost_in, AreCosts, AreSmall, TellsCost}
 use Rattle.sok_price.specs.Exchanges.{IsWhole}
 use Rattle.sok_price.specs.Searches.{growth_of, HasRoom, IsRoomy}
 use Rattle.sok_price.specs.Limits.{kept_floor_limit}
-use Rattle.sok_region.specs.BoxSets.{IsMoved}
+use Rattle.sok_board.specs.BoxSets.{IsMoved}
 use Rattle.sok_price.specs.Prices.{Priced, IsAssignment, IsCrowd}
 
 -- entries for each square of a board, and a last row that costs nothing

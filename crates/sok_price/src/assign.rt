@@ -10,8 +10,8 @@ ghost use Rattle.sok_price.specs.Trees.{is_met, members_of};
 
 use crate::costs::{Costs, places};
 use crate::search::{Branch, Search, match_anew, worth};
+use sok_board::box_set::BoxSet;
 use sok_push::tables::Tables;
-use sok_region::box_set::BoxSet;
 use sok_rules::fault::Memory;
 use std::alloc::Global;
 

@@ -17,7 +17,7 @@ ghost use Rattle.std.specs.Prelude.{
 };
 ghost use Rattle.std.specs.List.Sorted.{IsStrictlyIncreasing};
 ghost use Rattle.sok_board.specs.Area.{Numbered};
-ghost use Rattle.sok_region.specs.BoxSets.{IsMoved};
+ghost use Rattle.sok_board.specs.BoxSets.{IsMoved};
 ghost use Rattle.sok_price.specs.Searches.{growth_of};
 ghost use Rattle.sok_price.specs.Matches.{IsMatch};
 ghost use Rattle.sok_price.specs.Matched.{CanMove, Holds, IsCopied, Serves, TellsLeast};
@@ -29,8 +29,8 @@ use crate::search::{Search, worth};
 use crate::settle::match_boxes;
 use sok_board::area::Sq;
 use sok_board::board::Board;
+use sok_board::box_set::BoxSet;
 use sok_push::tables::Tables;
-use sok_region::box_set::BoxSet;
 use sok_rules::fault::Memory;
 use std::alloc::Global;
 use std::marker::Model;

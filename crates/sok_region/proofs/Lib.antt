@@ -1,7 +1,6 @@
 pub mod Flooding
 pub mod Floods
-pub mod Moves
-pub mod Putting
+pub mod Laying
 pub mod Regions
 pub mod Tracing
 pub mod Walks

@@ -1,5 +1,5 @@
 -- Words of public contracts
-pub mod BoxSets
+pub mod Layouts
 pub mod Regions
 pub mod States
 -- Words of the proofs alone

@@ -6,10 +6,10 @@ ghost use Rattle.sok_board.specs.Area.{IsAccepted};
 ghost use Rattle.sok_region.specs.Regions.{IsPlaced, IsRegion, IsRegionOf, IsWalkBetween};
 ghost use Rattle.sok_region.specs.Regions.{squares_of};
 
-use crate::box_set::BoxSet;
 use crate::flood::flood_from;
 use sok_board::area::Sq;
 use sok_board::board::Board;
+use sok_board::box_set::BoxSet;
 use sok_field::drawing;
 use sok_field::field::Field;
 use sok_field::numbers::{self, WORDS};

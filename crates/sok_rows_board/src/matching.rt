@@ -6,24 +6,36 @@ ghost use Rattle.sok_price.specs.Matched.{Serves};
 use crate::positions::boxes_on;
 use sok_board::area::Sq;
 use sok_board::board::Board;
+use sok_board::box_set::BoxSet;
 use sok_price::assign::{Match, assign};
 use sok_price::matching::Matching;
 use sok_push::tables::Tables;
-use sok_region::box_set::BoxSet;
 use sok_sketch::sets::board;
 use sok_sketch::{rooms, sketch};
 use std::alloc::Global;
 use std::process::Abort;
 use std::test::Fail;
 
+/// What is found of some boxes, with no matching before it.
+fn found(alloc: Global, tables: &Tables, boxes: &BoxSet) -> Result<Match, Fail>
+    requires { All (λ square. square < length tables.now.board.area) boxes.now }
+{
+    Ok(assign(alloc, tables, boxes)?)
+}
+
+/// The total of what is found. None for a crowd.
+fn total_of(found: Match) -> Option<u32> {
+    match found {
+        Match::Prices { total, .. } => Some(total),
+        Match::Crowd { .. } => None,
+    }
+}
+
 /// The least total of some boxes, found with no matching before it. None for a crowd.
 fn least(alloc: Global, tables: &Tables, boxes: &BoxSet) -> Result<Option<u32>, Fail>
     requires { All (λ square. square < length tables.now.board.area) boxes.now }
 {
-    match assign(alloc, tables, boxes)? {
-        Match::Prices { total, .. } => Ok(Some(total)),
-        Match::Crowd { .. } => Ok(None),
-    }
+    Ok(total_of(found(alloc, tables, boxes)?))
 }
 
 /// What a matching tells of some boxes, which is what is found with no matching before it.

@@ -5,9 +5,9 @@ ghost use Rattle.std.specs.List.Sorted.{IsStrictlyIncreasing};
 ghost use Rattle.sok_board.specs.Limits.{box_limit};
 
 use sok_board::area::Sq;
+use sok_board::box_set::BoxSet;
 use sok_price::assign::{Match, assign};
 use sok_push::tables::Tables;
-use sok_region::box_set::BoxSet;
 use sok_sketch::sets::board;
 use sok_sketch::{rooms, sketch};
 use std::alloc::Global;

@@ -5,7 +5,7 @@ ghost use Rattle.sok_region.specs.Regions.{IsPlaced};
 
 use sok_board::area::Sq;
 use sok_board::board::Board;
-use sok_region::box_set::BoxSet;
+use sok_board::box_set::BoxSet;
 use sok_sketch::sets::box_set;
 use std::alloc::Global;
 use std::process::Abort;

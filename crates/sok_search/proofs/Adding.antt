@@ -7,7 +7,7 @@ use Rattle.sok_board.specs.Area.{Numbered, IsAccepted}
 use Rattle.sok_state.specs.declared.key.Key.{Key}
 use Rattle.sok_state.specs.declared.push.Push.{Push}
 use Rattle.sok_state.specs.Keys.{IsKey}
-use Rattle.sok_state.specs.Layouts.{IsLaidOut, Laid}
+use Rattle.sok_region.specs.Layouts.{IsLaidOut, Laid}
 use Rattle.sok_state.specs.Pushes.{IsLegal}
 use Rattle.sok_state.specs.Tables.{Entries, Enters, GoesLast, IsAt}
 use Rattle.sok_search.specs.declared.note.Note.{Note}

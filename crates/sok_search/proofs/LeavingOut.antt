@@ -6,8 +6,8 @@ use Rattle.sok_board.proofs.AreaLaws.{InArea-spot_of}
 use Rattle.sok_board.proofs.Beside.{beside-within}
 use Rattle.sok_board.proofs.Positions.{listed_box}
 use Rattle.sok_push.specs.Pushing.{IsStuck}
-use Rattle.sok_region.specs.BoxSets.{put_in_order}
-use Rattle.sok_region.proofs.Moves.{IsMoved-put}
+use Rattle.sok_board.specs.BoxSets.{put_in_order}
+use Rattle.sok_board.proofs.Moves.{IsMoved-put}
 use Rattle.sok_bar.proofs.Kept.{never_stuck}
 use Rattle.sok_state.specs.declared.key.Key.{Key}
 use Rattle.sok_state.specs.declared.push.Push.{Push}

@@ -4,8 +4,8 @@ use Rattle.sok_rules.specs.Play.{Position}
 use Rattle.sok_rules.proofs.Walking.{boxes-Same}
 use Rattle.sok_board.specs.Area.{Numbered, IsAccepted, beside, position_of}
 use Rattle.sok_board.proofs.Beside.{beside-within}
-use Rattle.sok_region.specs.BoxSets.{IsMoved, put_in_order}
-use Rattle.sok_region.proofs.Moves.{IsMoved-put, IsBoxList-put}
+use Rattle.sok_board.specs.BoxSets.{IsMoved, put_in_order}
+use Rattle.sok_board.proofs.Moves.{IsMoved-put, IsBoxList-put}
 use Rattle.sok_state.specs.declared.key.Key.{Key}
 use Rattle.sok_state.specs.declared.push.Push.{Push}
 use Rattle.sok_state.specs.Keys.{IsKey, IsKeyOf}

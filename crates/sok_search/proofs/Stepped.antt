@@ -13,15 +13,15 @@ use Rattle.sok_field.specs.Fields.{has, IsFirstSquare}
 use Rattle.sok_field.specs.Numbers.{Draws}
 use Rattle.sok_field.specs.Trails.{Leads}
 use Rattle.sok_field.proofs.Drawings.{first-is-least}
-use Rattle.sok_region.specs.BoxSets.{IsMoved, put_in_order}
+use Rattle.sok_board.specs.BoxSets.{IsMoved, put_in_order}
 use Rattle.sok_region.specs.Regions.{IsPlaced}
-use Rattle.sok_region.proofs.Moves.{IsBoxList-put, IsMoved-put}
+use Rattle.sok_board.proofs.Moves.{IsBoxList-put, IsMoved-put}
 use Rattle.sok_region.proofs.Regions.{IsStanding-placed, placed_boxes, through-exact}
 use Rattle.sok_region.proofs.Walks.{not_listed, run-trail, trail-run}
 use Rattle.sok_state.specs.declared.key.Key.{Key}
 use Rattle.sok_state.specs.declared.push.Push.{Push}
 use Rattle.sok_state.specs.Keys.{IsKey, IsKeyOf}
-use Rattle.sok_state.specs.Layouts.{Laid}
+use Rattle.sok_region.specs.Layouts.{Laid}
 use Rattle.sok_state.specs.Pushes.{IsLegal}
 use Rattle.sok_state.proofs.LegalPushes.{IsPlaced-after, clear-legal, clear_ahead}
 use Rattle.sok_state.proofs.Placed.{same_rising}

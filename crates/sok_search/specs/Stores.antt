@@ -1,7 +1,7 @@
 -- The known states of a search, in a table that has room for the squares of a board.
 use Rattle.std.specs.Prelude.{ℕ, ◌≡◌, Bool}
 use Rattle.std.specs.List.Sorted.{IsStrictlyIncreasing}
-use Rattle.sok_region.specs.BoxSets.{IsMoved}
+use Rattle.sok_board.specs.BoxSets.{IsMoved}
 use Rattle.sok_state.specs.declared.key.Key.{Key}
 use Rattle.sok_state.specs.Tables.{Entries, Enters, IsAt}
 use Rattle.sok_search.specs.declared.store.Store.{Store}

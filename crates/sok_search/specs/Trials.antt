@@ -5,11 +5,11 @@ use Rattle.sok_rules.specs.Play.{Position}
 use Rattle.sok_board.specs.Area.{Numbered}
 use Rattle.sok_board.specs.Limits.{box_limit}
 use Rattle.sok_price.specs.Matched.{Holds, KeptMatching, Serves}
-use Rattle.sok_region.specs.BoxSets.{IsMoved}
+use Rattle.sok_board.specs.BoxSets.{IsMoved}
 use Rattle.sok_state.specs.declared.key.Key.{Key}
 use Rattle.sok_state.specs.declared.push.Push.{Push}
 use Rattle.sok_state.specs.Keys.{IsKey, IsKeyOf}
-use Rattle.sok_state.specs.Layouts.{IsLaidOut, Laid}
+use Rattle.sok_region.specs.Layouts.{IsLaidOut, Laid}
 use Rattle.sok_state.specs.Pushes.{IsLegal, LeadsTo}
 use Rattle.sok_search.specs.declared.trial.Trial.{Trial}
 

@@ -11,12 +11,12 @@ ghost use Rattle.sok_search.specs.Finished.{IsReasonOf, ReasonBars};
 use crate::note::Standing;
 use sok_bar::frozen::find_jam;
 use sok_board::board::Board;
+use sok_board::box_set::BoxSet;
 use sok_cert::claim::Claim;
 use sok_cert::entry::{Numbers, Reason};
 use sok_price::assign::Match;
 use sok_price::matching::Matching;
 use sok_push::tables::Tables;
-use sok_region::box_set::BoxSet;
 use sok_rules::fault::Memory;
 use std::alloc::Global;
 

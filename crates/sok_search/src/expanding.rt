@@ -1,7 +1,7 @@
 //! A state is expanded.
 
 ghost use Rattle.std.specs.Prelude.{◌≡◌, IfOk, OnOk, All};
-ghost use Rattle.sok_state.specs.Layouts.{IsLaidOut};
+ghost use Rattle.sok_region.specs.Layouts.{IsLaidOut};
 ghost use Rattle.sok_state.specs.Pushes.{IsLegal};
 ghost use Rattle.sok_search.specs.Trials.{IsReady, IsTrial};
 ghost use Rattle.sok_search.specs.Views.{progress_of, HoldsState, TellsFollowed, TellsExpanded};
@@ -14,10 +14,10 @@ use sok_board::board::Board;
 use sok_field::field::Field;
 use sok_price::matching::Matching;
 use sok_push::tables::Tables;
+use sok_region::layout::Layout;
 use sok_region::region::Region;
 use sok_rules::fault::Memory;
 use sok_state::key::Key;
-use sok_state::layout::Layout;
 use sok_state::legal::list_pushes;
 use sok_state::push::Push;
 use std::alloc::Global;

@@ -9,9 +9,9 @@ use crate::note::Standing;
 use sok_bar::frozen::find_jam;
 use sok_board::area::Sq;
 use sok_board::board::Board;
+use sok_board::box_set::BoxSet;
 use sok_price::assign::{Match, assign};
 use sok_push::tables::Tables;
-use sok_region::box_set::BoxSet;
 use sok_rules::fault::Memory;
 use std::alloc::Global;
 

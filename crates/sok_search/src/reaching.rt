@@ -1,7 +1,7 @@
 //! A push is followed.
 
 ghost use Rattle.std.specs.Prelude.{◌≡◌, ◌<◌, ◌^◌, IfOk, OnOk, Some, length};
-ghost use Rattle.sok_state.specs.Layouts.{IsLaidOut};
+ghost use Rattle.sok_region.specs.Layouts.{IsLaidOut};
 ghost use Rattle.sok_state.specs.Pushes.{IsLegal};
 ghost use Rattle.sok_search.specs.Steps.{Nears, reopened};
 ghost use Rattle.sok_search.specs.Stores.{entries_in};

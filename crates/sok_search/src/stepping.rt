@@ -5,7 +5,7 @@ ghost use Rattle.sok_board.specs.Area.{IsAccepted, beside, position_of};
 ghost use Rattle.sok_region.specs.Regions.{IsPlaced};
 ghost use Rattle.sok_state.specs.declared.key.Key.{Key};
 ghost use Rattle.sok_state.specs.Keys.{IsKey, IsKeyOf};
-ghost use Rattle.sok_state.specs.Layouts.{IsLaidOut};
+ghost use Rattle.sok_region.specs.Layouts.{IsLaidOut};
 ghost use Rattle.sok_state.specs.Pushes.{IsLegal};
 ghost use Rattle.sok_search.specs.Stores.{IsNext};
 ghost use Rattle.sok_search.specs.Trials.{IsLedTo, IsPushable};
@@ -14,7 +14,7 @@ use sok_board::area::Sq;
 use sok_board::board::Board;
 use sok_field::drawing;
 use sok_field::field::Field;
-use sok_state::layout::Layout;
+use sok_region::layout::Layout;
 use sok_state::push::Push;
 
 /// The square to which a push from a state brings its box.

@@ -8,7 +8,7 @@ ghost use Rattle.sok_state.specs.Tables.{Enters, HasDistinctKeys, IsAt, Lowers};
 ghost use Rattle.sok_search.specs.Stores.{EntersNext, entries_in, room_of};
 
 use sok_board::area::Sq;
-use sok_region::box_set::BoxSet;
+use sok_board::box_set::BoxSet;
 use sok_rules::fault::Memory;
 use sok_state::key::Key;
 use sok_state::packed::PackedKey;

@@ -4,8 +4,8 @@ ghost use Rattle.std.specs.Prelude.{ℕ, List, ◌≡◌, ◌<◌, ◌↔◌, If
 ghost use Rattle.sok_board.specs.Area.{IsAccepted};
 ghost use Rattle.sok_price.specs.Matched.{TellsLeast};
 ghost use Rattle.sok_bar.specs.Jam.{HasJamWith};
-ghost use Rattle.sok_region.specs.BoxSets.{put_in_order};
-ghost use Rattle.sok_state.specs.Layouts.{IsLaidOut};
+ghost use Rattle.sok_board.specs.BoxSets.{put_in_order};
+ghost use Rattle.sok_region.specs.Layouts.{IsLaidOut};
 ghost use Rattle.sok_search.specs.Steps.{IsJudged};
 ghost use Rattle.sok_search.specs.Trials.{AreMoved, IsTrial};
 
@@ -13,12 +13,12 @@ use crate::note::Standing;
 use sok_bar::layout_jam::has_jam;
 use sok_board::area::Sq;
 use sok_board::board::Board;
+use sok_board::box_set::BoxSet;
 use sok_field::field::Field;
 use sok_price::matching::Matching;
 use sok_push::tables::Tables;
-use sok_region::box_set::BoxSet;
+use sok_region::layout::Layout;
 use sok_rules::fault::Memory;
-use sok_state::layout::Layout;
 use std::alloc::Global;
 
 /// What pushes from a state are tried with: its boxes, laid out; room for the squares that the

@@ -7,7 +7,7 @@ ghost use Rattle.sok_sketch.specs.Sketches.{level_of};
 use crate::sketch;
 use sok_board::area::{BOX_LIMIT, Sq};
 use sok_board::board::Board;
-use sok_region::box_set::BoxSet;
+use sok_board::box_set::BoxSet;
 use std::alloc::Global;
 use std::test::Fail;
 

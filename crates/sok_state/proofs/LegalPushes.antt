@@ -17,7 +17,7 @@ use Rattle.sok_board.proofs.Beside.{beside-is, beside-within}
 use Rattle.sok_board.proofs.Confined.{confines-play}
 use Rattle.sok_board.proofs.Inside.{InArea-open}
 use Rattle.sok_board.proofs.Positions.{known_box, listed_box, no_box}
-use Rattle.sok_region.specs.BoxSets.{IsMoved}
+use Rattle.sok_board.specs.BoxSets.{IsMoved}
 use Rattle.sok_region.specs.Regions.{IsPlaced, IsRegion}
 use Rattle.sok_state.specs.declared.key.Key.{Key}
 use Rattle.sok_state.specs.declared.push.Push.{Push}

@@ -1,5 +1,4 @@
 pub mod Keyed
-pub mod Laying
 pub mod LegalPushes
 pub mod Listed
 pub mod Moves

@@ -13,7 +13,7 @@ use Rattle.sok_board.specs.Area.{Numbered, IsArea, InArea, spot_of, position_of,
 use Rattle.sok_board.proofs.Accepted.{decoration-outside}
 use Rattle.sok_board.proofs.AreaLaws.{InArea-spot_of, same_number}
 use Rattle.sok_board.proofs.Positions.{listed_box}
-use Rattle.sok_region.specs.BoxSets.{IsMoved}
+use Rattle.sok_board.specs.BoxSets.{IsMoved}
 use Rattle.sok_region.specs.Regions.{IsPlaced}
 use Rattle.sok_state.proofs.Placed.{box_cases, decoration_there}
 

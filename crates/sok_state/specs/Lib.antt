@@ -1,6 +1,5 @@
 -- Words of public contracts
 pub mod Keys
-pub mod Layouts
 pub mod PackedKeys
 pub mod Pushes
 pub mod Tables

@@ -12,7 +12,7 @@ ghost use lib.Pointwise.{pointwise};
 
 use sok_board::area::Sq;
 use sok_board::board::Board;
-use sok_region::box_set::BoxSet;
+use sok_board::box_set::BoxSet;
 use sok_region::region::Region;
 use sok_rules::fault::Memory;
 use std::alloc::Global;

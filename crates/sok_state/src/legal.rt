@@ -14,7 +14,7 @@ use crate::key::{Key, key_of};
 use crate::push::Push;
 use sok_board::area::Sq;
 use sok_board::board::Board;
-use sok_region::box_set::BoxSet;
+use sok_board::box_set::BoxSet;
 use sok_region::region::Region;
 use sok_rules::cell::Dir;
 use sok_rules::fault::Memory;

@@ -4,7 +4,6 @@
 //! |---|---|
 //! | `key` | the boxes of a state, and the least square that the player can walk to |
 //! | `law` | keys tell states apart |
-//! | `layout` | the boxes of a state, laid out over the squares of the area |
 //! | `legal` | the pushes that are legal from a state, and the states that they lead to |
 //! | `packed` | the key of a state in bits, for searches over many states |
 //! | `packed_table` | packed keys in the order of their insertion, with depths |
@@ -14,7 +13,6 @@
 
 pub mod key;
 pub mod law;
-pub mod layout;
 pub mod legal;
 pub mod packed;
 pub mod packed_table;

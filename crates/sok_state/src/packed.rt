@@ -3,14 +3,14 @@
 ghost use Rattle.std.specs.Prelude.{ℕ, ◌≡◌, ◌<◌, ◌≤◌, ◌*◌, ◌↔◌, IsTrue, IfOk, OnOk, All};
 ghost use Rattle.std.specs.Prelude.{Contains, length};
 ghost use Rattle.sok_board.specs.Limits.{box_limit};
-ghost use Rattle.sok_region.specs.BoxSets.{IsMoved};
+ghost use Rattle.sok_board.specs.BoxSets.{IsMoved};
 ghost use Rattle.sok_region.specs.Regions.{squares_of};
 ghost use Rattle.sok_state.specs.PackedKeys.{state_of};
 
 use crate::key::Key;
 use sok_board::area::Sq;
+use sok_board::box_set::BoxSet;
 use sok_field::numbers;
-use sok_region::box_set::BoxSet;
 use sok_rules::fault::Memory;
 use std::alloc::Global;
 

@@ -1,7 +1,7 @@
 use Rattle.std.proofs.Common.{ℕ, ◌<◌, sym, subst, All, Contains, List, length}
 use Rattle.std.proofs.lemmas.Result.{IfOk-weaker}
 use Rattle.sok_state.specs.declared.push.Push.{Push}
-use Rattle.sok_state.specs.Layouts.{IsLaidOut}
+use Rattle.sok_region.specs.Layouts.{IsLaidOut}
 use Rattle.sok_state.specs.Pushes.{IsLegal}
 use Rattle.sok_search.specs.Views.{progress_of}
 use Rattle.sok_search.proofs.Adding.{taken-key}

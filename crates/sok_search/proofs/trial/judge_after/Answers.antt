@@ -1,6 +1,6 @@
 use Rattle.std.proofs.Common.{inr, refl, subst, sym}
-use Rattle.sok_region.specs.BoxSets.{put_in_order}
-use Rattle.sok_state.specs.Layouts.{IsLaidOut}
+use Rattle.sok_board.specs.BoxSets.{put_in_order}
+use Rattle.sok_region.specs.Layouts.{IsLaidOut}
 use Rattle.sok_search.proofs.trial.judge_after.Goals as goal
 
 pub is_jammed-requires-clause-laid : goal.is_jammed-requires-clause-laid

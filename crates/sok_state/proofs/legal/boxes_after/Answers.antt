@@ -3,7 +3,7 @@ use Rattle.std.specs.List.Sorted.{IsStrictlyIncreasing}
 use Rattle.std.proofs.lemmas.Result.{IfOk-weaker}
 use Rattle.sok_rules.specs.Play.{Position}
 use Rattle.sok_board.specs.Area.{position_of}
-use Rattle.sok_region.specs.BoxSets.{IsMoved}
+use Rattle.sok_board.specs.BoxSets.{IsMoved}
 use Rattle.sok_region.specs.Regions.{IsPlaced}
 use Rattle.sok_state.specs.Pushes.{LeadsTo}
 use Rattle.sok_state.proofs.LegalPushes.{IfOk-both, clear-legal, clear_ahead, IsPlaced-after, LeadsTo-position}

@@ -1,0 +1,157 @@
+//! The boxes of a state, laid out over the squares of the area.
+
+ghost use Rattle.std.specs.Prelude.{ℕ, List, ◌≡◌, ◌<◌, ◌↔◌, ◌⊎◌, [], OnOk, IsTrue, All, Contains};
+ghost use Rattle.std.specs.Prelude.{◌==◌, if◌then◌else◌, length};
+ghost use Rattle.sok_rules.specs.declared.cell.Spot.{Spot};
+ghost use Rattle.sok_board.specs.Area.{IsAccepted, spot_of};
+ghost use Rattle.sok_field.specs.Fields.{has};
+ghost use Rattle.sok_field.specs.Numbers.{Draws};
+ghost use Rattle.sok_board.specs.BoxSets.{IsMoved};
+ghost use Rattle.sok_region.specs.Layouts.{IsLaidOut, replaced};
+
+use sok_board::area::Sq;
+use sok_board::board::Board;
+use sok_field::drawing;
+use sok_field::field::Field;
+use sok_rules::fault::Memory;
+use std::alloc::Global;
+use std::marker::Model;
+
+/// The boxes of a state, and the squares of the area that they leave free, in bit rows; laid out
+/// once for a state, and changed in place by a push and back.
+#[derive(Drop)]
+pub struct Layout {
+    area: Field,
+    free: Field,
+    boxed: Field,
+    boxes: Vec<Sq>,
+}
+
+impl Model for Layout {
+    ghost use Rattle.sok_region.specs.Layouts.{Laid};
+
+    ghost Value = { Laid };
+
+    ghost view = { λ layout. record {
+      area = layout.area;
+      free = layout.free;
+      boxed = layout.boxed;
+      boxes = layout.boxes.items;
+    } };
+}
+
+impl Layout {
+    /// The layout without a box. It keeps the allocator for the list of boxes.
+    pub fn new(alloc: Global, board: &Board) -> Layout
+        ensures { IsLaidOut board.now [] result }
+    {
+        Layout {
+            area: drawing::area(board),
+            free: drawing::free_squares(board, &[]),
+            boxed: Field::new(),
+            boxes: Vec::new(alloc),
+        }
+    }
+
+    /// Lays out some boxes in place of those before. It refuses only for want of memory, and then
+    /// the layout is of no use.
+    pub fn lay(&mut self, board: &Board, boxes: &[Sq]) -> Result<(), Memory>
+        requires accepted { IsAccepted board.now }
+        requires exist { All (λ square. square < length board.now.area) boxes.now }
+        requires laid { (before : List ℕ) × IsLaidOut board.now before self.old }
+        ensures { OnOk result (IsLaidOut board.now boxes.now self.new) }
+    {
+        self.boxes.clear();
+        self.boxes.extend_from_slice(boxes)?;
+        self.free.copy_from(&self.area);
+        drawing::take_boxes(&mut self.free, board, boxes);
+        self.boxed = Field::new();
+        put_boxes(&mut self.boxed, board, boxes);
+        Ok(())
+    }
+
+    /// The boxes, in any order.
+    pub fn boxes(&self) -> &[Sq]
+        ensures { result.now ≡ self.now.boxes }
+    {
+        &self.boxes
+    }
+
+    /// The squares of the boxes.
+    pub fn boxed(&self) -> &Field
+        ensures { result.now ≡ self.now.boxed }
+    {
+        &self.boxed
+    }
+
+    /// The squares that the boxes leave free.
+    pub fn free(&self) -> &Field
+        ensures { result.now ≡ self.now.free }
+    {
+        &self.free
+    }
+
+    /// Moves a box from one square to another.
+    pub fn shift(&mut self, board: &Board, from: Sq, to: Sq)
+        requires accepted { IsAccepted board.now }
+        requires from { from < length board.now.area }
+        requires to { to < length board.now.area }
+        ensures { (boxes after : List ℕ) → IsLaidOut board.now boxes self.old
+            → Contains boxes from → (Contains boxes to → ⊥) → IsMoved boxes from to after
+            → IsLaidOut board.now after self.new }
+    {
+        put(&mut self.free, board, from);
+        take(&mut self.free, board, to);
+        take(&mut self.boxed, board, from);
+        put(&mut self.boxed, board, to);
+        replace(&mut self.boxes, from, to);
+    }
+}
+
+/// Puts boxes into a set without squares.
+fn put_boxes(field: &mut Field, board: &Board, boxes: &[Sq])
+    requires accepted { IsAccepted board.now }
+    requires exist { All (λ square. square < length board.now.area) boxes.now }
+    requires empty { Draws board.now (Contains []) field.old }
+    ensures { Draws board.now (Contains boxes.now) field.new }
+{
+    for square in boxes {
+        put(field, board, *square);
+    }
+}
+
+/// Puts a square of the area into a set.
+fn put(field: &mut Field, board: &Board, square: Sq)
+    requires accepted { IsAccepted board.now }
+    requires exists { square < length board.now.area }
+    ensures { (s : Spot)
+        → IsTrue (has field.new s) ↔ ((s ≡ spot_of board.now square) ⊎ IsTrue (has field.old s)) }
+{
+    field.put(board.spot(square));
+}
+
+/// Takes a square of the area out of a set.
+fn take(field: &mut Field, board: &Board, square: Sq)
+    requires accepted { IsAccepted board.now }
+    requires exists { square < length board.now.area }
+    ensures { (s : Spot) → IsTrue (has field.new s)
+        ↔ ((s ≡ spot_of board.now square → ⊥) × IsTrue (has field.old s)) }
+{
+    field.take(board.spot(square));
+}
+
+/// Has one square stand for another in a list.
+fn replace(squares: &mut [Sq], from: Sq, to: Sq)
+    ensures { squares.new ≡ replaced from to squares.old }
+{
+    for square in squares.iter_mut() {
+        *square = replaced(*square, from, to);
+    }
+}
+
+/// The square that stands for one.
+fn replaced(square: Sq, from: Sq, to: Sq) -> Sq
+    ensures { result ≡ (if square == from then to else square) }
+{
+    if square == from { to } else { square }
+}

@@ -1,0 +1,43 @@
+//! Tests of what is asked of one level or one text, from the rules up to the engines on files:
+//! worked levels, with answers that were worked out by hand.
+//!
+//! | Module | What it tests |
+//! |---|---|
+//! | `answers` | the solver's whole answers, the limits, and levels whose states were all searched |
+//! | `collections` | which levels a text holds, their titles and their texts |
+//! | `engines` | the engines, without their contracts (no test) |
+//! | `faults` | what the solver refuses, and writers that are full |
+//! | `letters` | which letters a text spells, and the text of played letters |
+//! | `levels` | which rows are a level |
+//! | `limits` | which certificates have a text |
+//! | `lines` | the list of a collection's levels, and the replay of a text: all that is written |
+//! | `plays` | replays, and play letter by letter with undo and redo |
+//! | `solves` | the fewest pushes of worked levels, or that there are none, and what limits mean |
+//! | `texts` | which texts are certificates, and writing them again |
+//! | `verdicts` | certificates of worked levels, judged |
+#![tactic(auto)]
+
+#[cfg(test)]
+mod answers;
+#[cfg(test)]
+mod collections;
+#[cfg(test)]
+mod engines;
+#[cfg(test)]
+mod faults;
+#[cfg(test)]
+mod letters;
+#[cfg(test)]
+mod levels;
+#[cfg(test)]
+mod limits;
+#[cfg(test)]
+mod lines;
+#[cfg(test)]
+mod plays;
+#[cfg(test)]
+mod solves;
+#[cfg(test)]
+mod texts;
+#[cfg(test)]
+mod verdicts;
