@@ -2,6 +2,7 @@
 
 use crate::tables::opened;
 use sok_book::fault::BookFault;
+use sok_page::record::Record;
 use sok_row::book::LEVEL_LIMIT;
 use sok_sketch::sketch::{ONE_PUSH, SOLVED, level};
 use sok_sql::making::create;
@@ -30,9 +31,13 @@ fn added(
     Ok(book.add(&level, title))
 }
 
+/// What is kept under an id.
+fn kept(book: &mut Book<MemStore>, id: i64) -> Result<Record, BookFault> {
+    book.get(id)
+}
+
 fn title_of(book: &mut Book<MemStore>, id: i64) -> Result<Option<Vec<u8>>, BookFault> {
-    let kept = book.get(id)?;
-    Ok(kept.title)
+    Ok(kept(book, id)?.title)
 }
 
 #[test]

@@ -10,7 +10,7 @@ ghost use Rattle.sok_search.specs.Outcomes.{IsAnswer, IsFound};
 ghost use Rattle.sok_search.specs.Searches.{IsSearch, IsSearching, IsSmallSearch};
 ghost use Rattle.sok_search.specs.Stores.{entries_in};
 ghost use Rattle.sok_search.specs.Trails.{IsSolvedWithin};
-ghost use Rattle.sok_search.specs.Views.{progress_of, TellsSearched};
+ghost use Rattle.sok_search.specs.Views.{progress_of, IsRunning, TellsFinished, TellsSearched};
 ghost use Rattle.sok_search.specs.declared.fault.SolveFault.TheVariants as fault;
 
 use crate::beginning::begin;
@@ -128,11 +128,26 @@ fn searched(
     ensures { IfOk result (TellsSearched board.now limit whole) }
 {
     let mut search = begin(alloc, board, tables, whole)?;
-    let mut scratch = Scratch::new(alloc, board, tables)?;
-    match run(alloc, board, tables, limit, &mut search, &mut scratch)? {
+    match finish(alloc, board, tables, limit, &mut search)? {
         Reached::On => Ok(Some(search)),
         Reached::Full => Ok(None),
     }
+}
+
+/// Goes on with a search until no state waits, or its table is full.
+fn finish(
+    alloc: Global,
+    board: &Board,
+    tables: &Tables,
+    limit: u32,
+    search: &mut Search,
+) -> Result<Reached, Memory>
+    requires { IsRunning board.now tables.now limit (progress_of search.old) }
+    ensures { IfOk result
+        (TellsFinished board.now limit (progress_of search.old) (progress_of search.new)) }
+{
+    let mut scratch = Scratch::new(alloc, board, tables)?;
+    run(alloc, board, tables, limit, search, &mut scratch)
 }
 
 /// What a finished search has found.

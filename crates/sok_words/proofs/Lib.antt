@@ -1,3 +1,4 @@
+pub mod Building
 pub mod Forms
 pub mod Getters
 pub mod Lines

@@ -4,17 +4,17 @@
 //! |---|---|
 //! | `job` | what a command line asks for, or why it asks for nothing |
 //! | `words` | reading the words |
-//! | `arg` | the places and options of a subcommand, with their help (private) |
-//! | `command` | the program's command and its subcommands, with their help (private) |
-//! | `help` | the long texts of help (private) |
+//! | `command` | the program's command, with its help (private) |
+//! | `subcommand` | the subcommands, with their help (private) |
+//! | `place` | the places and options of a subcommand, with their help (private) |
 //! | `reading` | the job of each subcommand (private) |
 //! | `values` | the values that were given (private) |
 #![tactic(auto)]
 
-mod arg;
 mod command;
-mod help;
 pub mod job;
+mod place;
 mod reading;
+mod subcommand;
 mod values;
 pub mod words;

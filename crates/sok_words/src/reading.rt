@@ -2,7 +2,7 @@
 
 ghost use Rattle.std.specs.Prelude.{◌≡◌, List, ℕ, Some, codes};
 ghost use Rattle.clap.specs.Words.{Row, found_of, rows_of, subcommand_rows_of};
-ghost use Rattle.sok_words.specs.Forms.{Answers, Form, IsPlain};
+ghost use Rattle.sok_words.specs.Forms.{Answers, Form};
 ghost use Rattle.sok_words.specs.Rows.{HasValues};
 
 use crate::job::{Job, JobRefused};
@@ -12,47 +12,43 @@ use std::alloc::Global;
 
 /// The job that the subcommand's values ask for.
 pub(crate) fn job_in(alloc: Global, matches: &ArgMatches<'_>) -> Result<Job, JobRefused>
-    ensures { (form : Form) (name : List ℕ) (rows : List Row) → IsPlain form
+    ensures { (form : Form) (name : List ℕ) (rows : List Row)
         → subcommand_rows_of matches.now ≡ Some (name, rows) → HasValues form name rows
         → Answers form result }
 {
     let Some((name, values)) = matches.subcommand() else {
         return Err(missing(alloc));
     };
-    if name == "list" {
-        list_job(alloc, values)
-    } else if name == "replay" {
-        replay_job(alloc, values)
-    } else if name == "solve" {
-        solve_job(alloc, values)
-    } else if name == "check" {
-        check_job(alloc, values)
-    } else if name == "add" {
-        add_job(alloc, values)
-    } else if name == "offer" {
-        offer_job(alloc, values)
-    } else if name == "prove" {
-        prove_job(alloc, values)
-    } else if name == "show" {
-        show_job(alloc, values)
-    } else if name == "export" {
-        export_job(alloc, values)
-    } else {
-        Err(missing(alloc))
+    job_of(alloc, name, values)
+}
+
+/// The job of the subcommand with this name.
+fn job_of(alloc: Global, name: &str, values: &ArgMatches<'_>) -> Result<Job, JobRefused>
+    ensures { (form : Form) → HasValues form name.now (rows_of (found_of values.now)) → Answers form result }
+{
+    match name {
+        "list" => list_job(alloc, values),
+        "replay" => replay_job(alloc, values),
+        "solve" => solve_job(alloc, values),
+        "check" => check_job(alloc, values),
+        "add" => add_job(alloc, values),
+        "offer" => offer_job(alloc, values),
+        "prove" => prove_job(alloc, values),
+        "show" => show_job(alloc, values),
+        "export" => export_job(alloc, values),
+        _ => Err(missing(alloc)),
     }
 }
 
 fn list_job(alloc: Global, values: &ArgMatches<'_>) -> Result<Job, JobRefused>
-    ensures { (form : Form) → IsPlain form
-        → HasValues form (codes "list") (rows_of (found_of values.now)) → Answers form result }
+    ensures { (form : Form) → HasValues form (codes "list") (rows_of (found_of values.now)) → Answers form result }
 {
     let file = text_of(alloc, values, "FILE")?;
     Ok(Job::List(file))
 }
 
 fn replay_job(alloc: Global, values: &ArgMatches<'_>) -> Result<Job, JobRefused>
-    ensures { (form : Form) → IsPlain form
-        → HasValues form (codes "replay") (rows_of (found_of values.now)) → Answers form result }
+    ensures { (form : Form) → HasValues form (codes "replay") (rows_of (found_of values.now)) → Answers form result }
 {
     let file = text_of(alloc, values, "FILE")?;
     let number = number_of(alloc, values, "N")?;
@@ -61,8 +57,7 @@ fn replay_job(alloc: Global, values: &ArgMatches<'_>) -> Result<Job, JobRefused>
 }
 
 fn solve_job(alloc: Global, values: &ArgMatches<'_>) -> Result<Job, JobRefused>
-    ensures { (form : Form) → IsPlain form
-        → HasValues form (codes "solve") (rows_of (found_of values.now)) → Answers form result }
+    ensures { (form : Form) → HasValues form (codes "solve") (rows_of (found_of values.now)) → Answers form result }
 {
     let file = text_of(alloc, values, "FILE")?;
     let number = number_of(alloc, values, "N")?;
@@ -72,8 +67,7 @@ fn solve_job(alloc: Global, values: &ArgMatches<'_>) -> Result<Job, JobRefused>
 }
 
 fn check_job(alloc: Global, values: &ArgMatches<'_>) -> Result<Job, JobRefused>
-    ensures { (form : Form) → IsPlain form
-        → HasValues form (codes "check") (rows_of (found_of values.now)) → Answers form result }
+    ensures { (form : Form) → HasValues form (codes "check") (rows_of (found_of values.now)) → Answers form result }
 {
     let file = text_of(alloc, values, "FILE")?;
     let number = number_of(alloc, values, "N")?;
@@ -82,8 +76,7 @@ fn check_job(alloc: Global, values: &ArgMatches<'_>) -> Result<Job, JobRefused>
 }
 
 fn add_job(alloc: Global, values: &ArgMatches<'_>) -> Result<Job, JobRefused>
-    ensures { (form : Form) → IsPlain form
-        → HasValues form (codes "add") (rows_of (found_of values.now)) → Answers form result }
+    ensures { (form : Form) → HasValues form (codes "add") (rows_of (found_of values.now)) → Answers form result }
 {
     let db = text_of(alloc, values, "DB")?;
     let file = text_of(alloc, values, "FILE")?;
@@ -91,8 +84,7 @@ fn add_job(alloc: Global, values: &ArgMatches<'_>) -> Result<Job, JobRefused>
 }
 
 fn offer_job(alloc: Global, values: &ArgMatches<'_>) -> Result<Job, JobRefused>
-    ensures { (form : Form) → IsPlain form
-        → HasValues form (codes "offer") (rows_of (found_of values.now)) → Answers form result }
+    ensures { (form : Form) → HasValues form (codes "offer") (rows_of (found_of values.now)) → Answers form result }
 {
     let db = text_of(alloc, values, "DB")?;
     let id = id_of(alloc, values, "ID")?;
@@ -101,8 +93,7 @@ fn offer_job(alloc: Global, values: &ArgMatches<'_>) -> Result<Job, JobRefused>
 }
 
 fn prove_job(alloc: Global, values: &ArgMatches<'_>) -> Result<Job, JobRefused>
-    ensures { (form : Form) → IsPlain form
-        → HasValues form (codes "prove") (rows_of (found_of values.now)) → Answers form result }
+    ensures { (form : Form) → HasValues form (codes "prove") (rows_of (found_of values.now)) → Answers form result }
 {
     let db = text_of(alloc, values, "DB")?;
     let id = id_of(alloc, values, "ID")?;
@@ -111,8 +102,7 @@ fn prove_job(alloc: Global, values: &ArgMatches<'_>) -> Result<Job, JobRefused>
 }
 
 fn show_job(alloc: Global, values: &ArgMatches<'_>) -> Result<Job, JobRefused>
-    ensures { (form : Form) → IsPlain form
-        → HasValues form (codes "show") (rows_of (found_of values.now)) → Answers form result }
+    ensures { (form : Form) → HasValues form (codes "show") (rows_of (found_of values.now)) → Answers form result }
 {
     let db = text_of(alloc, values, "DB")?;
     let id = id_of(alloc, values, "ID")?;
@@ -120,8 +110,7 @@ fn show_job(alloc: Global, values: &ArgMatches<'_>) -> Result<Job, JobRefused>
 }
 
 fn export_job(alloc: Global, values: &ArgMatches<'_>) -> Result<Job, JobRefused>
-    ensures { (form : Form) → IsPlain form
-        → HasValues form (codes "export") (rows_of (found_of values.now)) → Answers form result }
+    ensures { (form : Form) → HasValues form (codes "export") (rows_of (found_of values.now)) → Answers form result }
 {
     let db = text_of(alloc, values, "DB")?;
     Ok(Job::Export(db))

@@ -3,9 +3,8 @@
 ghost use Rattle.std.specs.Prelude.{◌≡◌, ℕ, List, Option, Some, IsOkAnd, MatchResult, option_map};
 ghost use Rattle.std.specs.Prelude.{pos, string_bytes};
 ghost use Rattle.std.specs.Str.Parse.{digits_value};
-ghost use Rattle.clap.specs.Lexer.{without_minus};
-ghost use Rattle.clap.specs.Words.{first_of, found_of, one_of, rows_of};
-ghost use Rattle.sok_words.specs.Forms.{IsId, IsNumber};
+ghost use Rattle.clap.specs.Words.{first_of, found_of, rows_of};
+ghost use Rattle.sok_words.specs.Rows.{HasId, HasNumber};
 
 use crate::job::JobRefused;
 use clap::ArgMatches;
@@ -38,12 +37,9 @@ pub(crate) fn text_of(
     ensures { (text : List ℕ) → first_of name.now (rows_of (found_of values.now)) ≡ Some text
         → MatchResult result (λ s. string_bytes s ≡ text) (λ e. e.status ≡ 6) }
 {
-    let Some(text) = values.get_str(name) else {
-        return Err(missing(alloc));
-    };
-    match String::from_str(alloc, text) {
-        Ok(text) => Ok(text),
-        Err(_) => Err(out_of_memory(alloc)),
+    match option_of(alloc, values, name)? {
+        Some(text) => Ok(text),
+        None => Err(missing(alloc)),
     }
 }
 
@@ -71,9 +67,9 @@ pub(crate) fn number_of(
     values: &ArgMatches<'_>,
     name: &str,
 ) -> Result<u32, JobRefused>
-    ensures { (text : List ℕ) → IsNumber text
-        → one_of name.now (rows_of (found_of values.now)) ≡ Some (without_minus text)
-        → IsOkAnd result (λ n. n ≡ digits_value 10 text) }
+    ensures { (digits : List ℕ) (number : ℕ)
+        → HasNumber (rows_of (found_of values.now)) name.now digits number
+        → IsOkAnd result (λ n. n ≡ number) }
 {
     match values.get_one::<u32>(name) {
         Some(number) => Ok(number),
@@ -83,9 +79,8 @@ pub(crate) fn number_of(
 
 /// The id under this name.
 pub(crate) fn id_of(alloc: Global, values: &ArgMatches<'_>, name: &str) -> Result<i64, JobRefused>
-    ensures { (text : List ℕ) → IsId text
-        → one_of name.now (rows_of (found_of values.now)) ≡ Some text
-        → IsOkAnd result (λ n. n ≡ pos (digits_value 10 text)) }
+    ensures { (digits : List ℕ) → HasId (rows_of (found_of values.now)) name.now digits
+        → IsOkAnd result (λ n. n ≡ pos (digits_value 10 digits)) }
 {
     match values.get_one::<i64>(name) {
         Some(number) => Ok(number),

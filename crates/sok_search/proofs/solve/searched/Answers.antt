@@ -4,8 +4,8 @@ use Rattle.sok_search.specs.Searches.{Frame}
 use Rattle.sok_search.specs.Views.{TellsFinished, progress_of}
 use Rattle.sok_search.proofs.solve.searched.Goals as goal
 
-pub run-requires-clause-running : goal.run-requires-clause-running
-run-requires-clause-running c = record {
+pub finish-requires : goal.finish-requires
+finish-requires c = record {
   accepted = c.requires.accepted;
   tables = c.requires.tables;
   search = c.in_ok-search.ensures.search c.args.limit c.requires.positive;
@@ -14,12 +14,12 @@ run-requires-clause-running c = record {
 pub returns-in-On : goal.returns-in-On
 returns-in-On c =
     let p = progress_of c.in_ok-search.search in
-    let q = progress_of c.run.new.search in
-    let told : TellsFinished c.args.board.now c.args.limit p q On = subst (TellsFinished c.args.board.now c.args.limit p q) c.in-On.is c.in_ok-run.ensures in
+    let q = progress_of c.finish.new.search in
+    let told : TellsFinished c.args.board.now c.args.limit p q On = subst (TellsFinished c.args.board.now c.args.limit p q) c.in-On.is c.in_ok-finish.ensures in
     record { search = told.search; kept = ap (λ (frame : Frame). frame.whole) told.frame ∙ c.in_ok-search.ensures.whole; empty = told.empty }
 
 pub returns-in-Full : goal.returns-in-Full
 returns-in-Full c =
     let p = progress_of c.in_ok-search.search in
-    let q = progress_of c.run.new.search in
-    subst (TellsFinished c.args.board.now c.args.limit p q) c.in-Full.is c.in_ok-run.ensures
+    let q = progress_of c.finish.new.search in
+    subst (TellsFinished c.args.board.now c.args.limit p q) c.in-Full.is c.in_ok-finish.ensures

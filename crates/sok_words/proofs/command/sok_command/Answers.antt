@@ -1,9 +1,13 @@
+use Rattle.std.proofs.Common.{arith}
+use Rattle.sok_words.proofs.Building.{adds_subcommand, all_of_them, one_more}
 use Rattle.sok_words.proofs.command.sok_command.Goals as goal
+
+pub loop-subcommand-preserved : goal.loop-subcommand-preserved
+loop-subcommand-preserved c =
+    one_more _ _ c.subcommands.result c.loop-subcommand.subcommand-index _ c.in_ok-command.command (omega arith)
+    (adds_subcommand _ _ _ _ _ c.loop-subcommand.invariant c.in_ok-own.ensures c.in_ok-command.ensures)
 
 pub returns : goal.returns
 returns c =
-    let one = c.in_ok-command.ensures _ _ c.in_ok-files_command.ensures c.add_command.ensures in
-    let two = c.in_ok-command-2.ensures _ _ one c.offer_command.ensures in
-    let three = c.in_ok-command-3.ensures _ _ two c.prove_command.ensures in
-    let four = c.in_ok-command-4.ensures _ _ three c.show_command.ensures in
-    c.with_command-5.ensures _ _ four c.export_command.ensures
+    rw c.subcommands.ensures at
+    (all_of_them _ _ c.subcommands.result c.loop-subcommand.subcommand-index c.loop-subcommand.command (omega arith) c.loop-subcommand.invariant)

@@ -9,7 +9,7 @@ returns-in-Ok-try_get_matches_from c = λ program form plain words.
     let r = reads program form plain in
     let app = c.in-Ok.ensures.app_is in
     let found = (c.in-Ok-try_get_matches_from.ensures.matches (ap is_simple app ∙ simple)).1 in
-    c.job_in.ensures form r.name r.rows plain (found ∙ ap₂ subcommand_of app words ∙ r.enters) r.values
+    c.job_in.ensures form r.name r.rows (found ∙ ap₂ subcommand_of app words ∙ r.enters) r.values
 
 pub returns-in-Err-try_get_matches_from : goal.returns-in-Err-try_get_matches_from
 returns-in-Err-try_get_matches_from c = λ program form plain words.

@@ -1,4 +1,0 @@
-use Rattle.sok_words.proofs.command.add_command.Goals as goal
-
-pub returns : goal.returns
-returns c = c.with_arg-2.ensures _ _ (c.in_ok-command.ensures _ _ c.described-command.ensures c.required_arg.ensures) c.required_arg-2.ensures

@@ -1,4 +1,0 @@
-use Rattle.sok_words.proofs.command.prove_command.Goals as goal
-
-pub returns : goal.returns
-returns c = c.with_arg.ensures _ _ c.in_ok-command.ensures c.required_arg.ensures

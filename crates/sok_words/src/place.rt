@@ -1,0 +1,92 @@
+//! The places and options of a subcommand, with their help.
+
+ghost use Rattle.sok_words.specs.Shapes.{Follows, rule_of_kind};
+
+use clap::{Arg, value_parser};
+use std::alloc::Global;
+
+/// What is read in a place. One for a limit or a path is an option.
+#[derive(Clone, Copy)]
+pub(crate) enum Kind {
+    Text,
+    Number,
+    Id,
+    Limit,
+    Path,
+}
+
+/// A place of a subcommand.
+#[derive(Clone, Copy)]
+pub(crate) struct Place {
+    name: &'static str,
+    kind: Kind,
+    help: &'static str,
+}
+
+impl Place {
+    /// What the parser is told of it.
+    pub(crate) fn arg<'a>(self, alloc: Global) -> Arg<'a>
+        ensures { Follows (rule_of_kind self.kind self.name.now) result }
+    {
+        let arg = Arg::new(alloc, self.name).help(self.help);
+        match self.kind {
+            Kind::Text => arg.required(true),
+            Kind::Number => arg.required(true).value_parser(value_parser!(u32)),
+            Kind::Id => arg.required(true).value_parser(value_parser!(i64)),
+            Kind::Limit => arg
+                .long(self.name)
+                .value_parser(value_parser!(u32))
+                .default_value("100000")
+                .value_name("S"),
+            Kind::Path => arg.long(self.name).value_name("PATH"),
+        }
+    }
+}
+
+pub(crate) const FILE: Place = Place {
+    name: "FILE",
+    kind: Kind::Text,
+    help: "A collection of levels in XSB text, at most 16,777,216 bytes",
+};
+
+pub(crate) const N: Place = Place {
+    name: "N",
+    kind: Kind::Number,
+    help: "Which level of the collection, counted from 1",
+};
+
+pub(crate) const TEXT: Place = Place {
+    name: "TEXT",
+    kind: Kind::Text,
+    help: "The letters l, u, r and d in either case, at most 1,000,000; blanks are skipped",
+};
+
+pub(crate) const LIMIT: Place = Place {
+    name: "limit",
+    kind: Kind::Limit,
+    help: "Give up where more than S states are reached, from 1 to 1,000,000",
+};
+
+pub(crate) const OUTPUT: Place = Place {
+    name: "cert",
+    kind: Kind::Path,
+    help: "Write the certificate to this file, which is created or emptied first",
+};
+
+pub(crate) const CERT: Place = Place {
+    name: "CERT",
+    kind: Kind::Text,
+    help: "A certificate, as solve writes it, at most 268,435,456 bytes",
+};
+
+pub(crate) const DB: Place = Place {
+    name: "DB",
+    kind: Kind::Text,
+    help: "The database file of a book of levels, made where there is none",
+};
+
+pub(crate) const ID: Place = Place {
+    name: "ID",
+    kind: Kind::Id,
+    help: "The id of a level in the book, from 1",
+};

@@ -1,0 +1,128 @@
+//! The subcommands, with their help.
+
+ghost use Rattle.std.specs.Prelude.{◌≡◌, IfOk, fold};
+ghost use Rattle.sok_words.specs.Shapes.{Builds, own_app, sok_app, sok_top, with_own};
+
+use crate::place::{CERT, DB, FILE, ID, LIMIT, N, OUTPUT, Place, TEXT};
+use clap::Command;
+use std::alloc::{AllocError, Global};
+
+/// A subcommand: what it does, what it writes, and its places and options in turn.
+#[derive(Clone, Copy)]
+pub(crate) struct Subcommand {
+    name: &'static str,
+    about: &'static str,
+    writes: &'static str,
+    places: &'static [Place],
+}
+
+impl Subcommand {
+    /// The command of it alone.
+    pub(crate) fn command<'a>(&self, alloc: Global) -> Result<Command<'a>, AllocError>
+        ensures { IfOk result (Builds (own_app self.now.name.now self.now.places.now)) }
+    {
+        let mut command = Command::new(alloc, self.name)
+            .about(self.about)
+            .after_help(self.writes);
+        for place in self.places {
+            command = command.arg(place.arg(alloc))?;
+        }
+        Ok(command)
+    }
+}
+
+/// The subcommands in the order of the help.
+pub(crate) fn subcommands() -> [Subcommand; 9]
+    ensures { fold with_own sok_top result ≡ sok_app }
+{
+    [
+        Subcommand {
+            name: "list",
+            about: "Tells the size, the boxes, the goals and the title of each level",
+            writes: "\
+Writes a line for each level:
+  N ROWS COLS BOXES GOALS TITLE  floor at row ends is not counted, boxes and goals outside are
+  N fault NUMBER NAME ..         the level's fault; the levels behind it are told all the same",
+            places: &[FILE],
+        },
+        Subcommand {
+            name: "replay",
+            about: "Plays a text of letters on a level, and tells whether it solves it",
+            writes: "\
+Writes one line:
+  solved PUSHES MOVES  all boxes stand on goals after the last letter (status 0)
+  open PUSHES MOVES    some box does not (status 1)
+MOVES counts all letters. A letter that is not legal is fault 12 Blocked (status 3).",
+            places: &[FILE, N, TEXT],
+        },
+        Subcommand {
+            name: "solve",
+            about: "Finds a solution with fewest pushes, or shows that there is none",
+            writes: "\
+Writes one of these:
+  solved PUSHES MOVES  and the letters on the next line, in upper case where a box is pushed:
+                       no letters solve the level with fewer pushes (status 0)
+  unsolvable           no letters solve the level (status 0)
+  limit S              more than S states can be reached; nothing else is known (status 4)
+The certificate shows the first two to whoever checks it. With limit it stays empty.",
+            places: &[FILE, N, LIMIT, OUTPUT],
+        },
+        Subcommand {
+            name: "check",
+            about: "Judges a certificate, which shows how many pushes a level needs",
+            writes: "\
+Writes one line:
+  accepted at least K pushes  no letters solve the level with fewer than K pushes (status 0)
+  accepted unsolvable         no letters solve the level (status 0)
+  refused NUMBER NAME ..      the first fault of the certificate, which shows nothing (status 1)",
+            places: &[FILE, N, CERT],
+        },
+        Subcommand {
+            name: "add",
+            about: "Adds the levels of a collection to a book",
+            writes: "\
+Writes a line for each level:
+  N id ID                 its id in the book: that of the same level, if it is there already
+  N fault NUMBER NAME ..  the level's fault: it is not added; the levels behind it are",
+            places: &[DB, FILE],
+        },
+        Subcommand {
+            name: "offer",
+            about: "Offers a solution, which the book keeps if it has fewer pushes",
+            writes: "\
+Writes one line:
+  stored PUSHES MOVES  the book had no solution of the level, or one with more pushes (status 0)
+  kept PUSHES MOVES    it keeps this one, which has no more pushes (status 1)
+Letters that do not solve the level are fault 13 NotSolved (status 1).",
+            places: &[DB, ID, TEXT],
+        },
+        Subcommand {
+            name: "prove",
+            about: "Judges a certificate for a level of a book, and keeps the verdict",
+            writes: "\
+Writes one line:
+  proved optimal K        no letters solve the level with fewer pushes than its best, K (status 0)
+  proved unsolvable       no letters solve the level (status 0)
+  refused NUMBER NAME ..  the first fault of the certificate, which shows nothing (status 1)
+A claim that is not about the best is fault 31 NoBest or 33 ClaimDiffers (status 3).",
+            places: &[DB, ID, CERT],
+        },
+        Subcommand {
+            name: "show",
+            about: "Shows a level of a book: its rows, title, best solution and verdict",
+            writes: "\
+Writes the level's rows, and behind them:
+  title TITLE                       if it has one
+  best PUSHES MOVES LETTERS         or best none
+  verdict untested                  or verdict optimal, or verdict unsolvable",
+            places: &[DB, ID],
+        },
+        Subcommand {
+            name: "export",
+            about: "Writes the levels of a book as a collection",
+            writes: "\
+Writes for each level, in order of ids, ; TITLE if it has one, its rows, and an empty line.",
+            places: &[DB],
+        },
+    ]
+}
