@@ -1,5 +1,7 @@
--- The numbers by which faults are printed.
-use Rattle.std.specs.Prelude.{ℕ}
+-- How faults are printed: their numbers, and their names with their arguments, each after one space.
+use Rattle.std.specs.Prelude.{ℕ, List, ◌++◌, codes}
+use Rattle.std.specs.Fmt.{decimal}
+use Rattle.sok_rules.specs.declared.cell.Spot.{Spot}
 use Rattle.sok_board.specs.declared.fault.BoardFault.{BoardFault}
 use Rattle.sok_board.specs.declared.fault.BoardFault.TheVariants.{NotEnclosed, BoxOutside, TooFewGoals, TooLarge, TooManyBoxes, Memory}
 
@@ -10,3 +12,15 @@ board_fault_number TooFewGoals = 8
 board_fault_number TooLarge = 9
 board_fault_number TooManyBoxes = 10
 board_fault_number Memory = 40
+
+-- a row and a column, as arguments
+abbrev pub spot_words : Spot → List ℕ
+spot_words spot = decimal spot.row ++ codes " " ++ decimal spot.col
+
+abbrev pub board_fault_words : BoardFault → List ℕ
+board_fault_words (NotEnclosed spot) = codes "NotEnclosed " ++ spot_words spot
+board_fault_words (BoxOutside spot) = codes "BoxOutside " ++ spot_words spot
+board_fault_words TooFewGoals = codes "TooFewGoals"
+board_fault_words TooLarge = codes "TooLarge"
+board_fault_words TooManyBoxes = codes "TooManyBoxes"
+board_fault_words Memory = codes "Memory"

@@ -1,15 +1,17 @@
 //! Why a level is not accepted.
 
-ghost use Rattle.std.specs.Prelude.{◌≡◌};
-ghost use Rattle.sok_board.specs.Faults.{board_fault_number};
+ghost use Rattle.std.specs.Prelude.{◌≡◌, Some};
+ghost use Rattle.sok_board.specs.Faults.{board_fault_number, board_fault_words};
 ghost use Rattle.sok_board.specs.declared.fault.BoardFault.TheVariants as board;
 
 use sok_rules::cell::Spot;
 use sok_rules::fault::Memory;
 use std::alloc::{AllocError, AllocFailed};
+use std::fmt;
+use thiserror::Error;
 
-/// Why no board is made of a level.
-#[derive(Clone, Copy, Debug, PartialEq, Eq)]
+/// Why no board is made of a level. It is displayed as its name and its arguments.
+#[derive(Clone, Copy, Debug, PartialEq, Eq, Error)]
 pub enum BoardFault {
     /// The first square of the area, row by row, that has a neighbour in no row.
     NotEnclosed(Spot),
@@ -37,6 +39,21 @@ impl BoardFault {
             BoardFault::TooLarge => 9,
             BoardFault::TooManyBoxes => 10,
             BoardFault::Memory => 40,
+        }
+    }
+}
+
+impl fmt::Display for BoardFault {
+    ghost output = { λ fault. Some (board_fault_words fault) };
+
+    fn fmt<W: fmt::Write>(&self, f: &mut fmt::Formatter<W>) -> fmt::Result {
+        match self {
+            BoardFault::NotEnclosed(spot) => write!(f, "NotEnclosed {} {}", spot.row, spot.col),
+            BoardFault::BoxOutside(spot) => write!(f, "BoxOutside {} {}", spot.row, spot.col),
+            BoardFault::TooFewGoals => write!(f, "TooFewGoals"),
+            BoardFault::TooLarge => write!(f, "TooLarge"),
+            BoardFault::TooManyBoxes => write!(f, "TooManyBoxes"),
+            BoardFault::Memory => write!(f, "Memory"),
         }
     }
 }

@@ -3,6 +3,7 @@ use Rattle.std.proofs.Common.{ℕ, ◌≡◌, ◌≢◌, ◌≤◌, inl, inr, re
 use Rattle.std.proofs.Common.{IsNone, IsSome, IsSomeAnd, length, arith}
 use Rattle.std.proofs.lemmas.Option.{none-some, same_Some}
 use Rattle.sok_rules.specs.declared.cell.Dir.{Dir}
+use Rattle.sok_rules.specs.declared.fault.PlayFault.TheVariants as play
 use Rattle.sok_rules.specs.Squares.{Rows}
 use Rattle.sok_rules.specs.Play.{AllOnGoals, Position, Solves, run, start}
 use Rattle.sok_rules.proofs.Outcomes.{blocked_not_legal}
@@ -34,19 +35,11 @@ pub legal-from_Solves : (rows : Rows) (letters : List Dir) → Solves rows lette
 legal-from_Solves rows letters solves = there (run rows (start rows) letters) (AllOnGoals rows) solves
 
 pub solutions-are-not-refused : SolutionsAreNotRefused
-solutions-are-not-refused rows letters book.TooLong solves few refused = omega (arith, few, refused)
-solutions-are-not-refused rows letters (book.Blocked at) solves few refused =
+solutions-are-not-refused rows letters (book.Letters play.TooLong) solves few refused = omega (arith, few, refused)
+solutions-are-not-refused rows letters (book.Letters (play.Blocked at)) solves few refused =
     blocked_not_legal rows letters at refused.1 (legal-from_Solves rows letters solves)
 solutions-are-not-refused rows letters book.NotSolved solves few refused = refused.2 solves
-solutions-are-not-refused rows letters (book.Level f) solves few refused = refused
-solutions-are-not-refused rows letters (book.Certificate f) solves few refused = refused
-solutions-are-not-refused rows letters book.NoLevel solves few refused = refused
-solutions-are-not-refused rows letters book.NoBest solves few refused = refused
-solutions-are-not-refused rows letters book.Database solves few refused = refused
-solutions-are-not-refused rows letters book.ClaimDiffers solves few refused = refused
-solutions-are-not-refused rows letters (book.BadBook id) solves few refused = refused
-solutions-are-not-refused rows letters book.BookFull solves few refused = refused
-solutions-are-not-refused rows letters book.Memory solves few refused = refused
+solutions-are-not-refused rows letters fault solves few refused = refused
 
 -- ---- pages
 
@@ -65,16 +58,7 @@ pub adds-are-not-refused : AddsAreNotRefused
 adds-are-not-refused b after rows title id (book.Level f) acceptable adds refused = IsRefused-acceptable rows f refused.0 refused.1 acceptable
 adds-are-not-refused b after rows title id book.BookFull acceptable (is_known stands same) refused = refused.1 id stands
 adds-are-not-refused b after rows title id book.BookFull acceptable (is_new fresh room last grown) refused = omega (arith, room, refused.2)
-adds-are-not-refused b after rows title id book.TooLong acceptable adds refused = refused
-adds-are-not-refused b after rows title id (book.Blocked at) acceptable adds refused = refused
-adds-are-not-refused b after rows title id book.NotSolved acceptable adds refused = refused
-adds-are-not-refused b after rows title id (book.Certificate f) acceptable adds refused = refused
-adds-are-not-refused b after rows title id book.NoLevel acceptable adds refused = refused
-adds-are-not-refused b after rows title id book.NoBest acceptable adds refused = refused
-adds-are-not-refused b after rows title id book.Database acceptable adds refused = refused
-adds-are-not-refused b after rows title id book.ClaimDiffers acceptable adds refused = refused
-adds-are-not-refused b after rows title id (book.BadBook f) acceptable adds refused = refused
-adds-are-not-refused b after rows title id book.Memory acceptable adds refused = refused
+adds-are-not-refused b after rows title id fault acceptable adds refused = refused
 
 -- ---- offering
 
@@ -87,28 +71,8 @@ offered b id letters fault page at solves few refused =
 
 pub offers-are-not-refused : OffersAreNotRefused
 offers-are-not-refused b after id letters answer book.NoLevel offers refused = not_missing (page_at b id) offers.page offers.there refused
-offers-are-not-refused b after id letters answer book.TooLong offers refused =
-    offered b id letters book.TooLong offers.page offers.there offers.solves offers.few refused
-offers-are-not-refused b after id letters answer (book.Blocked at) offers refused =
-    offered b id letters (book.Blocked at) offers.page offers.there offers.solves offers.few refused
-offers-are-not-refused b after id letters answer book.NotSolved offers refused =
-    offered b id letters book.NotSolved offers.page offers.there offers.solves offers.few refused
-offers-are-not-refused b after id letters answer (book.Level f) offers refused =
-    offered b id letters (book.Level f) offers.page offers.there offers.solves offers.few refused
-offers-are-not-refused b after id letters answer (book.Certificate f) offers refused =
-    offered b id letters (book.Certificate f) offers.page offers.there offers.solves offers.few refused
-offers-are-not-refused b after id letters answer book.NoBest offers refused =
-    offered b id letters book.NoBest offers.page offers.there offers.solves offers.few refused
-offers-are-not-refused b after id letters answer book.Database offers refused =
-    offered b id letters book.Database offers.page offers.there offers.solves offers.few refused
-offers-are-not-refused b after id letters answer book.ClaimDiffers offers refused =
-    offered b id letters book.ClaimDiffers offers.page offers.there offers.solves offers.few refused
-offers-are-not-refused b after id letters answer (book.BadBook f) offers refused =
-    offered b id letters (book.BadBook f) offers.page offers.there offers.solves offers.few refused
-offers-are-not-refused b after id letters answer book.BookFull offers refused =
-    offered b id letters book.BookFull offers.page offers.there offers.solves offers.few refused
-offers-are-not-refused b after id letters answer book.Memory offers refused =
-    offered b id letters book.Memory offers.page offers.there offers.solves offers.few refused
+offers-are-not-refused b after id letters answer fault offers refused =
+    offered b id letters fault offers.page offers.there offers.solves offers.few refused
 
 -- ---- proving
 
@@ -122,30 +86,10 @@ some_none None is some = absurd cc
 some_none (Some n) is some = none-some n (sym is)
 
 differs : (c : Claim) (best : Option ℕ) (fault : BookFault) → Meets c best → Differs c best fault → ⊥
-differs (claim.Pushes k) best book.TooLong meets other = other
-differs (claim.Pushes k) best (book.Blocked at) meets other = other
-differs (claim.Pushes k) best book.NotSolved meets other = other
-differs (claim.Pushes k) best (book.Level f) meets other = other
-differs (claim.Pushes k) best book.NoLevel meets other = other
 differs (claim.Pushes k) best book.NoBest meets none = none-some k (sym none ∙ meets)
-differs (claim.Pushes k) best book.Database meets other = other
 differs (claim.Pushes k) best book.ClaimDiffers meets other = pushes_differ k best meets other
-differs (claim.Pushes k) best (book.BadBook f) meets other = other
-differs (claim.Pushes k) best book.BookFull meets other = other
-differs (claim.Pushes k) best book.Memory meets other = other
-differs (claim.Pushes k) best (book.Certificate f) meets other = other
-differs claim.Unsolvable best book.TooLong meets other = other
-differs claim.Unsolvable best (book.Blocked at) meets other = other
-differs claim.Unsolvable best book.NotSolved meets other = other
-differs claim.Unsolvable best (book.Level f) meets other = other
-differs claim.Unsolvable best book.NoLevel meets other = other
-differs claim.Unsolvable best book.NoBest meets other = other
-differs claim.Unsolvable best book.Database meets other = other
 differs claim.Unsolvable best book.ClaimDiffers meets some = some_none best meets some
-differs claim.Unsolvable best (book.BadBook f) meets other = other
-differs claim.Unsolvable best book.BookFull meets other = other
-differs claim.Unsolvable best book.Memory meets other = other
-differs claim.Unsolvable best (book.Certificate f) meets other = other
+differs c best fault meets other = absurd other
 
 -- another claim is not spelled
 claimed : (b : Numbered) (best : Option ℕ) (bytes : List ℕ) (c : Claim) (fault : BookFault) → IsShown b bytes c → Meets c best
@@ -166,17 +110,7 @@ shown b best bytes c (book.Certificate f) is meets (other, inl wrong) = not_refu
 shown b best bytes c (book.Certificate f) is meets (other, inr unclosed) =
     not_refused b best bytes c f is
     (other, inr (record { claim = unclosed.claim; entries = unclosed.entries; spelled = unclosed.spelled; refused = unclosed.refused }))
-shown b best bytes c book.TooLong is meets other = claimed b best bytes c book.TooLong is meets other
-shown b best bytes c (book.Blocked at) is meets other = claimed b best bytes c (book.Blocked at) is meets other
-shown b best bytes c book.NotSolved is meets other = claimed b best bytes c book.NotSolved is meets other
-shown b best bytes c (book.Level f) is meets other = claimed b best bytes c (book.Level f) is meets other
-shown b best bytes c book.NoLevel is meets other = claimed b best bytes c book.NoLevel is meets other
-shown b best bytes c book.NoBest is meets other = claimed b best bytes c book.NoBest is meets other
-shown b best bytes c book.Database is meets other = claimed b best bytes c book.Database is meets other
-shown b best bytes c book.ClaimDiffers is meets other = claimed b best bytes c book.ClaimDiffers is meets other
-shown b best bytes c (book.BadBook f) is meets other = claimed b best bytes c (book.BadBook f) is meets other
-shown b best bytes c book.BookFull is meets other = claimed b best bytes c book.BookFull is meets other
-shown b best bytes c book.Memory is meets other = claimed b best bytes c book.Memory is meets other
+shown b best bytes c fault is meets other = claimed b best bytes c fault is meets other
 
 unproved : (bk : Book) (id : ℕ) (bytes : List ℕ) (c : Claim) (fault : BookFault) (page : Page) → page_at bk id ≡ Some page → IsCertificate page.level bytes c
     → Meets c (best_pushes page) → IsSomeAnd (page_at bk id) (λ (p : Page). IsUnproved p bytes fault) → ⊥
@@ -187,25 +121,5 @@ unproved bk id bytes c fault page at certificate meets refused =
 
 pub proofs-are-not-refused : ProofsAreNotRefused
 proofs-are-not-refused bk after id bytes c book.NoLevel proves refused = not_missing (page_at bk id) proves.page proves.there refused
-proofs-are-not-refused bk after id bytes c book.TooLong proves refused =
-    unproved bk id bytes c book.TooLong proves.page proves.there proves.certificate proves.meets refused
-proofs-are-not-refused bk after id bytes c (book.Blocked at) proves refused =
-    unproved bk id bytes c (book.Blocked at) proves.page proves.there proves.certificate proves.meets refused
-proofs-are-not-refused bk after id bytes c book.NotSolved proves refused =
-    unproved bk id bytes c book.NotSolved proves.page proves.there proves.certificate proves.meets refused
-proofs-are-not-refused bk after id bytes c (book.Level f) proves refused =
-    unproved bk id bytes c (book.Level f) proves.page proves.there proves.certificate proves.meets refused
-proofs-are-not-refused bk after id bytes c book.NoBest proves refused =
-    unproved bk id bytes c book.NoBest proves.page proves.there proves.certificate proves.meets refused
-proofs-are-not-refused bk after id bytes c book.Database proves refused =
-    unproved bk id bytes c book.Database proves.page proves.there proves.certificate proves.meets refused
-proofs-are-not-refused bk after id bytes c book.ClaimDiffers proves refused =
-    unproved bk id bytes c book.ClaimDiffers proves.page proves.there proves.certificate proves.meets refused
-proofs-are-not-refused bk after id bytes c (book.BadBook f) proves refused =
-    unproved bk id bytes c (book.BadBook f) proves.page proves.there proves.certificate proves.meets refused
-proofs-are-not-refused bk after id bytes c book.BookFull proves refused =
-    unproved bk id bytes c book.BookFull proves.page proves.there proves.certificate proves.meets refused
-proofs-are-not-refused bk after id bytes c book.Memory proves refused =
-    unproved bk id bytes c book.Memory proves.page proves.there proves.certificate proves.meets refused
-proofs-are-not-refused bk after id bytes c (book.Certificate f) proves refused =
-    unproved bk id bytes c (book.Certificate f) proves.page proves.there proves.certificate proves.meets refused
+proofs-are-not-refused bk after id bytes c fault proves refused =
+    unproved bk id bytes c fault proves.page proves.there proves.certificate proves.meets refused

@@ -5,6 +5,7 @@ use Rattle.sok_rules.specs.Limits.{letter_limit}
 use Rattle.sok_rules.specs.Squares.{Rows}
 use Rattle.sok_rules.specs.Play.{start, run, Solves}
 use Rattle.sok_rules.specs.Replay.{IsBlockedAt}
+use Rattle.sok_rules.specs.declared.fault.PlayFault.TheVariants.{Blocked, TooLong}
 use Rattle.sok_board.specs.declared.fault.BoardFault.TheVariants as board
 use Rattle.sok_board.specs.Area.{Numbered, IsAccepted}
 use Rattle.sok_board.specs.Refusals as level
@@ -17,7 +18,7 @@ use Rattle.sok_cert.specs.Reading.{GoesWrong}
 use Rattle.sok_cert.specs.Text.{Spells}
 use Rattle.sok_cert.specs.Refusals as list
 use Rattle.sok_book.specs.declared.fault.BookFault.{BookFault}
-use Rattle.sok_book.specs.declared.fault.BookFault.TheVariants.{Level, Blocked, NotSolved, TooLong, Certificate, NoLevel, NoBest, ClaimDiffers, BookFull}
+use Rattle.sok_book.specs.declared.fault.BookFault.TheVariants.{Level, Letters, NotSolved, Certificate, NoLevel, NoBest, ClaimDiffers, BookFull}
 use Rattle.sok_book.specs.Books.{Book, Page, page_at}
 use Rattle.sok_book.specs.Commands.{IsUnknown, Meets, best_pushes, level_limit}
 
@@ -29,8 +30,8 @@ IsNotAdded book rows _ = ⊥
 
 -- letters are no solution of a level that may be kept: there are too many; one is not legal; or they do not solve it
 abbrev pub IsNoSolution : Rows → List Dir → BookFault → Type 0
-IsNoSolution rows letters TooLong = letter_limit < length letters
-IsNoSolution rows letters (Blocked at) = (length letters ≤ letter_limit) × IsBlockedAt rows letters at
+IsNoSolution rows letters (Letters TooLong) = letter_limit < length letters
+IsNoSolution rows letters (Letters (Blocked at)) = (length letters ≤ letter_limit) × IsBlockedAt rows letters at
 IsNoSolution rows letters NotSolved = (length letters ≤ letter_limit) × IsSome (run rows (start rows) letters) × (Solves rows letters → ⊥)
 IsNoSolution rows letters _ = ⊥
 

@@ -1,25 +1,27 @@
 //! Why a command is refused.
 
-ghost use Rattle.std.specs.Prelude.{◌≡◌};
-ghost use Rattle.sok_book.specs.Faults.{book_fault_number, of_board, of_certificate};
+ghost use Rattle.std.specs.Prelude.{◌≡◌, Some};
+ghost use Rattle.sok_book.specs.Faults.{book_fault_number, book_fault_words};
+ghost use Rattle.sok_book.specs.Faults.{of_board, of_certificate, of_play};
 ghost use Rattle.sok_book.specs.declared.fault.BookFault.TheVariants as book;
 
 use sok_board::fault::BoardFault;
 use sok_cert::fault::CertFault;
-use sok_rules::fault::Memory;
+use sok_rules::fault::{Memory, PlayFault};
 use std::alloc::{AllocError, AllocFailed};
+use std::fmt;
+use thiserror::Error;
 
-/// Why a command is refused, or a book is not opened.
-#[derive(Clone, Copy, Debug, PartialEq, Eq)]
+/// Why a command is refused, or a book is not opened. It is displayed as its name and its
+/// arguments.
+#[derive(Clone, Copy, Debug, PartialEq, Eq, Error)]
 pub enum BookFault {
     /// No board can be made of the level that is added.
     Level(BoardFault),
-    /// The place, from 0, of the first letter that is not legal.
-    Blocked(usize),
+    /// A letter that is offered is not legal, or there are more than 1,000,000.
+    Letters(PlayFault),
     /// The letters are legal, and not all boxes stand on goals at their end.
     NotSolved,
-    /// There are more than 1,000,000 letters.
-    TooLong,
     /// The bytes are no certificate, or its list is not closed.
     Certificate(CertFault),
     /// The book has no level with this id.
@@ -45,9 +47,8 @@ impl BookFault {
     {
         match self {
             BookFault::Level(fault) => fault.number(),
-            BookFault::Blocked(_) => 12,
+            BookFault::Letters(fault) => fault.number(),
             BookFault::NotSolved => 13,
-            BookFault::TooLong => 14,
             BookFault::Certificate(fault) => fault.number(),
             BookFault::NoLevel => 30,
             BookFault::NoBest => 31,
@@ -56,6 +57,26 @@ impl BookFault {
             BookFault::BadBook(_) => 34,
             BookFault::BookFull => 35,
             BookFault::Memory => 40,
+        }
+    }
+}
+
+impl fmt::Display for BookFault {
+    ghost output = { λ fault. Some (book_fault_words fault) };
+
+    fn fmt<W: fmt::Write>(&self, f: &mut fmt::Formatter<W>) -> fmt::Result {
+        match self {
+            BookFault::Level(fault) => write!(f, "{fault}"),
+            BookFault::Letters(fault) => write!(f, "{fault}"),
+            BookFault::NotSolved => write!(f, "NotSolved"),
+            BookFault::Certificate(fault) => write!(f, "{fault}"),
+            BookFault::NoLevel => write!(f, "NoLevel"),
+            BookFault::NoBest => write!(f, "NoBest"),
+            BookFault::Database => write!(f, "Database"),
+            BookFault::ClaimDiffers => write!(f, "ClaimDiffers"),
+            BookFault::BadBook(id) => write!(f, "BadBook {id}"),
+            BookFault::BookFull => write!(f, "BookFull"),
+            BookFault::Memory => write!(f, "Memory"),
         }
     }
 }
@@ -91,6 +112,17 @@ impl From<BoardFault> for BookFault {
         match fault {
             BoardFault::Memory => BookFault::Memory,
             _ => BookFault::Level(fault),
+        }
+    }
+}
+
+impl From<PlayFault> for BookFault {
+    ghost from_gives = { λ from fault. fault ≡ of_play from };
+
+    fn from(fault: PlayFault) -> BookFault {
+        match fault {
+            PlayFault::Memory => BookFault::Memory,
+            _ => BookFault::Letters(fault),
         }
     }
 }

@@ -29,14 +29,10 @@ pub fn judge_letters(alloc: Global, level: &Level, letters: &[Dir]) -> Result<Ta
         (λ fault. (fault ≡ book.Memory) ⊎ IsNoSolution level.now letters.now fault) }
 {
     if letters.len() > LETTER_LIMIT {
-        return Err(BookFault::TooLong);
+        return Err(BookFault::Letters(PlayFault::TooLong));
     }
-    match replay(alloc, level, letters) {
-        Ok(tally) => accepted(level, letters, tally),
-        Err(PlayFault::Blocked(at)) => Err(BookFault::Blocked(at)),
-        Err(PlayFault::TooLong) => Err(BookFault::TooLong),
-        Err(PlayFault::Memory) => Err(BookFault::Memory),
-    }
+    let tally = replay(alloc, level, letters)?;
+    accepted(level, letters, tally)
 }
 
 ghost use Rattle.sok_rules.specs.Replay.{IsTally};

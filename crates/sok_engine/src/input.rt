@@ -6,6 +6,7 @@ ghost use Rattle.sok_engine.specs.declared.input.InputFault.TheVariants as fault
 
 use std::alloc::{AllocError, Global};
 use std::io::Read;
+use thiserror::Error;
 
 /// The most bytes of an input other than a certificate.
 pub const INPUT_LIMIT: usize = 16_777_216;
@@ -14,10 +15,16 @@ pub const INPUT_LIMIT: usize = 16_777_216;
 pub const CERT_LIMIT: usize = 268_435_456;
 
 /// Why an input is not read.
-#[derive(Clone, Copy, Debug, PartialEq, Eq)]
+#[derive(Clone, Copy, Debug, PartialEq, Eq, Error)]
 pub enum InputFault {
+    /// Memory was refused.
+    #[error("Memory")]
     Memory,
+    /// A read failed, for any cause.
+    #[error("ReadFailed")]
     ReadFailed,
+    /// There are more bytes than the limit.
+    #[error("TooMuch")]
     TooMuch,
 }
 

@@ -5,9 +5,11 @@ ghost use Rattle.std.specs.Io.KnownBytes.{Appends};
 ghost use Rattle.sok_engine.specs.Written.{AppendsFront};
 
 use std::io::Write;
+use thiserror::Error;
 
 /// A write failed, for any cause, or took no byte.
-#[derive(Clone, Copy, Debug, PartialEq, Eq)]
+#[derive(Clone, Copy, Debug, PartialEq, Eq, Error)]
+#[error("WriteFailed")]
 pub struct WriteFailed;
 
 /// Writes all of the bytes. Where a write fails, a front of them is written.

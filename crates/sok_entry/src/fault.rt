@@ -1,16 +1,18 @@
 //! Why a text is no certificate, and why a certificate is refused.
 
-ghost use Rattle.std.specs.Prelude.{◌≡◌};
-ghost use Rattle.sok_entry.specs.Faults.{cert_fault_number};
+ghost use Rattle.std.specs.Prelude.{◌≡◌, Some};
+ghost use Rattle.sok_entry.specs.Faults.{cert_fault_number, cert_fault_words};
 ghost use Rattle.sok_entry.specs.declared.fault.CertFault.TheVariants as cert;
 
 use sok_rules::cell::Dir;
 use sok_rules::fault::Memory;
 use std::alloc::{AllocError, AllocFailed};
+use std::fmt;
+use thiserror::Error;
 
 /// Why a text is no certificate, or why a certificate does not show what it claims. Lines are
-/// counted from 1, and entries from 0.
-#[derive(Clone, Copy, Debug, PartialEq, Eq)]
+/// counted from 1, and entries from 0. It is displayed as its name and its arguments.
+#[derive(Clone, Copy, Debug, PartialEq, Eq, Error)]
 pub enum CertFault {
     /// The first line or the second is missing, or has another form.
     Header,
@@ -51,6 +53,25 @@ impl CertFault {
             CertFault::OpenPush(_, _, _) => 27,
             CertFault::BadReason(_) => 28,
             CertFault::Memory => 40,
+        }
+    }
+}
+
+impl fmt::Display for CertFault {
+    ghost output = { λ fault. Some (cert_fault_words fault) };
+
+    fn fmt<W: fmt::Write>(&self, f: &mut fmt::Formatter<W>) -> fmt::Result {
+        match self {
+            CertFault::Header => write!(f, "Header"),
+            CertFault::Line(line) => write!(f, "Line {line}"),
+            CertFault::Truncated => write!(f, "Truncated"),
+            CertFault::Start => write!(f, "Start"),
+            CertFault::Duplicate(entry) => write!(f, "Duplicate {entry}"),
+            CertFault::BadEntry(entry) => write!(f, "BadEntry {entry}"),
+            CertFault::SolvedEntry(entry) => write!(f, "SolvedEntry {entry}"),
+            CertFault::OpenPush(entry, square, dir) => write!(f, "OpenPush {entry} {square} {dir}"),
+            CertFault::BadReason(entry) => write!(f, "BadReason {entry}"),
+            CertFault::Memory => write!(f, "Memory"),
         }
     }
 }

@@ -17,7 +17,9 @@ OfFiles reads reads_text P answer =
 abbrev pub IsMade : {O : Type 0} → (O → Option (List ℕ)) → (O → Type 0) → Bytes → Type 0
 IsMade {O} contents makes bytes = (file : O) × (after : O) × makes file × (bytes ≡ record { old = contents file; new = contents after })
 
--- of the files at all paths: which bytes one may have that is opened there, and which those may be of one that is made there
+-- of the files at all paths: which bytes one may have that is opened there, whether there may be none, and which bytes those may be of one that is made
+-- there
 pub record Files : Type 1 where
   pub reads : List ℕ → Option (List ℕ) → Type 0
+  pub lacks : List ℕ → Type 0
   pub makes : List ℕ → Bytes → Type 0

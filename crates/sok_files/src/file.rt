@@ -1,6 +1,6 @@
 //! Opening and making the files that a command names.
 
-ghost use Rattle.std.specs.Prelude.{◌≡◌, MatchResult};
+ghost use Rattle.std.specs.Prelude.{◌≡◌, MatchResult, OnErr};
 ghost use Rattle.sok_engine.specs.declared.fault.ToolFault.TheVariants as tool;
 
 use crate::folder::Folder;
@@ -8,9 +8,10 @@ use sok_engine::fault::ToolFault;
 
 /// Opens a file that is there.
 pub fn open<F: Folder>(folder: &F, path: &str) -> Result<F::Input, ToolFault>
-    ensures { MatchResult result
+    ensures opened { MatchResult result
         (λ file. F.reads folder.now path.now (F.Input.remaining file))
         (λ fault. fault ≡ tool.ReadFailed) }
+    ensures lacks { OnErr result (F.lacks folder.now path.now) }
 {
     match folder.open(path) {
         Ok(file) => Ok(file),

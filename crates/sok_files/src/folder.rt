@@ -1,6 +1,6 @@
 //! Files by their paths.
 
-ghost use Rattle.std.specs.Prelude.{ℕ, List, Option, IfOk, ⊤};
+ghost use Rattle.std.specs.Prelude.{ℕ, List, Option, IfOk, MatchResult, ⊤};
 
 use std::fs::{self, File};
 use std::io::{self, Read, Write};
@@ -14,12 +14,17 @@ pub trait Folder {
     // A file that is opened at this path may have these bytes left, as far as they are known.
     ghost reads: { Self → List ℕ → Option (List ℕ) → Type 0 };
 
+    // There may be no file at this path that can be opened.
+    ghost lacks: { Self → List ℕ → Type 0 };
+
     // This file may be the one that is made at this path.
     ghost makes: { Self → List ℕ → Self.Output → Type 0 };
 
     /// Opens a file that is there.
     fn open(&self, path: &str) -> io::Result<Self::Input>
-        ensures { IfOk result (λ file. reads self.now path.now (Self.Input.remaining file)) };
+        ensures { MatchResult result
+            (λ file. reads self.now path.now (Self.Input.remaining file))
+            (λ _. lacks self.now path.now) };
 
     /// Makes a file, or empties it.
     fn create(&self, path: &str) -> io::Result<Self::Output>
@@ -33,6 +38,8 @@ impl Folder for HostRuntime {
     type Output = File;
 
     ghost reads = { λ _ _ _. ⊤ };
+
+    ghost lacks = { λ _ _. ⊤ };
 
     ghost makes = { λ _ _ _. ⊤ };
 

@@ -1,5 +1,5 @@
 -- A certificate for a level of a collection is judged on its board, if it has one.
-use Rattle.std.proofs.Common.{ℕ, ◌≡◌, ◌≢◌, ◌≤◌, ◌⊎◌, ◌∙◌, inl, inr, List, [], Option, Some, None, Result, Ok, Err, IfSome, Bool, true, false, true≢false, is_ok}
+use Rattle.std.proofs.Common.{ℕ, ◌≡◌, ◌≢◌, ◌≤◌, ◌⊎◌, ◌∙◌, inl, inr, List, [], Option, Some, None, Result, Ok, Err, IfSome, true≢false, is_ok}
 use Rattle.std.proofs.Common.{ap, length, refl, subst, sym}
 use Rattle.sok_text.specs.Collections.{blocks_of, level_at}
 use Rattle.sok_rules.specs.declared.fault.LevelFault.{LevelFault}
@@ -23,19 +23,12 @@ use Rattle.sok_judge.specs.Checks.{IsCheck, IsCheckOf, TellsVerdict, TellsVerdic
 use Rattle.sok_cert.specs.Verdicts.{IsVerdict}
 
 -- why a text is no certificate, unless memory was refused
-abbrev is_memory : CertFault → Bool
-is_memory cert.Memory = true
-is_memory fault = false
-
-ample_cert : (fault : CertFault) → is_memory fault ≡ false → fault ≢ cert.Memory
-ample_cert fault other same = true≢false (ap is_memory (sym same) ∙ other)
-
 pub unread : (b : Numbered) (text : List ℕ) (fault : CertFault) (result : Result Claim CertFault) → result ≡ Err fault
     → (fault ≡ cert.Memory) ⊎ GoesWrong text fault
     → (result ≡ Err cert.Memory) ⊎ IsVerdict b text result
 unread b text cert.Memory result is _ = inl is
 unread b text fault result is (inl same) = inl (is ∙ ap Err same)
-unread b text fault result is (inr wrong) = inr (subst (IsVerdict b text) (sym is) (ample_cert fault refl, inl wrong))
+unread b text fault result is (inr wrong) = inr (subst (IsVerdict b text) (sym is) ((λ same. cc), inl wrong))
 
 -- a level that is not made has no board
 pub no_level : (found : Result Rows LevelFault) (fault : LevelFault) (made : Result Rows LevelFault) → made ≡ Err fault
@@ -51,30 +44,13 @@ no_board rows found (inr same) fault is = unaccepted rows fault (sym same) is re
 
 -- such a fault is one of the answers, memory aside
 level_answers : (P : Rows → Answers) (fault : LevelFault) → IsFaultOf (OnLevel P (Err fault)) (of_level fault)
-level_answers P level.TooWide = refl
-level_answers P level.TooTall = refl
-level_answers P level.NoPlayer = refl
-level_answers P level.ManyPlayers = refl
-level_answers P level.NoBox = refl
-level_answers P level.NoSuchLevel = refl
-level_answers P (level.NoWall row) = refl
 level_answers P level.Memory = tt
+level_answers P fault = refl
 
 -- no board is made, unless memory was refused
-abbrev wants_memory : BoardFault → Bool
-wants_memory board.Memory = true
-wants_memory fault = false
-
-ample : (fault : BoardFault) → wants_memory fault ≡ false → fault ≢ board.Memory
-ample fault other same = true≢false (ap wants_memory (sym same) ∙ other)
-
 board_answers : (P : Numbered → Answers) (rows : Rows) (fault : BoardFault) → IsRefused rows fault → IsFaultOf (OnBoard P rows) (of_board fault)
-board_answers P rows (board.NotEnclosed spot) is = refused (board.NotEnclosed spot) (ample _ refl) is refl
-board_answers P rows (board.BoxOutside spot) is = refused (board.BoxOutside spot) (ample _ refl) is refl
-board_answers P rows board.TooFewGoals is = refused board.TooFewGoals (ample _ refl) is refl
-board_answers P rows board.TooLarge is = refused board.TooLarge (ample _ refl) is refl
-board_answers P rows board.TooManyBoxes is = refused board.TooManyBoxes (ample _ refl) is refl
 board_answers P rows board.Memory is = tt
+board_answers P rows fault is = refused fault (λ same. cc) is refl
 
 LacksBoard-answers : (P : Numbered → Answers) (found : Result Rows LevelFault) (fault : ToolFault) → LacksBoard found fault
     → IsFaultOf (OnLevel (OnBoard P) found) fault

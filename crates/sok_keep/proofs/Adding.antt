@@ -19,7 +19,7 @@ use Rattle.sok_engine.specs.declared.fault.ToolFault.{ToolFault}
 use Rattle.sok_engine.specs.declared.fault.ToolFault.TheVariants as tool
 use Rattle.sok_engine.specs.declared.input.InputFault.{InputFault}
 use Rattle.sok_engine.specs.declared.input.InputFault.TheVariants as input
-use Rattle.sok_engine.specs.Faults.{of_board, of_input, of_level}
+use Rattle.sok_engine.specs.Faults.{of_board, of_book, of_input, of_level}
 use Rattle.sok_engine.specs.Limits.{input_limit}
 use Rattle.sok_engine.specs.Inputs.{UnlessMuch}
 use Rattle.sok_engine.specs.Written.{Answer, Answers, WritesOne}
@@ -27,7 +27,6 @@ use Rattle.sok_engine.proofs.Answering.{too_much}
 use Rattle.sok_judge.proofs.Checking.{some_text}
 use Rattle.sok_row.specs.Faults.{IsOutside}
 use Rattle.sok_store.specs.Calls.{Keeps, Turns, id_number, title_kept}
-use Rattle.sok_keep.specs.Faults.{of_book}
 use Rattle.sok_keep.specs.Adds.{AddsFirst, AddsLevel, WritesAdding, added, faulty, fault_line, id_line, more, none, title_at, unaccepted}
 use Rattle.sok_keep.specs.Adding.{LeavesLevel, LeavesLevels, seen}
 use Rattle.sok_keep.specs.Disk.{NoCleaner}
@@ -159,8 +158,8 @@ stopped_at : (blocks : List Block) (book : Book) (n : ℕ) (text : List ℕ) (mi
 stopped_at blocks book n text middle after tool.Memory within first (inl same) = (n, text, subst (AddsFirst blocks book n text) (sym same) first, tt)
 stopped_at blocks book n text middle after tool.Memory within first (inr (line, adds)) =
     (n + 1, text ++ line, more n text line middle after first within adds, tt)
-stopped_at blocks book n text middle after tool.Database within first same = (n, text, subst (AddsFirst blocks book n text) (sym same) first, tt)
-stopped_at blocks book n text middle after tool.BookFull within first (same, (rows, is, cannot)) = (
+stopped_at blocks book n text middle after (tool.Book refusal.Database) within first same = (n, text, subst (AddsFirst blocks book n text) (sym same) first, tt)
+stopped_at blocks book n text middle after (tool.Book refusal.BookFull) within first (same, (rows, is, cannot)) = (
   n,
   text,
   subst (AddsFirst blocks book n text) (sym same) first,
@@ -241,9 +240,9 @@ ends_at : (bytes : List ℕ) (known : Option (List ℕ)) (book after : Book) (he
     → length bytes ≤ input_limit → LeavesLevels (blocks_of bytes) book after (Err fault) → WritesAdding book known after held held (Err fault)
 ends_at bytes known book after held tool.Memory all few (n, text, first, why) =
     record { bytes = bytes; told = all; count = n; text = text; added = first; ended = Keeps-refl held }
-ends_at bytes known book after held tool.Database all few (n, text, first, why) =
+ends_at bytes known book after held (tool.Book refusal.Database) all few (n, text, first, why) =
     record { bytes = bytes; told = all; count = n; text = text; added = first; ended = Keeps-refl held }
-ends_at bytes known book after held tool.BookFull all few (n, text, first, full) =
+ends_at bytes known book after held (tool.Book refusal.BookFull) all few (n, text, first, full) =
     record { bytes = bytes; told = all; count = n; text = text; added = first; ended = (few, full, Keeps-refl held) }
 ends_at bytes known book after held fault all few (n, text, first, never) = absurd never
 

@@ -1,31 +1,22 @@
 -- How a call ends that has no answer.
-use Rattle.std.proofs.Common.{ℕ, inl, List, Option, Result, Ok, Err}
+use Rattle.std.proofs.Common.{ℕ, ◌≡◌, ◌∙◌, arith, inl, sym, List, Option, Result, Ok, Err, IfOk}
+use Rattle.sqlite.specs.State.{State}
 use Rattle.std.proofs.KnownBytes.{Keeps-refl}
-use Rattle.sok_board.specs.declared.fault.BoardFault.{BoardFault}
-use Rattle.sok_board.specs.declared.fault.BoardFault.TheVariants as board
 use Rattle.sok_text.specs.declared.lurd.LurdFault.{LurdFault}
 use Rattle.sok_text.specs.declared.lurd.LurdFault.TheVariants as lurd
 use Rattle.sok_book.specs.declared.fault.BookFault.{BookFault}
 use Rattle.sok_book.specs.declared.fault.BookFault.TheVariants as refusal
 use Rattle.sok_book.specs.Books.{Book}
 use Rattle.sok_engine.specs.declared.fault.ToolFault.{ToolFault}
-use Rattle.sok_engine.specs.Faults.{of_board, of_lurd}
+use Rattle.sok_engine.specs.Faults.{of_book, of_lurd}
 use Rattle.sok_engine.specs.Written.{Answer, Answers, AnswersOf, IsFaultOf, Writes, WritesOne}
 use Rattle.sok_engine.proofs.Answering.{EndsBy-fault}
-use Rattle.sok_keep.specs.Faults.{of_book}
+use Rattle.sok_store.specs.Calls.{Changes, EndsOpen, Keeps}
+use Rattle.sok_keep.specs.Disk.{NoCleaner}
 use Rattle.sok_keep.specs.Offers.{StaysOnFault}
 
 -- a fault of a book is one of the answers, where it is answered
-board_fault : {A : Type 0} (P : AnswersOf A) (fault : BoardFault) → P (Err (of_board fault)) → IsFaultOf P (of_board fault)
-board_fault P board.Memory is = tt
-board_fault P (board.NotEnclosed spot) is = is
-board_fault P (board.BoxOutside spot) is = is
-board_fault P board.TooFewGoals is = is
-board_fault P board.TooLarge is = is
-board_fault P board.TooManyBoxes is = is
-
 pub book_fault : {A : Type 0} (P : AnswersOf A) (fault : BookFault) → P (Err (of_book fault)) → IsFaultOf P (of_book fault)
-book_fault P (refusal.Level fault) is = board_fault P fault is
 book_fault P refusal.Memory is = tt
 book_fault P fault is = is
 
@@ -43,3 +34,15 @@ stays_written answer old new (Err fault) book after written = inl written.0
 -- nothing is written, and the book stays
 pub ends_unwritten : (P : Answers) (held : Option (List ℕ)) (fault : ToolFault) → IsFaultOf P fault → Writes P held held (Err fault)
 ends_unwritten P held fault is = EndsBy-fault P held held fault is (Keeps-refl held)
+
+-- a command that was done leaves the connection open
+pub done_open : (old mid new : State) (P : Book → Type 0) (Makes : Book → Book → Type 0) → NoCleaner mid new → Keeps old mid P → Changes mid new Makes
+    → EndsOpen old new
+done_open old mid new P Makes cleaner keeps changes clean book holds =
+    let (is, held) = keeps (omega (arith, clean, cleaner)) book holds in (changes clean book held).2.1.0
+
+-- so it is where the answer of such a command was written
+pub written_open : (answer : Answer) (old new : Option (List ℕ)) (result : Result ℕ ToolFault) (P : Type 0) → WritesOne answer old new result
+    → (answer.status ≡ 0 → P) → IfOk result (λ status. status ≡ 0 → P)
+written_open answer old new (Ok status) P written opens = λ zero. opens (sym written.0 ∙ zero)
+written_open answer old new (Err fault) P written opens = tt

@@ -30,7 +30,7 @@ use Rattle.sok_page.specs.Texts.{PageText, best_text, page_text, record_text}
 use Rattle.sok_page.proofs.Rows.{one_level}
 use Rattle.sok_engine.specs.declared.fault.ToolFault.{ToolFault}
 use Rattle.sok_engine.specs.declared.fault.ToolFault.TheVariants as tool
-use Rattle.sok_engine.specs.Faults.{of_lurd}
+use Rattle.sok_engine.specs.Faults.{of_book, of_lurd}
 use Rattle.sok_engine.specs.Written.{IsFaultOf, WritesOne}
 use Rattle.sok_engine.proofs.Answering.{Writes-one}
 use Rattle.sok_row.specs.Faults.{IsOutside}
@@ -38,7 +38,6 @@ use Rattle.sok_row.specs.Told.{IsRecordOf, Told}
 use Rattle.sok_store.specs.Calls.{Keeps, Turns, id_number}
 use Rattle.sok_store.proofs.Found.{kept_at, one_less}
 use Rattle.sok_keep.specs.Disk.{NoCleaner}
-use Rattle.sok_keep.specs.Faults.{of_book}
 use Rattle.sok_keep.specs.Offers.{Foretells, GivesForecast, GivesOffer, IsLetterFault, IsOffer, TellsOffer, WritesOffer, outcome_answer, told_offer}
 use Rattle.sok_keep.proofs.Ending.{book_fault, ends_unwritten, lurd_fault, stays_written}
 use Rattle.sok_keep.proofs.Pages.{each_page, either_page, no_page, on_page}

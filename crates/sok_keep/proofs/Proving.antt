@@ -18,7 +18,7 @@ use Rattle.sok_engine.specs.declared.fault.ToolFault.{ToolFault}
 use Rattle.sok_engine.specs.declared.fault.ToolFault.TheVariants as tool
 use Rattle.sok_engine.specs.declared.input.InputFault.{InputFault}
 use Rattle.sok_engine.specs.declared.input.InputFault.TheVariants as input
-use Rattle.sok_engine.specs.Faults.{of_input}
+use Rattle.sok_engine.specs.Faults.{of_book, of_input}
 use Rattle.sok_engine.specs.Limits.{cert_limit}
 use Rattle.sok_engine.specs.Written.{Answer, IsFaultOf, WritesOne}
 use Rattle.sok_engine.proofs.Answering.{Writes-none, Writes-read, Writes-unread}
@@ -27,7 +27,6 @@ use Rattle.sok_row.specs.Faults.{IsOutside}
 use Rattle.sok_row.specs.Told.{IsRecordOf, Told}
 use Rattle.sok_store.specs.Calls.{Keeps, Turns, id_number}
 use Rattle.sok_keep.specs.Disk.{NoCleaner}
-use Rattle.sok_keep.specs.Faults.{of_book}
 use Rattle.sok_keep.specs.Proves.{GivesProof, IsProof, TellsProof, WritesProof, claim_about, failed, proved, proved_answer, refused, unproved}
 use Rattle.sok_keep.proofs.Ending.{book_fault, stays_written}
 use Rattle.sok_keep.proofs.Pages.{on_page}
@@ -136,7 +135,7 @@ told_fault b id after bytes fault (inr (unproved cause none kept same)) =
     let is : fault ≡ of_book cause = cc in
     subst (IsFaultOf (IsProof b id after bytes)) (sym is) (book_fault (IsProof b id after bytes) cause (unproved cause none kept refl))
 told_fault b id after bytes fault (inr (failed kept same)) =
-    let is : fault ≡ tool.Database = cc in
+    let is : fault ≡ tool.Book refusal.Database = cc in
     subst (IsFaultOf (IsProof b id after bytes)) (sym is) (failed kept refl)
 
 pub proof_unanswered : (old new : State) (id : ℤ) (read : List ℕ) (known held : Option (List ℕ)) (fault : ToolFault)

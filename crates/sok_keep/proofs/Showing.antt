@@ -11,11 +11,11 @@ use Rattle.sok_shelf.specs.Exported.{export_text}
 use Rattle.sok_shelf.specs.Shown.{shown_text}
 use Rattle.sok_engine.specs.declared.fault.ToolFault.{ToolFault}
 use Rattle.sok_engine.specs.declared.fault.ToolFault.TheVariants as tool
+use Rattle.sok_engine.specs.Faults.{of_book}
 use Rattle.sok_engine.specs.Written.{Answer, IsFaultOf, Writes}
 use Rattle.sok_row.specs.Faults.{IsOutside}
 use Rattle.sok_row.specs.Told.{AreRecordsOf, IsRecordOf, Told, told, telling, telling_from}
 use Rattle.sok_store.specs.Calls.{Keeps, id_number}
-use Rattle.sok_keep.specs.Faults.{of_book}
 use Rattle.sok_keep.specs.Shows.{IsExport, IsShow, show_answer}
 use Rattle.sok_keep.proofs.Ending.{ends_unwritten}
 
@@ -37,7 +37,7 @@ pub shows : (book : Book) (id : ℤ) (kept : Record) (answer : Answer) → IsSom
 shows book id kept answer found text status = inr (shown_page (page_at book (id_number id)) (id_number id) kept answer found text status)
 
 -- there is no such page
-no_page : (o : Option Page) → IsNone o → Err tool.NoLevel ≡ show_answer o
+no_page : (o : Option Page) → IsNone o → Err (tool.Book refusal.NoLevel) ≡ show_answer o
 no_page None none = refl
 no_page (Some page) none = absurd (true≢false none)
 

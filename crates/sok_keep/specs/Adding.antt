@@ -3,7 +3,7 @@ use Rattle.std.specs.Prelude.{ℕ, ◌≡◌, ◌⊎◌, ◌+◌, List, Option, 
 use Rattle.sok_rules.specs.declared.fault.LevelFault.{LevelFault}
 use Rattle.sok_rules.specs.Squares.{Rows}
 use Rattle.sok_text.specs.Collections.{Block}
-use Rattle.sok_book.specs.declared.fault.BookFault.TheVariants.{BookFull}
+use Rattle.sok_book.specs.declared.fault.BookFault.TheVariants as refusal
 use Rattle.sok_book.specs.Books.{Book}
 use Rattle.sok_book.specs.Refusals.{IsNotAdded}
 use Rattle.sok_engine.specs.declared.fault.ToolFault.{ToolFault}
@@ -19,15 +19,15 @@ seen f (Err e) = Err e
 abbrev pub LeavesLevel : ℕ → Result Rows LevelFault → Option (List ℕ) → Book → Book → Result (List ℕ) ToolFault → Type 0
 LeavesLevel n level title book after (Ok line) = AddsLevel n level title book line after
 LeavesLevel n level title book after (Err tool.Memory) = (after ≡ book) ⊎ ((line : List ℕ) × AddsLevel n level title book line after)
-LeavesLevel n level title book after (Err tool.Database) = after ≡ book
-LeavesLevel n level title book after (Err tool.BookFull) = (after ≡ book) × ((rows : Rows) × (level ≡ Ok rows) × IsNotAdded book rows BookFull)
+LeavesLevel n level title book after (Err (tool.Book refusal.Database)) = after ≡ book
+LeavesLevel n level title book after (Err (tool.Book refusal.BookFull)) = (after ≡ book) × ((rows : Rows) × (level ≡ Ok rows) × IsNotAdded book rows refusal.BookFull)
 LeavesLevel n level title book after (Err fault) = ⊥
 
 -- why the next level is not added
 abbrev pub IsStopAt : List Block → ℕ → Book → ToolFault → Type 0
 IsStopAt blocks n book tool.Memory = Unit {0}
-IsStopAt blocks n book tool.Database = Unit {0}
-IsStopAt blocks n book tool.BookFull = IsFullAt blocks n book
+IsStopAt blocks n book (tool.Book refusal.Database) = Unit {0}
+IsStopAt blocks n book (tool.Book refusal.BookFull) = IsFullAt blocks n book
 IsStopAt blocks n book fault = ⊥
 
 -- all levels were added, with these lines; or the first, until one was not

@@ -9,7 +9,7 @@ use Rattle.sok_text.specs.Collections.{Block, block_at, blocks_of, level_at}
 use Rattle.sok_text.specs.Titles.{title_of}
 use Rattle.sok_board.specs.declared.fault.BoardFault.{BoardFault}
 use Rattle.sok_board.specs.Refusals.{IsAcceptable}
-use Rattle.sok_book.specs.declared.fault.BookFault.TheVariants.{BookFull, Level}
+use Rattle.sok_book.specs.declared.fault.BookFault.TheVariants as refusal
 use Rattle.sok_book.specs.Books.{Book}
 use Rattle.sok_book.specs.Commands.{Adds}
 use Rattle.sok_book.specs.Refusals.{IsNotAdded}
@@ -32,7 +32,7 @@ fault_line n fault = decimal n ++ (codes " " ++ (fault_words fault ++ codes "\n"
 -- A level of a collection, with its number, is added to a book, and this is its line. One that has a fault, or no board, changes nothing.
 pub data AddsLevel (n : ℕ) (level : Result Rows LevelFault) (title : Option (List ℕ)) (book : Book) (line : List ℕ) (after : Book) : Type 0 where
   faulty : (fault : LevelFault) → level ≡ Err fault → line ≡ fault_line n (of_level fault) → after ≡ book → AddsLevel n level title book line after
-  unaccepted : (rows : Rows) (fault : BoardFault) → level ≡ Ok rows → IsNotAdded book rows (Level fault) → line ≡ fault_line n (of_board fault) → after ≡ book
+  unaccepted : (rows : Rows) (fault : BoardFault) → level ≡ Ok rows → IsNotAdded book rows (refusal.Level fault) → line ≡ fault_line n (of_board fault) → after ≡ book
       → AddsLevel n level title book line after
   added : (rows : Rows) (id : ℤ) → level ≡ Ok rows → IsAcceptable rows → Adds book rows (title_kept title) (id_number id) after → line ≡ id_line n id
       → AddsLevel n level title book line after
@@ -49,7 +49,7 @@ pub data AddsFirst (blocks : List Block) (book : Book) : ℕ → List ℕ → Bo
 
 -- the n-th level is not there yet, and the book is full
 abbrev pub IsFullAt : List Block → ℕ → Book → Type 0
-IsFullAt blocks n book = (rows : Rows) × (level_at blocks n ≡ Ok rows) × IsNotAdded book rows BookFull
+IsFullAt blocks n book = (rows : Rows) × (level_at blocks n ≡ Ok rows) × IsNotAdded book rows refusal.BookFull
 
 -- How the addition ends after so many levels, with these lines. All were added, and the lines were written, or a front of them. Else nothing was
 -- written: no level was read; or the next level has no room in the book; or the database or memory was refused.
@@ -59,8 +59,8 @@ EndsAdding bytes n text after old new (Err tool.WriteFailed) =
     (length bytes ≤ input_limit) × (n ≡ length (blocks_of bytes)) × AppendsFront old new text
 EndsAdding bytes n text after old new (Err tool.ReadFailed) = (n ≡ 0) × Keeps old new
 EndsAdding bytes n text after old new (Err tool.TooMuch) = (n ≡ 0) × (input_limit < length bytes) × Keeps old new
-EndsAdding bytes n text after old new (Err tool.BookFull) = (length bytes ≤ input_limit) × IsFullAt (blocks_of bytes) (n + 1) after × Keeps old new
-EndsAdding bytes n text after old new (Err tool.Database) = Keeps old new
+EndsAdding bytes n text after old new (Err (tool.Book refusal.BookFull)) = (length bytes ≤ input_limit) × IsFullAt (blocks_of bytes) (n + 1) after × Keeps old new
+EndsAdding bytes n text after old new (Err (tool.Book refusal.Database)) = Keeps old new
 EndsAdding bytes n text after old new (Err tool.Memory) = Keeps old new
 EndsAdding bytes n text after old new (Err fault) = ⊥
 

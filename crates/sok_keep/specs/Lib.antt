@@ -1,9 +1,8 @@
--- Words of public contracts: what is said of the disk (Disk), what a fault of a book becomes (Faults), and what is answered, and what becomes of the book,
--- where levels are added (Adds), solutions offered (Offers), verdicts proved (Proves), and pages shown (Shows). The proof's own: `Adding`.
+-- Words of public contracts: what is said of the disk (Disk), and what is answered, and what becomes of the book, where levels are added (Adds), solutions
+-- offered (Offers), verdicts proved (Proves), and pages shown (Shows). The proof's own: `Adding`.
 pub mod Adding
 pub mod Adds
 pub mod Disk
-pub mod Faults
 pub mod Offers
 pub mod Proves
 pub mod Shows

@@ -5,6 +5,7 @@ use Rattle.std.specs.Fmt.{decimal}
 use Rattle.sok_rules.specs.declared.cell.Dir.{Dir}
 use Rattle.sok_text.specs.declared.lurd.LurdFault.{LurdFault}
 use Rattle.sok_text.specs.Lurd.{GoesWrong, Spells}
+use Rattle.sok_book.specs.declared.fault.BookFault.TheVariants as refusal
 use Rattle.sok_book.specs.declared.fault.BookFault.{BookFault}
 use Rattle.sok_book.specs.declared.record.Offer.{Offer}
 use Rattle.sok_book.specs.declared.record.Offer.TheVariants.{Stored, Kept}
@@ -14,10 +15,9 @@ use Rattle.sok_book.specs.Refusals.{IsNotOffered}
 use Rattle.sok_page.specs.Texts.{SolutionText}
 use Rattle.sok_engine.specs.declared.fault.ToolFault.{ToolFault}
 use Rattle.sok_engine.specs.declared.fault.ToolFault.TheVariants as tool
-use Rattle.sok_engine.specs.Faults.{of_lurd}
+use Rattle.sok_engine.specs.Faults.{of_book, of_lurd}
 use Rattle.sok_engine.specs.Written.{Answer, Answers, Writes}
 use Rattle.sok_store.specs.Calls.{id_number}
-use Rattle.sok_keep.specs.Faults.{of_book}
 
 abbrev pub offer_word : Offer → List ℕ
 offer_word Stored = codes "stored"
@@ -48,7 +48,7 @@ pub record TellsOffer (book : Book) (id : ℕ) (letters : List Dir) (after : Boo
 
 -- the book refuses these letters, or the database refuses
 abbrev pub IsLetterFault : Book → ℕ → List Dir → ToolFault → Type 0
-IsLetterFault book id letters fault = (fault ≡ tool.Database) ⊎ ((cause : BookFault) × IsNotOffered book id letters cause × (fault ≡ of_book cause))
+IsLetterFault book id letters fault = (fault ≡ tool.Book refusal.Database) ⊎ ((cause : BookFault) × IsNotOffered book id letters cause × (fault ≡ of_book cause))
 
 -- the text does not spell letters, or it does and they are refused
 abbrev pub IsTextFault : Book → ℕ → List ℕ → ToolFault → Type 0

@@ -1,5 +1,6 @@
 -- What is shown of a book.
 use Rattle.std.specs.Prelude.{ℤ, ◌≡◌, ◌⊎◌, Option, Some, None, Result, Ok, Err, map}
+use Rattle.sok_book.specs.declared.fault.BookFault.TheVariants as refusal
 use Rattle.sok_book.specs.Books.{Book, Page, page_at}
 use Rattle.sok_page.specs.Texts.{page_text}
 use Rattle.sok_shelf.specs.Exported.{export_text}
@@ -11,11 +12,11 @@ use Rattle.sok_store.specs.Calls.{id_number}
 
 -- the database may refuse in place of any answer
 abbrev pub UnlessRefused : Answers → Answers
-UnlessRefused P answer = (answer ≡ Err tool.Database) ⊎ P answer
+UnlessRefused P answer = (answer ≡ Err (tool.Book refusal.Database)) ⊎ P answer
 
 -- the page as it is shown, or that there is none
 abbrev pub show_answer : Option Page → Result Answer ToolFault
-show_answer None = Err tool.NoLevel
+show_answer None = Err (tool.Book refusal.NoLevel)
 show_answer (Some page) = Ok (record { text = shown_text (page_text page); status = 0 })
 
 -- the answer that shows the page with an id

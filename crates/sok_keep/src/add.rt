@@ -7,15 +7,13 @@ ghost use Rattle.sok_text.specs.Collections.{blocks_of, level_at};
 ghost use Rattle.sok_rules.specs.declared.fault.LevelFault.TheVariants as level;
 ghost use Rattle.sok_board.specs.declared.fault.BoardFault.{BoardFault};
 ghost use Rattle.sok_book.specs.declared.fault.BookFault.TheVariants as refusal;
-ghost use Rattle.sok_engine.specs.Faults.{of_board, of_level};
-ghost use Rattle.sok_keep.specs.Faults.{of_book};
+ghost use Rattle.sok_engine.specs.Faults.{of_board, of_book, of_level};
 ghost use Rattle.sok_engine.specs.declared.fault.ToolFault.TheVariants as tool;
 ghost use Rattle.sok_store.specs.Calls.{Turns};
 ghost use Rattle.sok_keep.specs.Adds.{WritesAdding, fault_line, id_line, title_at};
 ghost use Rattle.sok_keep.specs.Adding.{LeavesLevel, LeavesLevels, seen};
 ghost use Rattle.sok_keep.specs.Disk.{NoCleaner};
 
-use crate::fault::tool_fault;
 use sok_book::fault::BookFault;
 use sok_engine::answer::Answer;
 use sok_engine::fault::ToolFault;
@@ -140,7 +138,7 @@ fn refused_line(alloc: Global, n: usize, fault: BookFault) -> Result<String, Too
 {
     match fault {
         BookFault::Level(cause) => Ok(fault_line(alloc, n, ToolFault::from(cause))?),
-        _ => Err(tool_fault(fault)),
+        _ => Err(ToolFault::from(fault)),
     }
 }
 

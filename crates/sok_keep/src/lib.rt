@@ -4,7 +4,6 @@
 //! | Module | What it holds |
 //! |---|---|
 //! | `add` | the levels of a collection are added |
-//! | `fault` | why a command on a book has no answer |
 //! | `offer` | a solution is offered |
 //! | `prove` | a verdict is proved |
 //! | `record` | what a book keeps of a level |
@@ -12,7 +11,6 @@
 #![tactic(auto)]
 
 pub mod add;
-pub mod fault;
 pub mod offer;
 pub mod prove;
 mod record;

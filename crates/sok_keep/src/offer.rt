@@ -1,6 +1,6 @@
 //! A solution is offered to a level of a book.
 
-ghost use Rattle.std.specs.Prelude.{◌≡◌, ◌⊎◌, IfOk, MatchResult};
+ghost use Rattle.std.specs.Prelude.{◌≡◌, ◌⊎◌, IfOk, MatchResult, OnOk};
 ghost use Rattle.std.specs.Prelude.{option_map, string_bytes};
 ghost use Rattle.sqlite.specs.Held.{state};
 ghost use Rattle.sok_book.specs.Books.{Page};
@@ -8,13 +8,12 @@ ghost use Rattle.sok_book.specs.Refusals.{IsNoSolution};
 ghost use Rattle.sok_book.specs.declared.fault.BookFault.TheVariants as cause;
 ghost use Rattle.sok_page.specs.Kept.{IsKeptPage};
 ghost use Rattle.sok_page.specs.Texts.{best_text, page_text, record_text};
-ghost use Rattle.sok_store.specs.Calls.{Keeps, Turns, id_number};
+ghost use Rattle.sok_store.specs.Calls.{EndsOpen, Keeps, Turns, id_number};
 ghost use Rattle.sok_keep.specs.Disk.{NoCleaner};
 ghost use Rattle.sok_keep.specs.Offers.{Foretells, GivesForecast, GivesOffer, WritesOffer};
 ghost use Rattle.sok_keep.specs.Offers.{offer_line, offer_status, offer_word, outcome_answer};
 ghost use Rattle.sok_keep.specs.Offers.{told_offer};
 
-use crate::fault::tool_fault;
 use crate::record::record_at;
 use sok_book::fault::BookFault;
 use sok_book::offering::judge_letters;
@@ -48,6 +47,7 @@ pub fn offer_bytes<S: Alter, W: Write>(
 ) -> Result<u8, ToolFault>
     ensures writes { Turns (state S.Store book.old) (state S.Store book.new) (λ pages after.
         WritesOffer pages id text.now after (W.contents out.old) (W.contents out.new) result) }
+    ensures open { OnOk result (EndsOpen (state S.Store book.old) (state S.Store book.new)) }
     ensures clean { NoCleaner (state S.Store book.old) (state S.Store book.new) }
 {
     let letters = read_lurd(alloc, text)?;
@@ -64,12 +64,13 @@ fn offered<S: Alter>(
 ) -> Result<Answer, ToolFault>
     ensures gives { Turns (state S.Store book.old) (state S.Store book.new) (λ pages after.
         GivesOffer pages (id_number id) letters.now after result) }
+    ensures open { OnOk result (EndsOpen (state S.Store book.old) (state S.Store book.new)) }
     ensures clean { NoCleaner (state S.Store book.old) (state S.Store book.new) }
 {
     let answer = foretold(alloc, book, id, letters)?;
     match book.offer(id, letters) {
         Ok(_) => Ok(answer),
-        Err(fault) => Err(tool_fault(fault)),
+        Err(fault) => Err(ToolFault::from(fault)),
     }
 }
 
@@ -87,7 +88,7 @@ fn foretold<S: Alter>(
     let kept = record_at(book, id)?;
     match weighed(alloc, &kept, letters) {
         Ok(answer) => Ok(answer),
-        Err(fault) => Err(tool_fault(fault)),
+        Err(fault) => Err(ToolFault::from(fault)),
     }
 }
 

@@ -4,14 +4,13 @@ ghost use Rattle.std.specs.Prelude.{◌≡◌, ◌⊎◌, Err, IfErr, IfOk, opti
 ghost use Rattle.sqlite.specs.Held.{state};
 ghost use Rattle.sok_cert.specs.CertFault.{CertFault};
 ghost use Rattle.sok_book.specs.declared.fault.BookFault.TheVariants as refusal;
+ghost use Rattle.sok_engine.specs.Faults.{of_book};
 ghost use Rattle.sok_engine.specs.declared.fault.ToolFault.TheVariants as tool;
 ghost use Rattle.sok_judge.specs.Verdicts.{verdict_answer};
-ghost use Rattle.sok_store.specs.Calls.{Turns, id_number};
+ghost use Rattle.sok_store.specs.Calls.{EndsOpen, Turns, id_number};
 ghost use Rattle.sok_keep.specs.Disk.{NoCleaner};
-ghost use Rattle.sok_keep.specs.Faults.{of_book};
 ghost use Rattle.sok_keep.specs.Proves.{GivesProof, WritesProof, claim_about, proved_answer};
 
-use crate::fault::tool_fault;
 use crate::record::record_at;
 use sok_book::fault::BookFault;
 use sok_engine::answer::Answer;
@@ -44,6 +43,8 @@ pub fn prove_bytes<S: Alter, C: Read, W: Write>(
     ensures writes { Turns (state S.Store book.old) (state S.Store book.new) (λ pages after.
         WritesProof pages id (C.remaining cert_input.old) after
         (W.contents out.old) (W.contents out.new) result) }
+    ensures open { IfOk result (λ status. status ≡ 0
+        → EndsOpen (state S.Store book.old) (state S.Store book.new)) }
     ensures clean { NoCleaner (state S.Store book.old) (state S.Store book.new) }
 {
     let bytes = read_certificate(alloc, cert_input)?;
@@ -60,6 +61,8 @@ fn proved<S: Alter>(
 ) -> Result<Answer, ToolFault>
     ensures gives { Turns (state S.Store book.old) (state S.Store book.new) (λ pages after.
         GivesProof pages (id_number id) bytes.now after result) }
+    ensures open { IfOk result (λ answer. answer.status ≡ 0
+        → EndsOpen (state S.Store book.old) (state S.Store book.new)) }
     ensures clean { NoCleaner (state S.Store book.old) (state S.Store book.new) }
 {
     let kept = record_at(book, id)?;
@@ -78,7 +81,7 @@ fn unproved_answer(alloc: Global, fault: BookFault) -> Result<Answer, ToolFault>
 {
     match fault {
         BookFault::Certificate(cause) => Ok(refused_answer(alloc, cause)?),
-        _ => Err(tool_fault(fault)),
+        _ => Err(ToolFault::from(fault)),
     }
 }
 

@@ -5,13 +5,12 @@ ghost use Rattle.sqlite.specs.Held.{state};
 ghost use Rattle.sok_book.specs.Books.{page_at};
 ghost use Rattle.sok_book.specs.declared.fault.BookFault.{BookFault};
 ghost use Rattle.sok_book.specs.declared.fault.BookFault.TheVariants as refusal;
+ghost use Rattle.sok_engine.specs.Faults.{of_book};
 ghost use Rattle.sok_row.specs.Faults.{IsOutside};
 ghost use Rattle.sok_row.specs.Told.{IsRecordOf};
 ghost use Rattle.sok_store.specs.Calls.{Keeps, id_number};
 ghost use Rattle.sok_keep.specs.Disk.{NoCleaner};
-ghost use Rattle.sok_keep.specs.Faults.{of_book};
 
-use crate::fault::tool_fault;
 use sok_engine::fault::ToolFault;
 use sok_page::record::Record;
 use sok_store::book::Book;
@@ -29,6 +28,6 @@ pub(crate) fn record_at<S: Alter>(book: &mut Book<S>, id: i64) -> Result<Record,
 {
     match book.get(id) {
         Ok(kept) => Ok(kept),
-        Err(fault) => Err(tool_fault(fault)),
+        Err(fault) => Err(ToolFault::from(fault)),
     }
 }

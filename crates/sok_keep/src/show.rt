@@ -6,7 +6,6 @@ ghost use Rattle.sok_store.specs.Calls.{Keeps};
 ghost use Rattle.sok_keep.specs.Disk.{NoCleaner};
 ghost use Rattle.sok_keep.specs.Shows.{IsExport, IsShow};
 
-use crate::fault::tool_fault;
 use crate::record::record_at;
 use sok_engine::answer::Answer;
 use sok_engine::fault::ToolFault;
@@ -73,6 +72,6 @@ fn exported<S: Alter>(alloc: Global, book: &mut Book<S>) -> Result<Answer, ToolF
 {
     match book.list() {
         Ok(records) => Ok(Answer::new(export_text(alloc, &records)?, 0)),
-        Err(fault) => Err(tool_fault(fault)),
+        Err(fault) => Err(ToolFault::from(fault)),
     }
 }

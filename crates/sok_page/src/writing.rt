@@ -41,12 +41,7 @@ pub fn best_of(alloc: Global, level: &Level, letters: &[Dir]) -> Result<Best, Bo
         (λ fault. (fault ≡ book.Memory) ⊎ IsNoSolution level.now letters.now fault) }
 {
     let tally = judge_letters(alloc, level, letters)?;
-    let lurd = match lurd_of(alloc, level, letters) {
-        Ok(lurd) => lurd,
-        Err(PlayFault::Blocked(at)) => return Err(BookFault::Blocked(at)),
-        Err(PlayFault::TooLong) => return Err(BookFault::TooLong),
-        Err(PlayFault::Memory) => return Err(BookFault::Memory),
-    };
+    let lurd = lurd_of(alloc, level, letters)?;
     Ok(Best {
         lurd,
         pushes: narrow(tally.pushes),

@@ -1,41 +1,39 @@
 -- A text that is played on a level has one answer at most.
 use Rattle.std.proofs.Common.{ℕ, ◌≡◌, ◌∙◌, List, Ok, Err, IsSome, ap, refl, subst, sym}
 use Rattle.sok_rules.specs.declared.cell.Dir.{Dir}
+use Rattle.sok_rules.specs.declared.fault.PlayFault.TheVariants.{Blocked}
 use Rattle.sok_rules.specs.declared.play.Tally.{Tally}
 use Rattle.sok_rules.specs.Squares.{Rows}
 use Rattle.sok_rules.specs.Play.{run, start}
 use Rattle.sok_rules.specs.Replay.{IsTally, IsBlockedAt}
 use Rattle.sok_rules.proofs.Outcomes.{blocked_not_legal, blocked_one, tally_one}
 use Rattle.sok_text.specs.declared.lurd.LurdFault.{LurdFault}
-use Rattle.sok_text.specs.declared.lurd.LurdFault.TheVariants as lurd
 use Rattle.sok_text.specs.Collections.{blocks_of, level_at}
 use Rattle.sok_text.specs.Lurd.{Spells, GoesWrong}
 use Rattle.sok_text.proofs.Letters.{Spells-one, GoesWrong-one, Spells-GoesWrong}
 use Rattle.sok_engine.specs.declared.fault.ToolFault.{ToolFault}
 use Rattle.sok_engine.specs.declared.fault.ToolFault.TheVariants as tool
-use Rattle.sok_engine.specs.Faults.{of_lurd}
 use Rattle.sok_play.specs.Plays.{IsReplay, IsPlayedAnswer, IsPlayFault, tally_answer}
 use Rattle.sok_engine.specs.Written.{HasOne}
 use Rattle.sok_engine.proofs.Unique.{OnLevel-one}
 
 -- why a text is not played: it goes wrong, or one of its letters is not legal
 data Fails (rows : Rows) (text : List ℕ) (fault : ToolFault) : Type 0 where
-  wrong : (f : LurdFault) → GoesWrong text f → fault ≡ of_lurd f → Fails rows text fault
-  blocked : (w : List Dir) (at : ℕ) → Spells text w → IsBlockedAt rows w at → fault ≡ tool.Blocked at → Fails rows text fault
+  wrong : (f : LurdFault) → GoesWrong text f → fault ≡ tool.Lurd f → Fails rows text fault
+  blocked : (w : List Dir) (at : ℕ) → Spells text w → IsBlockedAt rows w at → fault ≡ tool.Play (Blocked at) → Fails rows text fault
 
 fails : (rows : Rows) (text : List ℕ) (fault : ToolFault) → IsPlayFault rows text fault → Fails rows text fault
-fails rows text (tool.BadLetter at) h = wrong (lurd.BadLetter at) h refl
-fails rows text tool.TooLong h = wrong lurd.TooLong h refl
-fails rows text (tool.Blocked at) h = blocked h.0 at h.1 h.2 refl
+fails rows text (tool.Lurd fault) h = wrong fault h refl
+fails rows text (tool.Play (Blocked at)) h = blocked h.0 at h.1 h.2 refl
 fails rows text _ h = absurd h
 
 fails_one : (rows : Rows) (text : List ℕ) (f g : ToolFault) → Fails rows text f → Fails rows text g → f ≡ g
-fails_one rows text f g (wrong a goes_a is_f) (wrong b goes_b is_g) = is_f ∙ ap of_lurd (GoesWrong-one text a b goes_a goes_b) ∙ sym is_g
+fails_one rows text f g (wrong a goes_a is_f) (wrong b goes_b is_g) = is_f ∙ ap tool.Lurd (GoesWrong-one text a b goes_a goes_b) ∙ sym is_g
 fails_one rows text f g (wrong a goes_a is_f) (blocked w j spells block is_g) = absurd (Spells-GoesWrong text w a spells goes_a)
 fails_one rows text f g (blocked v i spells block is_f) (wrong b goes_b is_g) = absurd (Spells-GoesWrong text v b spells goes_b)
 fails_one rows text f g (blocked v i spells_v block_v is_f) (blocked w j spells_w block_w is_g) =
     let same = Spells-one text v w spells_v spells_w in
-    is_f ∙ ap tool.Blocked (blocked_one rows w i j (subst (λ u. IsBlockedAt rows u i) same block_v) block_w) ∙ sym is_g
+    is_f ∙ ap (λ at. tool.Play (Blocked at)) (blocked_one rows w i j (subst (λ u. IsBlockedAt rows u i) same block_v) block_w) ∙ sym is_g
 
 -- a text that is played does not fail
 played_or_fails : (rows : Rows) (text : List ℕ) (v : List Dir) (tally : Tally) (g : ToolFault) → Spells text v → IsTally rows v tally → Fails rows text g → ⊥

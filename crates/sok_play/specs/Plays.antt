@@ -2,10 +2,10 @@
 use Rattle.std.specs.Prelude.{ℕ, ◌≡◌, List, ◌++◌, Ok, Err, Bool, true, false, codes}
 use Rattle.std.specs.Fmt.{decimal}
 use Rattle.sok_rules.specs.declared.cell.Dir.{Dir}
+use Rattle.sok_rules.specs.declared.fault.PlayFault.TheVariants.{Blocked}
 use Rattle.sok_rules.specs.declared.play.Tally.{Tally}
 use Rattle.sok_rules.specs.Squares.{Rows}
 use Rattle.sok_rules.specs.Replay.{IsTally, IsBlockedAt}
-use Rattle.sok_text.specs.declared.lurd.LurdFault.TheVariants as lurd
 use Rattle.sok_text.specs.Collections.{blocks_of, level_at}
 use Rattle.sok_text.specs.Lines.{first_line, after_line}
 use Rattle.sok_text.specs.Lurd.{Spells, GoesWrong}
@@ -37,9 +37,8 @@ IsPlayed rows text tally = (letters : List Dir) × Spells text letters × IsTall
 
 -- why a text is not played to its end: it does not spell letters, or one of them is not legal
 abbrev pub IsPlayFault : Rows → List ℕ → ToolFault → Type 0
-IsPlayFault rows text (tool.BadLetter at) = GoesWrong text (lurd.BadLetter at)
-IsPlayFault rows text tool.TooLong = GoesWrong text lurd.TooLong
-IsPlayFault rows text (tool.Blocked at) = (letters : List Dir) × Spells text letters × IsBlockedAt rows letters at
+IsPlayFault rows text (tool.Lurd fault) = GoesWrong text fault
+IsPlayFault rows text (tool.Play (Blocked at)) = (letters : List Dir) × Spells text letters × IsBlockedAt rows letters at
 IsPlayFault rows text fault = ⊥
 
 -- the answer to a text that is played on a level

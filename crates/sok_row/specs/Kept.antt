@@ -7,7 +7,7 @@ use Rattle.sok_book.specs.Commands.{level_limit}
 use Rattle.sok_page.specs.Kept.{IsKeptPage}
 use Rattle.sok_page.specs.Rows.{Values, values_of}
 use Rattle.sok_page.specs.Texts.{page_text}
-use Rattle.sok_sql.specs.Connections.{Holds, Shows}
+use Rattle.sok_sql.specs.Connections.{Holds, Shows, Stores}
 use Rattle.sok_sql.specs.Leaves.{Leaf, HasLeaves}
 
 abbrev pub leaf_in : Values → Leaf
@@ -34,6 +34,10 @@ HasBook db book = IsKeptBook book × HasLeaves db (leaves_of book)
 -- the connection shows this book, and so does the last commit
 abbrev pub ShowsBook : State → Book → Type 0
 ShowsBook s book = IsKeptBook book × Shows s (leaves_of book)
+
+-- so it is, and the connection is open
+abbrev pub StoresBook : State → Book → Type 0
+StoresBook s book = IsKeptBook book × Stores s (leaves_of book)
 
 -- so it is, unless a failure of the disk has shut the connection
 abbrev pub HoldsBook : State → Book → Type 0

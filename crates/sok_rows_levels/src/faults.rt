@@ -3,7 +3,10 @@
 use crate::answers::{Reply, answered};
 use crate::engines::{find_bytes, solve_bytes};
 use crate::solves::ZERKALO;
+use sok_board::fault::BoardFault;
 use sok_engine::fault::ToolFault;
+use sok_rules::cell::Spot;
+use sok_rules::fault::LevelFault;
 use sok_sketch::sketch;
 use std::alloc::Global;
 use std::io;
@@ -63,10 +66,20 @@ fn refuses(alloc: Global, board: &str, n: usize, limit: u32, fault: ToolFault) -
 #[test]
 fn refusals(rt: HostRuntime) {
     for (board, n, limit, fault) in [
-        ("", 1, 10, ToolFault::NoSuchLevel),
-        (sketch::ONE_PUSH, 0, 10, ToolFault::NoSuchLevel),
+        ("", 1, 10, ToolFault::Level(LevelFault::NoSuchLevel)),
+        (
+            sketch::ONE_PUSH,
+            0,
+            10,
+            ToolFault::Level(LevelFault::NoSuchLevel),
+        ),
         // a level comes before its limit, and the limit before the board
-        (sketch::TWO_PLAYERS, 1, 0, ToolFault::ManyPlayers),
+        (
+            sketch::TWO_PLAYERS,
+            1,
+            0,
+            ToolFault::Level(LevelFault::ManyPlayers),
+        ),
         (sketch::OPEN_AT_THE_SIDE, 1, 0, ToolFault::BadLimit),
         (sketch::CORRIDOR_OF_SIX_PUSHES, 1, 0, ToolFault::BadLimit),
         (
@@ -79,10 +92,20 @@ fn refusals(rt: HostRuntime) {
             sketch::OPEN_AT_THE_SIDE,
             1,
             10,
-            ToolFault::NotEnclosed(1, 3),
+            ToolFault::Board(BoardFault::NotEnclosed(Spot { row: 1, col: 3 })),
         ),
-        (sketch::STRAY_BOX, 1, 10, ToolFault::BoxOutside(1, 5)),
-        (sketch::NO_GOAL, 1, 10, ToolFault::TooFewGoals),
+        (
+            sketch::STRAY_BOX,
+            1,
+            10,
+            ToolFault::Board(BoardFault::BoxOutside(Spot { row: 1, col: 5 })),
+        ),
+        (
+            sketch::NO_GOAL,
+            1,
+            10,
+            ToolFault::Board(BoardFault::TooFewGoals),
+        ),
     ] {
         assert!(rt; refuses(rt.alloc(), board, n, limit, fault), "{board}");
     }

@@ -3,6 +3,8 @@
 use sok_engine::fault::ToolFault;
 use sok_play::listing::list_bytes;
 use sok_play::play::replay_bytes;
+use sok_rules::fault::{LevelFault, PlayFault};
+use sok_text::lurd::LurdFault;
 use std::alloc::Global;
 use std::test::Fail;
 
@@ -70,10 +72,30 @@ fn replays_on_a_level_by_its_number(rt: HostRuntime) -> Result<(), Fail> {
     for (n, text, line, answer) in [
         (1, b"R".as_slice(), "solved 1 1\n", Ok(0)),
         (3, b"l".as_slice(), "open 0 1\n", Ok(1)),
-        (1, b"x".as_slice(), "", Err(ToolFault::BadLetter(0))),
-        (1, b"rr".as_slice(), "", Err(ToolFault::Blocked(1))),
-        (2, b"x".as_slice(), "", Err(ToolFault::NoPlayer)),
-        (4, b"x".as_slice(), "", Err(ToolFault::NoSuchLevel)),
+        (
+            1,
+            b"x".as_slice(),
+            "",
+            Err(ToolFault::Lurd(LurdFault::BadLetter(0))),
+        ),
+        (
+            1,
+            b"rr".as_slice(),
+            "",
+            Err(ToolFault::Play(PlayFault::Blocked(1))),
+        ),
+        (
+            2,
+            b"x".as_slice(),
+            "",
+            Err(ToolFault::Level(LevelFault::NoPlayer)),
+        ),
+        (
+            4,
+            b"x".as_slice(),
+            "",
+            Err(ToolFault::Level(LevelFault::NoSuchLevel)),
+        ),
     ] {
         assert!(rt; is_answered(rt.alloc(), n, text, line, answer), "{n}");
     }

@@ -1,6 +1,7 @@
 //! The fewest pushes of worked levels, or that none solve them; and what a limit means.
 
 use sok_board::board::Board;
+use sok_board::fault::BoardFault;
 use sok_cert::check::check;
 use sok_cert::claim::Claim;
 use sok_cert::entry::Cert;
@@ -157,12 +158,16 @@ fn fault_of(alloc: Global, board: &str, limit: u32) -> Result<Option<SolveFault>
 
 #[test]
 fn refusals(rt: HostRuntime) -> Result<(), Fail> {
-    let beside = SolveFault::NotEnclosed(Spot { row: 1, col: 3 });
-    let stray = SolveFault::BoxOutside(Spot { row: 1, col: 5 });
+    let beside = SolveFault::Level(BoardFault::NotEnclosed(Spot { row: 1, col: 3 }));
+    let stray = SolveFault::Level(BoardFault::BoxOutside(Spot { row: 1, col: 5 }));
     for (board, limit, fault) in [
         (sketch::OPEN_AT_THE_SIDE, 10, beside),
         (sketch::STRAY_BOX, 10, stray),
-        (sketch::NO_GOAL, 10, SolveFault::TooFewGoals),
+        (
+            sketch::NO_GOAL,
+            10,
+            SolveFault::Level(BoardFault::TooFewGoals),
+        ),
         (sketch::ONE_PUSH, 0, SolveFault::BadLimit),
         (sketch::ONE_PUSH, 1_000_001, SolveFault::BadLimit),
         // the limit is refused first

@@ -1,5 +1,6 @@
 //! Commands on a book, with what they write.
 
+use sok_book::fault::BookFault;
 use sok_engine::fault::ToolFault;
 use sok_keep::add::add_bytes;
 use sok_keep::offer::offer_bytes;
@@ -30,7 +31,7 @@ pub(crate) fn book_in<S: Alter + Drop>(
     connection: Connection<S>,
 ) -> Result<Book<S>, Fail> {
     if !connection.is_autocommit() {
-        return Err(ToolFault::Database.into());
+        return Err(ToolFault::Book(BookFault::Database).into());
     }
     match Book::open(alloc, connection) {
         Ok(book) => Ok(book),

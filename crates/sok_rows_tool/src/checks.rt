@@ -1,6 +1,9 @@
 //! The judgement of a certificate for a level of a collection: the whole answer.
 
 use crate::devices::{Failure, Sink, Source};
+use sok_board::fault::BoardFault;
+use sok_rules::cell::Spot;
+use sok_rules::fault::LevelFault;
 use sok_sketch::{rooms, sketch};
 use sok_tool::check::check_bytes;
 use sok_tool::fault::ToolFault;
@@ -151,20 +154,47 @@ fn is_refused(rt: &HostRuntime, boards: &str, n: usize, fault: ToolFault) -> boo
 #[test]
 fn faults_of_levels_and_boards(rt: HostRuntime) -> Result<(), Fail> {
     for (boards, n, fault) in [
-        ("", 1, ToolFault::NoSuchLevel),
-        (sketch::ONE_PUSH, 0, ToolFault::NoSuchLevel),
-        (sketch::ONE_PUSH, 2, ToolFault::NoSuchLevel),
-        (sketch::TWO_PLAYERS, 1, ToolFault::ManyPlayers),
-        (sketch::OPEN_AT_THE_SIDE, 1, ToolFault::NotEnclosed(1, 3)),
-        (sketch::STRAY_BOX, 1, ToolFault::BoxOutside(1, 5)),
-        (sketch::NO_GOAL, 1, ToolFault::TooFewGoals),
+        ("", 1, ToolFault::Level(LevelFault::NoSuchLevel)),
+        (
+            sketch::ONE_PUSH,
+            0,
+            ToolFault::Level(LevelFault::NoSuchLevel),
+        ),
+        (
+            sketch::ONE_PUSH,
+            2,
+            ToolFault::Level(LevelFault::NoSuchLevel),
+        ),
+        (
+            sketch::TWO_PLAYERS,
+            1,
+            ToolFault::Level(LevelFault::ManyPlayers),
+        ),
+        (
+            sketch::OPEN_AT_THE_SIDE,
+            1,
+            ToolFault::Board(BoardFault::NotEnclosed(Spot { row: 1, col: 3 })),
+        ),
+        (
+            sketch::STRAY_BOX,
+            1,
+            ToolFault::Board(BoardFault::BoxOutside(Spot { row: 1, col: 5 })),
+        ),
+        (
+            sketch::NO_GOAL,
+            1,
+            ToolFault::Board(BoardFault::TooFewGoals),
+        ),
         (sketch::ONE_PUSH, 1, ToolFault::ReadFailed),
     ] {
         assert!(rt; is_refused(&rt, boards, n, fault), "{boards}");
     }
     for (room, fault) in [
-        (rooms::ROOM_OF_1025, ToolFault::TooLarge),
-        (rooms::ROOM_OF_129_BOXES, ToolFault::TooManyBoxes),
+        (rooms::ROOM_OF_1025, ToolFault::Board(BoardFault::TooLarge)),
+        (
+            rooms::ROOM_OF_129_BOXES,
+            ToolFault::Board(BoardFault::TooManyBoxes),
+        ),
     ] {
         let boards = room.text(rt.alloc())?;
         assert!(rt; is_refused(&rt, boards.as_str(), 1, fault), "{fault}");

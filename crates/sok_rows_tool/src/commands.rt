@@ -1,8 +1,11 @@
 //! Commands one after another, each on the book that the last one left.
 
 use crate::answering::{Command, Row, answer, book_in, first_other};
+use sok_book::fault::BookFault;
 use sok_engine::fault::ToolFault;
+use sok_rules::fault::PlayFault;
 use sok_sketch::sketch::{BOX_BEYOND_THE_GOAL, ROOM_OF_TWO_ROWS, SOLVED};
+use sok_text::lurd::LurdFault;
 use sqlite::Connection;
 use std::test::Fail;
 
@@ -22,7 +25,11 @@ const ROOM: [Row; 14] = [
         "1 fault 6 NotEnclosed 1 3\n",
         Ok(0),
     ),
-    (Command::Prove(1, TWO_PUSHES), "", Err(ToolFault::NoBest)),
+    (
+        Command::Prove(1, TWO_PUSHES),
+        "",
+        Err(ToolFault::Book(BookFault::NoBest)),
+    ),
     (
         Command::Offer(1, "rlulldRurrdLulldRR"),
         "stored 4 18\n",
@@ -31,10 +38,14 @@ const ROOM: [Row; 14] = [
     (
         Command::Prove(1, TWO_PUSHES),
         "",
-        Err(ToolFault::ClaimDiffers),
+        Err(ToolFault::Book(BookFault::ClaimDiffers)),
     ),
     (Command::Offer(1, "ulldRurrdLulldRR"), "kept 4 18\n", Ok(1)),
-    (Command::Offer(1, "ulld"), "", Err(ToolFault::NotSolved)),
+    (
+        Command::Offer(1, "ulld"),
+        "",
+        Err(ToolFault::Book(BookFault::NotSolved)),
+    ),
     (Command::Offer(1, "ulldRR"), "stored 2 6\n", Ok(0)),
     (Command::Prove(1, TWO_PUSHES), "proved optimal 2\n", Ok(0)),
     (Command::Offer(1, "ulldRR"), "kept 2 6\n", Ok(1)),
@@ -43,7 +54,11 @@ const ROOM: [Row; 14] = [
         "######\n#    #\n# $@.#\n######\nbest 2 6 ulldRR\nverdict optimal\n",
         Ok(0),
     ),
-    (Command::Offer(2, "ulldRR"), "", Err(ToolFault::NoLevel)),
+    (
+        Command::Offer(2, "ulldRR"),
+        "",
+        Err(ToolFault::Book(BookFault::NoLevel)),
+    ),
     (Command::Export, "######\n#    #\n# $@.#\n######\n\n", Ok(0)),
 ];
 
@@ -68,10 +83,14 @@ fn levels_without_a_push_are_proved(rt: HostRuntime) -> Result<(), Fail> {
         (
             Command::Prove(1, NO_SOLUTION),
             "",
-            Err(ToolFault::ClaimDiffers),
+            Err(ToolFault::Book(BookFault::ClaimDiffers)),
         ),
         (Command::Prove(2, NO_SOLUTION), "proved unsolvable\n", Ok(0)),
-        (Command::Offer(2, "r"), "", Err(ToolFault::NotSolved)),
+        (
+            Command::Offer(2, "r"),
+            "",
+            Err(ToolFault::Book(BookFault::NotSolved)),
+        ),
         (Command::Prove(2, NO_SOLUTION), "proved unsolvable\n", Ok(0)),
         (
             Command::Show(2),
@@ -87,8 +106,16 @@ fn levels_without_a_push_are_proved(rt: HostRuntime) -> Result<(), Fail> {
 fn faults_come_in_their_order(rt: HostRuntime) -> Result<(), Fail> {
     let rows = [
         (Command::Export, "", Ok(0)),
-        (Command::Show(1), "", Err(ToolFault::NoLevel)),
-        (Command::Show(-1), "", Err(ToolFault::NoLevel)),
+        (
+            Command::Show(1),
+            "",
+            Err(ToolFault::Book(BookFault::NoLevel)),
+        ),
+        (
+            Command::Show(-1),
+            "",
+            Err(ToolFault::Book(BookFault::NoLevel)),
+        ),
         // a faulty level between others, one with a title
         (
             Command::Add(
@@ -103,9 +130,21 @@ fn faults_come_in_their_order(rt: HostRuntime) -> Result<(), Fail> {
             "1 id 1\n",
             Ok(0),
         ),
-        (Command::Offer(9, "x"), "", Err(ToolFault::BadLetter(0))),
-        (Command::Offer(1, "rr"), "", Err(ToolFault::Blocked(1))),
-        (Command::Prove(9, ""), "", Err(ToolFault::NoLevel)),
+        (
+            Command::Offer(9, "x"),
+            "",
+            Err(ToolFault::Lurd(LurdFault::BadLetter(0))),
+        ),
+        (
+            Command::Offer(1, "rr"),
+            "",
+            Err(ToolFault::Book(BookFault::Letters(PlayFault::Blocked(1)))),
+        ),
+        (
+            Command::Prove(9, ""),
+            "",
+            Err(ToolFault::Book(BookFault::NoLevel)),
+        ),
         (Command::Prove(2, ""), "refused 20 Header\n", Ok(1)),
         (
             Command::Show(1),

@@ -7,6 +7,7 @@ use sok_book::proving::judge_proof;
 use sok_cert::claim::Claim;
 use sok_page::writing::best_of;
 use sok_rules::cell::Dir;
+use sok_rules::fault::PlayFault;
 use sok_rules::level::Level;
 use sok_sketch::sets::board;
 use sok_sketch::sketch::{ROOM_OF_TWO_ROWS, level};
@@ -44,7 +45,7 @@ fn letters_are_judged_and_written(rt: HostRuntime) -> Result<(), Fail> {
         ("ulldRR", Ok((2, 6))),
         ("rlulldRurrdLulldRR", Ok((4, 18))),
         ("ulld", Err(BookFault::NotSolved)),
-        ("uu", Err(BookFault::Blocked(1))),
+        ("uu", Err(BookFault::Letters(PlayFault::Blocked(1)))),
     ] {
         let letters = read_lurd(rt.alloc(), text.as_bytes())?;
         assert!(rt; judged(rt.alloc(), &room, &letters) == answer, "{text}");

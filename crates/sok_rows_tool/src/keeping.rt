@@ -8,10 +8,11 @@ use std::test::Fail;
 /// What is told of a database that can't be opened.
 const NO_DATABASE: &str = "fault 32 Database\n";
 
-const COMMANDS: [Row; 19] = [
+const COMMANDS: [Row; 21] = [
     // the file is made
     ("sok export books/book", "", "", 0),
     ("sok show books/book 1", "", "fault 30 NoLevel\n", 3),
+    ("sok show books/book 0", "", "fault 30 NoLevel\n", 3),
     (
         "sok add books/book books/levels",
         "1 id 1\n2 fault 4 ManyPlayers\n3 fault 8 TooFewGoals\n4 id 2\n",
@@ -72,6 +73,7 @@ const COMMANDS: [Row; 19] = [
     ("sok show books/none/book 1", "", NO_DATABASE, 5),
     // the database is opened before the file
     ("sok add books/none/book books/none", "", NO_DATABASE, 5),
+    ("sok prove books/none/book 1 books/none", "", NO_DATABASE, 5),
 ];
 
 #[test]

@@ -4,6 +4,7 @@ use crate::answering::{Command, answer, book_in};
 use sok_engine::fault::ToolFault;
 use sok_sketch::sketch::ROOM_OF_TWO_ROWS;
 use sok_store::book::Book;
+use sok_text::lurd::LurdFault;
 use sqlite::{Connection, MemStore};
 use std::alloc::Global;
 use std::test::Fail;
@@ -24,7 +25,9 @@ fn a_million_letters_are_stored(rt: HostRuntime) -> Result<(), Fail> {
     answer(alloc, &mut book, Command::Add(ROOM_OF_TWO_ROWS), &mut out)?;
     let steps = "ud".repeat(alloc, 499_997)?;
     let longer = format!(in alloc; "{steps}ulldRRl")?;
-    assert!(rt; told(alloc, &mut book, longer.as_str()) == Err(ToolFault::TooLong));
+    assert!(rt;
+        told(alloc, &mut book, longer.as_str()) == Err(ToolFault::Lurd(LurdFault::TooLong))
+    );
     let letters = format!(in alloc; "{steps}ulldRR")?;
     let stored = told(alloc, &mut book, letters.as_str())?;
     assert!(rt; stored.as_slice() == b"stored 2 1000000\n".as_slice());

@@ -1,34 +1,66 @@
 //! The line of each fault.
 
+use sok_board::fault::BoardFault;
+use sok_book::fault::BookFault;
+use sok_rules::cell::Spot;
+use sok_rules::fault::{LevelFault, PlayFault};
+use sok_text::lurd::LurdFault;
 use sok_tool::fault::ToolFault;
 use std::fmt::InlineText;
 
 #[test]
 fn faults_are_displayed(rt: HostRuntime) {
     for (fault, text) in [
-        (ToolFault::TooWide, "fault 1 TooWide"),
-        (ToolFault::TooTall, "fault 2 TooTall"),
-        (ToolFault::NoPlayer, "fault 3 NoPlayer"),
-        (ToolFault::ManyPlayers, "fault 4 ManyPlayers"),
-        (ToolFault::NoBox, "fault 5 NoBox"),
-        (ToolFault::NotEnclosed(1, 3), "fault 6 NotEnclosed 1 3"),
-        (ToolFault::BoxOutside(63, 62), "fault 7 BoxOutside 63 62"),
-        (ToolFault::TooFewGoals, "fault 8 TooFewGoals"),
-        (ToolFault::TooLarge, "fault 9 TooLarge"),
-        (ToolFault::TooManyBoxes, "fault 10 TooManyBoxes"),
-        (ToolFault::BadLetter(7), "fault 11 BadLetter 7"),
-        (ToolFault::Blocked(999_999), "fault 12 Blocked 999999"),
-        (ToolFault::NotSolved, "fault 13 NotSolved"),
-        (ToolFault::TooLong, "fault 14 TooLong"),
-        (ToolFault::NoSuchLevel, "fault 15 NoSuchLevel"),
+        (ToolFault::Level(LevelFault::TooWide), "fault 1 TooWide"),
+        (ToolFault::Level(LevelFault::TooTall), "fault 2 TooTall"),
+        (ToolFault::Level(LevelFault::NoPlayer), "fault 3 NoPlayer"),
+        (
+            ToolFault::Level(LevelFault::ManyPlayers),
+            "fault 4 ManyPlayers",
+        ),
+        (ToolFault::Level(LevelFault::NoBox), "fault 5 NoBox"),
+        (
+            ToolFault::Board(BoardFault::NotEnclosed(Spot { row: 1, col: 3 })),
+            "fault 6 NotEnclosed 1 3",
+        ),
+        (
+            ToolFault::Board(BoardFault::BoxOutside(Spot { row: 63, col: 62 })),
+            "fault 7 BoxOutside 63 62",
+        ),
+        (
+            ToolFault::Board(BoardFault::TooFewGoals),
+            "fault 8 TooFewGoals",
+        ),
+        (ToolFault::Board(BoardFault::TooLarge), "fault 9 TooLarge"),
+        (
+            ToolFault::Board(BoardFault::TooManyBoxes),
+            "fault 10 TooManyBoxes",
+        ),
+        (
+            ToolFault::Lurd(LurdFault::BadLetter(7)),
+            "fault 11 BadLetter 7",
+        ),
+        (
+            ToolFault::Play(PlayFault::Blocked(999_999)),
+            "fault 12 Blocked 999999",
+        ),
+        (ToolFault::Book(BookFault::NotSolved), "fault 13 NotSolved"),
+        (ToolFault::Lurd(LurdFault::TooLong), "fault 14 TooLong"),
+        (
+            ToolFault::Level(LevelFault::NoSuchLevel),
+            "fault 15 NoSuchLevel",
+        ),
         (ToolFault::BadLimit, "fault 16 BadLimit"),
-        (ToolFault::NoWall(0), "fault 17 NoWall 0"),
-        (ToolFault::NoLevel, "fault 30 NoLevel"),
-        (ToolFault::NoBest, "fault 31 NoBest"),
-        (ToolFault::Database, "fault 32 Database"),
-        (ToolFault::ClaimDiffers, "fault 33 ClaimDiffers"),
-        (ToolFault::BadBook(2), "fault 34 BadBook 2"),
-        (ToolFault::BookFull, "fault 35 BookFull"),
+        (ToolFault::Level(LevelFault::NoWall(0)), "fault 17 NoWall 0"),
+        (ToolFault::Book(BookFault::NoLevel), "fault 30 NoLevel"),
+        (ToolFault::Book(BookFault::NoBest), "fault 31 NoBest"),
+        (ToolFault::Book(BookFault::Database), "fault 32 Database"),
+        (
+            ToolFault::Book(BookFault::ClaimDiffers),
+            "fault 33 ClaimDiffers",
+        ),
+        (ToolFault::Book(BookFault::BadBook(2)), "fault 34 BadBook 2"),
+        (ToolFault::Book(BookFault::BookFull), "fault 35 BookFull"),
         (ToolFault::Memory, "fault 40 Memory"),
         (ToolFault::ReadFailed, "fault 50 ReadFailed"),
         (ToolFault::WriteFailed, "fault 51 WriteFailed"),

@@ -6,7 +6,7 @@ use std::test::Fail;
 
 /// A line, a part of what is written to the output, or where the status is 2 to the error stream,
 /// and the status.
-const REFUSALS: [(&str, &str, u8); 14] = [
+const REFUSALS: [(&str, &str, u8); 15] = [
     ("sok --help", "Exit status:", 0),
     ("sok help solve", "limit S", 0),
     ("sok solve --help", "[default: 100000]", 0),
@@ -29,6 +29,7 @@ const REFUSALS: [(&str, &str, u8); 14] = [
         2,
     ),
     ("sok prove B 1", "<CERT>", 2),
+    ("sok show B -1", "unexpected argument '-1'", 2),
 ];
 
 #[test]

@@ -6,7 +6,7 @@ use std::fs;
 use std::test::Fail;
 
 /// A certificate that is written is accepted. Where there is none, its file is emptied.
-const SOLVES: [Row; 11] = [
+const SOLVES: [Row; 13] = [
     ("sok solve solves/levels 1", "solved 1 1\nR\n", "", 0),
     (
         "sok solve solves/levels 4 --limit 0",
@@ -17,6 +17,13 @@ const SOLVES: [Row; 11] = [
     ("sok solve solves/levels 3", "", "fault 8 TooFewGoals\n", 3),
     ("sok solve solves/levels 9", "", "fault 15 NoSuchLevel\n", 3),
     ("sok solve solves/none 1", "", OPEN_FAILED, 5),
+    // the file is opened before that of the certificate is made
+    (
+        "sok solve solves/none 1 --cert solves/none/cert",
+        "",
+        OPEN_FAILED,
+        5,
+    ),
     (
         "sok solve solves/levels 1 --cert solves/none/cert",
         "",
@@ -50,6 +57,12 @@ const SOLVES: [Row; 11] = [
     (
         "sok check solves/levels 4 solves/cert",
         "accepted at least 2 pushes\n",
+        "",
+        0,
+    ),
+    (
+        "sok solve --limit=10 -- solves/levels 4",
+        "solved 2 6\nulldRR\n",
         "",
         0,
     ),

@@ -1,8 +1,11 @@
 //! What stands on a square, the four directions, and squares by row and column.
 
-ghost use Rattle.std.specs.Prelude.{◌≡◌, ◌+◌, ◌<◌, ◌^◌};
+ghost use Rattle.std.specs.Prelude.{◌≡◌, ◌+◌, ◌<◌, ◌^◌, Some};
+ghost use Rattle.sok_rules.specs.Faults.{dir_word};
 ghost use Rattle.sok_rules.specs.Squares.{is_wall, is_box, is_astray, is_goal, is_man};
 ghost use Rattle.sok_rules.specs.Squares.{next, opposite};
+
+use std::fmt;
 
 /// What stands on a square of a level's text.
 #[derive(Clone, Copy, Debug, PartialEq, Eq)]
@@ -56,7 +59,8 @@ impl Cell {
     }
 }
 
-/// A direction in which the player walks or pushes.
+/// A direction in which the player walks or pushes. It is displayed as `left`, `up`, `right` or
+/// `down`.
 #[derive(Clone, Copy, Debug, PartialEq, Eq)]
 pub enum Dir {
     Left,
@@ -74,6 +78,19 @@ impl Dir {
             Dir::Up => Dir::Down,
             Dir::Right => Dir::Left,
             Dir::Down => Dir::Up,
+        }
+    }
+}
+
+impl fmt::Display for Dir {
+    ghost output = { λ dir. Some (dir_word dir) };
+
+    fn fmt<W: fmt::Write>(&self, f: &mut fmt::Formatter<W>) -> fmt::Result {
+        match self {
+            Dir::Left => write!(f, "left"),
+            Dir::Up => write!(f, "up"),
+            Dir::Right => write!(f, "right"),
+            Dir::Down => write!(f, "down"),
         }
     }
 }

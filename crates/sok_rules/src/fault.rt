@@ -1,14 +1,18 @@
 //! Why rows are no level, and why letters cannot be played.
 
-ghost use Rattle.std.specs.Prelude.{◌≡◌};
-ghost use Rattle.sok_rules.specs.Faults.{level_fault_number, play_fault_number};
+ghost use Rattle.std.specs.Prelude.{◌≡◌, Some};
+ghost use Rattle.sok_rules.specs.Faults.{level_fault_number, level_fault_words};
+ghost use Rattle.sok_rules.specs.Faults.{play_fault_number, play_fault_words};
 ghost use Rattle.sok_rules.specs.declared.fault.LevelFault.TheVariants as level;
 ghost use Rattle.sok_rules.specs.declared.fault.PlayFault.TheVariants as play;
 
 use std::alloc::{AllocError, AllocFailed};
+use std::fmt;
+use thiserror::Error;
 
-/// Why rows are no level, or why there is no level at all.
-#[derive(Clone, Copy, Debug, PartialEq, Eq)]
+/// Why rows are no level, or why there is no level at all. It is displayed as its name and its
+/// argument.
+#[derive(Clone, Copy, Debug, PartialEq, Eq, Error)]
 pub enum LevelFault {
     /// A row has more than 64 cells.
     TooWide,
@@ -43,6 +47,23 @@ impl LevelFault {
     }
 }
 
+impl fmt::Display for LevelFault {
+    ghost output = { λ fault. Some (level_fault_words fault) };
+
+    fn fmt<W: fmt::Write>(&self, f: &mut fmt::Formatter<W>) -> fmt::Result {
+        match self {
+            LevelFault::TooWide => write!(f, "TooWide"),
+            LevelFault::TooTall => write!(f, "TooTall"),
+            LevelFault::NoPlayer => write!(f, "NoPlayer"),
+            LevelFault::ManyPlayers => write!(f, "ManyPlayers"),
+            LevelFault::NoBox => write!(f, "NoBox"),
+            LevelFault::NoSuchLevel => write!(f, "NoSuchLevel"),
+            LevelFault::NoWall(row) => write!(f, "NoWall {row}"),
+            LevelFault::Memory => write!(f, "Memory"),
+        }
+    }
+}
+
 impl From<AllocError> for LevelFault {
     ghost from_gives = { λ _ fault. fault ≡ level.Memory };
 
@@ -59,8 +80,8 @@ impl<T: Drop> From<AllocFailed<T>> for LevelFault {
     }
 }
 
-/// Why a letter, or a list of letters, is not played.
-#[derive(Clone, Copy, Debug, PartialEq, Eq)]
+/// Why a letter, or a list of letters, is not played. It is displayed as its name and its argument.
+#[derive(Clone, Copy, Debug, PartialEq, Eq, Error)]
 pub enum PlayFault {
     /// The place, from 0, of the first letter that is not legal.
     Blocked(usize),
@@ -79,6 +100,18 @@ impl PlayFault {
             PlayFault::Blocked(_) => 12,
             PlayFault::TooLong => 14,
             PlayFault::Memory => 40,
+        }
+    }
+}
+
+impl fmt::Display for PlayFault {
+    ghost output = { λ fault. Some (play_fault_words fault) };
+
+    fn fmt<W: fmt::Write>(&self, f: &mut fmt::Formatter<W>) -> fmt::Result {
+        match self {
+            PlayFault::Blocked(at) => write!(f, "Blocked {at}"),
+            PlayFault::TooLong => write!(f, "TooLong"),
+            PlayFault::Memory => write!(f, "Memory"),
         }
     }
 }
@@ -108,7 +141,8 @@ impl From<Memory> for PlayFault {
 }
 
 /// Memory was refused, where nothing else can go wrong.
-#[derive(Clone, Copy, Debug, PartialEq, Eq)]
+#[derive(Clone, Copy, Debug, PartialEq, Eq, Error)]
+#[error("Memory")]
 pub struct Memory;
 
 impl Memory {

@@ -1,5 +1,5 @@
 -- What a finished search answers.
-use Rattle.std.proofs.Common.{ℕ, ◌≡◌, ◌<◌, ◌≤◌, sym, subst, true, List, [], Option, Some, None, All, arith, length}
+use Rattle.std.proofs.Common.{ℕ, ◌≡◌, ◌<◌, ◌≤◌, refl, sym, subst, true, List, [], Option, Some, None, All, arith, length}
 use Rattle.sok_rules.specs.declared.cell.Dir.{Dir}
 use Rattle.sok_rules.specs.Play.{AtLeast, IsUnsolvable}
 use Rattle.sok_board.specs.Area.{Numbered, IsAccepted}
@@ -12,12 +12,18 @@ use Rattle.sok_state.specs.declared.push.Push.{Push}
 use Rattle.sok_cert.specs.Closed.{IsClosed, IsTrueOf}
 use Rattle.sok_search.specs.Finished.{AreFirstEntries, claim_of}
 use Rattle.sok_search.specs.Limits.{state_limit}
-use Rattle.sok_search.specs.Outcomes.{Certifies, IsLeastSolution, IsShownSolved, IsShownUnsolvable}
+use Rattle.sok_search.specs.Outcomes.{Certifies, HasSearched, IsLeastSolution, IsShownSolved, IsShownUnsolvable}
 use Rattle.sok_search.specs.Searches.{Progress, IsSearch}
 use Rattle.sok_search.specs.Trails.{IsSolvedAt, IsSolvedWith, IsSolvedWithin, IsSolvingTrace, TracesBack}
 use Rattle.sok_search.proofs.Finishing.{entries-closed}
 use Rattle.sok_search.proofs.Knowing.{key-within, noted-at}
 use Rattle.sok_search.proofs.Showing.{shows}
+
+-- a search that has come to its end
+pub searched : (b : Numbered) (limit : ℕ) (p : Progress) (best : Option ℕ) → IsSearch b limit p → p.queue ≡ [] → p.best ≡ best
+    → HasSearched b.rows limit best
+searched b limit p best search finished is =
+    record { board = b; rows_are = refl; known = p; search = search; finished = finished; best_is = is }
 
 -- the index of a solved state is one of the notes
 pub solved-noted : (b : Numbered) (limit : ℕ) (p : Progress) (k index : ℕ) → IsSearch b limit p → IsSolvedAt b p k index → index < length p.notes

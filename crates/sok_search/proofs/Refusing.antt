@@ -23,21 +23,13 @@ in-range limit good = (
 
 -- what is refused of a board is refused
 refusal-board : (rows : Rows) (limit : ℕ) (fault : BoardFault) → IsRefused rows fault → IsRefusal rows limit (of_board fault)
-refusal-board rows limit (board.NotEnclosed spot) refused = refused
-refusal-board rows limit (board.BoxOutside spot) refused = refused
-refusal-board rows limit board.TooFewGoals refused = refused
-refusal-board rows limit board.TooLarge refused = refused
-refusal-board rows limit board.TooManyBoxes refused = refused
-refusal-board rows limit board.Memory refused = refused
+refusal-board rows limit board.Memory refused = tt
+refusal-board rows limit fault refused = (λ same. cc, refused)
 
 -- and is no bad limit
 good-board : (fault : BoardFault) → of_board fault ≡ solve.BadLimit → ⊥
-good-board (board.NotEnclosed spot) e = cc
-good-board (board.BoxOutside spot) e = cc
-good-board board.TooFewGoals e = cc
-good-board board.TooLarge e = cc
-good-board board.TooManyBoxes e = cc
 good-board board.Memory e = cc
+good-board fault e = cc
 
 abbrev fails : (A : Type 0) → SolveFault → Result A SolveFault
 fails A fault = Err fault

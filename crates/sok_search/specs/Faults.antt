@@ -1,9 +1,10 @@
--- Why a level is not solved, and the numbers by which these faults are printed.
-use Rattle.std.specs.Prelude.{ℕ, ◌≡◌, ◌<◌, ◌≤◌, ◌↔◌, ◌⊎◌, Result, Err, IfErr, IsOk}
+-- Why a level is not solved, and how these faults are printed: their numbers, and their names with their arguments.
+use Rattle.std.specs.Prelude.{ℕ, ◌≡◌, ◌≢◌, ◌<◌, ◌≤◌, ◌↔◌, ◌⊎◌, List, Result, Err, IfErr, IsOk, codes}
 use Rattle.sok_rules.specs.Squares.{Rows}
 use Rattle.sok_board.specs.Area.{Numbered, IsAccepted}
 use Rattle.sok_board.specs.declared.fault.BoardFault.{BoardFault}
 use Rattle.sok_board.specs.declared.fault.BoardFault.TheVariants as board
+use Rattle.sok_board.specs.Faults.{board_fault_number, board_fault_words}
 use Rattle.sok_board.specs.Refusals.{IsAcceptable, IsRefused}
 use Rattle.sok_search.specs.declared.fault.SolveFault.{SolveFault}
 use Rattle.sok_search.specs.declared.fault.SolveFault.TheVariants as solve
@@ -15,21 +16,13 @@ IsBadLimit limit = (limit ≡ 0) ⊎ (state_limit < limit)
 
 -- a board's fault as one of solving
 abbrev pub of_board : BoardFault → SolveFault
-of_board (board.NotEnclosed spot) = solve.NotEnclosed spot
-of_board (board.BoxOutside spot) = solve.BoxOutside spot
-of_board board.TooFewGoals = solve.TooFewGoals
-of_board board.TooLarge = solve.TooLarge
-of_board board.TooManyBoxes = solve.TooManyBoxes
 of_board board.Memory = solve.Memory
+of_board fault = solve.Level fault
 
 -- the limit is bad, or the level is refused as a board is
 abbrev pub IsRefusal : Rows → ℕ → SolveFault → Type 0
 IsRefusal rows limit solve.BadLimit = IsBadLimit limit
-IsRefusal rows limit (solve.NotEnclosed spot) = IsRefused rows (board.NotEnclosed spot)
-IsRefusal rows limit (solve.BoxOutside spot) = IsRefused rows (board.BoxOutside spot)
-IsRefusal rows limit solve.TooFewGoals = IsRefused rows board.TooFewGoals
-IsRefusal rows limit solve.TooLarge = IsRefused rows board.TooLarge
-IsRefusal rows limit solve.TooManyBoxes = IsRefused rows board.TooManyBoxes
+IsRefusal rows limit (solve.Level fault) = (fault ≢ board.Memory) × IsRefused rows fault
 IsRefusal rows limit solve.Memory = Unit {0}
 
 -- the board of a level, within a limit that is not bad
@@ -47,9 +40,10 @@ pub record TellsFault {A : Type 0} (rows : Rows) (limit : ℕ) (answer : Result 
 
 abbrev pub solve_fault_number : SolveFault → ℕ
 solve_fault_number solve.BadLimit = 16
-solve_fault_number (solve.NotEnclosed spot) = 6
-solve_fault_number (solve.BoxOutside spot) = 7
-solve_fault_number solve.TooFewGoals = 8
-solve_fault_number solve.TooLarge = 9
-solve_fault_number solve.TooManyBoxes = 10
+solve_fault_number (solve.Level fault) = board_fault_number fault
 solve_fault_number solve.Memory = 40
+
+abbrev pub solve_fault_words : SolveFault → List ℕ
+solve_fault_words solve.BadLimit = codes "BadLimit"
+solve_fault_words (solve.Level fault) = board_fault_words fault
+solve_fault_words solve.Memory = codes "Memory"

@@ -1,5 +1,5 @@
 -- What is answered of a level.
-use Rattle.std.specs.Prelude.{ℕ, ◌≡◌, ◌≤◌, ◌+◌, ◌⊎◌, ◌++◌, ◌∷◌, List, [], length}
+use Rattle.std.specs.Prelude.{ℕ, ◌≡◌, ◌≤◌, ◌+◌, ◌⊎◌, ◌++◌, ◌∷◌, List, [], Option, Some, None, length}
 use Rattle.sok_rules.specs.declared.cell.Dir.{Dir}
 use Rattle.sok_rules.specs.Squares.{Rows}
 use Rattle.sok_rules.specs.Play.{start, pushes, Solves, IsFewest, IsUnsolvable}
@@ -14,6 +14,7 @@ use Rattle.sok_search.specs.declared.found.Found.{Found}
 use Rattle.sok_search.specs.declared.found.Found.TheVariants as found
 use Rattle.sok_search.specs.declared.outcome.Outcome.{Outcome}
 use Rattle.sok_search.specs.declared.outcome.Outcome.TheVariants.{Solved, Unsolvable, Limit}
+use Rattle.sok_search.specs.Searches.{Progress, IsSearch}
 
 -- the last letter of a list pushes
 pub record PushesLast (rows : Rows) (w : List Dir) : Type 0 where
@@ -54,10 +55,20 @@ pub record IsPastLimit (rows : Rows) (limit states : ℕ) : Type 0 where
   pub more : MoreStatesThan rows limit
   pub is : states ≡ limit
 
+-- A search of the level that knows at most so many states has come to its end: none of them waits, and this is the least depth of one that is solved, if one
+-- is. So each push of a state that it has expanded leads to one of them, or to where nothing solves.
+pub record HasSearched (rows : Rows) (limit : ℕ) (best : Option ℕ) : Type 0 where
+  pub board : Numbered
+  pub rows_are : board.rows ≡ rows
+  pub known : Progress
+  pub search : IsSearch board limit known
+  pub finished : known.queue ≡ []
+  pub best_is : known.best ≡ best
+
 -- what is found of a level within a limit
 abbrev pub IsFound : Rows → ℕ → Found → Type 0
-IsFound rows limit (found.Solved dirs pushes) = IsLeastSolution rows dirs.items pushes
-IsFound rows limit found.Unsolvable = IsUnsolvable rows
+IsFound rows limit (found.Solved dirs pushes) = IsLeastSolution rows dirs.items pushes × HasSearched rows limit (Some pushes)
+IsFound rows limit found.Unsolvable = IsUnsolvable rows × HasSearched rows limit None
 IsFound rows limit (found.Limit states) = IsPastLimit rows limit states
 
 -- what is answered of a level within a limit

@@ -1,28 +1,21 @@
 //! Why a level is not solved.
 
-ghost use Rattle.std.specs.Prelude.{◌≡◌};
-ghost use Rattle.sok_search.specs.Faults.{of_board, solve_fault_number};
+ghost use Rattle.std.specs.Prelude.{◌≡◌, Some};
+ghost use Rattle.sok_search.specs.Faults.{of_board, solve_fault_number, solve_fault_words};
 ghost use Rattle.sok_search.specs.declared.fault.SolveFault.TheVariants as solve;
 
 use sok_board::fault::BoardFault;
-use sok_rules::cell::Spot;
 use sok_rules::fault::Memory;
+use std::fmt;
+use thiserror::Error;
 
-/// Why no answer is sought of a level.
-#[derive(Clone, Copy, Debug, PartialEq, Eq)]
+/// Why no answer is sought of a level. It is displayed as its name and its arguments.
+#[derive(Clone, Copy, Debug, PartialEq, Eq, Error)]
 pub enum SolveFault {
     /// The limit is 0, or above 1,000,000.
     BadLimit,
-    /// The first square of the area, row by row, that has a neighbour in no row.
-    NotEnclosed(Spot),
-    /// The first box, row by row, that stands outside the area and off a goal.
-    BoxOutside(Spot),
-    /// The area has fewer goals than boxes.
-    TooFewGoals,
-    /// The area has more than 1,024 squares.
-    TooLarge,
-    /// The area has more than 128 boxes.
-    TooManyBoxes,
+    /// No board can be made of the level.
+    Level(BoardFault),
     /// Memory was refused.
     Memory,
 }
@@ -34,12 +27,20 @@ impl SolveFault {
     {
         match self {
             SolveFault::BadLimit => 16,
-            SolveFault::NotEnclosed(_) => 6,
-            SolveFault::BoxOutside(_) => 7,
-            SolveFault::TooFewGoals => 8,
-            SolveFault::TooLarge => 9,
-            SolveFault::TooManyBoxes => 10,
+            SolveFault::Level(fault) => fault.number(),
             SolveFault::Memory => 40,
+        }
+    }
+}
+
+impl fmt::Display for SolveFault {
+    ghost output = { λ fault. Some (solve_fault_words fault) };
+
+    fn fmt<W: fmt::Write>(&self, f: &mut fmt::Formatter<W>) -> fmt::Result {
+        match self {
+            SolveFault::BadLimit => write!(f, "BadLimit"),
+            SolveFault::Level(fault) => write!(f, "{fault}"),
+            SolveFault::Memory => write!(f, "Memory"),
         }
     }
 }
@@ -49,12 +50,8 @@ impl From<BoardFault> for SolveFault {
 
     fn from(fault: BoardFault) -> SolveFault {
         match fault {
-            BoardFault::NotEnclosed(spot) => SolveFault::NotEnclosed(spot),
-            BoardFault::BoxOutside(spot) => SolveFault::BoxOutside(spot),
-            BoardFault::TooFewGoals => SolveFault::TooFewGoals,
-            BoardFault::TooLarge => SolveFault::TooLarge,
-            BoardFault::TooManyBoxes => SolveFault::TooManyBoxes,
             BoardFault::Memory => SolveFault::Memory,
+            _ => SolveFault::Level(fault),
         }
     }
 }

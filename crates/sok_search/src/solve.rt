@@ -155,7 +155,8 @@ fn find_in(alloc: Global, board: &Board, search: &Search) -> Result<Found, Memor
     requires accepted { IsAccepted board.now }
     requires search { IsSearching board.now (progress_of search.now) }
     requires finished { search.now.queue ≡ [] }
-    ensures { (limit : ℕ) → IfOk result (IsFound board.now.rows limit) }
+    ensures { (limit : ℕ) → IsSearch board.now limit (progress_of search.now)
+        → IfOk result (IsFound board.now.rows limit) }
 {
     match search.best {
         Some(pushes) => {

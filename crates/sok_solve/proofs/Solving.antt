@@ -41,14 +41,8 @@ fails B fault = Err fault
 pub refused_answer : {A : Type 0} (B : Type 0) (Tells : A → Type 0) (rows : Rows) (limit : ℕ) (fault : SolveFault)
     → (fails B fault ≡ fails B solve.BadLimit) ↔ IsBadLimit limit → IsRefusal rows limit fault → IsFaultOf (IsAnswered Tells limit rows) (of_solve fault)
 refused_answer B Tells rows limit solve.BadLimit bad_limit is = is_bad is refl
-refused_answer B Tells rows limit (solve.NotEnclosed spot) bad_limit is =
-    is_refused (λ bad. let same = bad_limit.1 bad in cc) (board.NotEnclosed spot) (λ same. cc) is refl
-refused_answer B Tells rows limit (solve.BoxOutside spot) bad_limit is =
-    is_refused (λ bad. let same = bad_limit.1 bad in cc) (board.BoxOutside spot) (λ same. cc) is refl
-refused_answer B Tells rows limit solve.TooFewGoals bad_limit is = is_refused (λ bad. let same = bad_limit.1 bad in cc) board.TooFewGoals (λ same. cc) is refl
-refused_answer B Tells rows limit solve.TooLarge bad_limit is = is_refused (λ bad. let same = bad_limit.1 bad in cc) board.TooLarge (λ same. cc) is refl
-refused_answer B Tells rows limit solve.TooManyBoxes bad_limit is =
-    is_refused (λ bad. let same = bad_limit.1 bad in cc) board.TooManyBoxes (λ same. cc) is refl
+refused_answer B Tells rows limit (solve.Level board.Memory) bad_limit is = tt
+refused_answer B Tells rows limit (solve.Level fault) bad_limit is = is_refused (λ bad. let same = bad_limit.1 bad in cc) fault is.0 is.1 refl
 refused_answer B Tells rows limit solve.Memory bad_limit is = tt
 
 -- what is told is the answer of an acceptable level within its limit

@@ -1,5 +1,5 @@
 -- What is answered to a level that is to be solved within a limit of states, alone or with a certificate.
-use Rattle.std.specs.Prelude.{ℕ, ◌≡◌, ◌≢◌, List, [], ◌++◌, Result, Ok, Err, codes, length}
+use Rattle.std.specs.Prelude.{ℕ, ◌≡◌, ◌≢◌, List, [], ◌++◌, Some, None, Result, Ok, Err, codes, length}
 use Rattle.std.specs.Fmt.{decimal}
 use Rattle.sok_rules.specs.declared.cell.Dir.{Dir}
 use Rattle.sok_rules.specs.Squares.{Rows}
@@ -14,7 +14,7 @@ use Rattle.sok_cert.specs.Claim.TheVariants as claim
 use Rattle.sok_cert.specs.Entry.{Entry}
 use Rattle.sok_cert.specs.Text.{text_of}
 use Rattle.sok_search.specs.Faults.{IsBadLimit}
-use Rattle.sok_search.specs.Outcomes.{IsLeastSolution, IsShownSolved, IsShownUnsolvable}
+use Rattle.sok_search.specs.Outcomes.{HasSearched, IsLeastSolution, IsShownSolved, IsShownUnsolvable}
 use Rattle.sok_engine.specs.declared.fault.ToolFault.{ToolFault}
 use Rattle.sok_engine.specs.declared.fault.ToolFault.TheVariants as tool
 use Rattle.sok_engine.specs.Certified.{Certified, CertifiedAnswers}
@@ -37,10 +37,11 @@ unsolvable_answer = record { text = codes "unsolvable\n"; status = 0 }
 abbrev pub limit_answer : ℕ → Answer
 limit_answer limit = record { text = codes "limit " ++ decimal limit ++ codes "\n"; status = 4 }
 
--- what is told without a certificate: a list that solves with the fewest pushes, or that none solves, or that there are too many states
+-- what is told without a certificate, after a search within the limit: a list that solves with the fewest pushes, or that none solves; or that there are
+-- too many states
 pub data TellsFound (limit : ℕ) (rows : Rows) (told : Answer) : Type 0 where
-  is_solution : (w : List Dir) (pushes : ℕ) → IsLeastSolution rows w pushes → told ≡ solution_answer rows w pushes → TellsFound limit rows told
-  has_none : IsUnsolvable rows → told ≡ unsolvable_answer → TellsFound limit rows told
+  is_solution : (w : List Dir) (pushes : ℕ) → IsLeastSolution rows w pushes → HasSearched rows limit (Some pushes) → told ≡ solution_answer rows w pushes → TellsFound limit rows told
+  has_none : IsUnsolvable rows → HasSearched rows limit None → told ≡ unsolvable_answer → TellsFound limit rows told
   is_past_limit : MoreStatesThan rows limit → told ≡ limit_answer limit → TellsFound limit rows told
 
 -- with the certificate that none solves with fewer pushes

@@ -19,8 +19,9 @@ use sok_text::collection::Collection;
 use std::alloc::Global;
 use std::io::{Read, Write};
 
-/// Solves the n-th level of a collection as `solve_bytes` does, with the same answers and faults,
-/// but makes no certificate, which takes time and most of the memory.
+/// Solves the n-th level of a collection as `solve_bytes` does, with the same lines and faults, but
+/// makes no certificate, which takes time and most of the memory. A limit at which `solve_bytes`
+/// tells that more states can be reached may suffice here.
 pub fn find_bytes<R: Read, W: Write>(
     alloc: Global,
     input: &mut R,

@@ -118,11 +118,7 @@ pub(crate) fn tool_fault(fault: SolveFault) -> ToolFault
 {
     match fault {
         SolveFault::BadLimit => ToolFault::BadLimit,
-        SolveFault::NotEnclosed(spot) => ToolFault::NotEnclosed(spot.row, spot.col),
-        SolveFault::BoxOutside(spot) => ToolFault::BoxOutside(spot.row, spot.col),
-        SolveFault::TooFewGoals => ToolFault::TooFewGoals,
-        SolveFault::TooLarge => ToolFault::TooLarge,
-        SolveFault::TooManyBoxes => ToolFault::TooManyBoxes,
+        SolveFault::Level(fault) => ToolFault::from(fault),
         SolveFault::Memory => ToolFault::Memory,
     }
 }

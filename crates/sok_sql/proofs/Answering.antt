@@ -11,7 +11,7 @@ use Rattle.sqlite.proofs.StateLemmas.{survives_weaker}
 use Rattle.sqlite.specs.declared.error.Error.{Error}
 use Rattle.sqlite.proofs.Callers.{IsPlain, never_commits, command_of, reads_as}
 use Rattle.sok_sql.specs.Leaves.{Leaf, HasLeaves, ListsTable, level_schema, no_schema, shown_from, row_at, id_row, ids_with, last_ids}
-use Rattle.sok_sql.specs.Connections.{Shows, Holds, IsSame, IsSettled, Rests}
+use Rattle.sok_sql.specs.Connections.{Shows, Stores, Holds, IsSame, IsSettled, Rests}
 use Rattle.sok_sql.proofs.Texts.{select_of, names, pick_query, whole, all_query, find_query, last_query, one_text, one_is, one_plain, one_unlisted}
 use Rattle.sok_sql.proofs.Texts.{all_text, all_is, all_plain, all_unlisted, missing_is, find_text, find_is, find_plain, find_unlisted}
 use Rattle.sok_sql.proofs.Texts.{last_text, last_is, last_plain, last_unlisted}
@@ -33,31 +33,31 @@ module _ (old new : State) (leaves : List Leaf) (holds : Holds old leaves) where
   -- a query answers as its text means, and nothing has changed
   answers : (sql : List ℕ) (params : Row) (query : Query) (columns : List (List ℕ)) → command_of (understood level_schema sql) ≡ select_of query columns
       → IsPlain (understood level_schema sql) → reads_listing level_schema sql ≡ false → (rows : List Row) → Shown sql params old new rows
-      → Shows new leaves × HasLeaves old.now.trees leaves × IsAnswer query (overlay old.now.trees []) params rows
+      → Stores new leaves × HasLeaves old.now.trees leaves × IsAnswer query (overlay old.now.trees []) params rows
   answers sql params query columns is plain unlisted rows h =
       let was = holds (shown_up old new sql params rows h) in
       let read = reads_as sql params old new level_schema was.schema _ is plain unlisted rows h in
       let same = shown_same old new sql params rows (subst (λ s. IsPlain (understood s sql)) (sym was.schema) plain) h in
-      (unchanged_holds old new leaves holds same same.0.is_open, was.rows, read.answer Null)
+      ((same.0.is_open, unchanged_holds old new leaves holds same same.0.is_open), was.rows, read.answer Null)
 
-  pub all_answers : (rows : List Row) → Shown all_text [] old new rows → Shows new leaves × (rows ≡ shown_from 1 leaves)
+  pub all_answers : (rows : List Row) → Shown all_text [] old new rows → Stores new leaves × (rows ≡ shown_from 1 leaves)
   all_answers rows h =
       let a = answers all_text [] all_query names all_is all_plain all_unlisted rows h in
       (a.0, lists old.now.trees leaves rows a.1 a.2)
 
   pub one_answers : (id place : ℕ) → id ≡ 1 + place → (rows : List Row) → Shown one_text (Int (pos id) ∷ []) old new rows
-      → Shows new leaves × (rows ≡ row_at id (slice_get leaves place))
+      → Stores new leaves × (rows ≡ row_at id (slice_get leaves place))
   one_answers id place is rows h =
       let a = answers one_text (Int (pos id) ∷ []) (pick_query whole) names one_is one_plain one_unlisted rows h in
       (a.0, reads_one id place old.now.trees leaves rows a.1 is a.2)
 
   pub find_answers : (text : List ℕ) (rows : List Row) → Shown find_text (Words text ∷ []) old new rows
-      → Shows new leaves × (rows ≡ map id_row (ids_with text 1 leaves))
+      → Stores new leaves × (rows ≡ map id_row (ids_with text 1 leaves))
   find_answers text rows h =
       let a = answers find_text (Words text ∷ []) find_query _ find_is find_plain find_unlisted rows h in
       (a.0, finds text old.now.trees leaves rows a.1 a.2)
 
-  pub last_answers : (rows : List Row) → Shown last_text [] old new rows → Shows new leaves × (rows ≡ map id_row (last_ids leaves))
+  pub last_answers : (rows : List Row) → Shown last_text [] old new rows → Stores new leaves × (rows ≡ map id_row (last_ids leaves))
   last_answers rows h =
       let a = answers last_text [] last_query _ last_is last_plain last_unlisted rows h in
       (a.0, lasts old.now.trees leaves rows a.1 a.2)

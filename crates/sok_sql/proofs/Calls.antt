@@ -61,6 +61,14 @@ module _ (old new : State) where
         | Some what ↦ λ it. it.1.shown.was_open
       ] h.2
 
+  pub shown_open : (sql : List ℕ) (params : Row) (rows : List Row) → Shown sql params old new rows → IsTrue new.is_open
+  unfolding Shown
+  shown_open sql params rows h =
+      elim h.0.returning as (λ r. st.ShowsRows old new sql h.0 (timed params h.0.formats h.1.now) rows r → IsTrue new.is_open) [
+        | None ↦ λ it. it.3.0.is_open
+        | Some what ↦ λ it. it.1.shown.is_open
+      ] h.2
+
   pub shown_same : (sql : List ℕ) (params : Row) (rows : List Row) → IsPlain (understood old.now.schema sql) → Shown sql params old new rows
       → IsUnchanged old new
   unfolding Shown

@@ -17,7 +17,7 @@ use Rattle.sqlite.specs.Change.{created, next_tree}
 use Rattle.sqlite.proofs.Callers.{IsPlain, command_of, statement_of, runs_as}
 use Rattle.std.proofs.lemmas.List.Sorted.{IsPermutation-refl}
 use Rattle.sok_sql.specs.Leaves.{Leaf, HasLeaves, level, level_schema, no_schema, seen, shown, new_leaf}
-use Rattle.sok_sql.specs.Connections.{Shows, Holds}
+use Rattle.sok_sql.specs.Connections.{Shows, Holds, StaysOpen}
 use Rattle.sok_sql.proofs.Texts.{create_text, create_is, create_plain, create_statement, created_is, create_again_fails, create_defines}
 use Rattle.sok_sql.proofs.Texts.{insert_text, insert_is, insert_plain, insert_terms, pick_query, update_with}
 use Rattle.sok_sql.proofs.Writes.{DoesOn, went, same_value, new_params, inserted, rewritten, updated}
@@ -46,6 +46,17 @@ module _ (old new : State) (leaves : List Leaf) (holds : Holds old leaves) where
       let does = subst (DoesOn old.now.trees old.step_limit params sql command w.tally new.now) was.schema w.changed in
       wrote command sql params count (leaves ++ new_leaf text title ∷ []) w
       (inserted old.step_limit old.now.trees sql id text title leaves w.tally new.now was.rows is does) up
+
+  pub insert_open : (id : ℕ) (text : List ℕ) (title : Option (List ℕ)) (count : ℕ) → Executes insert_text (new_params id text title) old new (Ok count)
+      → StaysOpen old new
+  insert_open id text title count h up =
+      let was = holds up in
+      (runs_as insert_text (new_params id text title) old new level_schema was.schema (Insert 0 (Values insert_terms 8)) insert_is insert_plain count h).shown.is_open
+
+  pub update_open : (sql : List ℕ) (project : List Term) (params : Row) → command_of (understood level_schema sql) ≡ update_with project
+      → IsPlain (understood level_schema sql) → (count : ℕ) → Executes sql params old new (Ok count) → StaysOpen old new
+  update_open sql project params is plain count h up =
+      (runs_as sql params old new level_schema (holds up).schema (update_with project) is plain count h).shown.is_open
 
   module _ (sql : List ℕ) (project : List Term) (more : Row) (out : Row → Row) (id : ℕ)
       (is : command_of (understood level_schema sql) ≡ update_with project) (plain : IsPlain (understood level_schema sql))
@@ -118,9 +129,16 @@ module _ (old new : State) (count : ℕ) (h : Executes create_text [] old new (O
         autocommit = w.shown.mode ∙ auto;
       }
 
+  pub create_open : (IsTrue old.is_open → (old.now.schema ≡ no_schema) × (old.in_transaction ≡ false)) → StaysOpen old new
+  create_open was up =
+      let ran = runs_as create_text [] old new no_schema (was up).0 CreateTable create_is create_plain count h in
+      let w = subst (λ t. Writes old new None CreateTable t [] count) create_statement ran in
+      w.shown.is_open
+
   -- and not where it is there
-  pub create_refuses : (IsTrue old.is_open → old.now.schema ≡ level_schema) → IsTrue new.is_open → ⊥
+  create_again : (IsTrue old.is_open → old.now.schema ≡ level_schema) → IsTrue old.is_open → ⊥
   unfolding ExecutesIn
-  create_refuses was up =
-      let has = was (ran_up old new create_text [] count h up) in
-      absurd (let e = sym (ap is_ok h.1.is) ∙ ap (λ s. is_ok (understood s create_text)) has ∙ create_again_fails in cc)
+  create_again was up = absurd (let e = sym (ap is_ok h.1.is) ∙ ap (λ s. is_ok (understood s create_text)) (was up) ∙ create_again_fails in cc)
+
+  pub create_refuses : (IsTrue old.is_open → old.now.schema ≡ level_schema) → (IsTrue old.is_open → ⊥) × (IsTrue new.is_open → ⊥)
+  create_refuses was = (create_again was, λ up. create_again was (ran_up old new create_text [] count h up))

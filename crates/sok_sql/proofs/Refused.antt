@@ -1,7 +1,7 @@
 -- Why a query of the table is refused.
 use Rattle.std.proofs.Common.{◌≡◌, ◌⊎◌, inl, inr, ℕ, List, [], true, false, None, Ok, Err, Result, length}
 use Rattle.std.proofs.Common.{refl, sym, ap, subst, subst₂, ◌∙◌, append-nil, arith, ◌+◌, ◌<◌, ◌≤◌, ◌^◌, pos, ◌∷◌}
-use Rattle.std.proofs.Common.{Bool, bytes_eq, if◌then◌else◌, slice_get, IfErr, IfSome}
+use Rattle.std.proofs.Common.{Bool, bytes_eq, if◌then◌else◌, slice_get, IfErr, IfSome, IsTrue, Some}
 use Rattle.sqlite.specs.declared.types.Value.TheVariants.{Int, Text as Words}
 use Rattle.std.proofs.lemmas.Bool.{cases_Bool}
 use Rattle.std.proofs.lemmas.Bool.Decides.{nat_tests}
@@ -18,6 +18,7 @@ use Rattle.sqlite.specs.Effect.{RefusesToRead}
 use Rattle.sqlite.specs.Listing.{understood, reads_listing, IsSourceOf}
 use Rattle.sqlite.specs.State as st
 use Rattle.sqlite.specs.State.{State, Fails, FailsToQuery, FailsToShow, IsNoStatement, IsNotRun, IsUnchanged, store_error}
+use Rattle.sqlite.specs.Clock.{timed}
 use Rattle.sqlite.proofs.Callers.{IsPlain, command_of}
 use Rattle.sqlite.specs.declared.error.Error.TheVariants.{SqlInputError}
 use Rattle.sqlite_resolve.specs.declared.error.CompileError.TheVariants.{NoSuchTable}
@@ -45,6 +46,29 @@ module _ (old new : State) where
       go Full is why = inr (inr (inr (inr why)))
       go Broken is why = inr (inr (inl why))
       go Unstorable is why = inl why
+
+  -- and that it did is never told as a table that is not there
+  not_missing : (Big : Type 0) (e : Error) → Fails old new Big e → IsMissing e → ⊥
+  not_missing Big e (cause, is, why, back, tells) missing = go cause (sym is ∙ missing)
+    where
+      go : (cause : StoreError) → store_error cause ≡ SqlInputError NoSuchTable → ⊥
+      go OutOfMemory same = absurd cc
+      go Io same = absurd cc
+      go Corrupt same = absurd cc
+      go Full same = absurd cc
+      go Broken same = absurd cc
+      go Unstorable same = absurd cc
+
+  -- so the connection is open where the table is not there
+  pub missing_open : (sql : List ℕ) (params : Row) (e : Error) → FailsToQuery sql params old new e → IsMissing e → IsTrue new.is_open
+  unfolding FailsToQuery IsNotRun
+  missing_open sql params e (inl (inl h)) missing = h.1.0.is_open
+  missing_open sql params e (inl (inr h)) missing = absurd (not_missing ⊥ e h missing)
+  missing_open sql params e (inr h) missing =
+      elim h.0.returning as (λ r. FailsToShow old new sql h.0 (timed params h.0.formats h.1.now) e r → IsTrue new.is_open) [
+        | None ↦ λ it. it.3.0.is_open
+        | Some what ↦ λ it. elim it [ inl same ↦ same.1.0.is_open | inr fails ↦ absurd (not_missing _ e fails missing) ]
+      ] h.2
 
   -- a connection that was shut is a cause
   pub if_open : HasTable old → (e : Error) → (old.now.schema ≡ level_schema → IsExcused old new e) → IsExcused old new e

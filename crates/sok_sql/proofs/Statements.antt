@@ -16,7 +16,7 @@ use Rattle.sok_sql.specs.Statements.{Inserts, Updates, UpdatesLeaf}
 use Rattle.sok_sql.proofs.Texts.{IsPosed, insert_text, pick_query, update_with}
 use Rattle.sok_sql.proofs.Texts.{best_text, best_is, best_plain, best_posed, best_terms, verdict_text, verdict_is, verdict_plain, verdict_posed, verdict_terms}
 use Rattle.sok_sql.proofs.Calls.{refused_undone, undone_holds}
-use Rattle.sok_sql.proofs.Changing.{insert_commits, insert_holds, update_commits, update_holds}
+use Rattle.sok_sql.proofs.Changing.{insert_commits, insert_holds, insert_open, update_commits, update_holds, update_open}
 use Rattle.sok_sql.proofs.Unwritten.{insert_refused, update_refused}
 use Rattle.sok_sql.proofs.Writes.{new_params, rewritten}
 
@@ -30,7 +30,8 @@ module _ (id : ℕ) (text : List ℕ) (title : Option (List ℕ)) (low : id < 2 
   pub row_inserted : {X : Type 0} (x : X) (count : ℕ) → (HasCleanDisk new → Executes insert_text (new_params id text title) old new (Ok count))
       → Inserts {X = X} old new id (new_leaf text title) (Ok x)
   row_inserted x count runs = record {
-    done = λ clean leaves holds is. insert_holds old new leaves holds id text title count is (runs clean);
+    done = λ clean leaves holds is.
+        (insert_holds old new leaves holds id text title count is (runs clean), insert_open old new leaves holds id text title count (runs clean));
     kept = λ _ _ _. tt;
     stop = insert_stop;
     cause = λ _ _ _ _ _. tt;
@@ -67,9 +68,11 @@ module _ {id : ℕ} {change : Leaf → Leaf} {sql : List ℕ} {more : Row} (u : 
   pub row_updated : {X : Type 0} (x : X) (count : ℕ) → (HasCleanDisk new → Executes sql (Int (pos id) ∷ more) old new (Ok count))
       → Updates {X = X} old new id change (Ok x)
   row_updated x count runs = record {
-    done = λ clean leaves place leaf holds at found.
-        update_holds old new leaves holds sql u.project more u.out id u.is u.plain u.puts place leaf (change leaf) count at found (u.becomes leaf)
-        (runs clean);
+    done = λ clean leaves place leaf holds at found. (
+      update_holds old new leaves holds sql u.project more u.out id u.is u.plain u.puts place leaf (change leaf) count at found (u.becomes leaf)
+          (runs clean),
+      update_open old new leaves holds sql u.project (Int (pos id) ∷ more) u.is u.plain count (runs clean),
+    );
     kept = λ _ _ _. tt;
     stop = update_stop;
     cause = λ _ _ _ _ _ _ _ _. tt;

@@ -10,9 +10,17 @@ pub record Shows (s : State) (leaves : List Leaf) : Type 0 where
   pub settled : s.committed ≡ s.now
   pub autocommit : s.in_transaction ≡ false
 
+-- so it is, and the connection is open
+abbrev pub Stores : State → List Leaf → Type 0
+Stores s leaves = IsTrue s.is_open × Shows s leaves
+
 -- so it is, unless a failure of the disk has shut the connection
 abbrev pub Holds : State → List Leaf → Type 0
 Holds s leaves = IsTrue s.is_open → Shows s leaves
+
+-- the call does not shut the connection
+abbrev pub StaysOpen : State → State → Type 0
+StaysOpen old new = IsTrue old.is_open → IsTrue new.is_open
 
 -- nothing has changed, unless a failure of the disk has shut the connection
 abbrev pub IsSame : State → State → Type 0

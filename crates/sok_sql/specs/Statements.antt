@@ -3,12 +3,13 @@ use Rattle.std.specs.Prelude.{ℕ, ◌≡◌, ◌⊎◌, ◌+◌, List, [], ◌�
 use Rattle.sqlite.specs.declared.error.Error.{Error}
 use Rattle.sqlite.specs.State.{State, HasCleanDisk, Survives}
 use Rattle.sok_sql.specs.Causes.{AreApart, IsExcused, IsTooBig}
-use Rattle.sok_sql.specs.Connections.{Holds, Shows}
+use Rattle.sok_sql.specs.Connections.{Holds, Shows, StaysOpen}
 use Rattle.sok_sql.specs.Leaves.{Leaf, HasLeaves}
 
 -- a statement that adds a leaf with the next id, to whichever of its ends it comes
 pub record Inserts {X : Type 0} (old new : State) (id : ℕ) (leaf : Leaf) (result : Result X Error) : Type 0 where
-  pub done : HasCleanDisk new → (leaves : List Leaf) → Holds old leaves → id ≡ 1 + length leaves → OnOk result (Holds new (leaves ++ leaf ∷ []))
+  pub done : HasCleanDisk new → (leaves : List Leaf) → Holds old leaves → id ≡ 1 + length leaves
+      → OnOk result (Holds new (leaves ++ leaf ∷ []) × StaysOpen old new)
   pub kept : HasCleanDisk new → (leaves : List Leaf) → Holds old leaves → OnErr result (Holds new leaves)
   pub stop : Survives old new (λ db. (leaves : List Leaf) → Shows old leaves → id ≡ 1 + length leaves → HasLeaves db (leaves ++ leaf ∷ []))
   pub cause : HasCleanDisk new → (leaves : List Leaf) → Holds old leaves → id ≡ 1 + length leaves → AreApart (leaves ++ leaf ∷ [])
@@ -22,7 +23,7 @@ UpdatesLeaf Before After id change =
 
 -- a statement that changes the leaf with an id, to whichever of its ends it comes
 pub record Updates {X : Type 0} (old new : State) (id : ℕ) (change : Leaf → Leaf) (result : Result X Error) : Type 0 where
-  pub done : HasCleanDisk new → UpdatesLeaf (Holds old) (λ leaves. OnOk result (Holds new leaves)) id change
+  pub done : HasCleanDisk new → UpdatesLeaf (Holds old) (λ leaves. OnOk result (Holds new leaves × StaysOpen old new)) id change
   pub kept : HasCleanDisk new → (leaves : List Leaf) → Holds old leaves → OnErr result (Holds new leaves)
   pub stop : Survives old new (λ db. UpdatesLeaf (Shows old) (HasLeaves db) id change)
   pub cause : HasCleanDisk new → (leaves : List Leaf) (place : ℕ) (leaf : Leaf) → Holds old leaves → id ≡ 1 + place → slice_get leaves place ≡ Some leaf

@@ -5,7 +5,7 @@ ghost use Rattle.sqlite.specs.Held.{state};
 ghost use Rattle.sqlite.specs.State.{HasCleanDisk, Survives};
 ghost use Rattle.sqlite.specs.View.{doubt};
 ghost use Rattle.sok_sql.specs.Causes.{IsEmpty, IsExcused};
-ghost use Rattle.sok_sql.specs.Connections.{Holds, IsSame, IsSettled};
+ghost use Rattle.sok_sql.specs.Connections.{Holds, IsSame, IsSettled, StaysOpen};
 ghost use Rattle.sok_sql.specs.Leaves.{level_schema, no_schema};
 
 use sqlite::{Alter, Connection, Error};
@@ -16,11 +16,13 @@ pub fn create<S: Alter>(conn: &mut Connection<S>) -> Result<(), Error>
         → (IsTrue (state S.Store conn.old).is_open
         → ((state S.Store conn.old).now.schema ≡ no_schema)
         × ((state S.Store conn.old).in_transaction ≡ false))
-        → OnOk result (Holds (state S.Store conn.new) []) }
+        → OnOk result (Holds (state S.Store conn.new) []
+        × StaysOpen (state S.Store conn.old) (state S.Store conn.new)) }
     ensures there { HasCleanDisk (state S.Store conn.new)
         → (IsTrue (state S.Store conn.old).is_open
         → (state S.Store conn.old).now.schema ≡ level_schema)
-        → OnOk result (IsTrue (state S.Store conn.new).is_open → ⊥) }
+        → OnOk result ((IsTrue (state S.Store conn.old).is_open → ⊥)
+        × (IsTrue (state S.Store conn.new).is_open → ⊥)) }
     ensures same { HasCleanDisk (state S.Store conn.new) → IsSettled (state S.Store conn.old)
         → OnErr result (IsSame (state S.Store conn.old) (state S.Store conn.new)) }
     ensures cause { HasCleanDisk (state S.Store conn.new) → IsEmpty (state S.Store conn.old)

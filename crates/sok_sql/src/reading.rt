@@ -1,11 +1,11 @@
 //! Statements that read rows.
 
 ghost use Rattle.std.specs.Prelude.{◌≡◌, ◌⊎◌, ◌+◌, ◌<◌, ◌^◌, ℕ, List, length, map, slice_get};
-ghost use Rattle.std.specs.Prelude.{option_map, IfErr, IfOk, IfSome, OnOk, OnErr};
+ghost use Rattle.std.specs.Prelude.{option_map, IfErr, IfOk, IfSome, IsTrue, OnOk, OnErr};
 ghost use Rattle.sqlite.specs.Held.{state};
 ghost use Rattle.sqlite.specs.State.{HasCleanDisk};
 ghost use Rattle.sok_sql.specs.Causes.{HasTable, IsEmpty, IsExcused, IsMemory, IsMissing};
-ghost use Rattle.sok_sql.specs.Connections.{Holds, IsSame, IsSettled, Rests, Shows};
+ghost use Rattle.sok_sql.specs.Connections.{Holds, IsSame, IsSettled, Rests, Stores};
 ghost use Rattle.sok_sql.specs.Leaves.{Leaf, ListsTable, level_schema, no_schema, shown_from};
 ghost use Rattle.sok_sql.specs.Leaves.{id_row, ids_with, last_ids, row_at, shown};
 
@@ -17,7 +17,7 @@ pub fn all_rows<S: Alter>(conn: &mut Connection<S>) -> Result<Vec<Row>, Error>
     ensures rows { HasCleanDisk (state S.Store conn.new)
         → (leaves : List Leaf) → Holds (state S.Store conn.old) leaves
         → IfOk result
-        (λ rows. Shows (state S.Store conn.new) leaves × (rows.items ≡ shown_from 1 leaves)) }
+        (λ rows. Stores (state S.Store conn.new) leaves × (rows.items ≡ shown_from 1 leaves)) }
     ensures found { HasCleanDisk (state S.Store conn.new) → IsSettled (state S.Store conn.old)
         → (state S.Store conn.old).now.schema ≡ level_schema
         → IfOk result (λ rows. ListsTable ((state S.Store conn.old).now.trees 0) rows.items
@@ -28,6 +28,9 @@ pub fn all_rows<S: Alter>(conn: &mut Connection<S>) -> Result<Vec<Row>, Error>
         → OnErr result (IsSame (state S.Store conn.old) (state S.Store conn.new)) }
     ensures cause { HasCleanDisk (state S.Store conn.new) → HasTable (state S.Store conn.old)
         → IfErr result (IsExcused (state S.Store conn.old) (state S.Store conn.new)) }
+    ensures open { HasCleanDisk (state S.Store conn.new)
+        → OnOk result (IsTrue (state S.Store conn.new).is_open)
+        × IfErr result (λ e. IsMissing e → IsTrue (state S.Store conn.new).is_open) }
     ensures missing { HasCleanDisk (state S.Store conn.new) → IsEmpty (state S.Store conn.old)
         → IfErr result (λ e. IsMissing e
         ⊎ IsExcused (state S.Store conn.old) (state S.Store conn.new) e) }
@@ -44,7 +47,7 @@ pub fn row_at<S: Alter>(conn: &mut Connection<S>, id: u32) -> Result<Option<Row>
     ensures row { HasCleanDisk (state S.Store conn.new)
         → (leaves : List Leaf) (place : _) → Holds (state S.Store conn.old) leaves
         → id ≡ 1 + place
-        → IfOk result (λ row. Shows (state S.Store conn.new) leaves
+        → IfOk result (λ row. Stores (state S.Store conn.new) leaves
         × (row ≡ option_map (shown id) (slice_get leaves place))) }
     ensures cause { HasCleanDisk (state S.Store conn.new) → HasTable (state S.Store conn.old)
         → IfErr result (IsExcused (state S.Store conn.old) (state S.Store conn.new)) }
@@ -60,7 +63,7 @@ pub fn find<S: Alter>(conn: &mut Connection<S>, text: &str) -> Result<Option<u32
     ensures rests { Rests (state S.Store conn.old) (state S.Store conn.new) }
     ensures found { HasCleanDisk (state S.Store conn.new)
         → (leaves : List Leaf) → Holds (state S.Store conn.old) leaves
-        → IfOk result (λ id. Shows (state S.Store conn.new) leaves
+        → IfOk result (λ id. Stores (state S.Store conn.new) leaves
         × (id ≡ slice_get (ids_with text.now 1 leaves) 0)) }
     ensures cause { HasCleanDisk (state S.Store conn.new)
         → (leaves : List Leaf) → Holds (state S.Store conn.old) leaves → length leaves < 2 ^ 32
@@ -77,7 +80,7 @@ pub fn count<S: Alter>(conn: &mut Connection<S>) -> Result<u32, Error>
     ensures rests { Rests (state S.Store conn.old) (state S.Store conn.new) }
     ensures count { HasCleanDisk (state S.Store conn.new)
         → (leaves : List Leaf) → Holds (state S.Store conn.old) leaves
-        → IfOk result (λ count. Shows (state S.Store conn.new) leaves
+        → IfOk result (λ count. Stores (state S.Store conn.new) leaves
         × (count ≡ length leaves)) }
     ensures cause { HasCleanDisk (state S.Store conn.new)
         → (leaves : List Leaf) → Holds (state S.Store conn.old) leaves → length leaves < 2 ^ 32
@@ -115,7 +118,7 @@ fn rows_at<S: Alter>(conn: &mut Connection<S>, id: u32) -> Result<Vec<Row>, Erro
     ensures rows { HasCleanDisk (state S.Store conn.new)
         → (leaves : List Leaf) (place : _) → Holds (state S.Store conn.old) leaves
         → id ≡ 1 + place
-        → IfOk result (λ rows. Shows (state S.Store conn.new) leaves
+        → IfOk result (λ rows. Stores (state S.Store conn.new) leaves
         × (rows.items ≡ row_at id (slice_get leaves place))) }
     ensures cause { HasCleanDisk (state S.Store conn.new) → HasTable (state S.Store conn.old)
         → IfErr result (IsExcused (state S.Store conn.old) (state S.Store conn.new)) }
@@ -131,7 +134,7 @@ fn ids_of<S: Alter>(conn: &mut Connection<S>, text: &str) -> Result<Vec<Row>, Er
     ensures rests { Rests (state S.Store conn.old) (state S.Store conn.new) }
     ensures rows { HasCleanDisk (state S.Store conn.new)
         → (leaves : List Leaf) → Holds (state S.Store conn.old) leaves
-        → IfOk result (λ rows. Shows (state S.Store conn.new) leaves
+        → IfOk result (λ rows. Stores (state S.Store conn.new) leaves
         × (rows.items ≡ map id_row (ids_with text.now 1 leaves))) }
     ensures cause { HasCleanDisk (state S.Store conn.new) → HasTable (state S.Store conn.old)
         → IfErr result (IsExcused (state S.Store conn.old) (state S.Store conn.new)) }
@@ -147,7 +150,7 @@ fn last_rows<S: Alter>(conn: &mut Connection<S>) -> Result<Vec<Row>, Error>
     ensures rests { Rests (state S.Store conn.old) (state S.Store conn.new) }
     ensures rows { HasCleanDisk (state S.Store conn.new)
         → (leaves : List Leaf) → Holds (state S.Store conn.old) leaves
-        → IfOk result (λ rows. Shows (state S.Store conn.new) leaves
+        → IfOk result (λ rows. Stores (state S.Store conn.new) leaves
         × (rows.items ≡ map id_row (last_ids leaves))) }
     ensures cause { HasCleanDisk (state S.Store conn.new) → HasTable (state S.Store conn.old)
         → IfErr result (IsExcused (state S.Store conn.old) (state S.Store conn.new)) }

@@ -22,18 +22,18 @@ use Rattle.sok_book.specs.Refusals.{IsNotAdded}
 use Rattle.sok_page.specs.Titles.{IsTitle}
 use Rattle.sok_page.proofs.Titles.{kept-are-titles}
 use Rattle.sok_sql.specs.Causes.{AreApart, IsExcused, IsMemory, IsTooBig}
-use Rattle.sok_sql.specs.Connections.{Holds, Rests, Shows}
+use Rattle.sok_sql.specs.Connections.{Holds, Rests, Shows, Stores}
 use Rattle.sok_sql.specs.Leaves.{Leaf, HasLeaves, ids_with, new_leaf}
 use Rattle.sok_sql.specs.Statements.{Inserts}
 use Rattle.sok_row.specs.Faults.{IsOutside}
-use Rattle.sok_row.specs.Kept.{HoldsBook, IsKeptBook, ShowsBook, leaves_of}
+use Rattle.sok_row.specs.Kept.{HoldsBook, IsKeptBook, StoresBook, leaves_of}
 use Rattle.sok_row.proofs.Finding.{stands_found, unknown_unfound}
 use Rattle.sok_row.proofs.Changes.{IsKeptPage-new}
 use Rattle.sok_row.proofs.Books.{IsKeptBook-push, leaves_of-push, length-leaves_of}
-use Rattle.sok_store.specs.Calls.{IsCaused, Keeps, MakesNone, Stops, Turns, id_number, title_kept}
+use Rattle.sok_store.specs.Calls.{Changes, IsCaused, Keeps, MakesNone, Stops, id_number, title_kept}
 use Rattle.sok_store.specs.Entries.{AddsPage, IsCausedAdding, IsFull, IsNewPage, StopsAdding}
 use Rattle.sok_store.specs.Running.{RunsAdding, RunsAddingPage}
-use Rattle.sok_store.proofs.Calls.{held, rests_holds, rests_stops, stops_later}
+use Rattle.sok_store.proofs.Calls.{held, held_shown, rests_holds, rests_stops, shown, stops_later}
 use Rattle.sok_store.proofs.Caused.{cause_before, few_leaves, kept_apart}
 
 title_is : (title : Option (List ℕ)) → IfSome (title_kept title) IsTitle
@@ -86,8 +86,8 @@ module _ (old mid : State) (text : List ℕ) (title : Option (List ℕ)) (rests 
     ];
   }
 
-  module _ (count : ℕ) (counted : HasCleanDisk mid → (leaves : List Leaf) → Holds old leaves → Shows mid leaves × (count ≡ length leaves)) where
-    counted_pages : HasCleanDisk mid → (book : Book) → HoldsBook old book → ShowsBook mid book × (count ≡ length book)
+  module _ (count : ℕ) (counted : HasCleanDisk mid → (leaves : List Leaf) → Holds old leaves → Stores mid leaves × (count ≡ length leaves)) where
+    counted_pages : HasCleanDisk mid → (book : Book) → HoldsBook old book → StoresBook mid book × (count ≡ length book)
     counted_pages clean book holds =
         let (shows, is) = counted clean (leaves_of book) holds.1 in ((holds.0, shows), is ∙ length-leaves_of book)
 
@@ -111,10 +111,10 @@ module _ (old mid : State) (text : List ℕ) (title : Option (List ℕ)) (rests 
           (λ _ db none book page shows new_is. absurd (none (leaves_of book) shows.1))
           (λ clean db has book page shows_old new_is.
           let early : HasCleanDisk mid = omega (arith, clean, two.clean) in
-          let (shows, is) = counted_pages early book (held old book shows_old) in
+          let (shows, is) = counted_pages early book (held_shown old book shows_old) in
           let space : length book < level_limit = omega (arith, room, is) in
           let place = length-leaves_of book in
-          let after = has (leaves_of book) shows.1 (omega (arith, is, place)) in (
+          let after = has (leaves_of book) shows.1.1 (omega (arith, is, place)) in (
             space,
             (
               pushed_kept book text title page new_is shows_old.0 space,
@@ -131,12 +131,13 @@ module _ (old mid : State) (text : List ℕ) (title : Option (List ℕ)) (rests 
             let (shows, is) = counted_pages early book holds in
             let space : length book < level_limit = omega (arith, room, is) in
             let place = length-leaves_of book in
-            let after = insert.done clean (leaves_of book) (λ _. shows.1) (omega (arith, is, place)) in (
+            let (after, stays) = insert.done clean (leaves_of book) (λ _. shows.1.1) (omega (arith, is, place)) in
+            let up = stays shows.1.0 in (
               named ∙ ap (λ n. pos (n + 1)) is,
               space,
               (
                 pushed_kept book text title page new_is holds.0 space,
-                subst (Holds new) (pushed_leaves book text title page new_is holds.0 space) after,
+                (up, subst (Shows new) (pushed_leaves book text title page new_is holds.0 space) (after up)),
               ),
             );
         refused = tt;
@@ -150,7 +151,7 @@ module _ (old mid : State) (text : List ℕ) (title : Option (List ℕ)) (rests 
         added = tt;
         refused = λ clean book holds.
             let early : HasCleanDisk mid = omega (arith, clean, insert.stop.clean) in
-            let (shows, is) = counted_pages early book holds in (inl outside, (holds.0, insert.kept clean (leaves_of book) (λ _. shows.1)));
+            let (shows, is) = counted_pages early book holds in (inl outside, (holds.0, insert.kept clean (leaves_of book) (λ _. shows.1.1)));
         stop = page_stops insert.stop;
         cause = λ database clean book page holds new_is.
             let early : HasCleanDisk mid = omega (arith, clean, insert.stop.clean) in
@@ -160,7 +161,7 @@ module _ (old mid : State) (text : List ℕ) (title : Option (List ℕ)) (rests 
             let leaf = new_leaf text title in
             let leaves = pushed_leaves book text title page new_is holds.0 space in
             let apart = subst AreApart (sym leaves) (kept_apart (book ++ page ∷ []) (pushed_kept book text title page new_is holds.0 space)) in
-            elim (insert.cause clean (leaves_of book) (λ _. shows.1) (omega (arith, is, place)) apart) [
+            elim (insert.cause clean (leaves_of book) (λ _. shows.1.1) (omega (arith, is, place)) apart) [
               | inl big ↦
                   let there = subst (λ l. slice_get l (length (leaves_of book)) ≡ Some leaf) leaves (slice_get-push (leaves_of book) leaf) in
                   let same : count + 1 ≡ 1 + length (leaves_of book) = omega (arith, is, place) in
@@ -176,16 +177,16 @@ module _ (old mid : State) (text : List ℕ) (title : Option (List ℕ)) (rests 
 
 module _ (old mid : State) (rows : Rows) (text : List ℕ) (text_is : text ≡ level_text rows) (level : IsLevel rows) where
   pub is_there : (id : ℕ) (title : Option (List ℕ))
-      → (HasCleanDisk mid → (leaves : List Leaf) → Holds old leaves → Shows mid leaves × (Some id ≡ slice_get (ids_with text 1 leaves) 0))
-      → Turns old mid (λ book after. Adds book rows title id after)
+      → (HasCleanDisk mid → (leaves : List Leaf) → Holds old leaves → Stores mid leaves × (Some id ≡ slice_get (ids_with text 1 leaves) 0))
+      → Changes old mid (λ book after. Adds book rows title id after)
   is_there id title found clean book holds =
       let (shows, is) = found clean (leaves_of book) holds.1 in
       let at = subst (λ t. slice_get (ids_with t 1 (leaves_of book)) 0 ≡ Some id) text_is (sym is) in
-      (book, is_known (stands_found book rows id holds.0 level at) refl, (holds.0, λ _. shows))
+      (book, is_known (stands_found book rows id holds.0 level at) refl, (holds.0, shows))
 
   module _ (title : Option (List ℕ)) (accepted : IsAcceptable rows)
-      (found : HasCleanDisk mid → (leaves : List Leaf) → Holds old leaves → Shows mid leaves × (None ≡ slice_get (ids_with text 1 leaves) 0)) where
-    not_there : HasCleanDisk mid → (book : Book) → HoldsBook old book → ShowsBook mid book × IsUnknown book rows
+      (found : HasCleanDisk mid → (leaves : List Leaf) → Holds old leaves → Stores mid leaves × (None ≡ slice_get (ids_with text 1 leaves) 0)) where
+    not_there : HasCleanDisk mid → (book : Book) → HoldsBook old book → StoresBook mid book × IsUnknown book rows
     not_there clean book holds =
         let (shows, is) = found clean (leaves_of book) holds.1 in
         let none = subst (λ t. slice_get (ids_with t 1 (leaves_of book)) 0 ≡ None) text_is (sym is) in
@@ -199,7 +200,7 @@ module _ (old mid : State) (rows : Rows) (text : List ℕ) (text_is : text ≡ l
 
     module _ (new : State) (early : HasCleanDisk new → HasCleanDisk mid) where
       level_added : (result : Result ℤ BookFault) → IfOk result (AddsPage mid new text (title_kept title))
-          → IfOk result (λ id. Turns old new (λ book after. Adds book rows (title_kept title) (id_number id) after))
+          → IfOk result (λ id. Changes old new (λ book after. Adds book rows (title_kept title) (id_number id) after))
       level_added (Ok id) added = λ clean book holds.
           let (shows, unknown) = not_there (early clean) book holds in
           let (id_is, room, after) = added clean book added_page (held mid book shows) (page_is book unknown) in
@@ -234,8 +235,8 @@ module _ (old mid : State) (rows : Rows) (text : List ℕ) (text_is : text ≡ l
       level_stops rests two =
           stops_later old mid new (λ book after. (id : ℕ) × Adds book rows (title_kept title) id after) (rests_stops old mid rests MakesNone) _
           (λ clean db has book shows_old.
-          let (shows, unknown) = not_there (early clean) book (held old book shows_old) in
-          let (room, after) = has book added_page shows (page_is book unknown) in
+          let (shows, unknown) = not_there (early clean) book (held_shown old book shows_old) in
+          let (room, after) = has book added_page (shown mid book shows) (page_is book unknown) in
           (book ++ added_page ∷ [], (length book + 1, is_new unknown room refl refl), after))
           two
 

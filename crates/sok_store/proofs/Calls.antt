@@ -1,20 +1,33 @@
 -- Calls that leave a book as it was, and calls one after another.
-use Rattle.std.proofs.Common.{refl, inl, arith}
+use Rattle.std.proofs.Common.{refl, inl, arith, IsTrue}
 use Rattle.sqlite.specs.Tree.{Trees}
 use Rattle.sqlite.specs.State.{State, HasCleanDisk, Survives}
 use Rattle.sqlite.proofs.StateLemmas.{survives_weaker, survives_then}
 use Rattle.sok_book.specs.Books.{Book}
 use Rattle.sok_sql.specs.Connections.{Rests}
-use Rattle.sok_row.specs.Kept.{HasBook, HoldsBook, ShowsBook, leaves_of}
-use Rattle.sok_store.specs.Calls.{Keeps, MakesNone, Stops}
-use Rattle.sok_store.specs.Entries.{Finds}
+use Rattle.sok_row.specs.Kept.{HasBook, HoldsBook, ShowsBook, StoresBook, leaves_of}
+use Rattle.sok_store.specs.Calls.{Changes, Finds, Keeps, MakesNone, Stops, Turns}
 
 -- what is shown is held
-pub held : (s : State) (book : Book) → ShowsBook s book → HoldsBook s book
-held s book shows = (shows.0, λ _. shows.1)
+pub held_shown : (s : State) (book : Book) → ShowsBook s book → HoldsBook s book
+held_shown s book shows = (shows.0, λ _. shows.1)
+
+-- what an open connection shows
+pub shown : (s : State) (book : Book) → StoresBook s book → ShowsBook s book
+shown s book stores = (stores.0, stores.1.1)
+
+pub held : (s : State) (book : Book) → StoresBook s book → HoldsBook s book
+held s book stores = held_shown s book (shown s book stores)
+
+pub stored : (s : State) (book : Book) → HoldsBook s book → IsTrue s.is_open → StoresBook s book
+stored s book holds up = (holds.0, (up, holds.1 up))
 
 pub finds_keeps : (old new : State) (P : Book → Type 0) → Finds old new P → Keeps old new P
-finds_keeps old new P finds clean book holds = let (is, shows) = finds clean book holds in (is, held new book shows)
+finds_keeps old new P finds clean book holds = let (is, stores) = finds clean book holds in (is, held new book stores)
+
+-- what is shown after a call is held after it, and the connection is open
+pub changes_turns : (old new : State) (Makes : Book → Book → Type 0) → Changes old new Makes → Turns old new Makes
+changes_turns old new Makes changes clean book holds = let (after, makes, stores) = changes clean book holds in (after, makes, held new after stores)
 
 -- nothing is done
 pub stops_same : (s : State) (Makes : Book → Book → Type 0) → Stops s s Makes

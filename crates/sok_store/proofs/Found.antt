@@ -12,10 +12,10 @@ use Rattle.sok_book.specs.Commands.{level_limit}
 use Rattle.sok_page.specs.declared.record.Record.{Record}
 use Rattle.sok_page.specs.Kept.{IsKeptPage}
 use Rattle.sok_sql.specs.Causes.{HasTable, IsExcused, IsMemory}
-use Rattle.sok_sql.specs.Connections.{Holds, Rests, Shows}
+use Rattle.sok_sql.specs.Connections.{Holds, Rests, Stores}
 use Rattle.sok_sql.specs.Leaves.{Leaf, shown}
 use Rattle.sok_row.specs.Faults.{IsOutside}
-use Rattle.sok_row.specs.Kept.{HoldsBook, IsKeptBook, ShowsBook, leaf_of, leaves_of}
+use Rattle.sok_row.specs.Kept.{HoldsBook, IsKeptBook, StoresBook, leaf_of, leaves_of}
 use Rattle.sok_row.specs.Opening.{id_or_place}
 use Rattle.sok_row.specs.Told.{IsRecordOf}
 use Rattle.sok_row.proofs.Books.{slice_get-leaves_of}
@@ -99,8 +99,8 @@ module _ (old new : State) (id : ℕ) (low : 0 < id) (rests : Rests old new) whe
   before = omega (arith, low)
 
   module _ (row : Row) (shows : HasCleanDisk new → (leaves : List Leaf) (place : ℕ) → Holds old leaves → id ≡ 1 + place
-      → Shows new leaves × (Some row ≡ option_map (shown id) (slice_get leaves place))) where
-    row_in : HasCleanDisk new → (book : Book) → HoldsBook old book → IsRowAt book id row × ShowsBook new book
+      → Stores new leaves × (Some row ≡ option_map (shown id) (slice_get leaves place))) where
+    row_in : HasCleanDisk new → (book : Book) → HoldsBook old book → IsRowAt book id row × StoresBook new book
     row_in clean book holds = (
       row_found book id row holds.0 low (λ n is. (shows clean (leaves_of book) n holds.1 is).1),
       (holds.0, (shows clean (leaves_of book) (id - 1) holds.1 before).0),
@@ -126,12 +126,12 @@ module _ (old new : State) (id : ℕ) (low : 0 < id) (rests : Rests old new) whe
     }
 
   pub row_misses : (HasCleanDisk new → (leaves : List Leaf) (place : ℕ) → Holds old leaves → id ≡ 1 + place
-      → Shows new leaves × (None ≡ option_map (shown id) (slice_get leaves place))) → RunsReading old new id (IsRecordOf id) (Err NoLevel)
+      → Stores new leaves × (None ≡ option_map (shown id) (slice_get leaves place))) → RunsReading old new id (IsRecordOf id) (Err NoLevel)
   row_misses shows = record {
     found = tt;
     refused = λ clean book holds. (
       inr (refl, row_missing book id (λ n is. (shows clean (leaves_of book) n holds.1 is).1)),
-      (holds.0, λ _. (shows clean (leaves_of book) (id - 1) holds.1 before).0),
+      (holds.0, λ _. (shows clean (leaves_of book) (id - 1) holds.1 before).0.1),
     );
     stop = rests_stops old new rests MakesNone;
     cause = λ database. absurd cc;
@@ -158,7 +158,7 @@ reads_nowhere s id Is none = record {
 
 -- the page that is read
 pub page_read : {X : Type 0} (old new : State) (id : ℕ) (Is : Page → X → Type 0) (x : X) → RunsReading old new id Is (Ok x) → HasCleanDisk new
-    → (book : Book) → HoldsBook old book → (page : Page) × (page_at book id ≡ Some page) × IsKeptPage page × Is page x × ShowsBook new book
+    → (book : Book) → HoldsBook old book → (page : Page) × (page_at book id ≡ Some page) × IsKeptPage page × Is page x × StoresBook new book
 page_read old new id Is x read clean book holds =
     let (some, shows) = read.found clean book holds in
     let (page, at, is) = some_of (page_at book id) (λ page. Is page x) some in

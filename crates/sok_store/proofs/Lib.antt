@@ -2,6 +2,7 @@ pub mod Added
 pub mod Calls
 pub mod Caused
 pub mod Found
+pub mod Histories
 pub mod Known
 pub mod Offered
 pub mod Opened

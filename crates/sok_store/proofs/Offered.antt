@@ -16,10 +16,9 @@ use Rattle.sok_page.specs.declared.record.Best.{Best}
 use Rattle.sok_page.specs.Kept.{IsKeptPage, IsKeptSolution}
 use Rattle.sok_page.specs.Texts.{SolutionText, best_text, solution_text}
 use Rattle.sok_store.specs.declared.entry.Entry.{Entry}
-use Rattle.sok_store.specs.Calls.{Turns}
+use Rattle.sok_store.specs.Calls.{Changes}
 use Rattle.sok_store.specs.Entries.{HasBest, IsEntryOf}
 use Rattle.sok_store.specs.Running.{RunsReading}
-use Rattle.sok_store.proofs.Calls.{held}
 use Rattle.sok_store.proofs.Found.{page_read}
 use Rattle.sok_store.proofs.Refusing.{not_offered}
 use Rattle.sok_store.proofs.Running.{Replaces}
@@ -88,11 +87,11 @@ module _ (id : ℕ) (letters : List Dir) (entry : Entry) (best : Best)
     (text : best_text best ≡ solution_text entry.level (solution_of entry.level letters))
     (kept : IsKeptSolution entry.level (solution_of entry.level letters)) where
   pub offer_kept : (old mid : State) → RunsReading old mid id IsEntryOf (Ok entry) → is_better best.pushes entry.best ≡ false
-      → Turns old mid (λ book after. Offers book id letters Kept after)
+      → Changes old mid (λ book after. Offers book id letters Kept after)
   offer_kept old mid read test clean book holds =
       let (page, at, _, is, shows) = page_read old mid id IsEntryOf entry read clean book holds in
       let done = offers book id page letters false at (judged_by page entry is letters best text kept false test) in
-      (book, subst (Offers book id letters Kept) (with_same_page book id page at) done, held mid book shows)
+      (book, subst (Offers book id letters Kept) (with_same_page book id page at) done, shows)
 
   pub offer_stored : is_better best.pushes entry.best ≡ true → Replaces id entry (λ answer book after. Offers book id letters answer after) Stored (HasBest best)
   offer_stored test = record {

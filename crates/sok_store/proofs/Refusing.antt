@@ -4,7 +4,7 @@ use Rattle.sok_rules.specs.declared.cell.Dir.{Dir}
 use Rattle.sok_cert.specs.Claim.{Claim}
 use Rattle.sok_cert.specs.Claim.TheVariants as claim
 use Rattle.sok_book.specs.declared.fault.BookFault.{BookFault}
-use Rattle.sok_book.specs.declared.fault.BookFault.TheVariants.{Blocked, Database, NotSolved, TooLong, NoLevel}
+use Rattle.sok_book.specs.declared.fault.BookFault.TheVariants.{Database, Letters, NotSolved, NoLevel}
 use Rattle.sok_book.specs.Books.{Book, Page, page_at}
 use Rattle.sok_book.specs.Commands.{best_pushes}
 use Rattle.sok_book.specs.Refusals.{Differs, IsNoSolution, IsNotOffered, IsNotProved, IsUnproved}
@@ -12,8 +12,7 @@ use Rattle.sok_store.proofs.Found.{some_and}
 
 pub not_offered : (book : Book) (id : ℕ) (page : Page) (letters : List Dir) (fault : BookFault) → page_at book id ≡ Some page
     → IsNoSolution page.level letters fault → IsNotOffered book id letters fault
-not_offered book id page letters TooLong at is = some_and (page_at book id) (λ p. IsNoSolution p.level letters TooLong) page at is
-not_offered book id page letters (Blocked n) at is = some_and (page_at book id) (λ p. IsNoSolution p.level letters (Blocked n)) page at is
+not_offered book id page letters (Letters f) at is = some_and (page_at book id) (λ p. IsNoSolution p.level letters (Letters f)) page at is
 not_offered book id page letters NotSolved at is = some_and (page_at book id) (λ p. IsNoSolution p.level letters NotSolved) page at is
 not_offered book id page letters fault at is = absurd is
 

@@ -11,7 +11,7 @@ use Rattle.sok_store.specs.declared.entry.Entry.{Entry}
 use Rattle.sok_store.specs.Calls.{Stops}
 use Rattle.sok_store.specs.Entries.{IsEntryOf, StopsSetting}
 use Rattle.sok_store.specs.Running.{Runs, RunsReading, RunsSetting}
-use Rattle.sok_store.proofs.Calls.{held, stops_later, stops_none}
+use Rattle.sok_store.proofs.Calls.{held, held_shown, shown, stops_later, stops_none, stored}
 use Rattle.sok_store.proofs.Caused.{caused_none, cause_before}
 use Rattle.sok_store.proofs.Found.{page_read, reads_nowhere}
 
@@ -71,19 +71,21 @@ module _ {X : Type 0} {id : ℕ} {entry : Entry} {Makes : X → Book → Book �
   replaces_stop second =
       stops_later old mid new (λ book after. (y : X) × Makes y book after) read.stop _ (λ clean db set book shows_old.
       let early : HasCleanDisk mid = omega (arith, clean, second.clean) in
-      let (page, at, kept, is, shows) = page_read old mid id IsEntryOf entry read early book (held old book shows_old) in
-      (with_page book id (it.after page), (x, it.makes book page at is), set book page (it.after page) shows at (it.writes page kept is))) second
+      let (page, at, kept, is, shows) = page_read old mid id IsEntryOf entry read early book (held_shown old book shows_old) in (
+        with_page book id (it.after page),
+        (x, it.makes book page at is),
+        set book page (it.after page) (shown mid book shows) at (it.writes page kept is),
+      )) second
 
   pub replaced_runs : {Y : Type 0} (Refuses : Book → BookFault → Type 0) (y : Y) → RunsSetting mid new id Writes (Ok y)
       → Runs old new Makes (λ book after. (y : X) × Makes y book after) Refuses (Ok x)
   replaced_runs Refuses y set = record {
     done = λ clean book holds.
         let early : HasCleanDisk mid = omega (arith, clean, set.stop.clean) in
-        let (page, at, kept, is, shows) = page_read old mid id IsEntryOf entry read early book holds in (
-          with_page book id (it.after page),
-          it.makes book page at is,
-          set.stored clean book page (it.after page) (held mid book shows) at (it.writes page kept is),
-        );
+        let (page, at, kept, is, shows) = page_read old mid id IsEntryOf entry read early book holds in
+        let after = with_page book id (it.after page) in
+        let (holds_new, stays) = set.stored clean book page (it.after page) (held mid book shows) at (it.writes page kept is) in
+        (after, it.makes book page at is, stored new after holds_new (stays shows.1.0));
     refused = tt;
     stop = replaces_stop set.stop;
     cause = tt;

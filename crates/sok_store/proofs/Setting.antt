@@ -92,7 +92,8 @@ module _ (old new : State) (id : ℕ) (change : Leaf → Leaf) (Makes : Page →
   page_set x y update = record {
     stored = λ clean book page after holds at made.
         let (n, place) = place_of book page after holds.0 at made in
-        (place.keeps, subst (Holds new) place.leaves (update.done clean (leaves_of book) n (leaf_of page) holds.1 place.id_is place.leaf_at));
+        let (wrote, stays) = update.done clean (leaves_of book) n (leaf_of page) holds.1 place.id_is place.leaf_at in
+        ((place.keeps, subst (Holds new) place.leaves wrote), stays);
     kept = tt;
     outside = tt;
     stop = page_stops update.stop;

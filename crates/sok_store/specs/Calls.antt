@@ -1,5 +1,5 @@
 -- What a call makes of the book that a connection holds.
-use Rattle.std.specs.Prelude.{ℕ, ℤ, pos, negsuc, ◌≡◌, ◌+◌, ◌⊎◌, List, Option, Some, None, slice_get}
+use Rattle.std.specs.Prelude.{ℕ, ℤ, pos, negsuc, ◌≡◌, ◌+◌, ◌⊎◌, List, Option, Some, None, IsTrue, slice_get}
 use Rattle.sqlite.specs.State.{State, HasCleanDisk, Survives}
 use Rattle.sok_book.specs.declared.fault.BookFault.{BookFault}
 use Rattle.sok_book.specs.declared.fault.BookFault.TheVariants.{Database}
@@ -7,7 +7,7 @@ use Rattle.sok_book.specs.Books.{Book}
 use Rattle.sok_page.specs.Titles.{kept_title}
 use Rattle.sok_sql.specs.Causes.{HasCause, IsTooBig}
 use Rattle.sok_sql.specs.Leaves.{Leaf}
-use Rattle.sok_row.specs.Kept.{HasBook, HoldsBook, ShowsBook, leaves_of}
+use Rattle.sok_row.specs.Kept.{HasBook, HoldsBook, ShowsBook, StoresBook, leaves_of}
 
 -- an id as a number: 0, which is the id of no page, where it is negative
 abbrev pub id_number : ℤ → ℕ
@@ -23,9 +23,21 @@ title_kept (Some title) = kept_title title
 abbrev pub Keeps : State → State → (Book → Type 0) → Type 0
 Keeps old new P = HasCleanDisk new → (book : Book) → HoldsBook old book → P book × HoldsBook new book
 
+-- the connection is open and shows the book that it held before, and of it this is true
+abbrev pub Finds : State → State → (Book → Type 0) → Type 0
+Finds old new P = HasCleanDisk new → (book : Book) → HoldsBook old book → P book × StoresBook new book
+
+-- the connection is open and shows a book that is made so of the one that it held before
+abbrev pub Changes : State → State → (Book → Book → Type 0) → Type 0
+Changes old new Makes = HasCleanDisk new → (book : Book) → HoldsBook old book → (after : Book) × Makes book after × StoresBook new after
+
 -- the connection holds a book that is made so of the one that it held before
 abbrev pub Turns : State → State → (Book → Book → Type 0) → Type 0
 Turns old new Makes = HasCleanDisk new → (book : Book) → HoldsBook old book → (after : Book) × Makes book after × HoldsBook new after
+
+-- a call that was done leaves the connection open, so that what it holds is shown
+abbrev pub EndsOpen : State → State → Type 0
+EndsOpen old new = HasCleanDisk new → (book : Book) → HoldsBook old book → IsTrue new.is_open
 
 -- a stop in the middle of the call leaves the book before it, or one that is made so of it
 abbrev pub Stops : State → State → (Book → Book → Type 0) → Type 0

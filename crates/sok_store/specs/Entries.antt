@@ -11,8 +11,9 @@ use Rattle.sok_page.specs.declared.record.Best.{Best}
 use Rattle.sok_page.specs.Kept.{IsKeptPage, IsKeptSolution}
 use Rattle.sok_page.specs.Texts.{best_text, solution_text}
 use Rattle.sok_sql.specs.Causes.{HasCause}
+use Rattle.sok_sql.specs.Connections.{StaysOpen}
 use Rattle.sok_sql.specs.Leaves.{new_leaf}
-use Rattle.sok_row.specs.Kept.{HasBook, HoldsBook, ShowsBook, leaf_of}
+use Rattle.sok_row.specs.Kept.{HasBook, HoldsBook, ShowsBook, StoresBook, leaf_of}
 use Rattle.sok_store.specs.Calls.{HasTooBig}
 use Rattle.sok_store.specs.declared.entry.Entry.{Entry}
 
@@ -37,7 +38,7 @@ pub record HasVerdict (verdict : Verdict) (page after : Page) : Type 0 where
 abbrev pub Sets : State → State → ℕ → (Page → Page → Type 0) → Type 0
 Sets old new id Makes =
     HasCleanDisk new → (book : Book) (page after : Page) → HoldsBook old book → page_at book id ≡ Some page → Makes page after
-    → HoldsBook new (with_page book id after)
+    → HoldsBook new (with_page book id after) × StaysOpen old new
 
 -- a stop leaves the page, or puts the other one in its place
 abbrev pub StopsSetting : State → State → ℕ → (Page → Page → Type 0) → Type 0
@@ -50,15 +51,11 @@ pub record IsNewPage (book : Book) (text : List ℕ) (title : Option (List ℕ))
   pub kept : IsKeptPage page
   pub unknown : IsUnknown book page.level
 
--- the connection is open and shows the book that it held before, and of it this is true
-abbrev pub Finds : State → State → (Book → Type 0) → Type 0
-Finds old new P = HasCleanDisk new → (book : Book) → HoldsBook old book → P book × ShowsBook new book
-
 -- the page is added, and its id is answered
 abbrev pub AddsPage : State → State → List ℕ → Option (List ℕ) → ℤ → Type 0
 AddsPage old new text title id =
     HasCleanDisk new → (book : Book) (page : Page) → HoldsBook old book → IsNewPage book text title page
-    → (id ≡ pos (length book + 1)) × (length book < level_limit) × HoldsBook new (book ++ page ∷ [])
+    → (id ≡ pos (length book + 1)) × (length book < level_limit) × StoresBook new (book ++ page ∷ [])
 
 -- a stop adds the page, or nothing
 abbrev pub StopsAdding : State → State → List ℕ → Option (List ℕ) → Type 0

@@ -1,5 +1,6 @@
--- Words of public contracts: `Calls`, `Opening`. The proof's own: `Entries`, `Running`.
+-- Words of public contracts: `Calls`, `Opening`, `Histories`. The proof's own: `Entries`, `Running`.
 pub mod Calls
 pub mod Entries
+pub mod Histories
 pub mod Opening
 pub mod Running

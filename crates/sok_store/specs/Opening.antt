@@ -1,5 +1,5 @@
 -- What is opened as a book, and why something is not.
-use Rattle.std.specs.Prelude.{ℤ, ◌≡◌, ◌⊎◌, [], IsTrue}
+use Rattle.std.specs.Prelude.{ℤ, ◌≡◌, ◌⊎◌, []}
 use Rattle.sqlite.specs.State.{State, HasCleanDisk}
 use Rattle.sok_sql.specs.Causes.{HasCause}
 use Rattle.sok_sql.specs.Connections.{IsKnown}
@@ -8,13 +8,13 @@ use Rattle.sok_book.specs.declared.fault.BookFault.{BookFault}
 use Rattle.sok_book.specs.declared.fault.BookFault.TheVariants.{BadBook, Database}
 use Rattle.sok_book.specs.Books.{Book}
 use Rattle.sok_row.specs.Faults.{IsOutside}
-use Rattle.sok_row.specs.Kept.{HasBook, HoldsBook, ShowsBook}
+use Rattle.sok_row.specs.Kept.{HasBook, StoresBook}
 use Rattle.sok_row.specs.Opening.{IsBadTable}
 
 -- where there was nothing the book is empty, and where there was the table it is that of exactly its rows
 pub record Opens (old new : State) : Type 0 where
-  pub made : old.now.schema ≡ no_schema → HoldsBook new []
-  pub found : old.now.schema ≡ level_schema → IsTrue new.is_open → (book : Book) × HasBook old.now.trees book × ShowsBook new book
+  pub made : old.now.schema ≡ no_schema → StoresBook new []
+  pub found : old.now.schema ≡ level_schema → (book : Book) × HasBook old.now.trees book × StoresBook new book
 
 -- memory was refused, or the database refused; or a row breaks a rule of books, and the fault names the first such row
 abbrev pub IsUnopened : State → State → BookFault → Type 0

@@ -11,8 +11,8 @@ use Rattle.sok_book.specs.Books.{Book, Page, page_at}
 use Rattle.sok_book.specs.Commands.{Adds, Offers, Proves}
 use Rattle.sok_book.specs.Refusals.{IsNotAdded, IsNotOffered, IsNotProved}
 use Rattle.sok_row.specs.Faults.{IsOutside}
-use Rattle.sok_store.specs.Calls.{IsCaused, Keeps, MakesNone, Stops, Turns, id_number}
-use Rattle.sok_store.specs.Entries.{AddsPage, Finds, IsCausedAdding, IsCausedSetting, IsFull, Sets, StopsAdding, StopsSetting}
+use Rattle.sok_store.specs.Calls.{Changes, Finds, IsCaused, Keeps, MakesNone, Stops, id_number}
+use Rattle.sok_store.specs.Entries.{AddsPage, IsCausedAdding, IsCausedSetting, IsFull, Sets, StopsAdding, StopsSetting}
 
 -- the page with an id is read, and this is told of it
 pub record RunsReading {X : Type 0} (old new : State) (id : ℕ) (Is : Page → X → Type 0) (result : Result X BookFault) : Type 0 where
@@ -39,7 +39,7 @@ pub record RunsAddingPage (old new : State) (text : List ℕ) (title : Option (L
 -- a command that makes a book with what it answers; of one that it refuses the book stays, and a stop in its middle makes what it may make
 pub record Runs {X : Type 0} (old new : State) (Makes : X → Book → Book → Type 0) (MayMake : Book → Book → Type 0)
     (Refuses : Book → BookFault → Type 0) (result : Result X BookFault) : Type 0 where
-  pub done : IfOk result (λ x. Turns old new (Makes x))
+  pub done : IfOk result (λ x. Changes old new (Makes x))
   pub refused : IfErr result (λ fault. Keeps old new (λ book. IsOutside fault ⊎ Refuses book fault))
   pub stop : Stops old new MayMake
   pub cause : IfErr result (IsCaused old new MayMake)

@@ -13,7 +13,7 @@ ghost use Rattle.sok_book.specs.declared.record.Offer.{Offer};
 ghost use Rattle.sok_cert.specs.Claim.{Claim};
 ghost use Rattle.sok_row.specs.Faults.{IsOutside};
 ghost use Rattle.sok_row.specs.Told.{AreRecordsOf, IsRecordOf};
-ghost use Rattle.sok_store.specs.Calls.{IsCaused, Keeps, MakesNone, Stops, Turns};
+ghost use Rattle.sok_store.specs.Calls.{Changes, Finds, IsCaused, Keeps, MakesNone, Stops};
 ghost use Rattle.sok_store.specs.Calls.{id_number, title_kept};
 ghost use Rattle.sok_store.specs.Opening.{IsCausedOpening, IsUnopened, Opens};
 
@@ -103,7 +103,7 @@ impl<S: Alter> Book<S> {
 
     /// The level with an id, counted from 1. Another id, a negative one among them, is `NoLevel`.
     pub fn get(&mut self, id: i64) -> Result<Record, BookFault>
-        ensures found { IfOk result (λ kept. Keeps (state S.Store self.old) (state S.Store self.new)
+        ensures found { IfOk result (λ kept. Finds (state S.Store self.old) (state S.Store self.new)
             (λ book. IsSomeAnd (page_at book (id_number id))
             (λ page. IsRecordOf (id_number id) page kept))) }
         ensures refused { IfErr result (λ fault.
@@ -120,7 +120,7 @@ impl<S: Alter> Book<S> {
     /// All levels, in order of their ids.
     pub fn list(&mut self) -> Result<Vec<Record>, BookFault>
         ensures listed { IfOk result (λ records.
-            Keeps (state S.Store self.old) (state S.Store self.new)
+            Finds (state S.Store self.old) (state S.Store self.new)
             (λ book. AreRecordsOf book records.items)) }
         ensures refused { IfErr result (λ fault.
             Keeps (state S.Store self.old) (state S.Store self.new) (λ _. IsOutside fault)) }
@@ -137,7 +137,7 @@ impl<S: Alter> Book<S> {
     /// level of which no board can be made, and a new level where there are 10,000.
     pub fn add(&mut self, level: &Level, title: Option<&[u8]>) -> Result<i64, BookFault>
         ensures accepted { OnOk result (IsAcceptable level.now) }
-        ensures added { IfOk result (λ id. Turns (state S.Store self.old) (state S.Store self.new)
+        ensures added { IfOk result (λ id. Changes (state S.Store self.old) (state S.Store self.new)
             (λ book after. Adds book level.now
             (title_kept (option_map (λ bytes. bytes.now) title.entry)) (id_number id) after)) }
         ensures refused { IfErr result (λ fault.
@@ -159,7 +159,7 @@ impl<S: Alter> Book<S> {
     /// letter that is not legal, and letters that leave a box off a goal.
     pub fn offer(&mut self, id: i64, letters: &[Dir]) -> Result<Offer, BookFault>
         ensures offered { IfOk result (λ answer.
-            Turns (state S.Store self.old) (state S.Store self.new)
+            Changes (state S.Store self.old) (state S.Store self.new)
             (λ book after. Offers book (id_number id) letters.now answer after)) }
         ensures refused { IfErr result (λ fault.
             Keeps (state S.Store self.old) (state S.Store self.new)
@@ -181,7 +181,7 @@ impl<S: Alter> Book<S> {
     /// that is not closed.
     pub fn prove(&mut self, id: i64, certificate: &[u8]) -> Result<Claim, BookFault>
         ensures proved { IfOk result (λ shown.
-            Turns (state S.Store self.old) (state S.Store self.new)
+            Changes (state S.Store self.old) (state S.Store self.new)
             (λ book after. Proves book (id_number id) certificate.now shown after)) }
         ensures refused { IfErr result (λ fault.
             Keeps (state S.Store self.old) (state S.Store self.new)

@@ -3,11 +3,13 @@
 //! | Module | What it holds |
 //! |---|---|
 //! | `book` | a book over a connection, and its calls |
+//! | `law` | what is true of any list of calls |
 #![tactic(auto)]
 
 mod adding;
 pub mod book;
 mod entry;
+pub mod law;
 mod listing;
 mod offering;
 mod opening;

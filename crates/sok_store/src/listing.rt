@@ -4,7 +4,7 @@ ghost use Rattle.std.specs.Prelude.{IfErr, IfOk};
 ghost use Rattle.sqlite.specs.Held.{state};
 ghost use Rattle.sok_row.specs.Faults.{IsOutside};
 ghost use Rattle.sok_row.specs.Told.{AreRecordsOf};
-ghost use Rattle.sok_store.specs.Calls.{IsCaused, Keeps, MakesNone, Stops};
+ghost use Rattle.sok_store.specs.Calls.{Finds, IsCaused, Keeps, MakesNone, Stops};
 
 use sok_book::fault::BookFault;
 use sok_page::record::Record;
@@ -20,7 +20,7 @@ pub(crate) fn records_in<S: Alter>(
     alloc: Global,
 ) -> Result<Vec<Record>, BookFault>
     ensures listed { IfOk result (λ records.
-        Keeps (state S.Store conn.old) (state S.Store conn.new)
+        Finds (state S.Store conn.old) (state S.Store conn.new)
         (λ book. AreRecordsOf book records.items)) }
     ensures refused { IfErr result (λ fault.
         Keeps (state S.Store conn.old) (state S.Store conn.new) (λ _. IsOutside fault)) }

@@ -1,5 +1,6 @@
 -- LURD, the notation of solutions (Sokoban Wiki, "Level format", "Solution").
 use Rattle.std.specs.Prelude.{ℕ, ◌≡◌, ◌≤◌, List, ◌∷◌, ◌++◌, Option, Some, None, Bool, false, if◌then◌else◌, ◌==◌, ◌||◌, length, map, filter, not, codes}
+use Rattle.std.specs.Fmt.{decimal}
 use Rattle.sok_rules.specs.declared.cell.Dir.{Dir}
 use Rattle.sok_rules.specs.declared.cell.Dir.TheVariants.{Left, Up, Right, Down}
 use Rattle.sok_rules.specs.Limits.{letter_limit}
@@ -41,8 +42,13 @@ pub record GoesWrong (bytes : List ℕ) (fault : LurdFault) : Type 0 where
   pub full : is_blank byte ≡ false
   pub wrong : IsWrong front w (direction byte) fault
 
--- the numbers by which faults are printed
+-- the numbers by which faults are printed, and their names with their arguments, each after one space
 abbrev pub lurd_fault_number : LurdFault → ℕ
 lurd_fault_number (BadLetter at) = 11
 lurd_fault_number TooLong = 14
 lurd_fault_number Memory = 40
+
+abbrev pub lurd_fault_words : LurdFault → List ℕ
+lurd_fault_words (BadLetter at) = codes "BadLetter " ++ decimal at
+lurd_fault_words TooLong = codes "TooLong"
+lurd_fault_words Memory = codes "Memory"

@@ -1,9 +1,10 @@
 //! LURD: the letters of a text (Sokoban Wiki, "Level format", "Solution").
 
-ghost use Rattle.std.specs.Prelude.{◌≡◌, ◌⊎◌, ◌∷◌, ℕ, List, [], MatchResult};
+ghost use Rattle.std.specs.Prelude.{◌≡◌, ◌⊎◌, ◌∷◌, ℕ, List, [], MatchResult, Some};
 ghost use Rattle.sok_rules.specs.declared.cell.Dir.{Dir};
 ghost use Rattle.sok_rules.specs.Replay.{IsReplayFault};
-ghost use Rattle.sok_text.specs.Lurd.{is_blank, direction, Spells, GoesWrong, lurd_fault_number};
+ghost use Rattle.sok_text.specs.Lurd.{is_blank, direction, Spells, GoesWrong};
+ghost use Rattle.sok_text.specs.Lurd.{lurd_fault_number, lurd_fault_words};
 ghost use Rattle.sok_text.specs.Marked.{marked_letter, IsMarkedText, MarkedTextsSpell};
 ghost use Rattle.sok_text.specs.declared.lurd.LurdFault.{LurdFault};
 ghost use Rattle.sok_text.specs.declared.lurd.LurdFault.TheVariants as lurd;
@@ -13,12 +14,14 @@ use sok_rules::fault::PlayFault;
 use sok_rules::level::Level;
 use sok_rules::play::mark_pushes;
 use std::alloc::{AllocError, AllocFailed, Global};
+use std::fmt;
+use thiserror::Error;
 
 /// The most letters of a text.
 pub const LIMIT: usize = 1_000_000;
 
-/// Why a text is no list of letters.
-#[derive(Clone, Copy, Debug, PartialEq, Eq)]
+/// Why a text is no list of letters. It is displayed as its name and its argument.
+#[derive(Clone, Copy, Debug, PartialEq, Eq, Error)]
 pub enum LurdFault {
     /// The place, in bytes from 0, of the first byte that is neither a letter nor a blank.
     BadLetter(usize),
@@ -37,6 +40,18 @@ impl LurdFault {
             LurdFault::BadLetter(_) => 11,
             LurdFault::TooLong => 14,
             LurdFault::Memory => 40,
+        }
+    }
+}
+
+impl fmt::Display for LurdFault {
+    ghost output = { λ fault. Some (lurd_fault_words fault) };
+
+    fn fmt<W: fmt::Write>(&self, f: &mut fmt::Formatter<W>) -> fmt::Result {
+        match self {
+            LurdFault::BadLetter(at) => write!(f, "BadLetter {at}"),
+            LurdFault::TooLong => write!(f, "TooLong"),
+            LurdFault::Memory => write!(f, "Memory"),
         }
     }
 }

@@ -11,7 +11,7 @@ use Rattle.sok_words.specs.Forms.{Form, IsId, IsPlain, Means, add, check, export
 use Rattle.sok_files.specs.Endings.{Ends}
 use Rattle.sok_files.specs.Files.{Files}
 use Rattle.sok_tool.specs.Commands.{RunsAdd, RunsCheck, RunsOffer, RunsProve, RunsReplay, RunsShowing, RunsSolve, Serves}
-use Rattle.sok_tool.specs.Databases.{Databases, refused, unready}
+use Rattle.sok_tool.specs.Databases.{Databases, refused, unread}
 
 -- where memory was refused, nothing is written
 pub Serves-memory : (files : Files) (databases : Databases) (form : Form) (out err : Bytes) (exit : ℕ) → Ends (Err tool.Memory) err.old err.new exit
@@ -21,7 +21,7 @@ Serves-memory files databases (replay file number text) out err exit ends kept =
 Serves-memory files databases (check file number cert) out err exit ends kept = (Err tool.Memory, kept, ends)
 Serves-memory files databases (solve file number limit None) out err exit ends kept = (Err tool.Memory, kept, ends)
 Serves-memory files databases (solve file number limit (Some cert)) out err exit ends kept = (Err tool.Memory, inl (inl refl, kept), ends)
-Serves-memory files databases _ out err exit ends kept = (Err tool.Memory, refused tool.Memory (unready (inl refl)) refl kept, ends)
+Serves-memory files databases _ out err exit ends kept = (Err tool.Memory, refused tool.Memory (unread refl) refl kept, ends)
 
 -- a job of replaying serves its form
 pub Serves-replay : (files : Files) (databases : Databases) (form : Form) (file : String Global) (n : ℕ) (text : String Global) (name letters : List ℕ)

@@ -18,7 +18,7 @@ use Rattle.sok_keep.specs.Shows.{IsExport, IsShow}
 use Rattle.sok_play.specs.Listing.{IsListing}
 use Rattle.sok_play.specs.Plays.{IsReplay}
 use Rattle.sok_words.specs.Forms.{Form, add, check, export, limit_of, list, offer, prove, replay, show, solve}
-use Rattle.sok_tool.specs.Databases.{Databases, OfOpened, WorksOn}
+use Rattle.sok_tool.specs.Databases.{Databases, OfOpened, Place, WorksOn, at}
 
 -- what is answered to the job of replaying
 abbrev pub RunsReplay : Files → List ℕ → ℕ → List ℕ → Bytes → Bytes → ℕ → Type 0
@@ -34,31 +34,30 @@ abbrev pub RunsSolve : Files → List ℕ → ℕ → ℕ → Option (List ℕ) 
 RunsSolve files file n most path out err exit =
     (result : Result ℕ ToolFault) × SolvesLevel (files.reads file) files.makes n most path out result × Ends result err.old err.new exit
 
--- a command works on the book in the database at a path, and the program ends with its status, or that of the fault
-abbrev pub RunsOn : Databases → List ℕ → (Book → Book → Result ℕ ToolFault → Type 0) → Bytes → Bytes → ℕ → Type 0
-RunsOn databases db Makes out err exit =
-    (result : Result ℕ ToolFault)
-    × WorksOn databases.shows (databases.keeps db) (databases.leaves db) (λ book after. Makes book after result) out result × Ends result err.old err.new exit
+-- a command works on the book in a database, with a file that may be lacking, and the program ends with its status, or that of the fault
+abbrev pub RunsOn : Place → Type 0 → (Book → Book → Result ℕ ToolFault → Type 0) → Bytes → Bytes → ℕ → Type 0
+RunsOn db lacks Makes out err exit =
+    (result : Result ℕ ToolFault) × WorksOn db lacks (λ book after. Makes book after result) out result × Ends result err.old err.new exit
 
 -- the levels of a file are added
 abbrev pub RunsAdd : Files → Databases → List ℕ → List ℕ → Bytes → Bytes → ℕ → Type 0
 RunsAdd files databases db file out err exit =
-    RunsOn databases db (λ book after result. OfOpened (files.reads file) (λ known. WritesAdding book known after out.old out.new result)) out err exit
+    RunsOn (at databases db) (files.lacks file) (λ book after result. OfOpened (files.reads file) (λ known. WritesAdding book known after out.old out.new result)) out err exit
 
 -- a text is offered to the level with an id
 abbrev pub RunsOffer : Databases → List ℕ → ℤ → List ℕ → Bytes → Bytes → ℕ → Type 0
 RunsOffer databases db id text out err exit =
-    RunsOn databases db (λ book after result. WritesOffer book id text after out.old out.new result) out err exit
+    RunsOn (at databases db) ⊥ (λ book after result. WritesOffer book id text after out.old out.new result) out err exit
 
 -- the certificate in a file is judged for the level with an id
 abbrev pub RunsProve : Files → Databases → List ℕ → ℤ → List ℕ → Bytes → Bytes → ℕ → Type 0
 RunsProve files databases db id cert out err exit =
-    RunsOn databases db (λ book after result. OfOpened (files.reads cert) (λ known. WritesProof book id known after out.old out.new result)) out err exit
+    RunsOn (at databases db) (files.lacks cert) (λ book after result. OfOpened (files.reads cert) (λ known. WritesProof book id known after out.old out.new result)) out err exit
 
 -- the book stays, and such an answer is written
 abbrev pub RunsShowing : Databases → List ℕ → (Book → Answers) → Bytes → Bytes → ℕ → Type 0
 RunsShowing databases db P out err exit =
-    RunsOn databases db (λ book after result. (after ≡ book) × Writes (P book) out.old out.new result) out err exit
+    RunsOn (at databases db) ⊥ (λ book after result. (after ≡ book) × Writes (P book) out.old out.new result) out err exit
 
 -- what becomes of the output, of the files and of the book that a form names, with its values
 abbrev pub Serves : Files → Databases → Form → Bytes → Bytes → ℕ → Type 0

@@ -1,10 +1,11 @@
 //! Databases by their paths.
 
 ghost use Rattle.std.specs.Prelude.{◌≡◌, ◌⊎◌, ℕ, List, IfErr, IfOk, ⊤};
+ghost use Rattle.sok_book.specs.declared.fault.BookFault.TheVariants as refusal;
+ghost use Rattle.sok_engine.specs.declared.fault.ToolFault.{ToolFault};
 ghost use Rattle.sok_engine.specs.declared.fault.ToolFault.TheVariants as tool;
 
 use sok_engine::fault::ToolFault;
-use sok_keep::fault::tool_fault;
 use sok_row::fault::fault_of;
 use sqlite::{Connection, File, FileStore};
 
@@ -15,6 +16,9 @@ pub trait Databases {
     // The database at this path may be opened as this connection.
     ghost keeps: { Self → List ℕ → Self.Opened → Type 0 };
 
+    // The database at this path may be refused, and this is told.
+    ghost refuses: { Self → List ℕ → ToolFault → Type 0 };
+
     // This connection to the database at this path was given back.
     ghost leaves: { Self → List ℕ → Self.Opened → Type 0 };
 
@@ -22,8 +26,9 @@ pub trait Databases {
     /// cause than memory, that is `Database`.
     fn database(&self, path: &str) -> Result<Self::Opened, ToolFault>
         ensures kept { IfOk result (keeps self.now path.now) }
+        ensures refuses { IfErr result (refuses self.now path.now) }
         ensures refused { IfErr result
-            (λ fault. (fault ≡ tool.Memory) ⊎ (fault ≡ tool.Database)) };
+            (λ fault. (fault ≡ tool.Memory) ⊎ (fault ≡ tool.Book refusal.Database)) };
 
     /// Takes a connection back, when the work on the database at a path is done.
     fn close(&self, path: &str, connection: Self::Opened)
@@ -36,12 +41,14 @@ impl Databases for HostRuntime {
 
     ghost keeps = { λ _ _ _. ⊤ };
 
+    ghost refuses = { λ _ _ _. ⊤ };
+
     ghost leaves = { λ _ _ _. ⊤ };
 
     fn database(&self, path: &str) -> Result<Connection<FileStore<File>>, ToolFault> {
         match Connection::open(self, path) {
             Ok(connection) => Ok(connection),
-            Err(error) => Err(tool_fault(fault_of(error))),
+            Err(error) => Err(ToolFault::from(fault_of(error))),
         }
     }
 

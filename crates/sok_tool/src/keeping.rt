@@ -8,14 +8,14 @@ ghost use Rattle.sok_keep.specs.Adds.{WritesAdding};
 ghost use Rattle.sok_keep.specs.Offers.{WritesOffer};
 ghost use Rattle.sok_keep.specs.Proves.{WritesProof};
 ghost use Rattle.sok_keep.specs.Shows.{IsExport, IsShow};
-ghost use Rattle.sok_tool.specs.Databases.{IsWithoutBook, OfOpened, OpensFound, WorksOn};
+ghost use Rattle.sok_tool.specs.Databases.{IsWithoutBook, OfOpened, OpensFound, WorksOn, place};
 
 use crate::databases::Databases;
+use sok_book::fault::BookFault;
 use sok_engine::fault::ToolFault;
 use sok_files::file::open;
 use sok_files::folder::Folder;
 use sok_keep::add::add_bytes;
-use sok_keep::fault::tool_fault;
 use sok_keep::offer::offer_bytes;
 use sok_keep::prove::prove_bytes;
 use sok_keep::show::{export_bytes, show_bytes};
@@ -29,7 +29,8 @@ pub(crate) fn add<
     F: Folder + Databases<Opened = Connection<S>> + AllocGlobal,
     W: Write,
 >(rt: &F, db: &str, path: &str, out: &mut W) -> Result<u8, ToolFault>
-    ensures { WorksOn (state S.Store) (F.keeps rt.now db.now) (F.leaves rt.now db.now)
+    ensures { WorksOn (place (state S.Store)
+        (F.keeps rt.now db.now) (F.refuses rt.now db.now) (F.leaves rt.now db.now)) (F.lacks rt.now path.now)
         (λ book after. OfOpened (F.reads rt.now path.now) (λ known.
         WritesAdding book known after (W.contents out.old) (W.contents out.new) result))
         (record { old = W.contents out.old; new = W.contents out.new }) result }
@@ -48,7 +49,8 @@ pub(crate) fn offer<S: Alter + Drop, F: Databases<Opened = Connection<S>> + Allo
     text: &str,
     out: &mut W,
 ) -> Result<u8, ToolFault>
-    ensures { WorksOn (state S.Store) (F.keeps rt.now db.now) (F.leaves rt.now db.now)
+    ensures { WorksOn (place (state S.Store)
+        (F.keeps rt.now db.now) (F.refuses rt.now db.now) (F.leaves rt.now db.now)) ⊥
         (λ book after.
         WritesOffer book id text.now after (W.contents out.old) (W.contents out.new) result)
         (record { old = W.contents out.old; new = W.contents out.new }) result }
@@ -65,7 +67,8 @@ pub(crate) fn prove<
     F: Folder + Databases<Opened = Connection<S>> + AllocGlobal,
     W: Write,
 >(rt: &F, db: &str, id: i64, path: &str, out: &mut W) -> Result<u8, ToolFault>
-    ensures { WorksOn (state S.Store) (F.keeps rt.now db.now) (F.leaves rt.now db.now)
+    ensures { WorksOn (place (state S.Store)
+        (F.keeps rt.now db.now) (F.refuses rt.now db.now) (F.leaves rt.now db.now)) (F.lacks rt.now path.now)
         (λ book after. OfOpened (F.reads rt.now path.now) (λ known.
         WritesProof book id known after (W.contents out.old) (W.contents out.new) result))
         (record { old = W.contents out.old; new = W.contents out.new }) result }
@@ -83,7 +86,8 @@ pub(crate) fn show<S: Alter + Drop, F: Databases<Opened = Connection<S>> + Alloc
     id: i64,
     out: &mut W,
 ) -> Result<u8, ToolFault>
-    ensures { WorksOn (state S.Store) (F.keeps rt.now db.now) (F.leaves rt.now db.now)
+    ensures { WorksOn (place (state S.Store)
+        (F.keeps rt.now db.now) (F.refuses rt.now db.now) (F.leaves rt.now db.now)) ⊥
         (λ book after. (after ≡ book)
         × Writes (IsShow book id) (W.contents out.old) (W.contents out.new) result)
         (record { old = W.contents out.old; new = W.contents out.new }) result }
@@ -100,7 +104,8 @@ pub(crate) fn export<S: Alter + Drop, F: Databases<Opened = Connection<S>> + All
     db: &str,
     out: &mut W,
 ) -> Result<u8, ToolFault>
-    ensures { WorksOn (state S.Store) (F.keeps rt.now db.now) (F.leaves rt.now db.now)
+    ensures { WorksOn (place (state S.Store)
+        (F.keeps rt.now db.now) (F.refuses rt.now db.now) (F.leaves rt.now db.now)) ⊥
         (λ book after. (after ≡ book)
         × Writes (IsExport book) (W.contents out.old) (W.contents out.new) result)
         (record { old = W.contents out.old; new = W.contents out.new }) result }
@@ -116,9 +121,11 @@ fn book_of<S: Alter + Drop, F: Databases<Opened = Connection<S>> + AllocGlobal>(
     rt: &F,
     db: &str,
 ) -> Result<Book<S>, ToolFault>
-    ensures opens { IfOk result (OpensFound (state S.Store) (F.keeps rt.now db.now)) }
+    ensures opens { IfOk result (OpensFound (place (state S.Store)
+        (F.keeps rt.now db.now) (F.refuses rt.now db.now) (F.leaves rt.now db.now))) }
     ensures refused { IfErr result
-        (IsWithoutBook (state S.Store) (F.keeps rt.now db.now) (F.leaves rt.now db.now)) }
+        (IsWithoutBook (place (state S.Store)
+        (F.keeps rt.now db.now) (F.refuses rt.now db.now) (F.leaves rt.now db.now)) ⊥) }
 {
     let connection = rt.database(db)?;
     opened(rt, db, connection)
@@ -130,14 +137,21 @@ fn book_and_file<S: Alter + Drop, F: Folder + Databases<Opened = Connection<S>> 
     db: &str,
     path: &str,
 ) -> Result<(Book<S>, F::Input), ToolFault>
-    ensures opens { IfOk result (λ both. OpensFound (state S.Store) (F.keeps rt.now db.now) both.0) }
+    ensures opens { IfOk result (λ both. OpensFound (place (state S.Store)
+        (F.keeps rt.now db.now) (F.refuses rt.now db.now) (F.leaves rt.now db.now)) both.0) }
     ensures reads { IfOk result (λ both. F.reads rt.now path.now (F.Input.remaining both.1)) }
     ensures refused { IfErr result
-        (IsWithoutBook (state S.Store) (F.keeps rt.now db.now) (F.leaves rt.now db.now)) }
+        (IsWithoutBook (place (state S.Store)
+        (F.keeps rt.now db.now) (F.refuses rt.now db.now) (F.leaves rt.now db.now)) (F.lacks rt.now path.now)) }
 {
     let connection = rt.database(db)?;
-    let input = open(rt, path)?;
-    Ok((opened(rt, db, connection)?, input))
+    match open(rt, path) {
+        Ok(input) => Ok((opened(rt, db, connection)?, input)),
+        Err(fault) => {
+            rt.close(db, connection);
+            Err(fault)
+        }
+    }
 }
 
 /// Opens a database as a book. Where that is refused the connection is given back. A connection in
@@ -148,19 +162,21 @@ fn opened<S: Alter + Drop, F: Databases<Opened = Connection<S>> + AllocGlobal>(
     connection: Connection<S>,
 ) -> Result<Book<S>, ToolFault>
     requires { F.keeps rt.now db.now connection }
-    ensures opens { IfOk result (OpensFound (state S.Store) (F.keeps rt.now db.now)) }
-    ensures refused { IfErr result
-        (IsWithoutBook (state S.Store) (F.keeps rt.now db.now) (F.leaves rt.now db.now)) }
+    ensures opens { IfOk result (OpensFound (place (state S.Store)
+        (F.keeps rt.now db.now) (F.refuses rt.now db.now) (F.leaves rt.now db.now))) }
+    ensures refused { IfErr result (IsWithoutBook (place (state S.Store)
+        (F.keeps rt.now db.now) (F.refuses rt.now db.now) (F.leaves rt.now db.now)) ⊥) }
 {
     if !connection.is_autocommit() {
-        return Err(ToolFault::Database);
+        rt.close(db, connection);
+        return Err(ToolFault::Book(BookFault::Database));
     }
     match Book::open(rt.alloc(), connection) {
         Ok(book) => Ok(book),
         Err(refused) => {
             let OpenRefused { connection, fault } = refused;
             rt.close(db, connection);
-            Err(tool_fault(fault))
+            Err(ToolFault::from(fault))
         }
     }
 }

@@ -45,11 +45,13 @@ pub fn run<
         → map (λ word. string_bytes word) words.now ≡ program ∷ words_of form
         → Serves (record {
           reads = F.reads rt.now;
+          lacks = F.lacks rt.now;
           makes = λ path. IsMade F.Output.contents (F.makes rt.now path);
         }) (record {
           Connection = Held S;
           shows = state S.Store;
           keeps = F.keeps rt.now;
+          refuses = F.refuses rt.now;
           leaves = F.leaves rt.now;
         }) form
         (record { old = W.contents out.old; new = W.contents out.new })
@@ -74,11 +76,13 @@ fn served<
     ensures { (form : Form) → IsPlain form → Means form job
         → Serves (record {
           reads = F.reads rt.now;
+          lacks = F.lacks rt.now;
           makes = λ path. IsMade F.Output.contents (F.makes rt.now path);
         }) (record {
           Connection = Held S;
           shows = state S.Store;
           keeps = F.keeps rt.now;
+          refuses = F.refuses rt.now;
           leaves = F.leaves rt.now;
         }) form
         (record { old = W.contents out.old; new = W.contents out.new })

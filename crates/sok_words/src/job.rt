@@ -1,5 +1,7 @@
 //! What a command line asks for.
 
+ghost use Rattle.std.specs.Prelude.{◌≡◌, [], string_bytes};
+
 /// What a command line asks for, with the values in the order of the subcommand's places.
 #[derive(Debug, Drop)]
 pub enum Job {
@@ -31,4 +33,5 @@ pub enum Job {
 pub struct JobRefused {
     pub text: String,
     pub status: u8,
+    ghost silent: { status ≡ 6 → string_bytes text ≡ [] },
 }

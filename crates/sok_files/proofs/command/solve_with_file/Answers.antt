@@ -11,7 +11,7 @@ use Rattle.sok_files.proofs.command.solve_with_file.Goals as goal
 pub returns-in_err-input : goal.returns-in_err-input
 returns-in_err-input g c =
     let p = err_from_is_err_and c.from_residual.result c.from_residual.ensures.1 in
-    rw (p.1, p.2) (inl (inr (inl (ap Err c.in_err-input.ensures)), Keeps-refl _))
+    rw (p.1, p.2) (inl (inr (inl (ap Err c.in_err-input.ensures.opened)), Keeps-refl _))
 
 pub returns-in_err-cert_out : goal.returns-in_err-cert_out
 returns-in_err-cert_out g c =
@@ -21,5 +21,5 @@ returns-in_err-cert_out g c =
 pub returns : goal.returns
 returns g c =
     SolvesTo-file (g.F.Folder.reads c.args.rt.now c.args.path.now) (Within input_limit (IsSolve c.args.n c.args.limit))
-    (IsMade g.F.Output.Write.contents (g.F.Folder.makes c.args.rt.now c.args.cert_path.now)) _ _ _ c.solve_bytes.result c.in_ok-input.ensures
+    (IsMade g.F.Output.Write.contents (g.F.Folder.makes c.args.rt.now c.args.cert_path.now)) _ _ _ c.solve_bytes.result c.in_ok-input.ensures.opened
     (c.in_ok-cert_out.cert_out, c.solve_bytes.new.cert_out, c.in_ok-cert_out.ensures, refl) c.solve_bytes.ensures

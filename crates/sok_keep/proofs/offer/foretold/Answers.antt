@@ -19,6 +19,6 @@ returns-in-Ok-clause-gives g c =
 
 pub returns-clause-gives : goal.returns-clause-gives
 returns-clause-gives g c =
-    let told = c.tool_fault in
+    let told = c.from in
     refused_solution (state g.S.Store c.args.book.now) (state g.S.Store c.record_at.new.book) (id_number c.args.id) c.args.letters.now c.in_ok-kept.kept
     c.in-Err.fault told.result told.ensures (rw (to_z-of_z w64 c.args.id c.ranges.id) at c.in_ok-kept.ensures.found) c.in-Err.ensures

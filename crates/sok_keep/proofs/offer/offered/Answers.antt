@@ -3,6 +3,8 @@ use Rattle.std.proofs.lemmas.Int.{to_z-of_z}
 use Rattle.std.proofs.lemmas.Result.{err_from_is_err_and}
 use Rattle.sqlite.specs.Held.{state}
 use Rattle.sok_store.specs.Calls.{id_number}
+use Rattle.sok_store.proofs.Calls.{changes_turns}
+use Rattle.sok_keep.proofs.Ending.{done_open}
 use Rattle.sok_keep.proofs.Offering.{offer_done, offer_failed, offer_unsaid}
 use Rattle.sok_keep.proofs.offer.offered.Goals as goal
 
@@ -17,11 +19,17 @@ returns-in-Ok-clause-gives g c =
     let same = to_z-of_z w64 c.args.id c.ranges.id in
     offer_done (state g.S.Store c.args.book.now) (state g.S.Store c.foretold.new.book) (state g.S.Store c.offer.new.self) (id_number c.args.id)
     c.args.letters.now c.in-Ok.field-0 c.in_ok-answer.answer c.offer.ensures.stop.clean (rw same at c.in_ok-answer.ensures.gives)
-    (rw same at c.in-Ok.ensures.offered)
+    (changes_turns _ _ _ (rw same at c.in-Ok.ensures.offered))
+
+pub returns-in-Ok-clause-open : goal.returns-in-Ok-clause-open
+returns-in-Ok-clause-open g c =
+    let same = to_z-of_z w64 c.args.id c.ranges.id in
+    done_open (state g.S.Store c.args.book.now) (state g.S.Store c.foretold.new.book) (state g.S.Store c.offer.new.self) _ _ c.offer.ensures.stop.clean
+    c.in_ok-answer.ensures.gives (rw same at c.in-Ok.ensures.offered)
 
 pub returns-in-Err-clause-gives : goal.returns-in-Err-clause-gives
 returns-in-Err-clause-gives g c =
     let same = to_z-of_z w64 c.args.id c.ranges.id in
     offer_failed (state g.S.Store c.args.book.now) (state g.S.Store c.foretold.new.book) (state g.S.Store c.offer.new.self) (id_number c.args.id)
-    c.args.letters.now c.in_ok-answer.answer c.in-Err.fault c.tool_fault.result c.offer.ensures.stop.clean c.tool_fault.ensures
+    c.args.letters.now c.in_ok-answer.answer c.in-Err.fault c.from.result c.offer.ensures.stop.clean c.from.ensures
     (rw same at c.in_ok-answer.ensures.gives) (rw same at c.in-Err.ensures.refused)

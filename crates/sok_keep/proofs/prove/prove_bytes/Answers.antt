@@ -3,6 +3,7 @@ use Rattle.std.proofs.lemmas.Result.{err_from_is_err_and}
 use Rattle.sqlite.specs.Held.{state}
 use Rattle.sok_store.specs.Calls.{Turns, id_number}
 use Rattle.sok_keep.specs.Proves.{GivesProof, WritesProof}
+use Rattle.sok_keep.proofs.Ending.{written_open}
 use Rattle.sok_keep.proofs.Ids.{of_passed, passed}
 use Rattle.sok_keep.proofs.Proving.{proof_answered, proof_unanswered, proof_unread}
 use Rattle.sok_keep.proofs.prove.prove_bytes.Goals as goal
@@ -40,3 +41,8 @@ returns-clause-writes g c =
     of_passed (λ id. Turns old new (λ pages after. WritesProof pages id known after before later c.write.result)) c.args.id c.ranges.id
     (proof_answered old new (passed c.args.id) read.bytes.items known before later answer c.write.result read.ensures.all read.ensures.within gives
     c.write.ensures)
+
+pub returns-clause-open : goal.returns-clause-open
+returns-clause-open g c =
+    written_open c.in_ok-answer.answer (g.W.Write.contents c.args.out.now) (g.W.Write.contents c.write.new.out) c.write.result _ c.write.ensures
+    c.in_ok-answer.ensures.open

@@ -3,6 +3,8 @@ use Rattle.std.proofs.lemmas.Int.{to_z-of_z}
 use Rattle.std.proofs.lemmas.Result.{err_from_is_err_and}
 use Rattle.sqlite.specs.Held.{state}
 use Rattle.sok_store.specs.Calls.{id_number}
+use Rattle.sok_store.proofs.Calls.{changes_turns}
+use Rattle.sok_keep.proofs.Ending.{done_open}
 use Rattle.sok_keep.proofs.Proving.{HasRecord, proof_done, proof_ended, proof_unfound, proof_unsaid_at_once}
 use Rattle.sok_keep.proofs.prove.proved.Goals as goal
 
@@ -24,7 +26,7 @@ returns-in-Ok-clause-gives g c =
     let same = to_z-of_z w64 c.args.id c.ranges.id in
     proof_done (state g.S.Store c.args.book.now) (state g.S.Store c.record_at.new.book) (state g.S.Store c.prove.new.self) (id_number c.args.id) c.args.bytes.now
     c.in_ok-kept.kept c.in-Ok.field-0 c.in_ok-answer.answer c.prove.ensures.stop.clean (rw same at c.in_ok-kept.ensures.found) c.in_ok-answer.ensures
-    (rw same at c.in-Ok.ensures.proved)
+    (changes_turns _ _ _ (rw same at c.in-Ok.ensures.proved))
 
 pub returns-clause-gives : goal.returns-clause-gives
 returns-clause-gives g c =
@@ -34,3 +36,9 @@ returns-clause-gives g c =
     proof_ended (state g.S.Store c.args.book.now) (state g.S.Store c.record_at.new.book) (state g.S.Store c.prove.new.self) id c.args.bytes.now
     (HasRecord id c.in_ok-kept.kept) c.in-Err.fault told.result c.prove.ensures.stop.clean told.ensures.answer told.ensures.told
     (rw same at c.in_ok-kept.ensures.found) (rw same at c.in-Err.ensures.refused)
+
+pub returns-in-Ok-clause-open : goal.returns-in-Ok-clause-open
+returns-in-Ok-clause-open g c _ =
+    let same = to_z-of_z w64 c.args.id c.ranges.id in
+    done_open (state g.S.Store c.args.book.now) (state g.S.Store c.record_at.new.book) (state g.S.Store c.prove.new.self) _ _ c.prove.ensures.stop.clean
+    (rw same at c.in_ok-kept.ensures.found) (rw same at c.in-Ok.ensures.proved)

@@ -13,7 +13,7 @@ pub find_in-requires-clause-finished : goal.find_in-requires-clause-finished
 find_in-requires-clause-finished c = (told (goal.at.find_in-requires-clause-finished c).In-Some).empty
 
 pub returns-in-Some : goal.returns-in-Some
-returns-in-Some c = c.find_in.ensures c.args.limit
+returns-in-Some c = c.find_in.ensures c.args.limit (told (goal.at.returns-in-Some c).In-Some).search
 
 pub returns : goal.returns
 returns c = record { more = subst (TellsSearched c.args.board.now c.args.limit false) c.in-None.is c.in_ok-search.ensures; is = refl }

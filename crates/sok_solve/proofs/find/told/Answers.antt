@@ -9,10 +9,10 @@ returns-in_ok-text-in-Solved c =
     let found = c.in-Solved in
     let least = subst (IsFound c.args.level.now c.args.limit) found.is c.requires in
     let words = c.new.ensures.text ∙ c.in_ok-text-in-Solved.ensures ∙ ap (λ w. solution_text c.args.level.now w found.pushes) c.as_slice.ensures.value in
-    is_solution found.dirs.items found.pushes least (same_answer _ _ _ _ words c.new.ensures.status)
+    is_solution found.dirs.items found.pushes least.0 least.1 (same_answer _ _ _ _ words c.new.ensures.status)
 
 pub returns-in_ok-text-in-Unsolvable : goal.returns-in_ok-text-in-Unsolvable
 returns-in_ok-text-in-Unsolvable c =
     let none = subst (IsFound c.args.level.now c.args.limit) c.in-Unsolvable.is c.requires in
     let words = c.new-in-Unsolvable.ensures.text ∙ ap (λ bytes. bytes.items) c.into_bytes.ensures.value ∙ c.in_ok-text-in-Unsolvable.ensures.ok in
-    has_none none (same_answer _ _ _ _ words c.new-in-Unsolvable.ensures.status)
+    has_none none.0 none.1 (same_answer _ _ _ _ words c.new-in-Unsolvable.ensures.status)

@@ -1,9 +1,9 @@
 use Rattle.std.proofs.lemmas.Result.{IfErr-weaker, IfOk-weaker}
 use Rattle.sqlite.specs.Held.{state}
 use Rattle.sok_sql.proofs.Texts.{all_plain}
-use Rattle.sok_sql.proofs.Calls.{undone_same, unread_undone}
+use Rattle.sok_sql.proofs.Calls.{shown_open, undone_same, unread_undone}
 use Rattle.sok_sql.proofs.Answering.{all_answers, found_rows, none_found, query_rests}
-use Rattle.sok_sql.proofs.Refused.{all_refused, missing_refused}
+use Rattle.sok_sql.proofs.Refused.{all_refused, missing_open, missing_refused}
 use Rattle.sok_sql.proofs.reading.all_rows.Goals as goal
 
 pub returns-clause-rests : goal.returns-clause-rests
@@ -37,6 +37,14 @@ pub returns-clause-cause : goal.returns-clause-cause
 returns-clause-cause g c clean table =
     IfErr-weaker c.query_all.result _ _ (λ e. all_refused (state g.S.Store c.args.conn.now) (state g.S.Store c.query_all.new.self) table e)
     (c.query_all.ensures.err clean)
+
+pub returns-clause-open : goal.returns-clause-open
+returns-clause-open g c clean =
+    let old = state g.S.Store c.args.conn.now in
+    let new = state g.S.Store c.query_all.new.self in (
+      IfOk-weaker c.query_all.result _ _ (λ rows h. shown_open old new _ _ rows.items h) (c.query_all.ensures.ok clean),
+      IfErr-weaker c.query_all.result _ _ (λ e h. missing_open old new _ _ e h) (c.query_all.ensures.err clean),
+    )
 
 pub returns-clause-missing : goal.returns-clause-missing
 returns-clause-missing g c clean empty =

@@ -14,7 +14,7 @@ returns-in-Ok-records_of-clause-listed g c clean book holds =
     let (other, kept, are, records) = c.in-Ok-records_of.ensures.read in
     let same = rows-have-one-book c.in-Ok.rows.items other book (record { kept = kept; rows_are = sym c.deref.ensures.value ∙ are })
     (record { kept = holds.0; rows_are = rows }) in
-    (subst (λ b. AreRecordsOf b c.in-Ok-records_of.records.items) same records, (holds.0, λ _. shows))
+    (subst (λ b. AreRecordsOf b c.in-Ok-records_of.records.items) same records, (holds.0, shows))
 
 pub returns-in-Ok-clause-refused : goal.returns-in-Ok-clause-refused
 returns-in-Ok-clause-refused g c clean book holds =
@@ -23,7 +23,7 @@ returns-in-Ok-clause-refused g c clean book holds =
       | inl memory ↦ inl memory
       | inr (id, named, first) ↦ absurd (bad-rows-have-no-book _ id book first (record { kept = holds.0; rows_are = c.deref.ensures.value ∙ rows }))
     ] in
-    (outside, (holds.0, λ _. shows))
+    (outside, (holds.0, λ _. shows.1))
 
 pub returns-clause-cause : goal.returns-clause-cause
 returns-clause-cause g c =

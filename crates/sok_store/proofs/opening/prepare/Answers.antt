@@ -9,7 +9,7 @@ pub returns-in-Ok-records_of-clause-opens : goal.returns-in-Ok-records_of-clause
 returns-in-Ok-records_of-clause-opens g c clean settled =
     let (book, kept, are, records) = c.in-Ok-records_of.ensures.read in
     opens_read (state g.S.Store c.args.conn.now) (state g.S.Store c.all_rows.new.conn) c.in-Ok.rows.items settled
-    (λ k. c.in-Ok.ensures.found k settled) c.in-Ok.ensures.none clean book kept (sym c.deref.ensures.value ∙ are)
+    (λ k. c.in-Ok.ensures.found k settled) c.in-Ok.ensures.none (λ k. (c.in-Ok.ensures.open k).0) clean book kept (sym c.deref.ensures.value ∙ are)
 
 pub returns-in-Err-SqlInputError-NoSuchTable-clause-cause : goal.returns-in-Err-SqlInputError-NoSuchTable-clause-cause
 returns-in-Err-SqlInputError-NoSuchTable-clause-cause g c settled =

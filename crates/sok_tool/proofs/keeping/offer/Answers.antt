@@ -7,7 +7,7 @@ use Rattle.sok_tool.proofs.Working.{without_book, works}
 use Rattle.sok_tool.proofs.keeping.offer.Goals as goal
 
 pub returns-in_err-book : goal.returns-in_err-book
-returns-in_err-book g c = without_book (state g.S.Store) _ _ _ _ _ _ c.from_residual.ensures.1 c.in_err-book.ensures.refused
+returns-in_err-book g c = without_book _ _ _ _ _ _ c.from_residual.ensures.1 c.in_err-book.ensures.refused
 
 pub returns : goal.returns
 returns g c =
@@ -17,5 +17,5 @@ returns g c =
     let Offers : ℤ → List ℕ → Type 0 = λ id text. Turns (state g.S.Store c.in_ok-book.book) (state g.S.Store call.new.book)
     (λ book after. WritesOffer book id text after before later call.result) in
     let offers = subst (Offers (passed c.args.id)) c.as_bytes.ensures.value call.ensures.writes in
-    works (state g.S.Store) _ _ _ _ _ c.in_ok-book.book call.new.book _ c.in_ok-book.ensures.opens c.into_connection.ensures c.close.ensures
+    works _ _ _ _ _ c.in_ok-book.book call.new.book _ c.in_ok-book.ensures.opens c.into_connection.ensures c.close.ensures
     (λ clean. omega (arith, clean, call.ensures.clean)) (of_passed (λ id. Offers id c.args.text.now) c.args.id c.ranges.id offers)

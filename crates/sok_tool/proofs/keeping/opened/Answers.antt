@@ -1,4 +1,5 @@
-use Rattle.sok_tool.specs.Databases.{bookless}
+use Rattle.std.proofs.Common.{refl, rules}
+use Rattle.sok_tool.specs.Databases.{bookless, busy}
 use Rattle.sok_tool.proofs.keeping.opened.Goals as goal
 
 pub returns-in-Ok-clause-opens : goal.returns-in-Ok-clause-opens
@@ -7,4 +8,7 @@ returns-in-Ok-clause-opens g c = (c.args.connection, c.requires, c.in-Ok.ensures
 pub returns-in-Err-clause-refused : goal.returns-in-Err-clause-refused
 returns-in-Err-clause-refused g c =
     let refused = c.in-Err.refused in
-    bookless c.args.connection refused.connection c.requires c.close.ensures (refused.fault, c.tool_fault.ensures, c.in-Err.ensures.unopened, c.in-Err.ensures.same)
+    bookless c.args.connection refused.connection c.requires c.close-in-Err.ensures (refused.fault, c.from.ensures, c.in-Err.ensures.unopened, c.in-Err.ensures.same)
+
+pub returns-then-not-is_autocommit-clause-refused : goal.returns-then-not-is_autocommit-clause-refused
+returns-then-not-is_autocommit-clause-refused g c = busy c.args.connection c.requires c.close.ensures (search rules) refl

@@ -7,7 +7,7 @@ use Rattle.sok_tool.proofs.Working.{Turns-weaker, without_book, works}
 use Rattle.sok_tool.proofs.keeping.prove.Goals as goal
 
 pub returns-in_err-book : goal.returns-in_err-book
-returns-in_err-book g c = without_book (state g.S.Store) _ _ _ _ _ _ c.from_residual.ensures.1 c.in_err-book.ensures.refused
+returns-in_err-book g c = without_book _ _ _ _ _ _ c.from_residual.ensures.1 c.in_err-book.ensures.refused
 
 pub returns : goal.returns
 returns g c =
@@ -17,5 +17,5 @@ returns g c =
     let later = g.W.Write.contents call.new.out in
     let proves = of_passed (λ id. Turns (state g.S.Store c.in_ok-book.book) (state g.S.Store call.new.book)
     (λ book after. WritesProof book id known after before later call.result)) c.args.id c.ranges.id call.ensures.writes in
-    works (state g.S.Store) _ _ _ _ _ c.in_ok-book.book call.new.book _ c.in_ok-book.ensures.opens c.into_connection.ensures c.close.ensures
+    works _ _ _ _ _ c.in_ok-book.book call.new.book _ c.in_ok-book.ensures.opens c.into_connection.ensures c.close.ensures
     (λ clean. omega (arith, clean, call.ensures.clean)) (Turns-weaker _ _ _ _ (λ book after made. (known, c.in_ok-book.ensures.reads, made)) proves)

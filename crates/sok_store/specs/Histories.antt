@@ -1,0 +1,56 @@
+-- What calls make of the book that a connection holds, one after another, refused ones among them.
+use Rattle.std.specs.Prelude.{ℕ, ℤ, ◌≡◌, ◌⊎◌, List, [], Option, Result, OnOk}
+use Rattle.sqlite.specs.State.{State, HasCleanDisk}
+use Rattle.sok_rules.specs.declared.cell.Dir.{Dir}
+use Rattle.sok_rules.specs.Squares.{Rows}
+use Rattle.sok_board.specs.Refusals.{IsAcceptable}
+use Rattle.sok_cert.specs.Claim.{Claim}
+use Rattle.sok_book.specs.declared.fault.BookFault.{BookFault}
+use Rattle.sok_book.specs.declared.record.Offer.{Offer}
+use Rattle.sok_book.specs.Books.{Book, IsTrueBook}
+use Rattle.sok_book.specs.Commands.{OneCommand}
+use Rattle.sok_book.specs.Laws.{IsMade}
+use Rattle.sok_row.specs.Kept.{HoldsBook}
+use Rattle.sok_store.specs.Calls.{Turns}
+use Rattle.sok_store.specs.Running.{RunsAdding, RunsOffering, RunsProving}
+
+-- a call that is refused, and keeps the book, or that is one command
+pub record IsCall (old new : State) : Type 0 where
+  pub clean : HasCleanDisk new → HasCleanDisk old
+  pub turns : Turns old new (λ book after. (after ≡ book) ⊎ OneCommand book after)
+
+-- calls over connections, one after another
+pub data AreCalls {C : Type 0} (shows : C → State) (old : C) : C → Type 0 where
+  none : AreCalls shows old old
+  more : (mid new : C) → AreCalls shows old mid → IsCall (shows mid) (shows new) → AreCalls shows old new
+
+-- accepted commands, one after another, make a book of another
+pub data IsMadeOf (book : Book) : Book → Type 0 where
+  none : IsMadeOf book book
+  more : (before after : Book) → IsMadeOf book before → OneCommand before after → IsMadeOf book after
+
+-- each of these is a call, by what its clauses say
+abbrev pub AddsAreCalls : {C : Type 0} → (C → State) → Type 0
+AddsAreCalls {C} shows =
+    (old new : C) (rows : Rows) (title : Option (List ℕ)) (result : Result ℤ BookFault) → OnOk result (IsAcceptable rows)
+    → RunsAdding (shows old) (shows new) rows title result → IsCall (shows old) (shows new)
+
+abbrev pub OffersAreCalls : {C : Type 0} → (C → State) → Type 0
+OffersAreCalls {C} shows =
+    (old new : C) (id : ℕ) (letters : List Dir) (result : Result Offer BookFault) → RunsOffering (shows old) (shows new) id letters result
+    → IsCall (shows old) (shows new)
+
+abbrev pub ProofsAreCalls : {C : Type 0} → (C → State) → Type 0
+ProofsAreCalls {C} shows =
+    (old new : C) (id : ℕ) (bytes : List ℕ) (result : Result Claim BookFault) → RunsProving (shows old) (shows new) id bytes result
+    → IsCall (shows old) (shows new)
+
+-- after calls the connection holds what the accepted ones made of the book before, and where that was true it is
+abbrev pub CallsFold : {C : Type 0} → (C → State) → Type 0
+CallsFold {C} shows =
+    (old new : C) → AreCalls shows old new → HasCleanDisk (shows new) → (book : Book) → HoldsBook (shows old) book
+    → (after : Book) × IsMadeOf book after × HoldsBook (shows new) after × (IsTrueBook book → IsTrueBook after)
+
+-- from the empty book on, all is made by commands
+abbrev pub EmptyBooksAreMade : Type 0
+EmptyBooksAreMade = (after : Book) → IsMadeOf [] after → IsMade after
