@@ -1,4 +1,4 @@
--- Books that may be kept: the empty one, one with a page more, and one with another page of the same level.
+-- Books that may be kept: one with a page more, and one with another page of the same level.
 use Rattle.std.proofs.Common.{◌≡◌, ◌⊎◌, inl, inr, refl, sym, ap, subst, ◌∙◌, ℕ, zero, suc, ◌<◌, List, [], ◌∷◌, ◌++◌, Option, Some, None, arith}
 use Rattle.std.proofs.Common.{IsSomeAnd, length, length-append, slice_get, option_map}
 use Rattle.std.specs.List.{slice_set}
@@ -60,13 +60,6 @@ stands_once book rows id other kept stands there =
     id_is ∙ ap suc (kept.once n m page copy found.there again.there (found.level ∙ sym again.level)) ∙ sym other_is
 
 -- ---- books that may be kept
-
-pub IsKeptBook-empty : IsKeptBook []
-IsKeptBook-empty = record {
-  pages = λ n page at. absurd (none-some page at);
-  once = λ m n page other at there same. absurd (none-some page at);
-  few = omega arith;
-}
 
 apart : (book : Book) (last : Page) (n : ℕ) (page : Page) → IsUnknown book last.level → slice_get book n ≡ Some page → page.level ≡ last.level → ⊥
 apart book last n page unknown at same = unknown (suc n) (stands-from book last.level n page at same)

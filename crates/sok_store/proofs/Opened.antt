@@ -1,5 +1,5 @@
 -- A table that is read is that of a book.
-use Rattle.std.proofs.Common.{◌≡◌, ◌⊎◌, inl, inr, sym, ap, subst, ◌∙◌, List, [], map, IsTrue, arith, false}
+use Rattle.std.proofs.Common.{◌≡◌, ◌⊎◌, inl, inr, sym, ap, subst, ◌∙◌, List, map, IsTrue, arith}
 use Rattle.std.specs.List.Sorted.{IsPermutation}
 use Rattle.sqlite.specs.Order.{Row}
 use Rattle.sqlite.specs.Effect.{Database}
@@ -11,10 +11,9 @@ use Rattle.sok_book.specs.declared.fault.BookFault.TheVariants.{Memory}
 use Rattle.sok_book.specs.declared.fault.BookFault.TheVariants as told
 use Rattle.sok_sql.specs.Causes.{HasCause, HasTable, IsEmpty, IsExcused, IsMemory, IsMissing}
 use Rattle.sok_book.specs.Books.{Book}
-use Rattle.sok_sql.specs.Connections.{Holds, IsSame, IsSettled, StaysOpen}
+use Rattle.sok_sql.specs.Connections.{IsSame, IsSettled}
 use Rattle.sok_sql.specs.Leaves.{HasLeaves, ListsTable, level_schema, no_schema, seen, shown_from}
 use Rattle.sok_row.specs.Kept.{IsKeptBook, leaves_of}
-use Rattle.sok_row.proofs.Books.{IsKeptBook-empty}
 use Rattle.sok_store.specs.Opening.{IsCausedOpening, Opens}
 use Rattle.sok_store.proofs.Caused.{cause_after, cause_before}
 
@@ -45,20 +44,6 @@ module _ (old new : State) (rows : List Row) (settled : IsSettled old)
           ),
         );
   }
-
--- the table was made
-pub opens_made : (old mid new : State) (error : Error) → IsSettled old → IsMissing error → HasCleanDisk mid → HasCleanDisk new
-    → (IsMissing error → IsTrue mid.is_open) → IsSame old mid
-    → ((IsTrue mid.is_open → (mid.now.schema ≡ no_schema) × (mid.in_transaction ≡ false)) → Holds new [] × StaysOpen mid new)
-    → ((IsTrue mid.is_open → mid.now.schema ≡ level_schema) → (IsTrue mid.is_open → ⊥) × (IsTrue new.is_open → ⊥)) → Opens old new
-opens_made old mid new error settled missing early clean is_open same made there =
-    let up = is_open missing in
-    let (was, now, committed, mode) = same up in record {
-      made = λ empty.
-          let (holds, stays) = made (λ _. (ap (λ (d : Database). d.schema) now ∙ empty, mode)) in
-          (IsKeptBook-empty, (stays up, holds (stays up)));
-      found = λ has. absurd ((there (λ _. ap (λ (d : Database). d.schema) now ∙ has)).0 up);
-    }
 
 -- ---- why nothing was opened
 
