@@ -80,7 +80,7 @@ level_stopped old new n rows title fault told keeps other is clean book holds =
     ] in
     (book, subst (λ f. LeavesLevel n (Ok rows) title book book (Err f)) (sym is) left, held)
 
-pub level_unsaid : (old new : State) (n : ℕ) (found : Result Rows LevelFault) (title : Option (List ℕ)) (P : Book → Type 0) (told : ToolFault)
+level_unsaid : (old new : State) (n : ℕ) (found : Result Rows LevelFault) (title : Option (List ℕ)) (P : Book → Type 0) (told : ToolFault)
     → Keeps old new P → told ≡ tool.Memory → Turns old new (λ b after. LeavesLevel n found title b after (Err told))
 level_unsaid old new n found title P told keeps memory clean book holds =
     let (why, held) = keeps clean book holds in

@@ -1,5 +1,5 @@
 -- How a call ends that has no answer.
-use Rattle.std.proofs.Common.{ℕ, ◌≡◌, ◌∙◌, arith, inl, sym, List, Option, Result, Ok, Err, IfOk}
+use Rattle.std.proofs.Common.{ℕ, ◌≡◌, ◌⊎◌, ◌∙◌, inl, inr, sym, List, Option, Result, Ok, Err, IfErr, IfOk}
 use Rattle.sqlite.specs.State.{State}
 use Rattle.std.proofs.KnownBytes.{Keeps-refl}
 use Rattle.sok_text.specs.declared.lurd.LurdFault.{LurdFault}
@@ -8,11 +8,14 @@ use Rattle.sok_book.specs.declared.fault.BookFault.{BookFault}
 use Rattle.sok_book.specs.declared.fault.BookFault.TheVariants as refusal
 use Rattle.sok_book.specs.Books.{Book}
 use Rattle.sok_engine.specs.declared.fault.ToolFault.{ToolFault}
-use Rattle.sok_engine.specs.Faults.{of_book, of_lurd}
+use Rattle.sok_engine.specs.declared.fault.ToolFault.TheVariants as tool
+use Rattle.sok_engine.specs.declared.input.InputFault.{InputFault}
+use Rattle.sok_engine.specs.declared.input.InputFault.TheVariants as input
+use Rattle.sok_engine.specs.Faults.{of_book, of_input, of_lurd}
 use Rattle.sok_engine.specs.Written.{Answer, Answers, AnswersOf, IsFaultOf, Writes, WritesOne}
 use Rattle.sok_engine.proofs.Answering.{EndsBy-fault}
-use Rattle.sok_store.specs.Calls.{Changes, EndsOpen, Keeps}
-use Rattle.sok_keep.specs.Disk.{NoCleaner}
+use Rattle.sok_store.specs.Calls.{IsCaused}
+use Rattle.sok_keep.specs.Causes.{IsCausedFault}
 use Rattle.sok_keep.specs.Offers.{StaysOnFault}
 
 -- a fault of a book is one of the answers, where it is answered
@@ -35,14 +38,44 @@ stays_written answer old new (Err fault) book after written = inl written.0
 pub ends_unwritten : (P : Answers) (held : Option (List ℕ)) (fault : ToolFault) → IsFaultOf P fault → Writes P held held (Err fault)
 ends_unwritten P held fault is = EndsBy-fault P held held fault is (Keeps-refl held)
 
--- a command that was done leaves the connection open
-pub done_open : (old mid new : State) (P : Book → Type 0) (Makes : Book → Book → Type 0) → NoCleaner mid new → Keeps old mid P → Changes mid new Makes
-    → EndsOpen old new
-done_open old mid new P Makes cleaner keeps changes clean book holds =
-    let (is, held) = keeps (omega (arith, clean, cleaner)) book holds in (changes clean book held).2.1.0
-
--- so it is where the answer of such a command was written
+-- a command that was done leaves the connection open, and so it is where its answer was written
 pub written_open : (answer : Answer) (old new : Option (List ℕ)) (result : Result ℕ ToolFault) (P : Type 0) → WritesOne answer old new result
     → (answer.status ≡ 0 → P) → IfOk result (λ status. status ≡ 0 → P)
 written_open answer old new (Ok status) P written opens = λ zero. opens (sym written.0 ∙ zero)
 written_open answer old new (Err fault) P written opens = tt
+
+-- ---- why `Database` is told
+
+-- only a book tells it
+pub book_database : (fault : BookFault) → of_book fault ≡ tool.Book refusal.Database → fault ≡ refusal.Database
+book_database refusal.Memory is = cc
+book_database fault is = cc
+
+pub lurd_database : (fault : LurdFault) → of_lurd fault ≡ tool.Book refusal.Database → ⊥
+lurd_database lurd.Memory is = let no : ⊥ = cc in no
+lurd_database fault is = let no : ⊥ = cc in no
+
+pub input_database : (fault : InputFault) → of_input fault ≡ tool.Book refusal.Database → ⊥
+input_database input.Memory is = let no : ⊥ = cc in no
+input_database fault is = let no : ⊥ = cc in no
+
+module _ (old new : State) (More : Book → Book → Type 0) where
+  -- the cause of a call is that of the command
+  pub caused_more : (Makes : Book → Book → Type 0) → ((book after : Book) → Makes book after → More book after) → (fault : BookFault)
+      → IsCaused old new Makes fault → IsCausedFault old new More (of_book fault)
+  caused_more Makes so fault caused told database clean book holds = elim (caused (book_database fault told) clean book holds) [
+    | inl (after, made, big) ↦ inl (after, so book after made, big)
+    | inr why ↦ inr why
+  ]
+
+  -- a write that fails is no such fault
+  pub written_caused : (answer : Answer) (held later : Option (List ℕ)) (result : Result ℕ ToolFault) → WritesOne answer held later result
+      → IfErr result (IsCausedFault old new More)
+  written_caused answer held later (Ok status) written = tt
+  written_caused answer held later (Err fault) written = λ told. let no : tool.WriteFailed ≡ tool.Book refusal.Database = sym written.0 ∙ told in absurd cc
+
+  -- where what is told is of the book, or memory was refused
+  pub unproved_caused : (fault : BookFault) (told : ToolFault) → (told ≡ tool.Memory) ⊎ (told ≡ of_book fault) → IsCausedFault old new More (of_book fault)
+      → IsCausedFault old new More told
+  unproved_caused fault told (inl memory) caused = λ is. let no : tool.Memory ≡ tool.Book refusal.Database = sym memory ∙ is in absurd cc
+  unproved_caused fault told (inr same) caused = λ is. caused (sym same ∙ is)

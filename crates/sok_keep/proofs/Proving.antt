@@ -1,19 +1,13 @@
--- A verdict that is proved: what is foretold of it is what is told.
-use Rattle.std.proofs.Common.{arith, ℕ, ℤ, ◌≡◌, ◌⊎◌, ◌∙◌, ◌≤◌, inl, inr, List, Option, Some, None, Result, Ok, Err}
-use Rattle.std.proofs.Common.{IfErr, IfOk, IfSome, IsNone, IsSomeAnd, ◌<◌, ap, length, option_map, refl, subst}
-use Rattle.std.proofs.Common.{sym}
+-- What is told of a certificate.
+use Rattle.std.proofs.Common.{ℕ, ℤ, ◌≡◌, ◌⊎◌, ◌∙◌, ◌≤◌, ◌<◌, arith, inl, inr, List, Option, Result, Ok, Err, IfSome, ap, length, refl, subst, sym}
 use Rattle.sqlite.specs.State.{State}
 use Rattle.sok_cert.specs.Claim.{Claim}
-use Rattle.sok_cert.specs.Claim.TheVariants.{Pushes, Unsolvable}
 use Rattle.sok_cert.specs.CertFault.{CertFault}
 use Rattle.sok_book.specs.declared.fault.BookFault.{BookFault}
 use Rattle.sok_book.specs.declared.fault.BookFault.TheVariants as refusal
-use Rattle.sok_book.specs.Books.{Book, Page, Solution, page_at}
-use Rattle.sok_book.specs.Commands.{Meets, Proves, best_pushes}
+use Rattle.sok_book.specs.Books.{Book}
+use Rattle.sok_book.specs.Commands.{Proves}
 use Rattle.sok_book.specs.Refusals.{IsNotProved}
-use Rattle.sok_page.specs.declared.record.Best.{Best}
-use Rattle.sok_page.specs.declared.record.Record.{Record}
-use Rattle.sok_page.specs.Texts.{PageText, SolutionText, best_text, page_text, record_text, solution_text}
 use Rattle.sok_engine.specs.declared.fault.ToolFault.{ToolFault}
 use Rattle.sok_engine.specs.declared.fault.ToolFault.TheVariants as tool
 use Rattle.sok_engine.specs.declared.input.InputFault.{InputFault}
@@ -24,135 +18,24 @@ use Rattle.sok_engine.specs.Written.{Answer, IsFaultOf, WritesOne}
 use Rattle.sok_engine.proofs.Answering.{Writes-none, Writes-read, Writes-unread}
 use Rattle.sok_judge.specs.Verdicts.{verdict_answer}
 use Rattle.sok_row.specs.Faults.{IsOutside}
-use Rattle.sok_row.specs.Told.{IsRecordOf, Told}
-use Rattle.sok_store.specs.Calls.{Keeps, Turns, id_number}
-use Rattle.sok_keep.specs.Disk.{NoCleaner}
-use Rattle.sok_keep.specs.Proves.{GivesProof, IsProof, TellsProof, WritesProof, claim_about, failed, proved, proved_answer, refused, unproved}
+use Rattle.sok_store.specs.Calls.{Changes, Keeps, Turns, id_number}
+use Rattle.sok_store.proofs.Calls.{held}
+use Rattle.sok_keep.specs.Proves.{IsProof, WritesProof, failed, proved, proved_answer, refused, unproved}
 use Rattle.sok_keep.proofs.Ending.{book_fault, stays_written}
-use Rattle.sok_keep.proofs.Pages.{on_page}
 
--- the claim is about the best
-about : (claim : Claim) (best : Option ℕ) → Meets claim best → claim ≡ claim_about best
-about (Pushes k) best meets = subst (λ b. Pushes k ≡ claim_about b) (sym meets) refl
-about Unsolvable best meets = subst (λ b. Unsolvable ≡ claim_about b) (sym meets) refl
+-- a fault of the book is told
+told_fault : (b : Book) (id : ℤ) (after : Book) (bytes : List ℕ) (fault : BookFault) → after ≡ b
+    → IsOutside fault ⊎ IsNotProved b (id_number id) bytes fault → IsFaultOf (IsProof b id after bytes) (of_book fault)
+told_fault b id after bytes fault same (inl (inl memory)) = subst (λ f. IsFaultOf (IsProof b id after bytes) (of_book f)) (sym memory) tt
+told_fault b id after bytes fault same (inl (inr database)) =
+    subst (λ f. IsFaultOf (IsProof b id after bytes) (of_book f)) (sym database) (failed same refl)
+told_fault b id after bytes fault same (inr none) = book_fault (IsProof b id after bytes) fault (unproved fault none same refl)
 
--- the pushes of a record's best are those of its page's
-pushes_of : (kept : Option Best) → option_map (λ b. b.pushes) kept ≡ option_map (λ (t : SolutionText). t.pushes) (option_map best_text kept)
-pushes_of None = refl
-pushes_of (Some best) = refl
-
-page_pushes : (page : Page) (best : Option Solution)
-    → option_map (λ (t : SolutionText). t.pushes) (option_map (solution_text page.level) best) ≡ option_map (λ (b : Solution). b.pushes) best
-page_pushes page None = refl
-page_pushes page (Some best) = refl
-
-same_pushes : (id : ℕ) (page : Page) (kept : Record) → IsRecordOf id page kept → option_map (λ b. b.pushes) kept.best ≡ best_pushes page
-same_pushes id page kept is =
-    let same : record_text kept ≡ page_text page = ap (λ (t : Told). t.texts) is in
-    pushes_of kept.best ∙ ap (λ (t : PageText). option_map (λ (b : SolutionText). b.pushes) t.best) same ∙ page_pushes page page.best
-
--- the page of a record is there
-abbrev pub HasRecord : ℕ → Record → Book → Type 0
-HasRecord id kept b = IsSomeAnd (page_at b id) (λ page. IsRecordOf id page kept)
-
--- the command is done
-pub proof_done : (old mid new : State) (id : ℕ) (bytes : List ℕ) (kept : Record) (claim : Claim) (answer : Answer) → NoCleaner mid new
-    → Keeps old mid (λ b. IsSomeAnd (page_at b id) (λ page. IsRecordOf id page kept))
-    → answer ≡ proved_answer (claim_about (option_map (λ b. b.pushes) kept.best))
-    → Turns mid new (λ b after. Proves b id bytes claim after) → Turns old new (λ b after. GivesProof b id bytes after (Ok answer))
-proof_done old mid new id bytes kept claim answer cleaner keeps told turns clean book holds =
-    let (found, held) = keeps (omega (arith, clean, cleaner)) book holds in
-    let (after, proves, held_after) = turns clean book held in
-    let is : IsRecordOf id proves.page kept = on_page (page_at book id) proves.page (λ page. IsRecordOf id page kept) proves.there found in
-    let says : answer ≡ proved_answer claim = told ∙ ap (λ pushes. proved_answer (claim_about pushes)) (same_pushes id proves.page kept is)
-    ∙ ap proved_answer (sym (about claim (best_pushes proves.page) proves.meets)) in
-    (after, proved claim proves (ap Ok says), held_after)
-
--- a fault of the book, as it is told
-told_cause : (b : Book) (id : ℕ) (bytes : List ℕ) (fault : BookFault) (told : ToolFault) → told ≡ of_book fault → IsOutside fault ⊎ IsNotProved b id bytes fault
-    → (told ≡ tool.Memory) ⊎ TellsProof b id bytes b (Err told)
-told_cause b id bytes fault told is (inl (inl memory)) = inl (is ∙ ap of_book memory)
-told_cause b id bytes fault told is (inl (inr database)) = inr (failed refl (ap Err (is ∙ ap of_book database)))
-told_cause b id bytes fault told is (inr none) = inr (unproved fault none refl (ap Err is))
-
-pub proof_failed : (old mid new : State) (id : ℕ) (bytes : List ℕ) (P : Book → Type 0) (fault : BookFault) (told : ToolFault)
-    → NoCleaner mid new → told ≡ of_book fault → Keeps old mid P → Keeps mid new (λ b. IsOutside fault ⊎ IsNotProved b id bytes fault)
-    → Turns old new (λ b after. GivesProof b id bytes after (Err told))
-proof_failed old mid new id bytes P fault told cleaner is keeps fails clean book holds =
-    let (found, held) = keeps (omega (arith, clean, cleaner)) book holds in
-    let (why, held_after) = fails clean book held in
-    (book, (refl, told_cause book id bytes fault told is why), held_after)
-
--- the certificate is refused, which is an answer
-pub proof_refused : (old mid new : State) (id : ℕ) (bytes : List ℕ) (P : Book → Type 0) (fault : CertFault) (answer : Answer)
-    → NoCleaner mid new → answer ≡ verdict_answer (Err fault) → Keeps old mid P
-    → Keeps mid new (λ b. IsOutside (refusal.Certificate fault) ⊎ IsNotProved b id bytes (refusal.Certificate fault))
-    → Turns old new (λ b after. GivesProof b id bytes after (Ok answer))
-proof_refused old mid new id bytes P fault answer cleaner told keeps fails clean book holds =
-    let (found, held) = keeps (omega (arith, clean, cleaner)) book holds in
-    let (why, held_after) = fails clean book held in
-    let cause : IsNotProved book id bytes (refusal.Certificate fault) = elim why [
-      | inl (inl memory) ↦ let no : ⊥ = cc in absurd no
-      | inl (inr database) ↦ let no : ⊥ = cc in absurd no
-      | inr none ↦ none
-    ] in
-    (book, refused fault cause refl (ap Ok told), held_after)
-
--- memory was refused
-pub proof_unsaid : (old mid new : State) (id : ℕ) (bytes : List ℕ) (P Q : Book → Type 0) (told : ToolFault) → NoCleaner mid new
-    → told ≡ tool.Memory → Keeps old mid P → Keeps mid new Q → Turns old new (λ b after. GivesProof b id bytes after (Err told))
-proof_unsaid old mid new id bytes P Q told cleaner memory keeps more clean book holds =
-    let (found, held) = keeps (omega (arith, clean, cleaner)) book holds in
-    let (kept, held_after) = more clean book held in
-    (book, (refl, inl memory), held_after)
-
-pub proof_unsaid_at_once : (old mid : State) (id : ℕ) (bytes : List ℕ) (P : Book → Type 0) (told : ToolFault) → told ≡ tool.Memory → Keeps old mid P
-    → Turns old mid (λ b after. GivesProof b id bytes after (Err told))
-proof_unsaid_at_once old mid id bytes P told memory keeps clean book holds =
-    let (found, held) = keeps clean book holds in (book, (refl, inl memory), held)
-
--- there is no such level
-pub proof_unfound : (old new : State) (id : ℕ) (bytes : List ℕ) (told : ToolFault)
-    → (fault : BookFault) × (told ≡ of_book fault) × Keeps old new (λ b. IsOutside fault ⊎ ((fault ≡ refusal.NoLevel) × IsNone (page_at b id)))
-    → Turns old new (λ b after. GivesProof b id bytes after (Err told))
-proof_unfound old new id bytes told (fault, is, keeps) clean book holds =
-    let (why, held) = keeps clean book holds in
-    let cause : IsOutside fault ⊎ IsNotProved book id bytes fault = elim why [
-      | inl outside ↦ inl outside
-      | inr (missing, none) ↦ inr (subst (IsNotProved book id bytes) (sym missing) none)
-    ] in
-    (book, (refl, told_cause book id bytes fault told is cause), held)
-
--- ---- the answer
-
--- a fault that is told is one of the answers
-told_fault : (b : Book) (id : ℤ) (after : Book) (bytes : List ℕ) (fault : ToolFault)
-    → (fault ≡ tool.Memory) ⊎ TellsProof b (id_number id) bytes after (Err fault) → IsFaultOf (IsProof b id after bytes) fault
-told_fault b id after bytes fault (inl memory) = subst (IsFaultOf (IsProof b id after bytes)) (sym memory) tt
-told_fault b id after bytes fault (inr (proved claim proves same)) = let no : ⊥ = cc in absurd no
-told_fault b id after bytes fault (inr (refused wrong none kept same)) = let no : ⊥ = cc in absurd no
-told_fault b id after bytes fault (inr (unproved cause none kept same)) =
-    let is : fault ≡ of_book cause = cc in
-    subst (IsFaultOf (IsProof b id after bytes)) (sym is) (book_fault (IsProof b id after bytes) cause (unproved cause none kept refl))
-told_fault b id after bytes fault (inr (failed kept same)) =
-    let is : fault ≡ tool.Book refusal.Database = cc in
-    subst (IsFaultOf (IsProof b id after bytes)) (sym is) (failed kept refl)
-
-pub proof_unanswered : (old new : State) (id : ℤ) (read : List ℕ) (known held : Option (List ℕ)) (fault : ToolFault)
-    → IfSome known (λ all. read ≡ all) → length read ≤ cert_limit → Turns old new (λ b after. GivesProof b (id_number id) read after (Err fault))
-    → Turns old new (λ b after. WritesProof b id known after held held (Err fault))
-proof_unanswered old new id read known held fault all few turns clean book holds =
-    let (after, (same, why), held_after) = turns clean book holds in
-    let is = told_fault book id after read fault why in
-    (after, (Writes-none cert_limit (IsProof book id after) known held read fault all few is, inr same), held_after)
-
-pub proof_answered : (old new : State) (id : ℤ) (read : List ℕ) (known before later : Option (List ℕ)) (answer : Answer) (result : Result ℕ ToolFault)
-    → IfSome known (λ all. read ≡ all) → length read ≤ cert_limit → Turns old new (λ b after. GivesProof b (id_number id) read after (Ok answer))
-    → WritesOne answer before later result → Turns old new (λ b after. WritesProof b id known after before later result)
-proof_answered old new id read known before later answer result all few turns written clean book holds =
-    let (after, told, held) = turns clean book holds in
-    let writes = Writes-read cert_limit (IsProof book id after) known before later read answer result all few told written in
-    (after, (writes, stays_written answer before later result book after written), held)
+-- a refused certificate ends with another status than a verdict that is proved
+pub refused_status : (fault : BookFault) (answer : Answer) → (cause : CertFault) × (fault ≡ refusal.Certificate cause) × (answer ≡ verdict_answer (Err cause))
+    → answer.status ≡ 0 → ⊥
+refused_status fault answer (cause, is, says) zero =
+    let one : 1 ≡ 0 = sym (ap (λ (a : Answer). a.status) says) ∙ zero in omega (arith, one)
 
 -- the input was not read
 pub proof_unread : (s : State) (id : ℤ) (known held : Option (List ℕ)) (fault : InputFault)
@@ -161,16 +44,40 @@ pub proof_unread : (s : State) (id : ℤ) (known held : Option (List ℕ)) (faul
 proof_unread s id known held fault much clean book holds =
     (book, (Writes-unread cert_limit (IsProof book id book) known held fault much, inr refl), holds)
 
--- what is told where the book refuses
-pub proof_ended : (old mid new : State) (id : ℕ) (bytes : List ℕ) (P : Book → Type 0) (fault : BookFault) (result : Result Answer ToolFault)
-    → NoCleaner mid new
-    → IfOk result (λ answer. (cause : CertFault) × (fault ≡ refusal.Certificate cause) × (answer ≡ verdict_answer (Err cause)))
-    → IfErr result (λ told. (told ≡ tool.Memory) ⊎ (told ≡ of_book fault)) → Keeps old mid P
-    → Keeps mid new (λ b. IsOutside fault ⊎ IsNotProved b id bytes fault) → Turns old new (λ b after. GivesProof b id bytes after result)
-proof_ended old mid new id bytes P fault (Ok answer) cleaner (cause, is, says) none keeps fails =
-    proof_refused old mid new id bytes P cause answer cleaner says keeps
-    (subst (λ f. Keeps mid new (λ b. IsOutside f ⊎ IsNotProved b id bytes f)) is fails)
-proof_ended old mid new id bytes P fault (Err told) cleaner none (inl memory) keeps fails =
-    proof_unsaid old mid new id bytes P (λ b. IsOutside fault ⊎ IsNotProved b id bytes fault) told cleaner memory keeps fails
-proof_ended old mid new id bytes P fault (Err told) cleaner none (inr is) keeps fails =
-    proof_failed old mid new id bytes P fault told cleaner is keeps fails
+module _ (old new : State) (id : ℤ) (read : List ℕ) (known : Option (List ℕ)) (all : IfSome known (λ all. read ≡ all)) (few : length read ≤ cert_limit) where
+  -- the verdict is proved
+  pub proof_done : (before later : Option (List ℕ)) (claim : Claim) (result : Result ℕ ToolFault)
+      → Changes old new (λ b after. Proves b (id_number id) read claim after) → WritesOne (proved_answer claim) before later result
+      → Turns old new (λ b after. WritesProof b id known after before later result)
+  proof_done before later claim result changes written clean book holds =
+      let (after, proves, shows) = changes clean book holds in
+      let writes = Writes-read cert_limit (IsProof book id after) known before later read (proved_answer claim) result all few (proved claim proves refl) written in
+      (after, (writes, stays_written (proved_answer claim) before later result book after written), held new after shows)
+
+  module _ (fault : BookFault) (keeps : Keeps old new (λ b. IsOutside fault ⊎ IsNotProved b (id_number id) read fault)) where
+    -- the certificate is refused, which is an answer
+    pub proof_refused : (before later : Option (List ℕ)) (answer : Answer) (result : Result ℕ ToolFault)
+        → (cause : CertFault) × (fault ≡ refusal.Certificate cause) × (answer ≡ verdict_answer (Err cause)) → WritesOne answer before later result
+        → Turns old new (λ b after. WritesProof b id known after before later result)
+    proof_refused before later answer result (cause, is, says) written clean book holds =
+        let (why, after) = keeps clean book holds in
+        let none : IsNotProved book (id_number id) read (refusal.Certificate cause) = elim why [
+          | inl (inl memory) ↦ absurd (let e = memory in cc)
+          | inl (inr database) ↦ absurd (let e = database in cc)
+          | inr none ↦ subst (IsNotProved book (id_number id) read) is none
+        ] in
+        let writes = Writes-read cert_limit (IsProof book id book) known before later read answer result all few (refused cause none refl (ap Ok says)) written in
+        (book, (writes, stays_written answer before later result book book written), after)
+
+    -- another cause is told, or memory was refused
+    pub proof_failed : (still : Option (List ℕ)) (told : ToolFault) → (told ≡ tool.Memory) ⊎ (told ≡ of_book fault)
+        → Turns old new (λ b after. WritesProof b id known after still still (Err told))
+    proof_failed still told (inl memory) clean book holds =
+        let (why, after) = keeps clean book holds in
+        let is : IsFaultOf (IsProof book id book read) told = subst (IsFaultOf (IsProof book id book read)) (sym memory) tt in
+        (book, (Writes-none cert_limit (IsProof book id book) known still read told all few is, inr refl), after)
+    proof_failed still told (inr same) clean book holds =
+        let (why, after) = keeps clean book holds in
+        let is : IsFaultOf (IsProof book id book read) told =
+        subst (IsFaultOf (IsProof book id book read)) (sym same) (told_fault book id book read fault refl why) in
+        (book, (Writes-none cert_limit (IsProof book id book) known still read told all few is, inr refl), after)

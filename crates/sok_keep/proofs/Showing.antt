@@ -66,10 +66,6 @@ pub exports : (book : Book) (records : List Record) (answer : Answer) → AreRec
 exports book records answer are text status =
     inr (ap Ok (same_answer answer (export_text (map page_text book)) 0 (text ∙ ap export_text (texts_of 1 book records are)) status))
 
-pub not_exported : (book : Book) (fault : BookFault) → IsOutside fault → IsFaultOf (IsExport book) (of_book fault)
-not_exported book fault (inl memory) = subst (λ f. IsFaultOf (IsExport book) (of_book f)) (sym memory) tt
-not_exported book fault (inr database) = subst (λ f. IsFaultOf (IsExport book) (of_book f)) (sym database) (inl refl)
-
 -- ---- calls
 
 pub page_unshown : (old new : State) (id : ℤ) (told : ToolFault)

@@ -1,6 +1,5 @@
 -- What is answered to letters that are offered, and what becomes of the book.
-use Rattle.std.specs.Prelude.{ℕ, ℤ, ◌≡◌, ◌⊎◌, List, ◌++◌, Option, Some, None, Result, Ok, Err, IfErr, IsSomeAnd, codes}
-use Rattle.std.specs.Prelude.{if◌then◌else◌, nat_lt}
+use Rattle.std.specs.Prelude.{ℕ, ℤ, ◌≡◌, ◌⊎◌, List, ◌++◌, Option, Some, Result, Ok, Err, IfErr, IsSomeAnd, codes}
 use Rattle.std.specs.Fmt.{decimal}
 use Rattle.sok_rules.specs.declared.cell.Dir.{Dir}
 use Rattle.sok_text.specs.declared.lurd.LurdFault.{LurdFault}
@@ -9,10 +8,9 @@ use Rattle.sok_book.specs.declared.fault.BookFault.TheVariants as refusal
 use Rattle.sok_book.specs.declared.fault.BookFault.{BookFault}
 use Rattle.sok_book.specs.declared.record.Offer.{Offer}
 use Rattle.sok_book.specs.declared.record.Offer.TheVariants.{Stored, Kept}
-use Rattle.sok_book.specs.Books.{Book, Page, Solution, page_at, solution_of}
-use Rattle.sok_book.specs.Commands.{Offers, best_pushes, is_better, offer_answer, with_best}
+use Rattle.sok_book.specs.Books.{Book, Solution, page_at}
+use Rattle.sok_book.specs.Commands.{Offers}
 use Rattle.sok_book.specs.Refusals.{IsNotOffered}
-use Rattle.sok_page.specs.Texts.{SolutionText}
 use Rattle.sok_engine.specs.declared.fault.ToolFault.{ToolFault}
 use Rattle.sok_engine.specs.declared.fault.ToolFault.TheVariants as tool
 use Rattle.sok_engine.specs.Faults.{of_book, of_lurd}
@@ -64,29 +62,10 @@ IsOffer book id text after (Err fault) = IsTextFault book (id_number id) text fa
 abbrev pub StaysOnFault : Book → Book → Result ℕ ToolFault → Type 0
 StaysOnFault book after result = IfErr result (λ fault. (fault ≡ tool.WriteFailed) ⊎ (after ≡ book))
 
+-- a book that the offer of a text makes
+abbrev pub OffersText : ℤ → List ℕ → Book → Book → Type 0
+OffersText id text book after = (letters : List Dir) × Spells text letters × (answer : Offer) × Offers book (id_number id) letters answer after
+
 -- the answer was written, and this is the book after the command
 abbrev pub WritesOffer : Book → ℤ → List ℕ → Book → Option (List ℕ) → Option (List ℕ) → Result ℕ ToolFault → Type 0
 WritesOffer book id text after old new result = Writes (IsOffer book id text after) old new result × StaysOnFault book after result
-
--- ---- before the command
-
--- what will be told of a solution with these pushes and moves, where this is the best so far
-abbrev pub outcome_answer : ℕ → ℕ → Option SolutionText → Answer
-outcome_answer pushes moves None = told_offer Stored pushes moves
-outcome_answer pushes moves (Some best) = if nat_lt pushes best.pushes then told_offer Stored pushes moves else told_offer Kept best.pushes best.moves
-
--- what will be told of letters on a page, and what their offer will be
-pub record Foretells (page : Page) (letters : List Dir) (answer : Answer) : Type 0 where
-  pub best : Solution
-  pub stands : (with_best page (solution_of page.level letters)).best ≡ Some best
-  pub told : answer ≡ told_offer (offer_answer (is_better (solution_of page.level letters).pushes (best_pushes page))) best.pushes best.moves
-
--- what is foretold, or why the letters are refused, memory aside
-abbrev pub GivesForecast : Book → ℕ → List Dir → Result Answer ToolFault → Type 0
-GivesForecast book id letters (Ok answer) = IsSomeAnd (page_at book id) (λ page. Foretells page letters answer)
-GivesForecast book id letters (Err fault) = (fault ≡ tool.Memory) ⊎ IsLetterFault book id letters fault
-
--- what is told of the book after the command; or the book is as it was, and the fault is told, memory aside
-abbrev pub GivesOffer : Book → ℕ → List Dir → Book → Result Answer ToolFault → Type 0
-GivesOffer book id letters after (Ok answer) = TellsOffer book id letters after answer
-GivesOffer book id letters after (Err fault) = (after ≡ book) × ((fault ≡ tool.Memory) ⊎ IsLetterFault book id letters fault)

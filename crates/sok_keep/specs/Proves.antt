@@ -1,5 +1,5 @@
 -- What is answered to a certificate for a level of a book, and what becomes of the book.
-use Rattle.std.specs.Prelude.{ℕ, ℤ, ◌≡◌, ◌⊎◌, List, ◌++◌, Option, Some, None, Result, Ok, Err, codes}
+use Rattle.std.specs.Prelude.{ℕ, ℤ, ◌≡◌, List, ◌++◌, Option, Result, Ok, Err, IfSome, codes}
 use Rattle.std.specs.Fmt.{decimal}
 use Rattle.sok_cert.specs.Claim.{Claim}
 use Rattle.sok_cert.specs.Claim.TheVariants.{Pushes, Unsolvable}
@@ -43,14 +43,7 @@ abbrev pub WritesProof : Book → ℤ → Option (List ℕ) → Book → Option 
 WritesProof book id known after old new result =
     Writes (OfReader known (Within cert_limit (IsProof book id after))) old new result × StaysOnFault book after result
 
--- the claim that is proved of a level with so many pushes as its best, if it has one
-abbrev pub claim_about : Option ℕ → Claim
-claim_about (Some pushes) = Pushes pushes
-claim_about None = Unsolvable
-
--- ---- before it is written
-
--- the answer is told of the book after the command; or the book is as it was, and the fault is told, memory aside
-abbrev pub GivesProof : Book → ℕ → List ℕ → Book → Result Answer ToolFault → Type 0
-GivesProof book id bytes after (Ok answer) = TellsProof book id bytes after (Ok answer)
-GivesProof book id bytes after (Err fault) = (after ≡ book) × ((fault ≡ tool.Memory) ⊎ TellsProof book id bytes after (Err fault))
+-- a book that a proof by the bytes of a reader makes
+abbrev pub ProvesBytes : ℤ → Option (List ℕ) → Book → Book → Type 0
+ProvesBytes id known book after =
+    (bytes : List ℕ) × IfSome known (λ all. bytes ≡ all) × (claim : Claim) × Proves book (id_number id) bytes claim after

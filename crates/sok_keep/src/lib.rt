@@ -4,14 +4,14 @@
 //! | Module | What it holds |
 //! |---|---|
 //! | `add` | the levels of a collection are added |
+//! | `line` | the line of a command that was done |
 //! | `offer` | a solution is offered |
 //! | `prove` | a verdict is proved |
-//! | `record` | what a book keeps of a level |
 //! | `show` | one level is shown, or all are exported |
 #![tactic(auto)]
 
 pub mod add;
+mod line;
 pub mod offer;
 pub mod prove;
-mod record;
 pub mod show;

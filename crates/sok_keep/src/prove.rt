@@ -1,23 +1,25 @@
 //! A verdict on a level of a book is proved.
 
-ghost use Rattle.std.specs.Prelude.{◌≡◌, ◌⊎◌, Err, IfErr, IfOk, option_map};
+ghost use Rattle.std.specs.Prelude.{◌≡◌, ◌⊎◌, Err, IfErr, IfOk};
 ghost use Rattle.sqlite.specs.Held.{state};
 ghost use Rattle.sok_cert.specs.CertFault.{CertFault};
 ghost use Rattle.sok_book.specs.declared.fault.BookFault.TheVariants as refusal;
 ghost use Rattle.sok_engine.specs.Faults.{of_book};
 ghost use Rattle.sok_engine.specs.declared.fault.ToolFault.TheVariants as tool;
 ghost use Rattle.sok_judge.specs.Verdicts.{verdict_answer};
-ghost use Rattle.sok_store.specs.Calls.{EndsOpen, Turns, id_number};
+ghost use Rattle.sok_store.specs.Calls.{EndsOpen, Turns};
+ghost use Rattle.sok_keep.specs.Causes.{IsCausedFault};
 ghost use Rattle.sok_keep.specs.Disk.{NoCleaner};
-ghost use Rattle.sok_keep.specs.Proves.{GivesProof, WritesProof, claim_about, proved_answer};
+ghost use Rattle.sok_keep.specs.Proves.{ProvesBytes, WritesProof, proved_line};
 
-use crate::record::record_at;
+use crate::line::{Line, write_line};
+use itoa::Buffer;
 use sok_book::fault::BookFault;
+use sok_cert::claim::Claim;
 use sok_engine::answer::Answer;
 use sok_engine::fault::ToolFault;
 use sok_engine::input::read_certificate;
 use sok_judge::verdict::refused_answer;
-use sok_page::record::Best;
 use sok_store::book::Book;
 use sqlite::Alter;
 use std::alloc::{AllocError, Global};
@@ -31,8 +33,8 @@ use std::io::{Read, Write};
 /// Where there is no such answer nothing is written and the book is as it was, and the fault is the
 /// first of these: `ReadFailed` or `TooMuch`; `NoLevel`; for a certificate's text that can be read
 /// `NoBest` or `ClaimDiffers`. `Database` may stand in place of any but the first two. A write that
-/// fails is `WriteFailed` at once, after a front of the line, and the command stands. The memory
-/// for the line is taken before the command.
+/// fails is `WriteFailed` at once, after a front of the line, and the command stands. No memory is
+/// taken once it is done.
 pub fn prove_bytes<S: Alter, C: Read, W: Write>(
     alloc: Global,
     book: &mut Book<S>,
@@ -45,31 +47,17 @@ pub fn prove_bytes<S: Alter, C: Read, W: Write>(
         (W.contents out.old) (W.contents out.new) result) }
     ensures open { IfOk result (λ status. status ≡ 0
         → EndsOpen (state S.Store book.old) (state S.Store book.new)) }
+    ensures cause { IfErr result (IsCausedFault (state S.Store book.old) (state S.Store book.new)
+        (ProvesBytes id (C.remaining cert_input.old))) }
     ensures clean { NoCleaner (state S.Store book.old) (state S.Store book.new) }
 {
     let bytes = read_certificate(alloc, cert_input)?;
-    let answer = proved(alloc, book, id, bytes.as_slice())?;
-    answer.write(out)
-}
-
-/// Proves a verdict, and tells what became of it.
-fn proved<S: Alter>(
-    alloc: Global,
-    book: &mut Book<S>,
-    id: i64,
-    bytes: &[u8],
-) -> Result<Answer, ToolFault>
-    ensures gives { Turns (state S.Store book.old) (state S.Store book.new) (λ pages after.
-        GivesProof pages (id_number id) bytes.now after result) }
-    ensures open { IfOk result (λ answer. answer.status ≡ 0
-        → EndsOpen (state S.Store book.old) (state S.Store book.new)) }
-    ensures clean { NoCleaner (state S.Store book.old) (state S.Store book.new) }
-{
-    let kept = record_at(book, id)?;
-    let answer = proved_answer(alloc, &kept.best)?;
-    match book.prove(id, bytes) {
-        Ok(_) => Ok(answer),
-        Err(fault) => unproved_answer(alloc, fault),
+    match book.prove(id, bytes.as_slice()) {
+        Ok(claim) => write_line(&proved_line(claim), 0, out),
+        Err(fault) => {
+            let answer = unproved_answer(alloc, fault)?;
+            answer.write(out)
+        }
     }
 }
 
@@ -85,20 +73,18 @@ fn unproved_answer(alloc: Global, fault: BookFault) -> Result<Answer, ToolFault>
     }
 }
 
-/// What will be told of a level with this best solution, if it is proved.
-fn proved_answer(alloc: Global, best: &Option<Best>) -> Result<Answer, AllocError>
-    ensures { IfOk result (λ answer. answer
-        ≡ proved_answer (claim_about (option_map (λ b. b.pushes) best.now))) }
+/// What is proved of a level.
+fn proved_line(claim: Claim) -> Line
+    ensures { result.bytes ≡ proved_line claim }
 {
-    match best {
-        Some(best) => {
-            let pushes = best.pushes;
-            let line = format!(in alloc; "proved optimal {pushes}\n")?;
-            Ok(Answer::new(line.into_bytes(), 0))
+    let mut line = Line::new();
+    match claim {
+        Claim::Pushes(pushes) => {
+            line.push_str("proved optimal ");
+            line.push_str(Buffer::new().format(pushes));
+            line.push_str("\n");
         }
-        None => {
-            let line = String::from_str(alloc, "proved unsolvable\n")?;
-            Ok(Answer::new(line.into_bytes(), 0))
-        }
+        Claim::Unsolvable => line.push_str("proved unsolvable\n"),
     }
+    line
 }

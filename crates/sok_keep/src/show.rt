@@ -1,14 +1,22 @@
 //! One level of a book is shown, or all are exported.
 
+ghost use Rattle.std.specs.Prelude.{◌≡◌, ◌⊎◌, IfErr, IfOk, IsNone, IsSomeAnd};
 ghost use Rattle.sqlite.specs.Held.{state};
+ghost use Rattle.sok_book.specs.Books.{page_at};
+ghost use Rattle.sok_book.specs.declared.fault.BookFault.{BookFault};
+ghost use Rattle.sok_book.specs.declared.fault.BookFault.TheVariants as refusal;
+ghost use Rattle.sok_engine.specs.Faults.{of_book};
 ghost use Rattle.sok_engine.specs.Written.{Gives, Writes};
-ghost use Rattle.sok_store.specs.Calls.{Keeps};
+ghost use Rattle.sok_row.specs.Faults.{IsOutside};
+ghost use Rattle.sok_row.specs.Told.{IsRecordOf};
+ghost use Rattle.sok_store.specs.Calls.{Keeps, MakesNone, id_number};
+ghost use Rattle.sok_keep.specs.Causes.{IsCausedFault};
 ghost use Rattle.sok_keep.specs.Disk.{NoCleaner};
 ghost use Rattle.sok_keep.specs.Shows.{IsExport, IsShow};
 
-use crate::record::record_at;
 use sok_engine::answer::Answer;
 use sok_engine::fault::ToolFault;
+use sok_page::record::Record;
 use sok_shelf::export::export_text;
 use sok_shelf::show::shown_text;
 use sok_store::book::Book;
@@ -30,6 +38,8 @@ pub fn show_bytes<S: Alter, W: Write>(
 ) -> Result<u8, ToolFault>
     ensures writes { Keeps (state S.Store book.old) (state S.Store book.new) (λ pages.
         Writes (IsShow pages id) (W.contents out.old) (W.contents out.new) result) }
+    ensures cause { IfErr result
+        (IsCausedFault (state S.Store book.old) (state S.Store book.new) MakesNone) }
     ensures clean { NoCleaner (state S.Store book.old) (state S.Store book.new) }
 {
     let answer = shown(alloc, book, id)?;
@@ -40,10 +50,30 @@ pub fn show_bytes<S: Alter, W: Write>(
 fn shown<S: Alter>(alloc: Global, book: &mut Book<S>, id: i64) -> Result<Answer, ToolFault>
     ensures gives { Keeps (state S.Store book.old) (state S.Store book.new)
         (λ pages. Gives (IsShow pages id) result) }
+    ensures cause { IfErr result
+        (IsCausedFault (state S.Store book.old) (state S.Store book.new) MakesNone) }
     ensures clean { NoCleaner (state S.Store book.old) (state S.Store book.new) }
 {
     let kept = record_at(book, id)?;
     Ok(Answer::new(shown_text(alloc, &kept)?, 0))
+}
+
+/// The record of the level with an id.
+fn record_at<S: Alter>(book: &mut Book<S>, id: i64) -> Result<Record, ToolFault>
+    ensures found { IfOk result (λ kept. Keeps (state S.Store book.old) (state S.Store book.new)
+        (λ pages. IsSomeAnd (page_at pages (id_number id))
+        (λ page. IsRecordOf (id_number id) page kept))) }
+    ensures unfound { IfErr result (λ told. (fault : BookFault) × (told ≡ of_book fault)
+        × Keeps (state S.Store book.old) (state S.Store book.new) (λ pages. IsOutside fault
+        ⊎ ((fault ≡ refusal.NoLevel) × IsNone (page_at pages (id_number id))))) }
+    ensures cause { IfErr result
+        (IsCausedFault (state S.Store book.old) (state S.Store book.new) MakesNone) }
+    ensures clean { NoCleaner (state S.Store book.old) (state S.Store book.new) }
+{
+    match book.get(id) {
+        Ok(kept) => Ok(kept),
+        Err(fault) => Err(ToolFault::from(fault)),
+    }
 }
 
 /// Writes the levels of a book as a collection, in order of their ids, at status 0: for each `;
@@ -58,6 +88,8 @@ pub fn export_bytes<S: Alter, W: Write>(
 ) -> Result<u8, ToolFault>
     ensures writes { Keeps (state S.Store book.old) (state S.Store book.new) (λ pages.
         Writes (IsExport pages) (W.contents out.old) (W.contents out.new) result) }
+    ensures cause { IfErr result
+        (IsCausedFault (state S.Store book.old) (state S.Store book.new) MakesNone) }
     ensures clean { NoCleaner (state S.Store book.old) (state S.Store book.new) }
 {
     let answer = exported(alloc, book)?;
@@ -68,6 +100,8 @@ pub fn export_bytes<S: Alter, W: Write>(
 fn exported<S: Alter>(alloc: Global, book: &mut Book<S>) -> Result<Answer, ToolFault>
     ensures gives { Keeps (state S.Store book.old) (state S.Store book.new)
         (λ pages. Gives (IsExport pages) result) }
+    ensures cause { IfErr result
+        (IsCausedFault (state S.Store book.old) (state S.Store book.new) MakesNone) }
     ensures clean { NoCleaner (state S.Store book.old) (state S.Store book.new) }
 {
     match book.list() {

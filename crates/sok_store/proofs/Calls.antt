@@ -48,10 +48,15 @@ module _ (old new : State) (rests : Rests old new) where
   pub rests_stops : (Makes : Book → Book → Type 0) → Stops old new Makes
   rests_stops Makes = survives_weaker old new _ _ (λ _ db none book shows. absurd (none (leaves_of book) shows.1)) rests.stop
 
+-- what may be made is more than is said
+pub stops_less : (old new : State) (Makes Less : Book → Book → Type 0) → ((book after : Book) → Makes book after → Less book after)
+    → Stops old new Makes → Stops old new Less
+stops_less old new Makes Less so one =
+    survives_weaker old new _ _ (λ _ db made book shows. let (after, makes, has) = made book shows in (after, so book after makes, has)) one
+
 -- a call that makes no other book
 pub stops_none : (old new : State) (Makes : Book → Book → Type 0) → Stops old new MakesNone → Stops old new Makes
-stops_none old new Makes one =
-    survives_weaker old new _ _ (λ _ db made book shows. let (after, none, has) = made book shows in absurd none) one
+stops_none old new Makes one = stops_less old new MakesNone Makes (λ book after none. absurd none) one
 
 -- and then one that may
 pub stops_later : (a b c : State) (Makes : Book → Book → Type 0) → Stops a b MakesNone → (Commits : Trees → Type 0)

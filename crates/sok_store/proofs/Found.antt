@@ -1,6 +1,6 @@
 -- The row with an id in the table of a book is that of the page with this id.
 use Rattle.std.proofs.Common.{◌≡◌, ◌≢◌, ◌⊎◌, inl, inr, refl, sym, ap, subst, ◌∙◌, ℕ, zero, suc, ◌+◌, ◌-◌, ◌<◌, ◌≤◌, Option, Some, None, arith}
-use Rattle.std.proofs.Common.{List, Result, Ok, Err, IfErr, IfOk, IsNone, IsSomeAnd, length, option_map, slice_get}
+use Rattle.std.proofs.Common.{List, Result, Ok, Err, IfErr, IfOk, IsNone, IsSomeAnd, length, option_map, slice_get, slice_set}
 use Rattle.std.proofs.lemmas.Option.{none-some, same_Some}
 use Rattle.sqlite.specs.declared.error.Error.{Error}
 use Rattle.sqlite.specs.Order.{Row, column}
@@ -8,7 +8,7 @@ use Rattle.sqlite.specs.State.{State, HasCleanDisk}
 use Rattle.sok_book.specs.declared.fault.BookFault.{BookFault}
 use Rattle.sok_book.specs.declared.fault.BookFault.TheVariants.{BadBook, Memory, NoLevel}
 use Rattle.sok_book.specs.Books.{Book, Page, page_at}
-use Rattle.sok_book.specs.Commands.{level_limit}
+use Rattle.sok_book.specs.Commands.{level_limit, with_page}
 use Rattle.sok_page.specs.declared.record.Record.{Record}
 use Rattle.sok_page.specs.Kept.{IsKeptPage}
 use Rattle.sok_sql.specs.Causes.{HasTable, IsExcused, IsMemory}
@@ -23,7 +23,7 @@ use Rattle.sok_row.proofs.Pages.{one_page}
 use Rattle.sok_store.specs.Calls.{MakesNone}
 use Rattle.sok_store.specs.Running.{RunsReading}
 use Rattle.sok_store.proofs.Calls.{held, rests_holds, rests_stops, stops_same}
-use Rattle.sok_store.proofs.Caused.{row_told, told}
+use Rattle.sok_store.proofs.Caused.{row_told, set_get, told}
 
 -- ---- pages by their ids
 
@@ -41,6 +41,12 @@ some_and o P page at is = subst (λ (x : Option Page). IsSomeAnd x P) (sym at) i
 pub kept_at : (book : Book) (id : ℕ) (page : Page) → IsKeptBook book → page_at book id ≡ Some page → IsKeptPage page
 kept_at book zero page kept at = absurd (none-some page at)
 kept_at book (suc n) page kept at = kept.pages n page at
+
+-- a page that is put at the id of another is there afterwards
+pub page_there : (book : Book) (id : ℕ) (page new : Page) → page_at book id ≡ Some page → page_at (with_page book id new) id ≡ Some new
+page_there book zero page new there = absurd (none-some page there)
+page_there book (suc n) page new there =
+    subst (λ k. slice_get (slice_set book k new) n ≡ Some new) (sym (one_less n)) (set_get book n page new there)
 
 -- ---- the row with an id
 

@@ -8,7 +8,7 @@ use Rattle.sok_book.specs.Laws as laws
 use Rattle.sok_book.proofs.Laws.{CommandsKeepTruth-all}
 use Rattle.sok_row.specs.Kept.{HoldsBook}
 use Rattle.sok_store.specs.Calls.{id_number}
-use Rattle.sok_store.specs.Histories.{AddsAreCalls, AreCalls, CallsFold, EmptyBooksAreMade, IsCall, IsMadeOf, OffersAreCalls, ProofsAreCalls}
+use Rattle.sok_store.specs.Histories.{AddsAreCalls, AreCalls, CallsFold, EmptyBooksAreMade, IsCall, IsMadeOf, OffersAreCalls, ProofsAreCalls, TellingsAreCalls}
 use Rattle.sok_store.specs.Histories as histories
 use Rattle.sok_store.specs.Running.{Runs}
 use Rattle.sok_store.proofs.Calls.{held}
@@ -38,6 +38,11 @@ module _ {C : Type 0} (shows : C → State) where
   offers-are-calls old new id letters (Ok answer) runs =
       is_call (shows old) (shows new) _ _ _ (Ok answer) (λ x book after offers. offer id letters x offers) runs
   offers-are-calls old new id letters (Err fault) runs = is_call (shows old) (shows new) _ _ _ (Err fault) tt runs
+
+  pub tellings-are-calls : TellingsAreCalls shows
+  tellings-are-calls old new id letters (Ok told) runs =
+      is_call (shows old) (shows new) _ _ _ (Ok told) (λ x book after tells. offer id letters x.offer tells.offered) runs
+  tellings-are-calls old new id letters (Err fault) runs = is_call (shows old) (shows new) _ _ _ (Err fault) tt runs
 
   pub proofs-are-calls : ProofsAreCalls shows
   proofs-are-calls old new id bytes (Ok shown) runs =

@@ -1,4 +1,4 @@
--- A record of a page tells its level and the pushes of its best solution.
+-- A record of a page tells its level and its best solution.
 use Rattle.std.proofs.Common.{◌≡◌, inl, inr, refl, sym, ap, ◌∙◌, ℕ, ℤ, Option, Some}
 use Rattle.std.proofs.Common.{None, Result, Ok, Err, IfErr, IfOk, option_map, string_bytes}
 use Rattle.std.proofs.lemmas.Option.{none-some, same_Some}
@@ -10,6 +10,7 @@ use Rattle.sok_text.specs.Canonical.{level_text}
 use Rattle.sok_book.specs.declared.fault.BookFault.{BookFault}
 use Rattle.sok_book.specs.declared.fault.BookFault.TheVariants.{Memory}
 use Rattle.sok_book.specs.Books.{Page, Solution, page_at}
+use Rattle.sok_book.specs.Commands.{best_pushes}
 use Rattle.sok_page.specs.declared.record.Best.{Best}
 use Rattle.sok_page.specs.declared.record.Record.{Record}
 use Rattle.sok_page.specs.Kept.{IsKeptPage}
@@ -18,7 +19,7 @@ use Rattle.sok_page.specs.Texts.{SolutionText, best_text, solution_text}
 use Rattle.sok_page.proofs.Rows.{one_level}
 use Rattle.sok_row.specs.Told.{IsRecordOf, Told}
 use Rattle.sok_store.specs.declared.entry.Entry.{Entry}
-use Rattle.sok_store.specs.Entries.{IsEntryOf}
+use Rattle.sok_store.specs.Entries.{IsEntryOf, entry_pushes}
 use Rattle.sok_store.specs.Running.{RunsReading}
 use Rattle.sok_store.proofs.Calls.{held}
 use Rattle.sok_store.proofs.Found.{page_read, some_and}
@@ -36,17 +37,21 @@ module _ (id : ℕ) (page : Page) (kept : IsKeptPage page) (r : Record) (told : 
   text_is : string_bytes r.text ≡ level_text page.level
   text_is = ap (λ (t : Told). t.texts.level) told
 
-  pub entry_is : (entry : Entry) → IsLevel entry.level → level_text entry.level ≡ string_bytes r.text → entry.best ≡ option_map (λ b. b.pushes) r.best
+  pub entry_is : (entry : Entry) → IsLevel entry.level → level_text entry.level ≡ string_bytes r.text → entry.best ≡ r.best
       → IsEntryOf page entry
   entry_is entry level text best = record {
     level = one_level entry.level page.level level kept.level (text ∙ text_is);
-    best = best ∙ same_pushes page.level r.best page.best (ap (λ (t : Told). t.texts.best) told);
+    best = ap (option_map best_text) best ∙ ap (λ (t : Told). t.texts.best) told;
   }
 
   pub entry_refused : (number : ℤ) (fault : BookFault)
       → IsBroken number (λ (rows : Rows). IsLevel rows × IsAcceptable rows × (level_text rows ≡ string_bytes r.text)) fault → fault ≡ Memory
   entry_refused number fault (inl memory) = memory
   entry_refused number fault (inr bad) = absurd (bad.1 page.level (kept.level, kept.accepted, sym text_is))
+
+-- the pushes of its best are told of an entry
+pub pushes_are : (page : Page) (entry : Entry) → IsEntryOf page entry → entry_pushes entry ≡ best_pushes page
+pushes_are page entry is = same_pushes page.level entry.best page.best is.best
 
 -- ---- of the connection
 

@@ -16,7 +16,8 @@ use Rattle.sok_book.specs.Refusals.{IsNoProof, IsNotProved, IsUnproved}
 use Rattle.sok_page.specs.Kept.{IsKeptPage}
 use Rattle.sok_row.proofs.Changes.{IsKeptPage-judged, judged}
 use Rattle.sok_store.specs.declared.entry.Entry.{Entry}
-use Rattle.sok_store.specs.Entries.{HasVerdict, IsEntryOf}
+use Rattle.sok_store.specs.Entries.{HasVerdict, IsEntryOf, entry_pushes}
+use Rattle.sok_store.proofs.Known.{pushes_are}
 use Rattle.sok_store.proofs.Refusing.{no_database, not_proved}
 use Rattle.sok_store.proofs.Running.{Replaces}
 
@@ -32,10 +33,10 @@ module _ (page : Page) (entry : Entry) (kept : IsKeptPage page) (is : IsEntryOf 
   no_board fault refused = board_of page.level fault kept.accepted (subst (λ rows. IsRefused rows fault) is.level refused)
 
   pub no_proof : (b : Numbered) → b.rows ≡ entry.level → IsAccepted b → (bytes : List ℕ) (fault : BookFault)
-      → (fault ≡ Memory) ⊎ IsNoProof b entry.best bytes fault → (fault ≡ Memory) ⊎ IsUnproved page bytes fault
+      → (fault ≡ Memory) ⊎ IsNoProof b (entry_pushes entry) bytes fault → (fault ≡ Memory) ⊎ IsUnproved page bytes fault
   no_proof b rows accepted bytes fault (inl memory) = inl memory
   no_proof b rows accepted bytes fault (inr none) =
-      inr (b, rows ∙ is.level, accepted, subst (λ best. IsNoProof b best bytes fault) is.best none)
+      inr (b, rows ∙ is.level, accepted, subst (λ best. IsNoProof b best bytes fault) (pushes_are page entry is) none)
 
 -- ---- what is done of it
 
@@ -48,7 +49,7 @@ proof_refused id bytes entry fault why book page kept at is = elim (why page kep
   | inr none ↦ inr ((λ database. no_database page bytes (subst (IsUnproved page bytes) database none)), not_proved book id page bytes fault at none)
 ]
 
-pub proof_stored : (id : ℕ) (bytes : List ℕ) (entry : Entry) (shown : Claim) → IsCertificate entry.level bytes shown → Meets shown entry.best
+pub proof_stored : (id : ℕ) (bytes : List ℕ) (entry : Entry) (shown : Claim) → IsCertificate entry.level bytes shown → Meets shown (entry_pushes entry)
     → Replaces id entry (λ claim book after. Proves book id bytes claim after) shown (HasVerdict (verdict_of shown))
 proof_stored id bytes entry shown certificate meets = record {
   after = λ page. judged page (verdict_of shown);
@@ -56,8 +57,8 @@ proof_stored id bytes entry shown certificate meets = record {
     page = page;
     there = at;
     certificate = subst (λ rows. IsCertificate rows bytes shown) is.level certificate;
-    meets = subst (Meets shown) is.best meets;
+    meets = subst (Meets shown) (pushes_are page entry is) meets;
     after_is = refl;
   };
-  writes = λ page kept is. record { kept = IsKeptPage-judged page shown kept (subst (Meets shown) is.best meets); after_is = refl };
+  writes = λ page kept is. record { kept = IsKeptPage-judged page shown kept (subst (Meets shown) (pushes_are page entry is) meets); after_is = refl };
 }

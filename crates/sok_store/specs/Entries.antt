@@ -1,12 +1,12 @@
 -- What is read of a page for a command, and what a command writes of it.
-use Rattle.std.specs.Prelude.{ℕ, ℤ, pos, ◌≡◌, ◌⊎◌, ◌+◌, ◌<◌, ◌≤◌, List, [], ◌∷◌, ◌++◌, Option, Some, length}
+use Rattle.std.specs.Prelude.{ℕ, ℤ, pos, ◌≡◌, ◌⊎◌, ◌+◌, ◌<◌, ◌≤◌, List, [], ◌∷◌, ◌++◌, Option, Some, length, option_map}
 use Rattle.sqlite.specs.State.{State, HasCleanDisk, Survives}
 use Rattle.sok_book.specs.declared.fault.BookFault.{BookFault}
 use Rattle.sok_book.specs.declared.fault.BookFault.TheVariants.{BookFull, Database}
 use Rattle.sok_book.specs.declared.record.Verdict.{Verdict}
 use Rattle.sok_book.specs.declared.record.Verdict.TheVariants.{Untested}
 use Rattle.sok_book.specs.Books.{Book, Page, Solution, page_at}
-use Rattle.sok_book.specs.Commands.{IsUnknown, best_pushes, level_limit, with_page}
+use Rattle.sok_book.specs.Commands.{IsUnknown, level_limit, with_page}
 use Rattle.sok_page.specs.declared.record.Best.{Best}
 use Rattle.sok_page.specs.Kept.{IsKeptPage, IsKeptSolution}
 use Rattle.sok_page.specs.Texts.{best_text, solution_text}
@@ -17,10 +17,14 @@ use Rattle.sok_row.specs.Kept.{HasBook, HoldsBook, ShowsBook, StoresBook, leaf_o
 use Rattle.sok_store.specs.Calls.{HasTooBig}
 use Rattle.sok_store.specs.declared.entry.Entry.{Entry}
 
--- the level of a page, and the pushes of its best solution
+-- the level of a page, and its best solution
 pub record IsEntryOf (page : Page) (entry : Entry) : Type 0 where
   pub level : entry.level ≡ page.level
-  pub best : entry.best ≡ best_pushes page
+  pub best : option_map best_text entry.best ≡ option_map (solution_text page.level) page.best
+
+-- the pushes of the best solution
+abbrev pub entry_pushes : Entry → Option ℕ
+entry_pushes entry = option_map (λ best. best.pushes) entry.best
 
 -- the page with this solution, and no verdict
 pub record HasBest (best : Best) (page after : Page) : Type 0 where

@@ -12,7 +12,8 @@ use Rattle.sok_book.specs.Commands.{OneCommand}
 use Rattle.sok_book.specs.Laws.{IsMade}
 use Rattle.sok_row.specs.Kept.{HoldsBook}
 use Rattle.sok_store.specs.Calls.{Turns}
-use Rattle.sok_store.specs.Running.{RunsAdding, RunsOffering, RunsProving}
+use Rattle.sok_store.specs.Running.{RunsAdding, RunsOffering, RunsProving, RunsTelling}
+use Rattle.sok_store.specs.declared.standing.Standing.{Standing}
 
 -- a call that is refused, and keeps the book, or that is one command
 pub record IsCall (old new : State) : Type 0 where
@@ -38,6 +39,11 @@ AddsAreCalls {C} shows =
 abbrev pub OffersAreCalls : {C : Type 0} → (C → State) → Type 0
 OffersAreCalls {C} shows =
     (old new : C) (id : ℕ) (letters : List Dir) (result : Result Offer BookFault) → RunsOffering (shows old) (shows new) id letters result
+    → IsCall (shows old) (shows new)
+
+abbrev pub TellingsAreCalls : {C : Type 0} → (C → State) → Type 0
+TellingsAreCalls {C} shows =
+    (old new : C) (id : ℕ) (letters : List Dir) (result : Result Standing BookFault) → RunsTelling (shows old) (shows new) id letters result
     → IsCall (shows old) (shows new)
 
 abbrev pub ProofsAreCalls : {C : Type 0} → (C → State) → Type 0

@@ -12,6 +12,8 @@ use Rattle.sok_book.specs.Commands.{Adds, Offers, Proves}
 use Rattle.sok_book.specs.Refusals.{IsNotAdded, IsNotOffered, IsNotProved}
 use Rattle.sok_row.specs.Faults.{IsOutside}
 use Rattle.sok_store.specs.Calls.{Changes, Finds, IsCaused, Keeps, MakesNone, Stops, id_number}
+use Rattle.sok_store.specs.Standing.{OffersTelling}
+use Rattle.sok_store.specs.declared.standing.Standing.{Standing}
 use Rattle.sok_store.specs.Entries.{AddsPage, IsCausedAdding, IsCausedSetting, IsFull, Sets, StopsAdding, StopsSetting}
 
 -- the page with an id is read, and this is told of it
@@ -54,6 +56,12 @@ RunsAdding old new rows title =
 abbrev pub RunsOffering : State → State → ℕ → List Dir → Result Offer BookFault → Type 0
 RunsOffering old new id letters =
     Runs old new (λ answer book after. Offers book id letters answer after) (λ book after. (answer : Offer) × Offers book id letters answer after)
+    (λ book fault. IsNotOffered book id letters fault)
+
+-- they are, and the best after that is told
+abbrev pub RunsTelling : State → State → ℕ → List Dir → Result Standing BookFault → Type 0
+RunsTelling old new id letters =
+    Runs old new (λ told book after. OffersTelling book id letters told after) (λ book after. (told : Standing) × OffersTelling book id letters told after)
     (λ book fault. IsNotOffered book id letters fault)
 
 -- a verdict of the level with an id is proved by bytes

@@ -16,6 +16,8 @@ ghost use Rattle.sok_row.specs.Told.{AreRecordsOf, IsRecordOf};
 ghost use Rattle.sok_store.specs.Calls.{Changes, Finds, IsCaused, Keeps, MakesNone, Stops};
 ghost use Rattle.sok_store.specs.Calls.{id_number, title_kept};
 ghost use Rattle.sok_store.specs.Opening.{IsCausedOpening, IsUnopened, Opens};
+ghost use Rattle.sok_store.specs.Standing.{OffersTelling};
+ghost use Rattle.sok_store.specs.declared.standing.Standing.{Standing};
 
 use crate::adding::add_to;
 use crate::listing::records_in;
@@ -23,6 +25,7 @@ use crate::offering::offer_to;
 use crate::opening::prepare;
 use crate::proving::prove_to;
 use crate::reading::record_at;
+use crate::standing::Standing;
 use sok_book::fault::BookFault;
 use sok_book::record::Offer;
 use sok_cert::claim::Claim;
@@ -170,6 +173,27 @@ impl<S: Alter> Book<S> {
         ensures cause { IfErr result (IsCaused (state S.Store self.old) (state S.Store self.new)
             (λ book after. (answer : Offer)
             × Offers book (id_number id) letters.now answer after)) }
+    {
+        match self.offer_with_best(id, letters) {
+            Ok(told) => Ok(told.offer),
+            Err(fault) => Err(fault),
+        }
+    }
+
+    /// Offers letters as `offer` does, and tells the pushes and moves of the best after that too.
+    pub fn offer_with_best(&mut self, id: i64, letters: &[Dir]) -> Result<Standing, BookFault>
+        ensures offered { IfOk result (λ told.
+            Changes (state S.Store self.old) (state S.Store self.new)
+            (λ book after. OffersTelling book (id_number id) letters.now told after)) }
+        ensures refused { IfErr result (λ fault.
+            Keeps (state S.Store self.old) (state S.Store self.new)
+            (λ book. IsOutside fault ⊎ IsNotOffered book (id_number id) letters.now fault)) }
+        ensures stop { Stops (state S.Store self.old) (state S.Store self.new)
+            (λ book after. (told : Standing)
+            × OffersTelling book (id_number id) letters.now told after) }
+        ensures cause { IfErr result (IsCaused (state S.Store self.old) (state S.Store self.new)
+            (λ book after. (told : Standing)
+            × OffersTelling book (id_number id) letters.now told after)) }
     {
         offer_to(&mut self.connection, self.alloc, id, letters)
     }

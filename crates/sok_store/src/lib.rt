@@ -4,6 +4,7 @@
 //! |---|---|
 //! | `book` | a book over a connection, and its calls |
 //! | `law` | what is true of any list of calls |
+//! | `standing` | what is told of an offer |
 #![tactic(auto)]
 
 mod adding;
@@ -15,4 +16,5 @@ mod offering;
 mod opening;
 mod proving;
 mod reading;
+pub mod standing;
 mod writing;

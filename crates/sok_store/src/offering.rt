@@ -1,29 +1,34 @@
 //! A solution is offered.
 
-ghost use Rattle.std.specs.Prelude.{◌<◌};
+ghost use Rattle.std.specs.Prelude.{◌≡◌, ◌<◌, MatchOption, true};
 ghost use Rattle.sqlite.specs.Held.{state};
+ghost use Rattle.sok_book.specs.Commands.{is_better};
 ghost use Rattle.sok_store.specs.Calls.{id_number};
-ghost use Rattle.sok_store.specs.Running.{RunsOffering};
+ghost use Rattle.sok_store.specs.Entries.{entry_pushes};
+ghost use Rattle.sok_store.specs.Running.{RunsTelling};
+ghost use Rattle.sok_store.specs.Standing.{StaysBest};
 
-use crate::entry::entry_at;
+use crate::entry::{Entry, entry_at};
 use crate::reading::place_of;
+use crate::standing::Standing;
 use crate::writing::store_best;
 use sok_book::fault::BookFault;
 use sok_book::offering::is_better;
 use sok_book::record::Offer;
+use sok_page::record::Best;
 use sok_page::writing::best_of;
 use sok_rules::cell::Dir;
 use sqlite::{Alter, Connection};
 use std::alloc::Global;
 
-/// Offers letters as a solution of the level with an id.
+/// Offers letters as a solution of the level with an id, and tells the best after that.
 pub(crate) fn offer_to<S: Alter>(
     conn: &mut Connection<S>,
     alloc: Global,
     id: i64,
     letters: &[Dir],
-) -> Result<Offer, BookFault>
-    ensures { RunsOffering (state S.Store conn.old) (state S.Store conn.new)
+) -> Result<Standing, BookFault>
+    ensures { RunsTelling (state S.Store conn.old) (state S.Store conn.new)
         (id_number id) letters.now result }
 {
     match place_of(id) {
@@ -38,9 +43,9 @@ fn offer_at<S: Alter>(
     alloc: Global,
     id: u32,
     letters: &[Dir],
-) -> Result<Offer, BookFault>
+) -> Result<Standing, BookFault>
     requires { 0 < id }
-    ensures { RunsOffering (state S.Store conn.old) (state S.Store conn.new)
+    ensures { RunsTelling (state S.Store conn.old) (state S.Store conn.new)
         id letters.now result }
 {
     let entry = match entry_at(conn, alloc, id) {
@@ -51,12 +56,29 @@ fn offer_at<S: Alter>(
         Ok(best) => best,
         Err(fault) => return Err(fault),
     };
-    let better = is_better(u64::from(best.pushes), entry.best);
-    if !better {
-        return Ok(Offer::Kept);
+    match kept_best(&entry, &best) {
+        Some(told) => Ok(told),
+        None => match store_best(conn, id, &best) {
+            Ok(()) => Ok(Standing::new(Offer::Stored, &best)),
+            Err(fault) => Err(fault),
+        },
     }
-    match store_best(conn, id, &best) {
-        Ok(()) => Ok(Offer::Stored),
-        Err(fault) => Err(fault),
+}
+
+/// What is told where the best of an entry stays, since a solution does not push less.
+fn kept_best(entry: &Entry, best: &Best) -> Option<Standing>
+    ensures { MatchOption result
+        (is_better best.now.pushes (entry_pushes entry.now) ≡ true)
+        (StaysBest entry.now best.now) }
+{
+    match &entry.best {
+        Some(there) => {
+            if is_better(u64::from(best.pushes), Some(u64::from(there.pushes))) {
+                None
+            } else {
+                Some(Standing::new(Offer::Kept, there))
+            }
+        }
+        None => None,
     }
 }

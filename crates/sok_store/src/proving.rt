@@ -7,7 +7,7 @@ ghost use Rattle.sok_book.specs.Commands.{IsCertificate, Meets, verdict_of};
 ghost use Rattle.sok_book.specs.Refusals.{IsUnproved};
 ghost use Rattle.sok_page.specs.Kept.{IsKeptPage};
 ghost use Rattle.sok_store.specs.Calls.{id_number};
-ghost use Rattle.sok_store.specs.Entries.{IsEntryOf};
+ghost use Rattle.sok_store.specs.Entries.{IsEntryOf, entry_pushes};
 ghost use Rattle.sok_store.specs.Running.{RunsProving};
 
 use crate::entry::{Entry, entry_at};
@@ -65,7 +65,7 @@ fn prove_at<S: Alter>(
 /// The claim that bytes show of a level and its best solution.
 fn judge_entry(alloc: Global, entry: &Entry, bytes: &[u8]) -> Result<Claim, BookFault>
     ensures certificate { IfOk result (IsCertificate entry.now.level bytes.now) }
-    ensures meets { IfOk result (λ claim. Meets claim entry.now.best) }
+    ensures meets { IfOk result (λ claim. Meets claim (entry_pushes entry.now)) }
     ensures refused { IfErr result (λ fault. (page : Page)
         → IsKeptPage page → IsEntryOf page entry.now
         → (fault ≡ BookFault.Memory) ⊎ IsUnproved page bytes.now fault) }
@@ -74,7 +74,7 @@ fn judge_entry(alloc: Global, entry: &Entry, bytes: &[u8]) -> Result<Claim, Book
         Ok(board) => board,
         Err(fault) => return Err(BookFault::from(fault)),
     };
-    judge_proof(alloc, &board, entry.best, bytes)
+    judge_proof(alloc, &board, entry.pushes(), bytes)
 }
 
 /// The verdict that a claim is.

@@ -1,5 +1,5 @@
 use Rattle.sqlite.specs.Held.{state}
-use Rattle.sok_store.proofs.Histories.{adds-are-calls, calls-fold, empty-books-are-made, offers-are-calls, proofs-are-calls}
+use Rattle.sok_store.proofs.Histories.{adds-are-calls, calls-fold, empty-books-are-made, offers-are-calls, proofs-are-calls, tellings-are-calls}
 use Rattle.sok_store.proofs.law.calls_are_folded.Goals as goal
 
 pub returns-clause-adds : goal.returns-clause-adds
@@ -7,6 +7,9 @@ returns-clause-adds g c = adds-are-calls (state g.S.Store)
 
 pub returns-clause-offers : goal.returns-clause-offers
 returns-clause-offers g c = offers-are-calls (state g.S.Store)
+
+pub returns-clause-tellings : goal.returns-clause-tellings
+returns-clause-tellings g c = tellings-are-calls (state g.S.Store)
 
 pub returns-clause-proofs : goal.returns-clause-proofs
 returns-clause-proofs g c = proofs-are-calls (state g.S.Store)

@@ -1,5 +1,7 @@
-use Rattle.std.proofs.Common.{rules}
+use Rattle.std.proofs.Common.{refl}
 use Rattle.sqlite.specs.Held.{state}
+use Rattle.sok_book.specs.declared.record.Offer.TheVariants.{Stored}
+use Rattle.sok_store.specs.declared.standing.Standing.{Standing}
 use Rattle.sok_store.proofs.Calls.{stops_none}
 use Rattle.sok_store.proofs.Offered.{offer_kept, offer_refused, offer_stored}
 use Rattle.sok_store.proofs.Running.{refused_runs, replaced_runs, unread_runs, unreplaced_runs}
@@ -15,13 +17,14 @@ returns-in-Err-best_of g c =
     refused_runs (state g.S.Store c.args.conn.now) (state g.S.Store c.entry_at.new.conn) _ _ _ c.args.id _ refused.fault c.in-Ok.entry c.in-Ok.ensures
     (offer_refused c.args.id c.args.letters.now c.in-Ok.entry refused.fault refused.ensures.refused)
 
-pub returns-then-not-better : goal.returns-then-not-better
-returns-then-not-better g c =
+pub returns-in-Some : goal.returns-in-Some
+returns-in-Some g c =
     let old = state g.S.Store c.args.conn.now in
     let mid = state g.S.Store c.entry_at.new.conn in
     let solved = c.in-Ok-best_of in
     record {
-      done = offer_kept c.args.id c.args.letters.now c.in-Ok.entry solved.best solved.ensures.text solved.ensures.kept old mid c.in-Ok.ensures (search rules);
+      done = offer_kept c.args.id c.args.letters.now c.in-Ok.entry solved.best solved.ensures.text solved.ensures.kept old mid c.in-Some.told
+          c.in-Ok.ensures c.in-Some.ensures;
       refused = tt;
       stop = stops_none old mid _ c.in-Ok.ensures.stop;
       cause = tt;
@@ -30,13 +33,17 @@ returns-then-not-better g c =
 pub returns-in-Ok-store_best : goal.returns-in-Ok-store_best
 returns-in-Ok-store_best g c =
     let solved = c.in-Ok-best_of in
-    replaced_runs (offer_stored c.args.id c.args.letters.now c.in-Ok.entry solved.best solved.ensures.text solved.ensures.kept (search rules))
+    let told = c.new in
+    replaced_runs (offer_stored c.args.id c.args.letters.now c.in-Ok.entry solved.best solved.ensures.text solved.ensures.kept told.result
+    told.ensures.offer told.ensures.pushes told.ensures.moves c.in-None.ensures)
     (state g.S.Store c.args.conn.now) (state g.S.Store c.entry_at.new.conn) (state g.S.Store c.store_best.new.conn) c.in-Ok.ensures _ _
     c.in-Ok-store_best.ensures
 
 pub returns : goal.returns
 returns g c =
     let solved = c.in-Ok-best_of in
-    unreplaced_runs (offer_stored c.args.id c.args.letters.now c.in-Ok.entry solved.best solved.ensures.text solved.ensures.kept (search rules))
+    let told : Standing = record { offer = Stored; pushes = solved.best.pushes; moves = solved.best.moves } in
+    unreplaced_runs (offer_stored c.args.id c.args.letters.now c.in-Ok.entry solved.best solved.ensures.text solved.ensures.kept told
+    refl refl refl c.in-None.ensures)
     (state g.S.Store c.args.conn.now) (state g.S.Store c.entry_at.new.conn) (state g.S.Store c.store_best.new.conn) c.in-Ok.ensures _ _
     c.in-Err-store_best.ensures
