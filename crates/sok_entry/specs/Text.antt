@@ -61,6 +61,11 @@ lines_of claim entries = header ∷ claim_line claim ∷ map entry_line entries 
 abbrev pub line_feed : ℕ
 line_feed = 10
 
+-- a text that has grown at its end, or not at all
+pub record Grows (old new : List ℕ) : Type 0 where
+  pub more : List ℕ
+  pub is : new ≡ old ++ more
+
 -- a line with LF behind it
 abbrev pub ended : List ℕ → List ℕ
 ended line = line ++ line_feed ∷ []

@@ -1,11 +1,11 @@
-//! The text of a certificate, whole or line by line. Where memory is refused in a line, a front of
-//! the line may be appended.
+//! The text of a certificate, whole or line by line. Where memory is refused in a line, the text stays
+//! as it was.
 
 ghost use Rattle.std.specs.Prelude.{◌≡◌, ◌+◌, ◌<◌, ◌≤◌, ◌++◌, ◌∷◌, [], IfOk, OnErr, OnOk, length};
 ghost use Rattle.std.specs.Prelude.{vec_capacity, vec_len, decimal};
 ghost use Rattle.sok_entry.specs.Text.{header, claim_line, entry_line, last_line};
 ghost use Rattle.sok_entry.specs.Text.{letter_of, numbers_of_reason, spaced, ended};
-ghost use Rattle.sok_entry.specs.Text.{text_of, Fits, Spells};
+ghost use Rattle.sok_entry.specs.Text.{text_of, Fits, Grows, Spells};
 
 use crate::claim::Claim;
 use crate::entry::{Cert, Entry, Reason};
@@ -29,21 +29,30 @@ pub fn write(alloc: Global, claim: &Claim, cert: &Cert) -> Result<Vec<u8>, Memor
     Ok(text)
 }
 
-/// Appends the lines in front of the entries: the header and the claim.
+/// So many bytes are in front of the entries, at the most: 22 of the header, and 18 of the claim.
+const FRONT: usize = 40;
+
+/// Appends the lines in front of the entries: the header and the claim. It asks for their room
+/// first, so that a refusal leaves the text as it was.
 #[tactic(auto, unfolding(crate::specs::Text::header))]
 pub fn push_front(text: &mut Vec<u8>, claim: &Claim) -> Result<(), AllocError>
     ensures lines { OnOk result (text.new.items
         ≡ text.old.items ++ (ended header ++ ended (claim_line claim.now))) }
     ensures capacity { vec_capacity text.old ≤ vec_capacity text.new }
+    ensures refused { OnErr result (text.new.items ≡ text.old.items) }
 {
-    text.extend_from_slice(b"sokoban-certificate 1\n")?;
-    push_claim(text, claim)
+    text.reserve(FRONT)?;
+    text.extend_from_slice(b"sokoban-certificate 1\n").unwrap();
+    push_claim(text, claim).unwrap();
+    Ok(())
 }
 
+/// Appends the line of the claim, 18 bytes at the most.
 #[tactic(auto, unfolding(crate::specs::Text::claim_line))]
 fn push_claim(text: &mut Vec<u8>, claim: &Claim) -> Result<(), AllocError>
     ensures line { OnOk result (text.new.items ≡ text.old.items ++ ended (claim_line claim.now)) }
     ensures capacity { vec_capacity text.old ≤ vec_capacity text.new }
+    ensures full { OnErr result (vec_capacity text.old < vec_len text.old + 18) }
 {
     match claim {
         Claim::Pushes(pushes) => {
@@ -55,13 +64,31 @@ fn push_claim(text: &mut Vec<u8>, claim: &Claim) -> Result<(), AllocError>
     }
 }
 
-/// Appends the line of an entry. It succeeds where there is room for the line.
-#[tactic(auto, unfolding(crate::specs::Text::entry_line))]
+/// Appends the line of an entry. It succeeds where there is room for the line. A refusal leaves the
+/// text as it was: the front of the line that is appended by then is taken back.
 pub fn push_entry(text: &mut Vec<u8>, entry: &Entry) -> Result<(), AllocError>
     ensures line { OnOk result (text.new.items ≡ text.old.items ++ ended (entry_line entry.now)) }
     ensures capacity { vec_capacity text.old ≤ vec_capacity text.new }
     ensures full { OnErr result
         (vec_capacity text.old < vec_len text.old + length (ended (entry_line entry.now))) }
+    ensures refused { OnErr result (text.new.items ≡ text.old.items) }
+{
+    let kept = text.len();
+    let pushed = push_line(text, entry);
+    if pushed.is_err() {
+        text.truncate(kept);
+    }
+    pushed
+}
+
+/// Appends the line of an entry, or a front of it where memory is refused.
+#[tactic(auto, unfolding(crate::specs::Text::entry_line))]
+fn push_line(text: &mut Vec<u8>, entry: &Entry) -> Result<(), AllocError>
+    ensures line { OnOk result (text.new.items ≡ text.old.items ++ ended (entry_line entry.now)) }
+    ensures capacity { vec_capacity text.old ≤ vec_capacity text.new }
+    ensures full { OnErr result
+        (vec_capacity text.old < vec_len text.old + length (ended (entry_line entry.now))) }
+    ensures front { OnErr result (Grows text.old.items text.new.items) }
 {
     text.push(letter_of(&entry.reason))?;
     push_number(text, entry.depth as usize)?;
@@ -71,13 +98,15 @@ pub fn push_entry(text: &mut Vec<u8>, entry: &Entry) -> Result<(), AllocError>
     push_line_feed(text)
 }
 
-/// Appends the line behind the entries. It succeeds where there is room for it.
+/// Appends the line behind the entries. It succeeds where there is room for it, and a refusal leaves
+/// the text as it was.
 #[tactic(auto, unfolding(crate::specs::Text::last_line))]
 pub fn push_end(text: &mut Vec<u8>) -> Result<(), AllocError>
     ensures line { OnOk result (text.new.items ≡ text.old.items ++ ended last_line) }
     ensures capacity { vec_capacity text.old ≤ vec_capacity text.new }
     ensures full { OnErr result
         (vec_capacity text.old < vec_len text.old + length (ended last_line)) }
+    ensures refused { OnErr result (text.new.items ≡ text.old.items) }
 {
     text.extend_from_slice(b"end\n")
 }
@@ -100,6 +129,7 @@ fn push_reason(text: &mut Vec<u8>, reason: &Reason) -> Result<(), AllocError>
     ensures capacity { vec_capacity text.old ≤ vec_capacity text.new }
     ensures full { OnErr result (vec_capacity text.old
         < vec_len text.old + length (spaced (numbers_of_reason reason.now))) }
+    ensures front { OnErr result (Grows text.old.items text.new.items) }
 {
     match reason {
         Reason::Expanded | Reason::Spent => Ok(()),
@@ -120,6 +150,7 @@ fn push_counted(text: &mut Vec<u8>, numbers: &[u32]) -> Result<(), AllocError>
     ensures capacity { vec_capacity text.old ≤ vec_capacity text.new }
     ensures full { OnErr result (vec_capacity text.old
         < vec_len text.old + length (spaced (length numbers.now ∷ numbers.now))) }
+    ensures front { OnErr result (Grows text.old.items text.new.items) }
 {
     push_number(text, numbers.len())?;
     push_numbers(text, numbers)
@@ -130,6 +161,7 @@ fn push_numbers(text: &mut Vec<u8>, numbers: &[u32]) -> Result<(), AllocError>
     ensures capacity { vec_capacity text.old ≤ vec_capacity text.new }
     ensures full { OnErr result
         (vec_capacity text.old < vec_len text.old + length (spaced numbers.now)) }
+    ensures front { OnErr result (Grows text.old.items text.new.items) }
 {
     for number in numbers {
         push_number(text, *number as usize)?;
@@ -142,6 +174,7 @@ fn push_number(text: &mut Vec<u8>, number: usize) -> Result<(), AllocError>
     ensures capacity { vec_capacity text.old ≤ vec_capacity text.new }
     ensures full { OnErr result
         (vec_capacity text.old < vec_len text.old + length (spaced (number ∷ []))) }
+    ensures front { OnErr result (Grows text.old.items text.new.items) }
 {
     text.push(b' ')?;
     push_decimal(text, number)
@@ -152,6 +185,7 @@ fn push_decimal(text: &mut Vec<u8>, number: usize) -> Result<(), AllocError>
     ensures capacity { vec_capacity text.old ≤ vec_capacity text.new }
     ensures full { OnErr result
         (vec_capacity text.old < vec_len text.old + length (decimal number)) }
+    ensures refused { OnErr result (text.new.items ≡ text.old.items) }
 {
     let mut digits = Buffer::new();
     text.extend_from_slice(digits.format(number).as_bytes())
@@ -161,6 +195,7 @@ fn push_line_feed(text: &mut Vec<u8>) -> Result<(), AllocError>
     ensures line { OnOk result (text.new.items ≡ text.old.items ++ ended []) }
     ensures capacity { vec_capacity text.old ≤ vec_capacity text.new }
     ensures full { OnErr result (vec_capacity text.old < vec_len text.old + 1) }
+    ensures refused { OnErr result (text.new.items ≡ text.old.items) }
 {
     text.push(b'\n')?;
     Ok(())

@@ -1,6 +1,6 @@
 //! The boxes of a state, laid out over the squares of the area.
 
-ghost use Rattle.std.specs.Prelude.{ℕ, List, ◌≡◌, ◌<◌, ◌↔◌, ◌⊎◌, [], OnOk, IsTrue, All, Contains};
+ghost use Rattle.std.specs.Prelude.{ℕ, List, ◌≡◌, ◌<◌, ◌↔◌, ◌⊎◌, [], OnErr, OnOk, IsTrue, All, Contains};
 ghost use Rattle.std.specs.Prelude.{◌==◌, if◌then◌else◌, length};
 ghost use Rattle.sok_rules.specs.declared.cell.Spot.{Spot};
 ghost use Rattle.sok_board.specs.Area.{IsAccepted, spot_of};
@@ -54,15 +54,17 @@ impl Layout {
     }
 
     /// Lays out some boxes in place of those before. It refuses only for want of memory, and then
-    /// the layout is of no use.
+    /// the layout stays: it asks first for room to list the boxes.
     pub fn lay(&mut self, board: &Board, boxes: &[Sq]) -> Result<(), Memory>
         requires accepted { IsAccepted board.now }
         requires exist { All (λ square. square < length board.now.area) boxes.now }
         requires laid { (before : List ℕ) × IsLaidOut board.now before self.old }
-        ensures { OnOk result (IsLaidOut board.now boxes.now self.new) }
+        ensures laid { OnOk result (IsLaidOut board.now boxes.now self.new) }
+        ensures refused { OnErr result (self.new ≡ self.old) }
     {
+        self.boxes.reserve(boxes.len())?;
         self.boxes.clear();
-        self.boxes.extend_from_slice(boxes)?;
+        self.boxes.extend_from_slice(boxes).unwrap();
         self.free.copy_from(&self.area);
         drawing::take_boxes(&mut self.free, board, boxes);
         self.boxed = Field::new();

@@ -1,6 +1,6 @@
 -- The squares of bits, taken out one by one, the least first.
-use Rattle.std.proofs.Common.{ℕ, ◌≡◌, ◌<◌, ◌≤◌, ◌+◌, ◌*◌, ◌⊎◌, ◌↔◌, ◌++◌, ◌∷◌, [], inl, inr, sym, ◌∙◌, subst, List, true, false, true≢false}
-use Rattle.std.proofs.Common.{Contains, arith, length}
+use Rattle.std.proofs.Common.{ℕ, ◌≡◌, ◌<◌, ◌+◌, ◌*◌, ◌⊎◌, ◌↔◌, ◌++◌, ◌∷◌, [], inl, inr, sym, ◌∙◌, subst, List, true, false, true≢false}
+use Rattle.std.proofs.Common.{Contains, arith, get_or, length}
 use Rattle.std.specs.List.Sorted.{IsStrictlyIncreasing}
 use Rattle.std.proofs.lemmas.Bool.{cases_eq, cases_lt}
 use Rattle.std.proofs.lemmas.List.{length_push, get_or_append_left, get_or_push}
@@ -63,12 +63,14 @@ IsUnpacked-more words left new squares x long least taken unpacked = record {
   rising = rising-push squares x unpacked.rising (λ m listed. unpacked.below m x listed least.among);
 }
 
--- there are no more squares than bits
-pub IsUnpacked-few : (words left squares : List ℕ) → IsUnpacked words left squares → length squares ≤ 64 * length words
-IsUnpacked-few words left squares unpacked =
-    length-le_from_below (64 * length words) squares (sorted_from_strictly_increasing squares unpacked.rising) (λ k d within.
-    let word = has-within words _ ((unpacked.exact _).1 (inl (Contains-get_or squares k d within))) in
-    omega (arith, word))
+-- where one is left, the list has fewer squares than there are bits
+pub IsUnpacked-fewer : (words left squares : List ℕ) (x : ℕ) → has_number left x ≡ true → IsUnpacked words left squares
+    → length squares < 64 * length words
+IsUnpacked-fewer words left squares x stays unpacked =
+    let lower = length-le_from_below x squares (sorted_from_strictly_increasing squares unpacked.rising)
+    (λ k d within. unpacked.below (get_or squares k d) x (Contains-get_or squares k d within) stays) in
+    let word = has-within words _ ((unpacked.exact x).1 (inr stays)) in
+    omega (arith, lower, word)
 
 -- where none is left, the list has them all
 pub IsUnpacked-all : (words left squares : List ℕ) → IsUnpacked words left squares → ((n : ℕ) → has_number left n ≡ false) → squares ≡ squares_of words

@@ -1,7 +1,7 @@
 //! The pushes that are legal from a state, and the states that they lead to.
 
-ghost use Rattle.std.specs.Prelude.{◌≡◌, ◌+◌, ◌*◌, ◌<◌, ◌↔◌, IfOk, OnOk, OnErr, IsTrue, All};
-ghost use Rattle.std.specs.Prelude.{AllPairs, Contains, length};
+ghost use Rattle.std.specs.Prelude.{◌≡◌, ◌+◌, ◌*◌, ◌<◌, ◌≤◌, ◌↔◌, IfOk, OnOk, OnErr, IsTrue, All};
+ghost use Rattle.std.specs.Prelude.{AllPairs, Contains, length, vec_capacity, vec_len};
 ghost use Rattle.sok_rules.specs.Play.{Position};
 ghost use Rattle.sok_board.specs.Area.{IsAccepted, position_of};
 ghost use Rattle.sok_region.specs.Regions.{IsPlaced, IsRegion};
@@ -36,7 +36,7 @@ pub fn pushes(alloc: Global, board: &Board, key: &Key) -> Result<Vec<Push>, Memo
 }
 
 /// Makes a list the pushes that `pushes` gives of a state whose region is at hand. It refuses only
-/// for want of memory, and then the list is of no use.
+/// for want of memory, and then the list stays: it asks first for room for four pushes of each box.
 pub fn list_pushes(
     board: &Board,
     key: &Key,
@@ -49,10 +49,13 @@ pub fn list_pushes(
     ensures whole { OnOk result ((push : Push)
         → IsLegal board.now key.now push → Contains pushes.new.items push) }
     ensures in_order { OnOk result (AllPairs Precedes pushes.new.items) }
+    ensures refused { OnErr result (pushes.new.items ≡ pushes.old.items) }
 {
+    let boxes = key.boxes.list();
+    pushes.reserve(boxes.len() * 4)?;
     pushes.clear();
-    for from in key.boxes.list() {
-        list_box(board, key, region, *from, pushes)?;
+    for from in boxes {
+        list_box(board, key, region, *from, pushes);
     }
     Ok(())
 }
@@ -108,46 +111,39 @@ fn boxes_after(alloc: Global, board: &Board, key: &Key, push: Push) -> Result<Bo
     key.boxes.moved(alloc, push.from, ahead)
 }
 
-/// Lists the legal pushes of one box.
-fn list_box(
-    board: &Board,
-    key: &Key,
-    region: &Region,
-    from: Sq,
-    pushes: &mut Vec<Push>,
-) -> Result<(), Memory>
+/// Lists the legal pushes of one box, for which there is room.
+fn list_box(board: &Board, key: &Key, region: &Region, from: Sq, pushes: &mut Vec<Push>)
     requires region { IsRegion board.now key.now.boxes key.now.least region.now }
     requires among { Contains key.now.boxes from }
-    ensures { OnOk result (Lists board.now key.now (from * 4) pushes.old.items
-        → Lists board.now key.now (from * 4 + 4) pushes.new.items) }
+    requires room { vec_len pushes.old + 4 ≤ vec_capacity pushes.old }
+    ensures listed { Lists board.now key.now (from * 4) pushes.old.items
+        → Lists board.now key.now (from * 4 + 4) pushes.new.items }
+    ensures few { vec_len pushes.new ≤ vec_len pushes.old + 4 }
+    ensures capacity { vec_capacity pushes.old ≤ vec_capacity pushes.new }
 {
     let dir = Dir::Left;
-    list_push(board, key, region, Push { from, dir }, pushes)?;
+    list_push(board, key, region, Push { from, dir }, pushes);
     let dir = Dir::Up;
-    list_push(board, key, region, Push { from, dir }, pushes)?;
+    list_push(board, key, region, Push { from, dir }, pushes);
     let dir = Dir::Right;
-    list_push(board, key, region, Push { from, dir }, pushes)?;
+    list_push(board, key, region, Push { from, dir }, pushes);
     let dir = Dir::Down;
-    list_push(board, key, region, Push { from, dir }, pushes)
+    list_push(board, key, region, Push { from, dir }, pushes);
 }
 
-/// Lists a push of a box, if it is legal.
-fn list_push(
-    board: &Board,
-    key: &Key,
-    region: &Region,
-    push: Push,
-    pushes: &mut Vec<Push>,
-) -> Result<(), Memory>
+/// Lists a push of a box, for which there is room, if it is legal.
+fn list_push(board: &Board, key: &Key, region: &Region, push: Push, pushes: &mut Vec<Push>)
     requires region { IsRegion board.now key.now.boxes key.now.least region.now }
     requires among { Contains key.now.boxes push.from }
-    ensures { OnOk result (Lists board.now key.now (place push) pushes.old.items
-        → Lists board.now key.now (place push + 1) pushes.new.items) }
+    requires room { vec_len pushes.old < vec_capacity pushes.old }
+    ensures listed { Lists board.now key.now (place push) pushes.old.items
+        → Lists board.now key.now (place push + 1) pushes.new.items }
+    ensures few { vec_len pushes.new ≤ vec_len pushes.old + 1 }
+    ensures capacity { vec_capacity pushes.old ≤ vec_capacity pushes.new }
 {
     if is_legal(board, key, region, push) {
-        pushes.push(push)?;
+        pushes.push(push).unwrap();
     }
-    Ok(())
 }
 
 /// Whether a push of a box is legal: the player comes behind the box, and ahead of it is neither a

@@ -1,6 +1,6 @@
 //! The key of a state in bits, for searches over many states.
 
-ghost use Rattle.std.specs.Prelude.{ℕ, ◌≡◌, ◌<◌, ◌≤◌, ◌*◌, ◌↔◌, IsTrue, IfOk, OnOk, All};
+ghost use Rattle.std.specs.Prelude.{ℕ, ◌≡◌, ◌<◌, ◌≤◌, ◌*◌, ◌↔◌, IsTrue, IfOk, OnErr, OnOk, All};
 ghost use Rattle.std.specs.Prelude.{Contains, length};
 ghost use Rattle.sok_board.specs.Limits.{box_limit};
 ghost use Rattle.sok_board.specs.BoxSets.{IsMoved};
@@ -55,15 +55,17 @@ impl<const N: usize> PackedKey<N> {
     }
 
     /// Makes a list the squares of the boxes, rising. It refuses only for want of memory, and then
-    /// the list is of no use.
+    /// the list stays: it asks first for room for each bit.
     pub fn list(&self, squares: &mut Vec<Sq>) -> Result<(), Memory>
         requires { N ≤ 16 }
-        ensures { OnOk result (squares.new.items ≡ squares_of self.now.boxes) }
+        ensures listed { OnOk result (squares.new.items ≡ squares_of self.now.boxes) }
+        ensures refused { OnErr result (squares.new.items ≡ squares.old.items) }
     {
+        squares.reserve(64 * N)?;
         squares.clear();
         let mut left = self.boxes;
         while let Some(square) = numbers::first(&left) {
-            squares.push(square)?;
+            squares.push(square).unwrap();
             numbers::take(&mut left, square);
         }
         Ok(())

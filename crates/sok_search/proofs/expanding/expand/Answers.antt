@@ -21,7 +21,7 @@ pub lay-requires-clause-laid : goal.lay-requires-clause-laid
 lay-requires-clause-laid c = (c.requires.ready.boxes, c.requires.ready.laid)
 
 pub follow-requires-clause-laid : goal.follow-requires-clause-laid
-follow-requires-clause-laid c = subst (λ boxes. IsLaidOut c.args.board.now boxes c.lay.new.self) c.list.ensures.list c.in_ok-lay.ensures
+follow-requires-clause-laid c = subst (λ boxes. IsLaidOut c.args.board.now boxes c.lay.new.self) c.list.ensures.list c.in_ok-lay.ensures.laid
 
 pub returns-clause-ready : goal.returns-clause-ready
 returns-clause-ready c = both-ok c.follow.result (λ trial laid. record { serves = trial.serves; boxes = c.args.key.now.boxes; laid = laid })

@@ -8,23 +8,29 @@ loop-from-preserved c =
     let b = c.args.board.now in
     let key = c.args.key.now in
     let done = c.loop-from.from-index in
-    let long = ap length c.list-from-items.ensures.list in
+    let long = ap length c.list-boxes.ensures.list in
     let test = c.loop-from-test.true in
     let within : done < length key.boxes = omega (arith, long, test) in
+    let before = c.loop-from.invariant in
     let listed = subst (λ boxes. Lists b key (get_or boxes done 0 * 4) c.loop-from.pushes.items
-    → Lists b key (get_or boxes done 0 * 4 + 4) c.list_box.new.pushes.items) c.list-from-items.ensures.list c.in_ok-list_box.ensures in
-    IsListing-more b key c.requires.region.placed done c.loop-from.pushes.items c.list_box.new.pushes.items within c.loop-from.invariant
-    (listed (Lists-next b c.requires.accepted.numbered key c.requires.region.placed done c.loop-from.pushes.items within c.loop-from.invariant))
+    → Lists b key (get_or boxes done 0 * 4 + 4) c.list_box.new.pushes.items) c.list-boxes.ensures.list c.list_box.ensures.listed in
+    record {
+      listing = IsListing-more b key c.requires.region.placed done c.loop-from.pushes.items c.list_box.new.pushes.items within before.listing
+          (listed (Lists-next b c.requires.accepted.numbered key c.requires.region.placed done c.loop-from.pushes.items within before.listing));
+      few = omega (arith, before.few, c.list_box.ensures.few);
+      room = omega (arith, before.room, c.list_box.ensures.capacity);
+    }
 
 pub returns-clause-legal : goal.returns-clause-legal
-returns-clause-legal c = listed_legal c.args.board.now c.args.key.now c.loop-from.from-index c.loop-from.pushes.items c.loop-from.invariant
+returns-clause-legal c = listed_legal c.args.board.now c.args.key.now c.loop-from.from-index c.loop-from.pushes.items c.loop-from.invariant.listing
 
 pub returns-clause-whole : goal.returns-clause-whole
 returns-clause-whole c =
-    let long = ap length c.list-from-items.ensures.list in
+    let long = ap length c.list-boxes.ensures.list in
     let past = c.loop-from-test.false in
     listed_whole c.args.board.now c.requires.accepted.numbered c.args.key.now c.requires.region.placed c.loop-from.from-index c.loop-from.pushes.items
-    (omega (arith, long, past)) c.loop-from.invariant
+    (omega (arith, long, past)) c.loop-from.invariant.listing
 
 pub returns-clause-in_order : goal.returns-clause-in_order
-returns-clause-in_order c = listed_in_order c.args.board.now c.args.key.now c.loop-from.invariant.bound c.loop-from.pushes.items c.loop-from.invariant.lists
+returns-clause-in_order c =
+    listed_in_order c.args.board.now c.args.key.now c.loop-from.invariant.listing.bound c.loop-from.pushes.items c.loop-from.invariant.listing.lists
