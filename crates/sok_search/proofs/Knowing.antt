@@ -24,8 +24,8 @@ key-within p i key there =
     let within = slice_get_within (keys_of p.table) i key there in
     omega (arith, within, keys)
 
--- what is known of a key that stands at an index
-pub record Known (b : Numbered) (p : Progress) (i : ℕ) (key : Key) : Type 0 where
+-- a key that stands at an index has a depth and a note
+pub record HasNote (b : Numbered) (p : Progress) (i : ℕ) (key : Key) : Type 0 where
   pub depth : ℕ
   pub note : Note
   pub state : IsState p i key depth note
@@ -41,7 +41,7 @@ module _ (b : Numbered) (limit : ℕ) (p : Progress) (search : IsSearch b limit 
       let (note, note_is) = some-at p.notes i (omega (arith, within, notes)) in
       (note, note_is, search.noted i key depth note (record { there = there; depth_is = depth_is; note_is = note_is }))
 
-  pub known-key : (key : Key) → IsAt p.table key i → Known b p i key
+  pub known-key : (key : Key) → IsAt p.table key i → HasNote b p i key
   known-key key there =
       let within = key-within p i key there in
       let depths = length-map p.table (λ (entry : Key × ℕ). entry.1) in
@@ -50,7 +50,7 @@ module _ (b : Numbered) (limit : ℕ) (p : Progress) (search : IsSearch b limit 
       record { depth = depth; note = note; state = record { there = there; depth_is = depth_is; note_is = note_is }; noted = noted }
 
   -- of each index that is one of the table
-  pub known-at : i < length p.table → (key : Key) × Known b p i key
+  pub known-at : i < length p.table → (key : Key) × HasNote b p i key
   known-at within =
       let keys = length-map p.table (λ (entry : Key × ℕ). entry.0) in
       let (key, there) = some-at (keys_of p.table) i (omega (arith, within, keys)) in

@@ -1,15 +1,18 @@
 -- The reason of a state that is found again bars as far as before.
-use Rattle.std.proofs.Common.{ℕ, ◌<◌, ◌≤◌, ◌+◌, ◌-◌, inl, inr, List, ◌∷◌, zero, suc, All}
+use Rattle.std.proofs.Common.{ℕ, ◌≡◌, ◌<◌, ◌≤◌, ◌+◌, ◌-◌, inl, inr, List, ◌∷◌, ◌++◌, zero, suc, All}
 use Rattle.std.proofs.Common.{arith, length, get_or}
 use Rattle.std.specs.List.Sorted.{IsStrictlyIncreasing}
 use Rattle.std.proofs.lemmas.Bool.{cases_lt}
+use Rattle.std.proofs.lemmas.List.Elements.{All-append, All-weaker}
 use Rattle.std.proofs.lemmas.List.Kept.{AllPairs-from_increasing}
 use Rattle.sok_board.specs.Area.{Numbered}
 use Rattle.sok_board.specs.Limits.{box_limit}
+use Rattle.sok_price.specs.Limits.{price_limit}
 use Rattle.sok_price.specs.Matches.{ArePrices}
 use Rattle.sok_price.specs.Prices.{AreMembers, Priced}
 use Rattle.sok_price.proofs.AssignmentLaws.{AtLeast-IsAssignment}
 use Rattle.sok_bar.specs.declared.rest.Rest.{Rest}
+use Rattle.sok_bar.specs.declared.rest.Rest.TheVariants.{Never}
 use Rattle.sok_bar.specs.Bars.{Barring, Bars}
 use Rattle.sok_bar.specs.Jam.{IsJam}
 use Rattle.sok_cert.specs.Claim.{Claim}
@@ -22,7 +25,7 @@ use Rattle.sok_search.specs.Finished.{CostsEnough, IsAssigned, ReasonBars}
 use Rattle.sok_search.specs.Searches.{IsDead}
 
 -- prices of a bound that is enough
-pub bound-priced : (b : Numbered) (boxes u v : List ℕ) (n depth k : ℕ) → Priced b boxes u v n → k ≤ depth + n
+bound-priced : (b : Numbered) (boxes u v : List ℕ) (n depth k : ℕ) → Priced b boxes u v n → k ≤ depth + n
     → Bars b boxes (Barring.bound u v) (rest_of (Pushes k) depth)
 bound-priced b boxes u v n depth k priced near =
     let enough = priced.enough in
@@ -56,10 +59,23 @@ pub crowd-again : (b : Numbered) (boxes : List ℕ) → ((members : List ℕ) �
     → IsAssigned b boxes why → (rest : Rest) → ReasonBars b boxes why rest
 crowd-again b boxes none dead reason.Expanded assigned rest = absurd assigned
 crowd-again b boxes none dead reason.Spent assigned rest = absurd assigned
-crowd-again b boxes none (inl (members, crowd)) (reason.Bound u v) (total, goal_of, are) rest = absurd (are.no_crowd members crowd)
-crowd-again b boxes none (inr (members, jam)) (reason.Bound u v) assigned rest = absurd (none members jam)
+crowd-again b boxes none (Barring.spent, bars) (reason.Bound u v) assigned rest = absurd (bars Never)
+crowd-again b boxes none (Barring.bound us vs, bars) (reason.Bound u v) assigned rest = absurd (bars Never)
+crowd-again b boxes none (Barring.crowd members, bars) (reason.Bound u v) (total, goal_of, are) rest = absurd (are.no_crowd members (bars Never))
+crowd-again b boxes none (Barring.frozen members, bars) (reason.Bound u v) assigned rest = absurd (none members (bars Never))
 crowd-again b boxes none dead (reason.Crowd members) crowd rest = crowd
 crowd-again b boxes none dead (reason.Frozen members) assigned rest = absurd assigned
+
+-- prices that are found have a text
+pub prices-fit : (b : Numbered) (boxes u v goal_of : List ℕ) (total : ℕ) → ArePrices b boxes u v total goal_of
+    → (length u ≡ length boxes) × All IsSmall (u ++ v)
+prices-fit b boxes u v goal_of total are = (
+  are.priced.a_price_a_box,
+  All-append IsSmall u v (small u are.small_boxes) (small v are.small_goals),
+)
+  where
+    small : (prices : List ℕ) → All (λ price. price ≤ price_limit) prices → All IsSmall prices
+    small prices low = All-weaker (λ price. price ≤ price_limit) IsSmall (λ price less. omega (arith, less)) prices low
 
 -- a number of a rising list is no less than its place
 place-below : (ns : List ℕ) → IsStrictlyIncreasing ns → (i : ℕ) → i < length ns → i ≤ get_or ns i 0

@@ -8,7 +8,8 @@ use Rattle.sok_rules.proofs.Man.{IsStanding-start}
 use Rattle.sok_rules.proofs.Walking.{Same-step, Same-sym, Same-trans}
 use Rattle.sok_board.specs.Area.{Numbered, IsAccepted}
 use Rattle.sok_region.specs.Regions.{IsPlaced}
-use Rattle.sok_bar.specs.Bars.{Barring, Bars}
+use Rattle.sok_bar.specs.declared.rest.Rest.TheVariants.{AtLeast}
+use Rattle.sok_bar.specs.Bars.{Barring}
 use Rattle.sok_bar.proofs.ReasonLaws.{reasons-bar}
 use Rattle.sok_cert.specs.Claim.{Claim}
 use Rattle.sok_cert.specs.Claim.TheVariants.{Pushes, Unsolvable}
@@ -28,7 +29,6 @@ use Rattle.sok_search.specs.Finished.{CostsEnough, claim_of}
 use Rattle.sok_search.specs.Searches.{Progress, IsDead, IsMet, IsSearch, Stands}
 use Rattle.sok_search.proofs.Certified.{stands-done}
 use Rattle.sok_search.proofs.Knowing.{noted-at}
-use Rattle.sok_search.proofs.Reasons.{bound-priced}
 
 -- a known state at most so deep, of a position
 record IsKnownAt (b : Numbered) (p : Progress) (depth : ℕ) (x : Position) : Type 0 where
@@ -46,20 +46,18 @@ IsKnown b p depth x = IsKnownAt b p depth x ⊎ NeverFrom b.rows x
 
 module _ (b : Numbered) (accepted : IsAccepted b) (claim : Claim) (key : Key) (depth deep : ℕ) (x : Position) (placed : IsPlaced b key.boxes key.least)
     (same : Same b.rows (key_position b key) x) (near : deep ≤ depth) where
-  agree-barred : (reason : Barring) → Bars b key.boxes reason (rest_of claim deep) → AllAgree b.rows claim depth x
-  agree-barred reason bars w solves =
-      Agrees-deeper claim deep depth _ near
-      (Agrees-barred b claim deep key.least key.boxes (reasons-bar b accepted key.least key.boxes reason (rest_of claim deep) placed bars) x same w solves)
-
   agree-dead : IsDead b key.boxes → AllAgree b.rows claim depth x
-  agree-dead (inl (members, crowd)) = agree-barred (Barring.crowd members) crowd
-  agree-dead (inr (members, jam)) = agree-barred (Barring.frozen members) jam
+  agree-dead (why, bars) w solves =
+      let rest = rest_of claim deep in
+      let barred = reasons-bar b accepted key.least key.boxes why rest placed (bars rest) in
+      Agrees-deeper claim deep depth _ near (Agrees-barred b claim deep key.least key.boxes barred x same w solves)
 
 agree-open : (b : Numbered) → IsAccepted b → (claim : Claim) (key : Key) (depth deep : ℕ) (x : Position) → IsPlaced b key.boxes key.least
     → Same b.rows (key_position b key) x → deep ≤ depth → CostsEnough b claim key.boxes deep → AllAgree b.rows claim depth x
-agree-open b accepted Unsolvable key depth deep x placed same near (n, prices, none) = absurd none
-agree-open b accepted (Pushes k) key depth deep x placed same near (n, (u, v, priced), enough) =
-    agree-barred b accepted (Pushes k) key depth deep x placed same near (Barring.bound u v) (bound-priced b key.boxes u v n deep k priced enough)
+agree-open b accepted Unsolvable key depth deep x placed same near (n, bounded, none) w solves = absurd none
+agree-open b accepted (Pushes k) key depth deep x placed same near (n, (u, v, bars), enough) w solves =
+    let more = (reasons-bar b accepted key.least key.boxes (Barring.bound u v) (AtLeast n) placed bars).each x same w solves in
+    omega (arith, more, enough, near)
 
 module _ (b : Numbered) (accepted : IsAccepted b) (limit : ℕ) (p : Progress) (search : IsSearch b limit p) (none : p.queue ≡ []) where
   -- a push from an expanded state leads to what is known

@@ -16,7 +16,7 @@ use Rattle.sok_cert.specs.Closed.{barring, rest_of}
 use Rattle.sok_search.specs.declared.note.Note.{Note}
 use Rattle.sok_search.specs.declared.note.Standing.{Standing}
 use Rattle.sok_search.specs.declared.note.Standing.TheVariants as standing
-use Rattle.sok_search.specs.Searches.{Progress, HasPrices, IsDead, IsState}
+use Rattle.sok_search.specs.Searches.{Progress, HasBound, IsDead, IsState}
 
 -- what is claimed in the end
 abbrev pub claim_of : Option ℕ → Claim
@@ -55,9 +55,9 @@ abbrev pub IsAtMost : Claim → ℕ → Type 0
 IsAtMost (Pushes k) n = k ≤ n
 IsAtMost Unsolvable n = ⊥
 
--- prices show that there are as many pushes as claimed
+-- there are as many pushes as claimed, by a bound
 abbrev pub CostsEnough : Numbered → Claim → List ℕ → ℕ → Type 0
-CostsEnough b claim boxes depth = (bound : ℕ) × HasPrices b boxes bound × IsAtMost claim (depth + bound)
+CostsEnough b claim boxes depth = (bound : ℕ) × HasBound b boxes bound × IsAtMost claim (depth + bound)
 
 -- a state that needs no more looking at: it bars what is claimed
 abbrev pub IsDone : Numbered → Claim → List ℕ → ℕ → Standing → Type 0

@@ -3,8 +3,9 @@ use Rattle.std.specs.Prelude.{ℕ, ◌≡◌, ◌<◌, ◌≤◌, ◌+◌, ◌�
 use Rattle.std.specs.Map.{values_of}
 use Rattle.sok_rules.specs.Play.{Position, AllOnGoals, NeverFrom, start}
 use Rattle.sok_board.specs.Area.{Numbered, position_of, boxes_of}
-use Rattle.sok_price.specs.Prices.{Priced, IsCrowd}
-use Rattle.sok_bar.specs.Jam.{IsJam}
+use Rattle.sok_bar.specs.declared.rest.Rest.{Rest}
+use Rattle.sok_bar.specs.declared.rest.Rest.TheVariants.{AtLeast}
+use Rattle.sok_bar.specs.Bars.{Barring, Bars}
 use Rattle.sok_state.specs.declared.key.Key.{Key}
 use Rattle.sok_state.specs.declared.push.Push.{Push}
 use Rattle.sok_state.specs.Keys.{IsKey, IsKeyOf}
@@ -55,17 +56,13 @@ IsCome b p key depth (Some origin) = IsFrom b p key depth origin
 abbrev pub IsSolved : Numbered → Key → Type 0
 IsSolved b key = AllOnGoals b.rows (position_of b key.least key.boxes)
 
-abbrev pub HasPrices : Numbered → List ℕ → ℕ → Type 0
-HasPrices b boxes n = (u : List ℕ) × (v : List ℕ) × Priced b boxes u v n
+-- prices bound the pushes from boxes by at least so many
+abbrev pub HasBound : Numbered → List ℕ → ℕ → Type 0
+HasBound b boxes n = (u : List ℕ) × (v : List ℕ) × Bars b boxes (Barring.bound u v) (AtLeast n)
 
-abbrev pub HasCrowd : Numbered → List ℕ → Type 0
-HasCrowd b boxes = (members : List ℕ) × IsCrowd b boxes members
-
-abbrev pub HasJam : Numbered → List ℕ → Type 0
-HasJam b boxes = (members : List ℕ) × IsJam b boxes members
-
+-- a reason bars boxes, whatever is to be shown
 abbrev pub IsDead : Numbered → List ℕ → Type 0
-IsDead b boxes = HasCrowd b boxes ⊎ HasJam b boxes
+IsDead b boxes = (why : Barring) × ((rest : Rest) → Bars b boxes why rest)
 
 -- a solution with no more pushes is known
 abbrev pub IsBeaten : Option ℕ → ℕ → Type 0
@@ -86,9 +83,9 @@ IsMet b p key depth push = IsFound b p.table key depth push ⊎ IsLeftOut b p.fr
 
 -- why it may stand as it does
 abbrev pub Stands : Numbered → Progress → ℕ → Key → ℕ → Standing → Type 0
-Stands b p i key depth (Open bound) = HasPrices b key.boxes bound × (Contains p.queue i ⊎ IsBeaten p.best (depth + bound))
+Stands b p i key depth (Open bound) = HasBound b key.boxes bound × (Contains p.queue i ⊎ IsBeaten p.best (depth + bound))
 Stands b p i key depth (Expanded bound) =
-    HasPrices b key.boxes bound × (IsSolved b key → ⊥) × ((push : Push) → IsLegal b key push → IsMet b p key depth push)
+    HasBound b key.boxes bound × (IsSolved b key → ⊥) × ((push : Push) → IsLegal b key push → IsMet b p key depth push)
 Stands b p i key depth Dead = IsDead b key.boxes
 
 -- a state of the board, no deeper than its index, which was come to and may stand as it does

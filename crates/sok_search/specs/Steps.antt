@@ -9,7 +9,7 @@ use Rattle.sok_search.specs.declared.note.Note.{Note}
 use Rattle.sok_search.specs.declared.note.Origin.{Origin}
 use Rattle.sok_search.specs.declared.note.Standing.{Standing}
 use Rattle.sok_search.specs.declared.note.Standing.TheVariants.{Open, Expanded, Dead}
-use Rattle.sok_search.specs.Searches.{Progress, HasPrices, IsDead, IsMet, IsSearch, IsState}
+use Rattle.sok_search.specs.Searches.{Progress, HasBound, IsDead, IsMet, IsSearch, IsState}
 
 -- each state stays where it is, and no deeper
 pub record Grows (old new : Entries) : Type 0 where
@@ -93,7 +93,7 @@ done p notes best = record { frame = p.frame; table = p.table; notes = notes; qu
 
 -- what is found of a new state
 abbrev pub IsJudged : Numbered → List ℕ → Standing → Type 0
-IsJudged b boxes (Open bound) = HasPrices b boxes bound
+IsJudged b boxes (Open bound) = HasBound b boxes bound
 IsJudged b boxes (Expanded bound) = ⊥
 IsJudged b boxes Dead = IsDead b boxes
 

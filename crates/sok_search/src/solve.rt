@@ -147,7 +147,10 @@ fn finish(
         (TellsFinished board.now limit (progress_of search.old) (progress_of search.new)) }
 {
     let mut scratch = Scratch::new(alloc, board, tables)?;
-    run(alloc, board, tables, limit, search, &mut scratch)
+    let reached = run(alloc, board, tables, limit, search, &mut scratch);
+    // as one value, which takes a fifth of the time to prove that its fields by themselves take
+    drop(scratch);
+    reached
 }
 
 /// What a finished search has found.

@@ -1,6 +1,8 @@
-use Rattle.std.proofs.Common.{inr, refl, subst, sym}
+use Rattle.std.proofs.Common.{refl, subst, sym}
 use Rattle.sok_board.specs.BoxSets.{put_in_order}
 use Rattle.sok_region.specs.Layouts.{IsLaidOut}
+use Rattle.sok_price.specs.Matched.{TellsLeast}
+use Rattle.sok_bar.specs.Bars.{Barring}
 use Rattle.sok_search.proofs.trial.judge_after.Goals as goal
 
 pub is_jammed-requires-clause-laid : goal.is_jammed-requires-clause-laid
@@ -14,7 +16,7 @@ pub returns-then-is_jammed-clause-judged : goal.returns-then-is_jammed-clause-ju
 returns-then-is_jammed-clause-judged c =
     let after = put_in_order c.args.from c.args.to c.args.before.now in
     let (members, jam, with_box) = (c.if-is_jammed.ensures.jammed c.args.before.now after c.requires.moved c.requires.laid).0 refl in
-    inr (members, jam)
+    (Barring.frozen members, λ rest. jam)
 
 pub returns-in-Some-clause-laid : goal.returns-in-Some-clause-laid
 returns-in-Some-clause-laid c = subst (IsLaidOut c.args.board.now c.args.before.now) (sym c.bound_after.ensures.layout)
@@ -23,3 +25,9 @@ returns-in-Some-clause-laid c = subst (IsLaidOut c.args.board.now c.args.before.
 pub returns-in-None-clause-laid : goal.returns-in-None-clause-laid
 returns-in-None-clause-laid c = subst (IsLaidOut c.args.board.now c.args.before.now) (sym c.bound_after.ensures.layout)
     (c.is_jammed.ensures.laid c.args.before.now (put_in_order c.args.from c.args.to c.args.before.now) c.requires.moved c.requires.laid)
+
+pub returns-in-None-clause-judged : goal.returns-in-None-clause-judged
+returns-in-None-clause-judged c =
+    let after = put_in_order c.args.from c.args.to c.args.before.now in
+    let (members, crowd) = subst (TellsLeast c.args.board.now after) c.in-None.is c.in_ok-bound.ensures.least in
+    (Barring.crowd members, λ rest. crowd)
