@@ -1,6 +1,6 @@
 //! A matching that is kept from one set of boxes to the next, beside one found from nothing.
 
-ghost use Rattle.std.specs.Prelude.{◌≡◌, ◌<◌, All, Contains, IfOk, length};
+ghost use Rattle.std.specs.Prelude.{◌≡◌, ◌<◌, All, Contains, IfOk, IfSome, OnOk, length};
 ghost use Rattle.sok_price.specs.Matched.{Serves};
 
 use crate::positions::boxes_on;
@@ -48,7 +48,7 @@ fn set(
 ) -> Result<Option<u32>, Fail>
     requires boxes { All (λ square. square < length tables.now.board.area) boxes.now }
     requires serves { Serves tables.now.board matching.old }
-    ensures { IfOk result (λ _. Serves tables.now.board matching.new) }
+    ensures { OnOk result (Serves tables.now.board matching.new) }
 {
     let total = matching.set(boxes);
     assert_eq!(rt; total, least(alloc, tables, boxes)?);
@@ -88,37 +88,79 @@ fn moved_total(
     }
 }
 
+/// The boxes after one of them was moved to a square without one.
+fn moved(
+    rt: &impl Abort,
+    alloc: Global,
+    board: &Board,
+    boxes: &BoxSet,
+    from: Sq,
+    to: Sq,
+) -> Result<BoxSet, Fail>
+    requires there { Contains boxes.now from }
+    requires free { Contains boxes.now to → ⊥ }
+    ensures { IfOk result (All (λ square. square < length board.now.area)) }
+{
+    let after = boxes.moved(alloc, from, to)?;
+    boxes_on(rt, alloc, board, after.list())
+}
+
 /// Moves a box to a square without one, and asserts that a matching tells of the move alone, and of
-/// the boxes after it, what is found from nothing. The boxes after it, or those before it where
-/// they are a crowd.
+/// the boxes after it, what is found from nothing. The boxes after it, or None where they are a
+/// crowd, or no box was moved.
 fn step(
     rt: &impl Abort,
     alloc: Global,
     board: &Board,
     tables: &Tables,
     matching: &mut Matching,
-    boxes: BoxSet,
+    boxes: &BoxSet,
     from: Sq,
     to: Sq,
-) -> Result<BoxSet, Fail>
+) -> Result<Option<BoxSet>, Fail>
     requires tables { tables.now.board ≡ board.now }
-    requires boxes { All (λ square. square < length board.now.area) boxes }
+    requires boxes { All (λ square. square < length board.now.area) boxes.now }
     requires serves { Serves board.now matching.old }
-    ensures boxes { IfOk result (All (λ square. square < length board.now.area)) }
-    ensures serves { IfOk result (λ _. Serves board.now matching.new) }
+    ensures boxes { IfOk result (λ after. IfSome after
+        (All (λ square. square < length board.now.area))) }
+    ensures serves { OnOk result (Serves board.now matching.new) }
 {
     if !boxes.has(from) || boxes.has(to) || to as usize >= board.squares() {
-        return Ok(boxes);
+        return Ok(None);
     }
-    let moved = boxes.moved(alloc, from, to)?;
-    let after = boxes_on(rt, alloc, board, moved.list())?;
+    let after = moved(rt, alloc, board, boxes, from, to)?;
     let total = least(alloc, tables, &after)?;
-    if let Some(told) = moved_total(board, matching, &boxes, from, to) {
+    if let Some(told) = moved_total(board, matching, boxes, from, to) {
         assert_eq!(rt; told, total);
     }
     match set(rt, alloc, tables, matching, &after)? {
-        Some(_) => Ok(after),
-        None => Ok(boxes),
+        Some(_) => Ok(Some(after)),
+        None => Ok(None),
+    }
+}
+
+/// Moves one of the boxes to a square, both picked at random, as `step` does.
+fn step_at_random(
+    rt: &impl Abort,
+    alloc: Global,
+    board: &Board,
+    tables: &Tables,
+    matching: &mut Matching,
+    boxes: &BoxSet,
+    state: &mut u64,
+) -> Result<Option<BoxSet>, Fail>
+    requires tables { tables.now.board ≡ board.now }
+    requires boxes { All (λ square. square < length board.now.area) boxes.now }
+    requires serves { Serves board.now matching.old }
+    ensures boxes { IfOk result (λ after. IfSome after
+        (All (λ square. square < length board.now.area))) }
+    ensures serves { OnOk result (Serves board.now matching.new) }
+{
+    let place = next(state, boxes.list().len() + 1);
+    let to = next(state, board.squares() + 1) as Sq;
+    match boxes.list().get(place) {
+        Some(from) => step(rt, alloc, board, tables, matching, boxes, *from, to),
+        None => Ok(None),
     }
 }
 
@@ -138,10 +180,10 @@ fn walk_on(
 {
     let mut state = 1;
     for _ in 0..moves {
-        let place = next(&mut state, boxes.list().len() + 1);
-        let to = next(&mut state, board.squares() + 1) as Sq;
-        if let Some(from) = boxes.list().get(place).copied() {
-            boxes = step(rt, alloc, board, tables, matching, boxes, from, to)?;
+        if let Some(after) = step_at_random(
+            rt, alloc, board, tables, matching, &boxes, &mut state,
+        )? {
+            boxes = after;
         }
     }
     Ok(())
