@@ -1,5 +1,5 @@
 -- How a call ends that has no answer.
-use Rattle.std.proofs.Common.{ℕ, ◌≡◌, ◌⊎◌, ◌∙◌, inl, inr, sym, List, Option, Result, Ok, Err, IfErr, IfOk}
+use Rattle.std.proofs.Common.{ℕ, ◌≡◌, ◌⊎◌, ◌∙◌, inl, inr, sym, List, Option, Result, Ok, Err, IfErr, IfOk, OnOk}
 use Rattle.sqlite.specs.State.{State}
 use Rattle.std.proofs.KnownBytes.{Keeps-refl}
 use Rattle.sok_text.specs.declared.lurd.LurdFault.{LurdFault}
@@ -14,7 +14,7 @@ use Rattle.sok_engine.specs.declared.input.InputFault.TheVariants as input
 use Rattle.sok_engine.specs.Faults.{of_book, of_input, of_lurd}
 use Rattle.sok_engine.specs.Written.{Answer, Answers, AnswersOf, IsFaultOf, Writes, WritesOne}
 use Rattle.sok_engine.proofs.Answering.{EndsBy-fault}
-use Rattle.sok_store.specs.Calls.{IsCaused}
+use Rattle.sok_store.specs.Calls.{Changes, EndsOpen, IsCaused}
 use Rattle.sok_keep.specs.Causes.{IsCausedFault}
 use Rattle.sok_keep.specs.Offers.{StaysOnFault}
 
@@ -38,7 +38,15 @@ stays_written answer old new (Err fault) book after written = inl written.0
 pub ends_unwritten : (P : Answers) (held : Option (List ℕ)) (fault : ToolFault) → IsFaultOf P fault → Writes P held held (Err fault)
 ends_unwritten P held fault is = EndsBy-fault P held held fault is (Keeps-refl held)
 
--- a command that was done leaves the connection open, and so it is where its answer was written
+-- a command that was done leaves the connection open
+pub changes_open : (old new : State) (Makes : Book → Book → Type 0) → Changes old new Makes → EndsOpen old new
+changes_open old new Makes changes clean book holds = (changes clean book holds).2.1.0
+
+pub done_open : (old new : State) (Makes : Book → Book → Type 0) (result : Result ℕ ToolFault) → Changes old new Makes → OnOk result (EndsOpen old new)
+done_open old new Makes (Ok status) changes = changes_open old new Makes changes
+done_open old new Makes (Err fault) changes = tt
+
+-- so it is where the answer of such a command was written
 pub written_open : (answer : Answer) (old new : Option (List ℕ)) (result : Result ℕ ToolFault) (P : Type 0) → WritesOne answer old new result
     → (answer.status ≡ 0 → P) → IfOk result (λ status. status ≡ 0 → P)
 written_open answer old new (Ok status) P written opens = λ zero. opens (sym written.0 ∙ zero)

@@ -4,7 +4,7 @@ use Rattle.std.proofs.lemmas.Result.{err_from_is_err_and}
 use Rattle.sqlite.specs.Held.{state}
 use Rattle.sok_text.specs.Lurd.{Spells}
 use Rattle.sok_keep.specs.Offers.{OffersText}
-use Rattle.sok_keep.proofs.Ending.{caused_more, lurd_database, written_caused}
+use Rattle.sok_keep.proofs.Ending.{caused_more, done_open, lurd_database, written_caused}
 use Rattle.sok_keep.proofs.Offering.{offer_done, offer_refused, offer_unread}
 use Rattle.sok_keep.proofs.offer.offer_bytes.Goals as goal
 
@@ -42,3 +42,14 @@ returns-clause-cause g c =
     rw c.from.ensures (caused_more (state g.S.Store c.args.book.now) (state g.S.Store c.offer_with_best.new.self) (OffersText c.args.id c.args.text.now) _
     (λ book after made. (c.deref.result.now, spelled, made.0.offer, made.1.offered)) c.in-Err.fault
     (rw (to_z-of_z w64 c.args.id c.ranges.id) at c.in-Err.ensures.cause))
+
+pub returns-in-Ok-clause-open : goal.returns-in-Ok-clause-open
+returns-in-Ok-clause-open g c =
+    done_open (state g.S.Store c.args.book.now) (state g.S.Store c.offer_with_best.new.self) _ c.write_line.result
+    (rw (to_z-of_z w64 c.args.id c.ranges.id) at c.in-Ok.ensures.offered)
+
+pub returns-in-Ok-clause-clean : goal.returns-in-Ok-clause-clean
+returns-in-Ok-clause-clean g c = c.offer_with_best.ensures.stop.clean
+
+pub returns-clause-clean : goal.returns-clause-clean
+returns-clause-clean g c = c.offer_with_best.ensures.stop.clean

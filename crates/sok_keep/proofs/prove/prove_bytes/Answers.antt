@@ -3,7 +3,7 @@ use Rattle.std.proofs.lemmas.Int.{to_z-of_z}
 use Rattle.std.proofs.lemmas.Result.{err_from_is_err_and}
 use Rattle.sqlite.specs.Held.{state}
 use Rattle.sok_keep.specs.Proves.{ProvesBytes}
-use Rattle.sok_keep.proofs.Ending.{caused_more, input_database, unproved_caused, written_caused, written_open}
+use Rattle.sok_keep.proofs.Ending.{caused_more, changes_open, input_database, unproved_caused, written_caused, written_open}
 use Rattle.sok_keep.proofs.Proving.{proof_done, proof_failed, proof_refused, proof_unread, refused_status}
 use Rattle.sok_keep.proofs.prove.prove_bytes.Goals as goal
 
@@ -65,3 +65,18 @@ returns-in_err-answer-in-Err-clause-cause g c =
     rw (p.1, p.2) (unproved_caused old new makes fault c.in_err-answer-in-Err.field-0.0 c.in_err-answer-in-Err.ensures.told
     (caused_more old new makes _ (λ book after made. (c.in_ok-bytes.bytes.items, c.in_ok-bytes.ensures.all, made.0, made.1)) fault
     (rw (to_z-of_z w64 c.args.id c.ranges.id, c.as_slice.ensures.value) at c.in-Err.ensures.cause)))
+
+pub returns-in-Ok-clause-open : goal.returns-in-Ok-clause-open
+returns-in-Ok-clause-open g c =
+    let changes = rw (to_z-of_z w64 c.args.id c.ranges.id) at c.in-Ok.ensures.proved in
+    written_open _ (g.W.Write.contents c.args.out.now) (g.W.Write.contents c.write_line.new.out) c.write_line.result _ c.write_line.ensures
+    (λ zero. changes_open (state g.S.Store c.args.book.now) (state g.S.Store c.prove.new.self) _ changes)
+
+pub returns-in-Ok-clause-clean : goal.returns-in-Ok-clause-clean
+returns-in-Ok-clause-clean g c = c.prove.ensures.stop.clean
+
+pub returns-in_err-answer-in-Err-clause-clean : goal.returns-in_err-answer-in-Err-clause-clean
+returns-in_err-answer-in-Err-clause-clean g c = c.prove.ensures.stop.clean
+
+pub returns-clause-clean : goal.returns-clause-clean
+returns-clause-clean g c = c.prove.ensures.stop.clean
