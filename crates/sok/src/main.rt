@@ -4,7 +4,7 @@
 use sok_tool::ending::ended;
 use sok_tool::fault::ToolFault;
 use sok_tool::program::run;
-use std::io::ErrorKind;
+use std::io::{ErrorKind, Write};
 use std::process::ExitCode;
 use std::{env, io};
 
@@ -21,8 +21,10 @@ fn main(rt: HostRuntime) -> ExitCode {
             &mut rt.stdout(),
             &mut err,
         ),
-        // a word that is not UTF-8 is none that the program knows
-        Err(error) if error.kind() == ErrorKind::InvalidData => 2,
+        Err(error) if error.kind() == ErrorKind::InvalidData => {
+            let _ = err.write_all(b"error: a word is not valid UTF-8\n");
+            2
+        }
         Err(_) => ended(Err(ToolFault::Memory), &mut err),
     };
     ExitCode::from(status)

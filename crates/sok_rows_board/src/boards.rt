@@ -98,7 +98,7 @@ fn beside_the_first(board: &Board, dir: Dir) -> Option<Sq> {
 }
 
 #[test]
-fn squares_beside_and_outside(rt: HostRuntime) -> Result<(), Fail> {
+fn squares_beside(rt: HostRuntime) -> Result<(), Fail> {
     let board = board(rt.alloc(), sketch::DECORATED)?;
     for (dir, beside) in [
         (Dir::Left, None),
@@ -108,16 +108,24 @@ fn squares_beside_and_outside(rt: HostRuntime) -> Result<(), Fail> {
     ] {
         assert!(rt; beside_the_first(&board, dir) == beside, "{dir:?}");
     }
+    Ok(())
+}
+
+/// Whether a spot of a level is none of its board's squares, and has this cell.
+fn lies_outside(board: &Board, row: u32, col: u32, cell: Option<Cell>) -> bool {
+    let spot = Spot { row, col };
+    board.square(spot).is_none() && board.level().cell(spot) == cell
+}
+
+#[test]
+fn spots_outside(rt: HostRuntime) -> Result<(), Fail> {
+    let board = board(rt.alloc(), sketch::DECORATED)?;
     for (row, col, cell) in [
         (0, 0, Some(Cell::Wall)),
         (1, 5, Some(Cell::BoxOn)),
         (9, 70, None),
     ] {
-        let spot = Spot { row, col };
-        assert!(rt;
-            board.square(spot).is_none() && board.level().cell(spot) == cell,
-            "{spot:?}"
-        );
+        assert!(rt; lies_outside(&board, row, col, cell), "{row}, {col}");
     }
     Ok(())
 }

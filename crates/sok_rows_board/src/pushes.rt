@@ -74,13 +74,17 @@ fn leads_to(alloc: Global, board: &Board, key: &Key, boxes: &[Sq], least: Sq) ->
     Ok(stands && region.has(push.from) && !boxes.iter().any(|square| region.has(*square)))
 }
 
+/// Whether each push is legal from a board's start, and the first of them leads to 3.
+fn pushes_around(alloc: Global, board: &Board) -> Result<bool, Fail> {
+    let key = Key::start(alloc, board)?;
+    Ok(lists_twice(alloc, board, &key, &EACH_PUSH)? && leads_to(alloc, board, &key, &[3], 0)?)
+}
+
 /// A box in the open, and the player below it on the left: each push is legal, and behind the
 /// first of them the player still comes everywhere.
 #[test]
 fn pushes_over_kept_lists(rt: HostRuntime) -> Result<(), Fail> {
     let board = board(rt.alloc(), sketch::BOX_IN_THE_OPEN)?;
-    let key = Key::start(rt.alloc(), &board)?;
-    assert!(rt; lists_twice(rt.alloc(), &board, &key, &EACH_PUSH)?);
-    assert!(rt; leads_to(rt.alloc(), &board, &key, &[3], 0)?);
+    assert!(rt; pushes_around(rt.alloc(), &board)?);
     Ok(())
 }

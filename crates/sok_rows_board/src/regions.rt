@@ -131,6 +131,19 @@ fn find_again(
     Ok(())
 }
 
+/// Whether a region that is found from a square in place of another one has these squares alone.
+fn is_found_again(
+    rt: &impl Abort,
+    alloc: Global,
+    board: &Board,
+    region: &mut Region,
+    player: Sq,
+    squares: &[Sq],
+) -> Result<bool, Fail> {
+    find_again(rt, alloc, board, region, player)?;
+    Ok(has_only(region, squares))
+}
+
 /// A region takes the place of another one.
 #[test]
 fn region_that_is_found_again(rt: HostRuntime) -> Result<(), Fail> {
@@ -138,8 +151,8 @@ fn region_that_is_found_again(rt: HostRuntime) -> Result<(), Fail> {
     let mut region = region(&rt, rt.alloc(), &board, 5)?;
     let beyond: &[Sq] = &[0, 1, 2, 7, 8, 9, 10, 11];
     for (player, squares) in [(8, beyond), (4, &[3, 4, 5]), (11, beyond)] {
-        find_again(&rt, rt.alloc(), &board, &mut region, player)?;
-        assert!(rt; has_only(&region, squares), "{player}");
+        let is_so = is_found_again(&rt, rt.alloc(), &board, &mut region, player, squares)?;
+        assert!(rt; is_so, "{player}");
     }
     Ok(())
 }

@@ -100,7 +100,7 @@ module _ (old new : State) where
         let bare = subst IsPlain (sym known) plain in
         let it = rw (bare.0, bare.1, append-nil params) at h.2 in
         let db : it.0 ≡ old.now = subst (λ b. IsSourceOf b old.now it.0) (ap (λ s. reads_listing s sql) has ∙ unlisted) it.1 in
-        let why = subst₂ (λ k d. RefusesToRead old.step_limit k d params e) (ap command_of known ∙ is) db it.2 in
+        let why = subst₂ (λ k d. RefusesToRead old.step_limit k d params e) {u = it.0} (ap command_of known ∙ is) db it.2 in
         elim why [
           | inl (mismatch, refused) ↦ absurd (let all = subst (λ s. accepts_program s [] query params ≡ true) (sym has) typed in cc)
           | inr (inl (overflow, sum)) ↦ absurd (calm query _ params group from sum)
