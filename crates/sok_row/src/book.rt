@@ -15,13 +15,11 @@ ghost use Rattle.sok_row.specs.Told.{AreRecordsOf};
 
 use crate::page::record_in;
 use sok_book::fault::BookFault;
+use sok_book::limits::LEVEL_LIMIT;
 use sok_page::record::Record;
 use sqlite::Row;
 use std::alloc::Global;
 use std::collections::BTreeSet;
-
-/// The most levels of a book.
-pub const LEVEL_LIMIT: u32 = 10_000;
 
 /// The records of all rows, in order of their ids. Refused is, as `BadBook` with the id of the
 /// first row that cannot follow those before it, a table that is not exactly that of a book: its

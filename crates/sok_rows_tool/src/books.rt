@@ -2,8 +2,8 @@
 
 use crate::tables::opened;
 use sok_book::fault::BookFault;
+use sok_book::limits::LEVEL_LIMIT;
 use sok_page::record::Record;
-use sok_row::book::LEVEL_LIMIT;
 use sok_sketch::sketch::{ONE_PUSH, SOLVED, level};
 use sok_sql::making::create;
 use sok_sql::writing::insert;

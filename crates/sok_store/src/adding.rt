@@ -11,9 +11,9 @@ ghost use Rattle.sok_store.specs.Running.{RunsAdding, RunsAddingPage};
 
 use sok_board::board::Board;
 use sok_book::fault::BookFault;
+use sok_book::limits::LEVEL_LIMIT;
 use sok_page::title::kept_title;
 use sok_page::writing::text_of;
-use sok_row::book::LEVEL_LIMIT;
 use sok_row::fault::fault_of;
 use sok_rules::level::Level;
 use sok_sql::reading::{count, find};
