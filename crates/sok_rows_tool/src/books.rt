@@ -40,20 +40,40 @@ fn title_of(book: &mut Book<MemStore>, id: i64) -> Result<Option<Vec<u8>>, BookF
     Ok(kept(book, id)?.title)
 }
 
+/// Whether a level has this title.
+fn is_titled(book: &mut Book<MemStore>, id: i64, title: Option<&[u8]>) -> Result<bool, BookFault> {
+    let kept = title_of(book, id)?;
+    Ok(kept.as_deref() == title)
+}
+
+/// Adds a board with a title. Whether it has an id then, and that id has this title.
+fn keeps(
+    alloc: Global,
+    book: &mut Book<MemStore>,
+    board: &str,
+    title: &str,
+    id: i64,
+    kept: Option<&[u8]>,
+) -> Result<bool, Fail> {
+    let found = added(alloc, book, board, Some(title.as_bytes()))?;
+    Ok(found == Ok(id) && is_titled(book, id, kept)?)
+}
+
 #[test]
 fn the_first_title_is_kept_without_its_ends(rt: HostRuntime) -> Result<(), Fail> {
     let alloc = rt.alloc();
     let mut book = book_in(alloc, Connection::open_in_memory(alloc)?)?;
-    for (board, title, id) in [
-        (ONE_PUSH, " \t A \t level \r\t\r\nmore", 1),
-        (ONE_PUSH, "Another", 1),
-        (SOLVED, "\r \nmore", 2),
+    let whole = " \t A \t level \r\t\r\nmore";
+    for (board, title, id, kept) in [
+        (ONE_PUSH, whole, 1, Some(b"A \t level".as_slice())),
+        (ONE_PUSH, "Another", 1, Some(b"A \t level".as_slice())),
+        (SOLVED, "\r \nmore", 2, None),
     ] {
-        let found = added(alloc, &mut book, board, Some(title.as_bytes()))?;
-        assert_eq!(rt; found, Ok(id));
+        assert!(rt;
+            keeps(alloc, &mut book, board, title, id, kept)?,
+            "{title:?}"
+        );
     }
-    assert!(rt; title_of(&mut book, 1)? == Some(b"A \t level".to_vec(alloc)?));
-    assert!(rt; title_of(&mut book, 2)?.is_none());
     Ok(())
 }
 

@@ -16,26 +16,46 @@ fn told(alloc: Global, book: &mut Book<MemStore>, text: &str) -> Result<Vec<u8>,
     Ok(out)
 }
 
+/// Whether a text is stored, and this line is told of it.
+fn stores(
+    alloc: Global,
+    book: &mut Book<MemStore>,
+    text: &str,
+    line: &str,
+) -> Result<bool, ToolFault> {
+    let told = told(alloc, book, text)?;
+    Ok(told.as_slice() == line.as_bytes())
+}
+
+/// Whether the room is shown with a best of a million letters.
+fn shows(alloc: Global, book: &mut Book<MemStore>, letters: &str) -> Result<bool, ToolFault> {
+    let mut shown = Vec::new(alloc);
+    answer(alloc, book, Command::Show(1), &mut shown)?;
+    let whole = format!(in alloc;
+        "{ROOM_OF_TWO_ROWS}best 2 1000000 {letters}\nverdict untested\n"
+    )?;
+    Ok(shown.as_slice() == whole.as_bytes())
+}
+
+/// A room in a book.
+fn room(alloc: Global) -> Result<Book<MemStore>, Fail> {
+    let mut book = book_in(alloc, Connection::open_in_memory(alloc)?)?;
+    let mut out = Vec::new(alloc);
+    answer(alloc, &mut book, Command::Add(ROOM_OF_TWO_ROWS), &mut out)?;
+    Ok(book)
+}
+
 /// Steps up and down before the room is solved.
 #[test]
 fn a_million_letters_are_stored(rt: HostRuntime) -> Result<(), Fail> {
     let alloc = rt.alloc();
-    let mut book = book_in(alloc, Connection::open_in_memory(alloc)?)?;
-    let mut out = Vec::new(alloc);
-    answer(alloc, &mut book, Command::Add(ROOM_OF_TWO_ROWS), &mut out)?;
-    let steps = "ud".repeat(alloc, 499_997)?;
-    let longer = format!(in alloc; "{steps}ulldRRl")?;
-    assert!(rt;
-        told(alloc, &mut book, longer.as_str()) == Err(ToolFault::Lurd(LurdFault::TooLong))
-    );
-    let letters = format!(in alloc; "{steps}ulldRR")?;
-    let stored = told(alloc, &mut book, letters.as_str())?;
-    assert!(rt; stored.as_slice() == b"stored 2 1000000\n".as_slice());
-    let mut shown = Vec::new(alloc);
-    answer(alloc, &mut book, Command::Show(1), &mut shown)?;
-    let whole = format!(in alloc;
-        "{ROOM_OF_TWO_ROWS}best 2 1000000 {letters}\nverdict untested\n"
-    )?;
-    assert!(rt; shown.as_slice() == whole.as_bytes());
+    let mut book = room(alloc)?;
+    let mut letters = "ud".repeat(alloc, 499_997)?;
+    letters.push_str("ulldRR")?;
+    assert!(rt; stores(alloc, &mut book, letters.as_str(), "stored 2 1000000\n")?);
+    assert!(rt; shows(alloc, &mut book, letters.as_str())?);
+    letters.push_str("l")?;
+    let longer = told(alloc, &mut book, letters.as_str());
+    assert!(rt; longer == Err(ToolFault::Lurd(LurdFault::TooLong)));
     Ok(())
 }

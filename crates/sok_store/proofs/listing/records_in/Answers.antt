@@ -1,9 +1,10 @@
-use Rattle.std.proofs.Common.{sym, ◌∙◌, subst, inl, inr}
+use Rattle.std.proofs.Common.{sym, ◌∙◌, subst, inl, inr, pos}
 use Rattle.sok_row.specs.Faults.{IsOutside}
 use Rattle.sok_row.specs.Told.{AreRecordsOf}
 use Rattle.sok_row.specs.Kept.{leaves_of}
 use Rattle.sok_row.proofs.Laws.{bad-rows-have-no-book, rows-have-one-book}
-use Rattle.sok_store.proofs.Caused.{told}
+use Rattle.sok_store.proofs.Calls.{rests_holds, rests_stops}
+use Rattle.sok_store.proofs.Caused.{row_told, told}
 use Rattle.sqlite.specs.Held.{state}
 use Rattle.sok_store.specs.Calls.{MakesNone}
 use Rattle.sok_store.proofs.listing.records_in.Goals as goal
@@ -29,3 +30,22 @@ pub returns-clause-cause : goal.returns-clause-cause
 returns-clause-cause g c =
     told (state g.S.Store c.args.conn.now) (state g.S.Store c.all_rows.new.conn) MakesNone c.in-Err.error c.fault_of.result c.fault_of.ensures.memory
     (λ clean book holds. c.in-Err.ensures.cause clean (λ up. (holds.1 up).schema))
+
+pub returns-in-Ok-clause-cause : goal.returns-in-Ok-clause-cause
+returns-in-Ok-clause-cause g c =
+    let caused = row_told (state g.S.Store c.args.conn.now) (state g.S.Store c.all_rows.new.conn) MakesNone c.in-Err-records_of.fault in
+    elim c.in-Err-records_of.ensures.broken [ inl memory ↦ caused (pos 0) ⊥ (inl memory) | inr (id, named, first) ↦ caused id _ (inr (named, first)) ]
+
+pub returns-clause-refused : goal.returns-clause-refused
+returns-clause-refused g c clean book holds =
+    (c.fault_of.ensures.outside, rests_holds (state g.S.Store c.args.conn.now) (state g.S.Store c.all_rows.new.conn) c.all_rows.ensures.rests clean book holds)
+
+pub returns-in-Ok-records_of-clause-stop : goal.returns-in-Ok-records_of-clause-stop
+returns-in-Ok-records_of-clause-stop g c =
+    rests_stops (state g.S.Store c.args.conn.now) (state g.S.Store c.all_rows.new.conn) c.all_rows.ensures.rests MakesNone
+
+pub returns-in-Ok-clause-stop : goal.returns-in-Ok-clause-stop
+returns-in-Ok-clause-stop g c = rests_stops (state g.S.Store c.args.conn.now) (state g.S.Store c.all_rows.new.conn) c.all_rows.ensures.rests MakesNone
+
+pub returns-clause-stop : goal.returns-clause-stop
+returns-clause-stop g c = rests_stops (state g.S.Store c.args.conn.now) (state g.S.Store c.all_rows.new.conn) c.all_rows.ensures.rests MakesNone
