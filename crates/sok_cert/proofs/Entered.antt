@@ -1,5 +1,5 @@
 -- One entry more in the table.
-use Rattle.std.proofs.Common.{ℕ, ◌≡◌, ◌<◌, ◌+◌, ◌∙◌, ◌≢◌, inl, inr, sym, ap, subst, List, [], ◌∷◌, ◌++◌, Some, None, Option, true, false, true≢false}
+use Rattle.std.proofs.Common.{ℕ, ◌≡◌, ◌<◌, ◌+◌, ◌∙◌, ◌≢◌, sym, ap, subst, List, [], ◌∷◌, ◌++◌, Some, None, Option, Bool, true, false, true≢false}
 use Rattle.std.proofs.Common.{is_some, below_more, MatchOption, All, AllPairs, Contains, arith, length, get_or, slice_get}
 use Rattle.std.specs.Map.{keys_of, values_of}
 use Rattle.std.proofs.lemmas.Option.{same_Some, slice_get_within, slice_get-get_or}
@@ -9,7 +9,7 @@ use Rattle.sok_board.proofs.Lists.{AllPairs-append, Contains-at, slice_get-push}
 use Rattle.sok_region.proofs.Floods.{slice_get-append}
 use Rattle.sok_state.specs.declared.key.Key.{Key}
 use Rattle.sok_state.specs.Keys.{IsKeyOf}
-use Rattle.sok_state.specs.Tables.{Entries, Inserts, IsAt}
+use Rattle.sok_state.specs.Tables.{Entries, Enters, IsAt}
 use Rattle.sok_state.proofs.States.{keys_equal, Same-keys}
 use Rattle.sok_entry.specs.declared.claim.Claim.{Claim}
 use Rattle.sok_entry.specs.declared.entry.Entry.{Entry}
@@ -77,11 +77,11 @@ differs table key absent = λ k d within n other_d n_within same.
     absent (k, within, get_or_default (keys_of table) k key d within ∙ same ∙ ap (λ m. get_or (key ∷ []) m other_d) first)
 
 -- the key of an entry goes last
-pub IsTableOf-more : (b : Numbered) (entries : List Entry) (i : ℕ) (table after : Entries) (e : Entry) (key : Key) (index : ℕ) → slice_get entries i ≡ Some e
+pub IsTableOf-more : (b : Numbered) (entries : List Entry) (i : ℕ) (table after : Entries) (e : Entry) (key : Key) (index : ℕ) (is_new : Bool) → slice_get entries i ≡ Some e
     → IsTableOf b entries i table → IsKeyOf b (entry_position b e) key
-    → (Contains (keys_of table) key → ⊥) → Inserts table key e.depth index after → IsTableOf b entries (i + 1) after
-IsTableOf-more b entries i table after e key index there entered is absent (inl stays) = absurd (absent (Contains-at (keys_of table) key index stays.there))
-IsTableOf-more b entries i table after e key index there entered is absent (inr last) =
+    → (Contains (keys_of table) key → ⊥) → Enters table key e.depth index is_new after → IsTableOf b entries (i + 1) after
+IsTableOf-more b entries i table after e key index false there entered is absent stays = absurd (absent (Contains-at (keys_of table) key index stays.there))
+IsTableOf-more b entries i table after e key index true there entered is absent last =
     let entry : Key × ℕ = (key, e.depth) in
     let more : Entries = entry ∷ [] in
     let keys : keys_of (table ++ more) ≡ keys_of table ++ key ∷ [] = map-append (λ (one : Key × ℕ). one.0) table more in

@@ -1,6 +1,6 @@
 //! The checker of certificates.
 
-ghost use Rattle.std.specs.Prelude.{◌≡◌, ◌↔◌, IfOk, IfErr, IsOk, Err, IsTrue, List, length};
+ghost use Rattle.std.specs.Prelude.{◌≡◌, ◌≤◌, ◌↔◌, IfOk, IfErr, IsOk, Err, IsTrue, List, length};
 ghost use Rattle.sok_board.specs.Area.{IsAccepted};
 ghost use Rattle.sok_cert.specs.Closed.{IsClosed, IsStarter};
 ghost use Rattle.sok_cert.specs.Lookup.{IsLooking, IsTableOf};
@@ -66,7 +66,8 @@ fn check_list(
 ) -> Result<(), CertFault>
     requires accepted { IsAccepted board.now }
     requires fine { AreFine board.now claim entries.now (length entries.now) }
-    requires entered { IsTableOf board.now entries.now (length entries.now) table.now }
+    requires entered { IsTableOf board.now entries.now (length entries.now) table.now.entries }
+    requires wide { length board.now.area ≤ table.now.room }
     ensures closed { IfOk result (λ _. IsClosed board.now claim entries.now) }
     ensures refused { IfErr result (IsRefused board.now claim entries.now) }
 {
@@ -78,7 +79,8 @@ fn check_list(
 
 /// Whether the start's state is in a table of entries at depth 0.
 fn has_start(alloc: Global, board: &Board, table: &Table) -> Result<bool, Memory>
-    ensures { (entries : List Entry) → IsLooking board.now entries table.now
+    requires { length board.now.area ≤ table.now.room }
+    ensures { (entries : List Entry) → IsLooking board.now entries table.now.entries
         → IfOk result (λ starts. IsTrue starts ↔ ((e : Entry) × IsStarter board.now entries e)) }
 {
     let start = Key::start(alloc, board)?;

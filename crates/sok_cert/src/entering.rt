@@ -1,6 +1,6 @@
 //! The table of the entries' states.
 
-ghost use Rattle.std.specs.Prelude.{◌≡◌, ◌<◌, ◌+◌, IfOk, IfErr, length};
+ghost use Rattle.std.specs.Prelude.{◌≡◌, ◌<◌, ◌≤◌, ◌+◌, IfOk, IfErr, length};
 ghost use Rattle.sok_board.specs.Area.{IsAccepted};
 ghost use Rattle.sok_cert.specs.Lookup.{IsTableOf};
 ghost use Rattle.sok_cert.specs.Refusals.{AreFine, IsRefused};
@@ -27,10 +27,12 @@ pub(crate) fn states(
     requires accepted { IsAccepted board.now }
     requires tables { tables.now.board ≡ board.now }
     ensures fine { IfOk result (λ _. AreFine board.now claim entries.now (length entries.now)) }
-    ensures entered { IfOk result (IsTableOf board.now entries.now (length entries.now)) }
+    ensures entered { IfOk result
+        (λ table. IsTableOf board.now entries.now (length entries.now) table.entries) }
+    ensures wide { IfOk result (λ table. length board.now.area ≤ table.room) }
     ensures refused { IfErr result (IsRefused board.now claim entries.now) }
 {
-    let mut table = Table::new(alloc)?;
+    let mut table = Table::new(alloc, board.squares());
     for index in 0..entries.len() {
         table = enter(alloc, board, tables, claim, entries, index, table)?;
     }
@@ -51,9 +53,12 @@ fn enter(
     requires tables { tables.now.board ≡ board.now }
     requires exists { index < length entries.now }
     requires fine { AreFine board.now claim entries.now index }
-    requires entered { IsTableOf board.now entries.now index table }
+    requires entered { IsTableOf board.now entries.now index table.entries }
+    requires wide { length board.now.area ≤ table.room }
     ensures fine { IfOk result (λ _. AreFine board.now claim entries.now (index + 1)) }
-    ensures entered { IfOk result (IsTableOf board.now entries.now (index + 1)) }
+    ensures entered { IfOk result
+        (λ after. IsTableOf board.now entries.now (index + 1) after.entries) }
+    ensures wide { IfOk result (λ after. length board.now.area ≤ after.room) }
     ensures refused { IfErr result (IsRefused board.now claim entries.now) }
 {
     let entry = &entries[index];
@@ -68,6 +73,6 @@ fn enter(
         Finding::Solved => return Err(CertFault::SolvedEntry(index)),
         Finding::Unreasoned => return Err(CertFault::BadReason(index)),
     }
-    table.insert(key, entry.depth)?;
+    table.insert(&key, entry.depth)?;
     Ok(table)
 }

@@ -1,6 +1,6 @@
 //! Whether each push from an expanded entry leads to another entry.
 
-ghost use Rattle.std.specs.Prelude.{IfOk, IfErr, All};
+ghost use Rattle.std.specs.Prelude.{◌≤◌, IfOk, IfErr, All, length};
 ghost use Rattle.sok_board.specs.Area.{IsAccepted};
 ghost use Rattle.sok_state.specs.Keys.{IsKey};
 ghost use Rattle.sok_state.specs.Pushes.{IsLegal};
@@ -34,8 +34,9 @@ fn is_found(
     requires accepted { IsAccepted board.now }
     requires key { IsKey board.now key.now }
     requires legal { IsLegal board.now key.now push }
-    requires distinct { HasDistinctKeys table.now }
-    ensures { IfOk result (TellsFound board.now table.now key.now depth push) }
+    requires distinct { HasDistinctKeys table.now.entries }
+    requires wide { length board.now.area ≤ table.now.room }
+    ensures { IfOk result (TellsFound board.now table.now.entries key.now depth push) }
 {
     let next = follow(alloc, board, key, push, region)?;
     match table.get(&next) {
@@ -57,8 +58,9 @@ fn first_missing(
     requires accepted { IsAccepted board.now }
     requires key { IsKey board.now key.now }
     requires legal { All (IsLegal board.now key.now) pushes.now }
-    requires distinct { HasDistinctKeys table.now }
-    ensures { IfOk result (TellsFirst board.now table.now key.now depth pushes.now) }
+    requires distinct { HasDistinctKeys table.now.entries }
+    requires wide { length board.now.area ≤ table.now.room }
+    ensures { IfOk result (TellsFirst board.now table.now.entries key.now depth pushes.now) }
 {
     for (place, push) in pushes.iter().enumerate() {
         if !is_found(alloc, board, table, key, depth, *push, region)? {
@@ -80,8 +82,9 @@ fn open_push(
 ) -> Result<Option<Push>, Memory>
     requires accepted { IsAccepted board.now }
     requires key { IsKey board.now key.now }
-    requires distinct { HasDistinctKeys table.now }
-    ensures { IfOk result (TellsOpen board.now table.now key.now depth) }
+    requires distinct { HasDistinctKeys table.now.entries }
+    requires wide { length board.now.area ≤ table.now.room }
+    ensures { IfOk result (TellsOpen board.now table.now.entries key.now depth) }
 {
     let mut region = Region::of(alloc, board, &key.boxes, key.least)?;
     list_pushes(board, key, &region, pushes)?;
@@ -99,16 +102,18 @@ pub(crate) fn check_pushes(
     table: &Table,
     entries: &[Entry],
 ) -> Result<(), CertFault>
-    requires { IsLooking board.now entries.now table.now }
+    requires looking { IsLooking board.now entries.now table.now.entries }
+    requires wide { length board.now.area ≤ table.now.room }
     ensures followed { IfOk result (λ _. All (IsClosedAt board.now entries.now) entries.now) }
     ensures refused { IfErr result (IsOpenFault board.now entries.now) }
 {
+    let mut squares = Vec::new(alloc);
     let mut pushes = Vec::new(alloc);
     for (index, entry) in entries.iter().enumerate() {
         if !is_expanded(&entry.reason) {
             continue;
         }
-        let key = table.key(alloc, index)?;
+        let key = table.key(alloc, &mut squares, index)?;
         if let Some(push) = open_push(alloc, board, table, &key, entry.depth, &mut pushes)? {
             return Err(CertFault::OpenPush(index, push.from, push.dir));
         }

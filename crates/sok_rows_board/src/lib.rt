@@ -11,7 +11,6 @@
 //! | `layouts` | a layout after pushes and back, and jams over it |
 //! | `matching` | a matching that is kept, beside one found from nothing |
 //! | `mazes` | regions of spirals, combs and wide rooms |
-//! | `packed` | packed keys of few and of many words, and a table of them |
 //! | `positions` | positions, and whether a reason holds of one (no test) |
 //! | `prices` | which goal each box could go to at the least cost, and crowds |
 //! | `pushes` | the pushes of a state whose region is at hand, and the state behind one |
@@ -19,7 +18,8 @@
 //! | `rounds` | rounds of squares, in rows of words |
 //! | `sets` | sets of boxes |
 //! | `setting` | squares that are there, and boxes and a player on them (no test) |
-//! | `states` | the states of a level, their pushes, and tables of them |
+//! | `states` | the states of a level, and their pushes |
+//! | `tables` | tables of states, as narrow and as wide as there are |
 #![tactic(auto)]
 
 #[cfg(test)]
@@ -39,8 +39,6 @@ mod matching;
 #[cfg(test)]
 mod mazes;
 #[cfg(test)]
-mod packed;
-#[cfg(test)]
 mod positions;
 #[cfg(test)]
 mod prices;
@@ -56,3 +54,5 @@ mod sets;
 mod setting;
 #[cfg(test)]
 mod states;
+#[cfg(test)]
+mod tables;

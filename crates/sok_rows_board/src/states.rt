@@ -1,4 +1,4 @@
-//! The states of a level, their pushes, and tables of them.
+//! The states of a level, and their pushes.
 
 ghost use Rattle.std.specs.Prelude.{IfOk};
 ghost use Rattle.sok_state.specs.Keys.{IsKey};
@@ -12,7 +12,6 @@ use sok_sketch::sketch;
 use sok_state::key::Key;
 use sok_state::legal::{after, pushes};
 use sok_state::push::Push;
-use sok_state::table::Table;
 use std::alloc::Global;
 use std::process::Abort;
 use std::test::Fail;
@@ -157,71 +156,4 @@ fn states_after_pushes(rt: HostRuntime) -> Result<(), Fail> {
         );
     }
     Ok(())
-}
-
-/// Whether a table has a state at an index, with a depth.
-fn has_state(
-    alloc: Global,
-    table: &Table,
-    state: &Key,
-    index: usize,
-    depth: u32,
-) -> Result<bool, Fail> {
-    if index >= table.len() || table.depth(index) != depth {
-        return Ok(false);
-    }
-    let found = table.key(alloc, index)?;
-    Ok(found == *state && table.get(state) == Some(index))
-}
-
-/// Whether an insertion tells an index, at which the table then has the state with a depth.
-fn inserts(
-    alloc: Global,
-    table: &mut Table,
-    state: &Key,
-    depth: u32,
-    index: usize,
-    kept: u32,
-) -> Result<bool, Fail> {
-    let found = table.insert(state.copy(alloc)?, depth)?;
-    Ok(found == index && has_state(alloc, table, state, index, kept)?)
-}
-
-/// Whether the depth of the state at 0 is lowered or not, and what it is then.
-fn lowers(table: &mut Table, depth: u32, lowered: bool, kept: u32) -> bool {
-    if table.len() == 0 {
-        return false;
-    }
-    let told = table.lower_depth(0, depth);
-    told == lowered && 0 < table.len() && table.depth(0) == kept
-}
-
-/// A present key keeps its place and its depth. Depths are lowered and never raised.
-fn assert_table(rt: &impl Abort, alloc: Global, start: &Key, next: &Key) -> Result<(), Fail> {
-    let mut table = Table::new(alloc)?;
-    assert!(rt; table.get(start).is_none());
-    for (state, depth, index, kept) in [
-        (start, 2, 0, 2),
-        (next, 7, 1, 7),
-        (start, 9, 0, 2),
-        (start, 1, 0, 2),
-    ] {
-        assert!(rt;
-            inserts(alloc, &mut table, state, depth, index, kept)?,
-            "{depth}"
-        );
-    }
-    assert!(rt; table.len() == 2);
-    for (depth, lowered, kept) in [(3, false, 2), (2, false, 2), (1, true, 1)] {
-        assert!(rt; lowers(&mut table, depth, lowered, kept), "{depth}");
-    }
-    Ok(())
-}
-
-#[test]
-fn table_of_states(rt: HostRuntime) -> Result<(), Fail> {
-    let board = board(rt.alloc(), sketch::CORRIDOR_OF_SIX_PUSHES)?;
-    let start = key(&rt, rt.alloc(), &board, &[5], 4)?;
-    let next = key(&rt, rt.alloc(), &board, &[6], 5)?;
-    assert_table(&rt, rt.alloc(), &start, &next)
 }

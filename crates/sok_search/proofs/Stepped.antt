@@ -23,9 +23,8 @@ use Rattle.sok_state.specs.declared.push.Push.{Push}
 use Rattle.sok_state.specs.Keys.{IsKey, IsKeyOf}
 use Rattle.sok_region.specs.Layouts.{Laid}
 use Rattle.sok_state.specs.Pushes.{IsLegal}
+use Rattle.sok_state.specs.Tables.{IsNext}
 use Rattle.sok_state.proofs.LegalPushes.{IsPlaced-after, clear-legal, clear_ahead}
-use Rattle.sok_state.proofs.Placed.{same_rising}
-use Rattle.sok_search.specs.Stores.{IsNext}
 use Rattle.sok_search.specs.Trials.{IsLedTo, IsPushable}
 
 -- a box that is moved back
@@ -85,19 +84,6 @@ pub comes-next : (b : Numbered) → IsAccepted b → (key : Key) (push : Push) (
 comes-next b accepted key push to least layout can ahead comes =
     let (is, as_many) = next-made b accepted key push to least layout can ahead in
     record { is = is; as_many = as_many; came = comes key (next_of key push.from to least) can is }
-
--- boxes with one of them moved are one list
-pub moved-same : (boxes one other : List ℕ) (from to : ℕ) → IsMoved boxes from to one → IsStrictlyIncreasing one → IsMoved boxes from to other
-    → IsStrictlyIncreasing other → one ≡ other
-moved-same boxes one other from to moved rising also_moved also_rising =
-    same_rising one other rising also_rising (λ s here. (also_moved s).1 ((moved s).0 here)) (λ s here. (moved s).1 ((also_moved s).0 here))
-
--- a state has one that comes next
-pub next-same : (key : Key) (from to least : ℕ) (one other : Key) → IsNext key from to least one → IsNext key from to least other → one ≡ other
-next-same key from to least one other is also =
-    let boxes = moved-same key.boxes one.boxes other.boxes from to is.moved is.rising also.moved also.rising in
-    let number = is.least_is ∙ sym also.least_is in
-    λ i. record { boxes = boxes i; least = number i }
 
 module _ (b : Numbered) (accepted : IsAccepted b) (boxes : List ℕ) (player : ℕ) (free seen : List ℕ) (placed : IsPlaced b boxes player)
     (drawn : Draws b (λ n. Contains boxes n → ⊥) free)

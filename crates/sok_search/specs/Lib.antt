@@ -7,7 +7,6 @@ pub mod Buckets
 pub mod Finished
 pub mod Searches
 pub mod Steps
-pub mod Stores
 pub mod Trails
 pub mod Trials
 pub mod Views

@@ -8,11 +8,11 @@ use crate::judging::judge;
 use crate::note::Note;
 use crate::queue::Queue;
 use crate::search::{Search, add};
-use crate::store::Store;
 use sok_board::board::Board;
 use sok_push::tables::Tables;
 use sok_rules::fault::Memory;
 use sok_state::key::Key;
+use sok_state::table::Table;
 use std::alloc::Global;
 
 /// A search that knows the start alone. A whole one keeps each state that it comes to.
@@ -29,11 +29,11 @@ pub(crate) fn begin(
 {
     let key = Key::start(alloc, board)?;
     let standing = judge(alloc, board, tables, &key.boxes)?;
-    let mut store = Store::new(alloc, board.squares());
-    let (index, _is_new) = store.insert(&key, 0)?;
+    let mut table = Table::new(alloc, board.squares());
+    let (index, _is_new) = table.insert(&key, 0)?;
     let mut search = Search {
         whole,
-        store,
+        table,
         notes: Vec::new(alloc),
         queue: Queue::new(alloc),
         best: None,

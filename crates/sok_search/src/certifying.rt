@@ -6,7 +6,6 @@ ghost use Rattle.sok_cert.specs.Text.{FitsEntry};
 ghost use Rattle.sok_price.specs.Matched.{Serves};
 ghost use Rattle.sok_search.specs.Finished.{claim_of, AreFirstEntries, IsEntryAt};
 ghost use Rattle.sok_search.specs.Searches.{IsSearching, IsSmallSearch, IsState};
-ghost use Rattle.sok_search.specs.Stores.{entries_in};
 ghost use Rattle.sok_search.specs.Views.{progress_of};
 
 use crate::barring::reason_of;
@@ -36,13 +35,13 @@ pub(crate) fn certificate(
     requires finished { search.now.queue ≡ [] }
     requires claim { claim ≡ claim_of search.now.best }
     ensures entries { IfOk result (λ cert. AreFirstEntries board.now claim (progress_of search.now)
-        (length (entries_in search.now.store)) cert.entries.items) }
+        (length search.now.table.entries) cert.entries.items) }
     ensures fit { IfOk result (λ cert. All FitsEntry cert.entries.items) }
 {
     let mut matching = Matching::new(alloc, board, tables)?;
     let mut squares = Vec::new(alloc);
     let mut entries = Vec::new(alloc);
-    for index in 0..search.store.len() {
+    for index in 0..search.table.len() {
         let entry = entry_at(
             alloc,
             board,
@@ -75,7 +74,7 @@ fn entry_at(
     requires search { IsSmallSearch board.now (progress_of search.now) }
     requires finished { search.now.queue ≡ [] }
     requires claim { claim ≡ claim_of search.now.best }
-    requires within { index < length (entries_in search.now.store) }
+    requires within { index < length search.now.table.entries }
     ensures serves { OnOk result (Serves board.now matching.new) }
     ensures entry { IfOk result (IsEntryAt board.now claim (progress_of search.now) index) }
     ensures fits { IfOk result FitsEntry }
@@ -108,12 +107,12 @@ fn state_at(
     index: usize,
 ) -> Result<(Key, u32, Note), Memory>
     requires search { (b : Numbered) × IsAccepted b × IsSearching b (progress_of search.now) }
-    requires within { index < length (entries_in search.now.store) }
+    requires within { index < length search.now.table.entries }
     ensures { IfOk result
         (λ told. IsState (progress_of search.now) index told.0 told.1 told.2) }
 {
-    let key = search.store.key(alloc, squares, index)?;
-    Ok((key, search.store.depth(index), search.notes[index]))
+    let key = search.table.key(alloc, squares, index)?;
+    Ok((key, search.table.depth(index), search.notes[index]))
 }
 
 /// Squares, as numbers of a certificate.

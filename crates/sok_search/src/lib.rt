@@ -19,7 +19,6 @@
 //! | `running` | one state is taken after another (private) |
 //! | `search` | what a search knows (private) |
 //! | `stepping` | the state that a push leads to (private) |
-//! | `store` | the states that a search knows, in packed keys (private) |
 //! | `tracing` | the pushes that lead to a solved state (private) |
 //! | `trail` | the letters that make pushes one after another (private) |
 //! | `trial` | how a new state stands that a push leads to (private) |
@@ -41,7 +40,6 @@ mod running;
 mod search;
 pub mod solve;
 mod stepping;
-mod store;
 mod tracing;
 mod trail;
 mod trial;

@@ -4,7 +4,6 @@ ghost use Rattle.std.specs.Prelude.{◌≡◌, ◌<◌, ◌^◌, IfOk, OnOk, Som
 ghost use Rattle.sok_region.specs.Layouts.{IsLaidOut};
 ghost use Rattle.sok_state.specs.Pushes.{IsLegal};
 ghost use Rattle.sok_search.specs.Steps.{Nears, reopened};
-ghost use Rattle.sok_search.specs.Stores.{entries_in};
 ghost use Rattle.sok_search.specs.Trials.{IsTrial};
 ghost use Rattle.sok_search.specs.Views.{progress_of, HoldsState, TellsReached};
 
@@ -44,13 +43,13 @@ fn approach(
     depth: u32,
     origin: Option<Origin>,
 ) -> Result<(), Memory>
-    requires exists { index < length (entries_in search.old.store) }
+    requires exists { index < length search.old.table.entries }
     requires small { index < 2 ^ 32 }
     requires noted { index < length search.old.notes.items }
     ensures { OnOk result
         (Nears (progress_of search.old) index depth origin (progress_of search.new)) }
 {
-    if depth >= search.store.depth(index) {
+    if depth >= search.table.depth(index) {
         return Ok(());
     }
     let standing = reopened(search.notes[index].standing);
@@ -92,7 +91,7 @@ pub(crate) fn reach(
         push,
     });
     let deeper = depth + 1;
-    let (at, is_new) = search.store.insert_next(index, from, to, least, deeper)?;
+    let (at, is_new) = search.table.insert_next(index, from, to, least, deeper)?;
     if !is_new {
         approach(search, at, deeper, origin)?;
         return Ok(Reached::On);

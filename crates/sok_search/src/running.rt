@@ -57,11 +57,11 @@ fn visit(
     ensures tells { IfOk result (TellsTurned board.now limit
         (holding index (progress_of search.old)) (progress_of search.new)) }
 {
-    let depth = search.store.depth(index);
+    let depth = search.table.depth(index);
     if is_beaten(search.best, depth, bound) {
         return Ok(Reached::On);
     }
-    let key = search.store.key(alloc, &mut scratch.squares, index)?;
+    let key = search.table.key(alloc, &mut scratch.squares, index)?;
     if is_solved(board, &key.boxes) {
         search.best = Some(depth);
         return Ok(Reached::On);

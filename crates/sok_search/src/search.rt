@@ -3,13 +3,12 @@
 ghost use Rattle.std.specs.Prelude.{◌<◌, ◌^◌, IfOk, OnOk, length};
 ghost use Rattle.sok_state.specs.Tables.{depth_at};
 ghost use Rattle.sok_search.specs.Steps.{IsChanged, IsListed, Queues};
-ghost use Rattle.sok_search.specs.Stores.{entries_in};
 ghost use Rattle.sok_search.specs.Views.{progress_of};
 
 use crate::note::{Note, Standing};
 use crate::queue::Queue;
-use crate::store::Store;
 use sok_rules::fault::Memory;
+use sok_state::table::Table;
 
 /// The known states with a note of each, the indices of those that wait, and the least depth at
 /// which a solved state was taken.
@@ -18,7 +17,7 @@ pub(crate) struct Search {
     /// Whether each state is kept that is come to. Else those are left out of which a box was just
     /// pushed to a square from which it reaches no goal.
     pub(crate) whole: bool,
-    pub(crate) store: Store,
+    pub(crate) table: Table,
     pub(crate) notes: Vec<Note>,
     pub(crate) queue: Queue,
     pub(crate) best: Option<u32>,
@@ -38,7 +37,7 @@ fn wait(queue: &mut Queue, index: u32, depth: u32, standing: Standing) -> Result
     }
 }
 
-/// Notes a state that went last into the store.
+/// Notes a state that went last into the table.
 pub(crate) fn add(search: &mut Search, index: usize, depth: u32, note: Note) -> Result<(), Memory>
     requires { index < 2 ^ 32 }
     ensures { OnOk result
@@ -50,14 +49,14 @@ pub(crate) fn add(search: &mut Search, index: usize, depth: u32, note: Note) -> 
 
 /// Gives a state a smaller depth and another note.
 pub(crate) fn lower(search: &mut Search, index: usize, depth: u32, note: Note) -> Result<(), Memory>
-    requires exists { index < length (entries_in search.old.store) }
+    requires exists { index < length search.old.table.entries }
     requires small { index < 2 ^ 32 }
     requires noted { index < length search.old.notes.items }
-    requires smaller { depth < depth_at (entries_in search.old.store) index }
+    requires smaller { depth < depth_at search.old.table.entries index }
     ensures { OnOk result
         (IsChanged (progress_of search.old) index depth note (progress_of search.new)) }
 {
-    let _lowered = search.store.lower_depth(index, depth);
+    let _lowered = search.table.lower_depth(index, depth);
     search.notes[index] = note;
     wait(&mut search.queue, index as u32, depth, note.standing)
 }

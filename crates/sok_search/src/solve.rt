@@ -8,7 +8,6 @@ ghost use Rattle.sok_search.specs.Faults.{IsAcceptedWithin, IsBadLimit, IsRefusa
 ghost use Rattle.sok_search.specs.Limits.{state_limit};
 ghost use Rattle.sok_search.specs.Outcomes.{IsAnswer, IsFound};
 ghost use Rattle.sok_search.specs.Searches.{IsSearch, IsSearching, IsSmallSearch};
-ghost use Rattle.sok_search.specs.Stores.{entries_in};
 ghost use Rattle.sok_search.specs.Trails.{IsSolvedWithin};
 ghost use Rattle.sok_search.specs.Views.{progress_of, IsRunning, TellsFinished, TellsSearched};
 ghost use Rattle.sok_search.specs.declared.fault.SolveFault.TheVariants as fault;
@@ -206,7 +205,7 @@ fn solution(alloc: Global, board: &Board, search: &Search, pushes: u32) -> Resul
     requires search { IsSearching board.now (progress_of search.now) }
     requires best { search.now.best ≡ Some pushes }
     ensures { IfOk result (λ dirs.
-        IsSolvedWithin board.now (length (entries_in search.now.store)) pushes dirs.items) }
+        IsSolvedWithin board.now (length search.now.table.entries) pushes dirs.items) }
 {
     let index = find_solved(alloc, board, search, pushes)?;
     let trace = trace(alloc, search, index)?;

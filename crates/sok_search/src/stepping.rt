@@ -7,7 +7,7 @@ ghost use Rattle.sok_state.specs.declared.key.Key.{Key};
 ghost use Rattle.sok_state.specs.Keys.{IsKey, IsKeyOf};
 ghost use Rattle.sok_region.specs.Layouts.{IsLaidOut};
 ghost use Rattle.sok_state.specs.Pushes.{IsLegal};
-ghost use Rattle.sok_search.specs.Stores.{IsNext};
+ghost use Rattle.sok_state.specs.Tables.{IsNext};
 ghost use Rattle.sok_search.specs.Trials.{IsLedTo, IsPushable};
 
 use sok_board::area::Sq;

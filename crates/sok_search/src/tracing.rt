@@ -3,7 +3,6 @@
 ghost use Rattle.std.specs.Prelude.{◌≡◌, ◌<◌, ◌↔◌, IfOk, IsTrue, Some, length};
 ghost use Rattle.sok_board.specs.Area.{IsAccepted};
 ghost use Rattle.sok_search.specs.Searches.{IsSearching};
-ghost use Rattle.sok_search.specs.Stores.{entries_in};
 ghost use Rattle.sok_search.specs.Trails.{GoesBack, IsSolvedAt, TracesBack};
 ghost use Rattle.sok_search.specs.Views.{progress_of};
 
@@ -28,7 +27,7 @@ pub(crate) fn find_solved(
     ensures { IfOk result (IsSolvedAt board.now (progress_of search.now) pushes) }
 {
     let mut squares = Vec::new(alloc);
-    for index in 0..search.store.len() {
+    for index in 0..search.table.len() {
         if is_solution(alloc, board, search, pushes, &mut squares, index)? {
             return Ok(index);
         }
@@ -47,14 +46,14 @@ fn is_solution(
 ) -> Result<bool, Memory>
     requires accepted { IsAccepted board.now }
     requires search { IsSearching board.now (progress_of search.now) }
-    requires within { index < length (entries_in search.now.store) }
+    requires within { index < length search.now.table.entries }
     ensures { IfOk result (λ is.
         IsTrue is ↔ IsSolvedAt board.now (progress_of search.now) pushes index) }
 {
-    if search.store.depth(index) > pushes {
+    if search.table.depth(index) > pushes {
         return Ok(false);
     }
-    let key = search.store.key(alloc, squares, index)?;
+    let key = search.table.key(alloc, squares, index)?;
     Ok(is_solved(board, &key.boxes))
 }
 

@@ -1,4 +1,3 @@
-pub mod Keyed
 pub mod LegalPushes
 pub mod Listed
 pub mod Moves

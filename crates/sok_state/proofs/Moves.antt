@@ -15,7 +15,22 @@ use Rattle.sok_board.proofs.AreaLaws.{InArea-spot_of, same_number}
 use Rattle.sok_board.proofs.Positions.{listed_box}
 use Rattle.sok_board.specs.BoxSets.{IsMoved}
 use Rattle.sok_region.specs.Regions.{IsPlaced}
-use Rattle.sok_state.proofs.Placed.{box_cases, decoration_there}
+use Rattle.sok_state.specs.declared.key.Key.{Key}
+use Rattle.sok_state.specs.Tables.{IsNext}
+use Rattle.sok_state.proofs.Placed.{box_cases, decoration_there, same_rising}
+
+-- boxes with one of them moved are one list
+pub moved-same : (boxes one other : List ℕ) (from to : ℕ) → IsMoved boxes from to one → IsStrictlyIncreasing one → IsMoved boxes from to other
+    → IsStrictlyIncreasing other → one ≡ other
+moved-same boxes one other from to moved rising also_moved also_rising =
+    same_rising one other rising also_rising (λ s here. (also_moved s).1 ((moved s).0 here)) (λ s here. (moved s).1 ((also_moved s).0 here))
+
+-- a state has one that comes next
+pub next-same : (key : Key) (from to least : ℕ) (one other : Key) → IsNext key from to least one → IsNext key from to least other → one ≡ other
+next-same key from to least one other is also =
+    let boxes = moved-same key.boxes one.boxes other.boxes from to is.moved is.rising also.moved also.rising in
+    let number = is.least_is ∙ sym also.least_is in
+    λ i. record { boxes = boxes i; least = number i }
 
 -- a box that stands elsewhere than on the square that one has left
 moved-there : (boxes : Spot → Bool) (from to s : Spot) → boxes s ≡ true → (s ≡ from → ⊥) → moved boxes from to s ≡ true

@@ -1,5 +1,5 @@
 -- A table of packed keys as the table of the keys that they stand for.
-use Rattle.std.proofs.Common.{ℕ, ◌≡◌, ◌<◌, ◌+◌, ◌*◌, ◌^◌, inl, inr, refl, sym, ap, ◌∙◌, subst, List, [], ◌∷◌, ◌++◌, true, suc, Some}
+use Rattle.std.proofs.Common.{ℕ, ◌≡◌, ◌<◌, ◌+◌, ◌*◌, ◌^◌, inl, inr, refl, sym, ap, ◌∙◌, subst, List, [], ◌∷◌, ◌++◌, true, suc, Some, None, Option, MatchOption, position}
 use Rattle.std.proofs.Common.{Contains, arith, length, get_or, map}
 use Rattle.std.proofs.Common.{Bool, false, true≢false, slice_get, slice_set, length-append, ◌&&◌, ◌==◌, ◌≤◌}
 use Rattle.std.specs.Bool.{Decides}
@@ -11,9 +11,10 @@ use Rattle.std.proofs.lemmas.List.Sums.{position_or_len_is}
 use Rattle.std.proofs.Math.ListN.{length-set}
 use Rattle.std.proofs.lemmas.Map.Made.{AllPairs-from_IsDistinct}
 use Rattle.std.proofs.lemmas.Option.{slice_get_within, slice_get-get_or, get_or_from_slice_get}
-use Rattle.sok_rules.proofs.Proper.{fails_at_each}
+use Rattle.std.proofs.lemmas.List.Quantifiers.{position-Some}
+use Rattle.sok_rules.proofs.Proper.{fails_at_each, position-none}
 use Rattle.sok_rules.proofs.Steps.{both}
-use lib.Pointwise.{pointwise}
+use lib.Pointwise.{pointwise, pointwise_decides}
 use Rattle.std.proofs.lemmas.Grind.{same_number_lists}
 use Rattle.std.specs.Map.{keys_of, values_of}
 use Rattle.sok_rules.specs.declared.cell.Spot.{Spot}
@@ -29,7 +30,6 @@ use Rattle.sok_state.specs.declared.packed.PackedKey.{PackedKey}
 use Rattle.sok_state.specs.PackedKeys.{ArePacked, IsOfWords, entries_of, state_of}
 use Rattle.sok_state.specs.declared.key.Key.{Key}
 use Rattle.sok_state.specs.Tables.{Entries, GoesLast, HasDistinctKeys, IsAt, Lowers, Stays}
-use Rattle.sok_state.proofs.Keyed.{same_numbers}
 
 -- words with all bits of others are no less
 no_less : (xs ys : List ℕ) → ((r : ℕ) → get_or xs r 0 < 2 ^ 64) → squares_of xs ≡ squares_of ys → (s : Spot) → has xs s ≡ true → has ys s ≡ true
@@ -77,6 +77,9 @@ entries_of-more [] (d ∷ depths) key depth long = absurd (omega (arith, long))
 entries_of-more (k ∷ keys) [] key depth long = absurd (omega (arith, long))
 entries_of-more (k ∷ keys) (d ∷ depths) key depth long = ap (λ (es : Entries). (state_of k, d) ∷ es)
     (entries_of-more keys depths key depth (omega (arith, long)))
+
+same_numbers : (xs ys : List ℕ) → Decides (pointwise ◌==◌ xs ys) (xs ≡ ys)
+same_numbers = pointwise_decides (λ x y. (λ e. grind (arith, nat_tests, e), λ e. grind (arith, nat_tests, e)))
 
 -- the test by which packed keys are compared
 abbrev pub packed_eq : {N : ℕ} → PackedKey N → PackedKey N → Bool
@@ -137,20 +140,32 @@ module _ {N : ℕ} (keys : List (PackedKey N)) (depths : List ℕ) (packed : Are
       (same_packed N (get_or keys i some) (get_or keys j some) (fit_at i some i_within) (fit_at j some j_within) states)
 
   -- a key that is equal to none is not there
-  pub absent-state : (key : PackedKey N) → IsOfWords N key → list_any (packed_eq key) keys ≡ false
+  absent-state : (key : PackedKey N) → IsOfWords N key → ((k : ℕ) (d : PackedKey N) → k < length keys → packed_eq key (get_or keys k d) ≡ false)
       → Contains (keys_of (entries_of keys depths)) (state_of key) → ⊥
-  absent-state key of_words none (k, inside, is) =
+  absent-state key of_words unequal (k, inside, is) =
       let long = count-keys in
       let within : k < length keys = omega (arith, inside, long) in
       let states = sym (state_at k (state_of key) key within) ∙ is in
       let found = same_packed N (get_or keys k key) key (fit_at k key within) of_words states in
-      true≢false (sym (packed_eq-refl key) ∙ ap (packed_eq key) (sym found) ∙ fails_at_each (packed_eq key) keys none k key within)
+      true≢false (sym (packed_eq-refl key) ∙ ap (packed_eq key) (sym found) ∙ unequal k key within)
+
+  pub absent-packed : (key : PackedKey N) → IsOfWords N key → list_any (packed_eq key) keys ≡ false
+      → Contains (keys_of (entries_of keys depths)) (state_of key) → ⊥
+  absent-packed key of_words none = absent-state key of_words (fails_at_each (packed_eq key) keys none)
+
+  -- a key is found where it stands, and nowhere where it does not
+  pub found-packed : (key : PackedKey N) (r : Option ℕ) → IsOfWords N key → r ≡ position (packed_eq key) keys
+      → MatchOption r (Contains (keys_of (entries_of keys depths)) (state_of key) → ⊥) (IsAt (entries_of keys depths) (state_of key))
+  found-packed key None of_words e = absent-state key of_words (position-none (packed_eq key) keys (sym e))
+  found-packed key (Some index) of_words e =
+      let at = position-Some (packed_eq key) keys index key (sym e) in
+      IsAt-packed key index (slice_get-get_or keys index key at.0 ∙ ap Some (sym (same_packed_is key (get_or keys index key) at.1)))
 
   pub GoesLast-packed : (key : PackedKey N) (depth index : ℕ) → IsOfWords N key → list_any (packed_eq key) keys ≡ false
       → index ≡ position_or_len (packed_eq key) keys → GoesLast (entries_of keys depths) (state_of key) depth index
       (entries_of (keys ++ key ∷ []) (depths ++ depth ∷ []))
   GoesLast-packed key depth index of_words none at = record {
-    absent = absent-state key of_words none;
+    absent = absent-packed key of_words none;
     last = at ∙ position_or_len_is (packed_eq key) keys (length keys) key (omega arith)
         (λ k within. fails_at_each (packed_eq key) keys none k key within) (λ within. absurd (omega (arith, within)))
         ∙ sym (length-entries_of keys depths packed.a_depth_each);

@@ -1,7 +1,8 @@
 -- Words of public contracts
 pub mod Keys
-pub mod PackedKeys
 pub mod Pushes
 pub mod Tables
 -- Words of the proofs alone
 pub mod Listing
+pub mod PackedKeys
+pub mod Stores

@@ -1,11 +1,18 @@
 -- A table of states: distinct keys with depths, in the order of their insertion.
-use Rattle.std.specs.Prelude.{ℕ, ◌≡◌, ◌≢◌, ◌<◌, ◌⊎◌, ◌↔◌, List, [], ◌∷◌, ◌++◌, Some, Bool, IsTrue, if◌then◌else◌, AllPairs, Contains, length, slice_get}
+use Rattle.std.specs.Prelude.{ℕ, ◌≡◌, ◌≢◌, ◌<◌, ◌↔◌, List, [], ◌∷◌, ◌++◌, Some, Bool, IsTrue, if◌then◌else◌, AllPairs, Contains, length, slice_get}
 use Rattle.std.specs.Prelude.{slice_set, slice_index, MatchBool}
 use Rattle.std.specs.Map.{keys_of, values_of}
+use Rattle.std.specs.List.Sorted.{IsStrictlyIncreasing}
+use Rattle.sok_board.specs.BoxSets.{IsMoved}
 use Rattle.sok_state.specs.declared.key.Key.{Key}
 
 abbrev pub Entries : Type 0
 Entries = List (Key × ℕ)
+
+-- the keys of a table with their depths, and its room: keys whose boxes stand on squares below it have a place
+pub record Tabled : Type 0 where
+  pub entries : Entries
+  pub room : ℕ
 
 -- no key stands at two indices
 abbrev pub HasDistinctKeys : Entries → Type 0
@@ -30,13 +37,19 @@ pub record GoesLast (old : Entries) (key : Key) (depth index : ℕ) (new : Entri
   pub last : index ≡ length old
   pub more : new ≡ old ++ (key, depth) ∷ []
 
--- what an insertion does
-abbrev pub Inserts : Entries → Key → ℕ → ℕ → Entries → Type 0
-Inserts old key depth index new = Stays old key index new ⊎ GoesLast old key depth index new
-
--- what an insertion does that tells whether the key is new
+-- what an insertion does, which tells whether the key is new
 abbrev pub Enters : Entries → Key → ℕ → ℕ → Bool → Entries → Type 0
 Enters old key depth index is_new new = MatchBool is_new (GoesLast old key depth index new) (Stays old key index new)
+
+-- the key after one of a key's boxes was moved, with another least square to which the player can walk
+pub record IsNext (key : Key) (from to least : ℕ) (next : Key) : Type 0 where
+  pub moved : IsMoved key.boxes from to next.boxes
+  pub rising : IsStrictlyIncreasing next.boxes
+  pub least_is : next.least ≡ least
+
+-- what the insertion does of the key that comes next to the one at an index
+pub record EntersNext (old : Entries) (index from to least depth at : ℕ) (is_new : Bool) (new : Entries) : Type 0 where
+  pub enters : (key next : Key) → IsAt old key index → IsNext key from to least next → Enters old next depth at is_new new
 
 -- a depth that is smaller takes the place of the one at the index, and the keys stay
 pub record Lowers (old : Entries) (index depth : ℕ) (lowered : Bool) (new : Entries) : Type 0 where

@@ -1,12 +1,11 @@
 //! The key of a state.
 
-ghost use Rattle.std.specs.Prelude.{◌≡◌, ◌==◌, ◌&&◌, ◌++◌, IfOk, length};
+ghost use Rattle.std.specs.Prelude.{◌≡◌, ◌==◌, ◌&&◌, IfOk, length};
 ghost use Rattle.sok_rules.specs.Play.{start};
 ghost use Rattle.sok_board.specs.Area.{boxes_of, position_of};
 ghost use Rattle.sok_region.specs.Regions.{IsPlaced};
 ghost use Rattle.sok_state.specs.Keys.{IsKey, IsKeyOf, TellsState};
-ghost use Rattle.std.specs.Hash as fed;
-ghost use Rattle.std.specs.Cmp.Rules.{comparing, hashing};
+ghost use Rattle.std.specs.Cmp.Rules.{comparing};
 ghost use Rattle.std.proofs.Common.{rules};
 ghost use lib.Pointwise.{pointwise};
 
@@ -16,7 +15,6 @@ use sok_board::box_set::BoxSet;
 use sok_region::region::Region;
 use sok_rules::fault::Memory;
 use std::alloc::Global;
-use std::hash::{Hash, Hasher};
 
 /// A state: the squares of its boxes, and the least square that the player can walk to. Positions
 /// of a board are the same state exactly where their keys are equal.
@@ -86,15 +84,4 @@ impl PartialEq for Key {
 
 impl Eq for Key {
     ghost laws = { Prim.search (comparing, rules) };
-}
-
-impl Hash for Key {
-    ghost hash_input = { λ key. fed.u16 key.least ++ fed.slice fed.u16 key.boxes };
-
-    ghost respects_eq = { Prim.search (hashing, rules) };
-
-    fn hash<H: Hasher>(&self, state: &mut H) {
-        self.least.hash(state);
-        self.boxes.list().hash(state);
-    }
 }

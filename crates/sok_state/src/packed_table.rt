@@ -1,21 +1,26 @@
-//! Packed keys in the order of their insertion, with depths.
+//! Packed keys of one width in the order of their insertion, with depths.
 
-ghost use Rattle.std.specs.Prelude.{ℕ, ◌≡◌, ◌<◌, ◌≤◌, ◌^◌, [], Some, IfOk, OnErr, length};
-ghost use Rattle.std.specs.Prelude.{slice_get, slice_index};
-ghost use Rattle.std.specs.Map.{values_of};
+ghost use Rattle.std.specs.Prelude.{ℕ, ◌≡◌, ◌<◌, ◌≤◌, ◌*◌, ◌^◌, [], Some, All, Contains, IfOk, OnErr};
+ghost use Rattle.std.specs.Prelude.{MatchOption, length, slice_get, slice_index};
+ghost use Rattle.std.specs.Map.{keys_of, values_of};
+ghost use Rattle.sok_board.specs.Limits.{box_limit};
+ghost use Rattle.sok_state.specs.declared.key.Key.{Key};
 ghost use Rattle.sok_state.specs.PackedKeys.{state_of};
-ghost use Rattle.sok_state.specs.Tables.{Enters, HasDistinctKeys, IsAt, Lowers};
+ghost use Rattle.sok_state.specs.Tables.{Enters, EntersNext, HasDistinctKeys, IsAt, Lowers};
 
+use crate::key::Key;
 use crate::packed::PackedKey;
 use indexmap::IndexSet;
+use sok_board::area::Sq;
+use sok_board::box_set::BoxSet;
 use sok_rules::fault::Memory;
 use std::alloc::Global;
 use std::marker::Model;
 
-/// The states that are known, each with a depth, in the order of their insertion. A table is seen
-/// as a `Table` is: as the list of the keys that its packed keys stand for, with their depths.
+/// What a `Table` holds, in packed keys of `N` words. It is seen as the list of the keys that its
+/// packed keys stand for, with their depths. Its methods are those of a `Table`.
 #[derive(Drop)]
-pub struct PackedTable<const N: usize> {
+pub(crate) struct PackedTable<const N: usize> {
     keys: IndexSet<PackedKey<N>>,
     depths: Vec<u32>,
 }
@@ -33,8 +38,8 @@ impl<const N: usize> Model for PackedTable<N> {
 }
 
 impl<const N: usize> PackedTable<N> {
-    /// A table without a key. It keeps the allocator for what is inserted.
-    pub fn new(alloc: Global) -> PackedTable<N>
+    /// A table without a key.
+    pub(crate) fn new(alloc: Global) -> PackedTable<N>
         requires { N ≤ 16 }
         ensures { result ≡ [] }
     {
@@ -45,7 +50,7 @@ impl<const N: usize> PackedTable<N> {
     }
 
     /// How many keys the table has.
-    pub fn len(&self) -> usize
+    pub(crate) fn len(&self) -> usize
         requires { N ≤ 16 }
         ensures count { result ≡ length self.now }
         ensures distinct { HasDistinctKeys self.now }
@@ -53,17 +58,55 @@ impl<const N: usize> PackedTable<N> {
         self.keys.len()
     }
 
-    /// Inserts a key, and tells its index and whether it is new: a new key goes last, with the
-    /// depth, and one that is present keeps its place and its depth. It refuses only for want of
-    /// memory.
-    pub fn insert(&mut self, key: PackedKey<N>, depth: u32) -> Result<(usize, bool), Memory>
+    /// Inserts a key.
+    pub(crate) fn insert(&mut self, key: &Key, depth: u32) -> Result<(usize, bool), Memory>
+        requires small { N ≤ 16 }
+        requires room { All (λ square. square < 64 * N) key.now.boxes }
+        ensures inserted { IfOk result
+            (λ told. Enters self.old key.now depth told.0 told.1 self.new) }
+        ensures refused { OnErr result (self.new ≡ self.old) }
+        ensures refused_new { OnErr result (Contains (keys_of self.old) key.now → ⊥) }
+    {
+        self.enter(PackedKey::of(key), depth)
+    }
+
+    /// Inserts the key after a push from the one at an index.
+    pub(crate) fn insert_next(
+        &mut self,
+        index: usize,
+        from: Sq,
+        to: Sq,
+        least: Sq,
+        depth: u32,
+    ) -> Result<(usize, bool), Memory>
+        requires small { N ≤ 16 }
+        requires exists { index < length self.old }
+        requires from { from < 64 * N }
+        requires to { to < 64 * N }
+        ensures inserted { IfOk result
+            (λ told. EntersNext self.old index from to least depth told.0 told.1 self.new) }
+        ensures refused { OnErr result (self.new ≡ self.old) }
+    {
+        let packed = self.packed(index);
+        self.enter(packed.moved(from, to, least), depth)
+    }
+
+    /// Inserts a packed key.
+    fn enter(&mut self, key: PackedKey<N>, depth: u32) -> Result<(usize, bool), Memory>
         requires { N ≤ 16 }
         ensures inserted { IfOk result
             (λ told. Enters self.old (state_of key.entry) depth told.0 told.1 self.new) }
         ensures refused { OnErr result (self.new ≡ self.old) }
+        ensures refused_new { OnErr result (Contains (keys_of self.old) (state_of key.entry) → ⊥) }
     {
         fit(&key.boxes);
-        self.depths.reserve(1)?;
+        if self.depths.reserve(1).is_err() {
+            // A key that is present needs no room.
+            let Some(index) = self.keys.get_index_of(&key) else {
+                return Err(Memory);
+            };
+            return Ok((index, false));
+        }
         let (index, new) = self.keys.insert_full(key)?;
         if new {
             self.depths.push_reserved(depth);
@@ -71,8 +114,40 @@ impl<const N: usize> PackedTable<N> {
         Ok((index, new))
     }
 
-    /// The key at an index.
-    pub fn key(&self, index: usize) -> PackedKey<N>
+    /// The index of a key.
+    pub(crate) fn get(&self, key: &Key) -> Option<usize>
+        requires small { N ≤ 16 }
+        requires room { All (λ square. square < 64 * N) key.now.boxes }
+        ensures { MatchOption result
+            (Contains (keys_of self.now) key.now → ⊥) (IsAt self.now key.now) }
+    {
+        let packed: PackedKey<N> = PackedKey::of(key);
+        fit(&packed.boxes);
+        self.keys.get_index_of(&packed)
+    }
+
+    /// The key at an index. Its boxes are listed in a place for squares first.
+    pub(crate) fn key(
+        &self,
+        alloc: Global,
+        squares: &mut Vec<Sq>,
+        index: usize,
+    ) -> Result<Key, Memory>
+        requires small { N ≤ 16 }
+        requires exists { index < length self.now }
+        requires few { (key : Key) → IsAt self.now key index → length key.boxes ≤ box_limit }
+        ensures { IfOk result (λ key. IsAt self.now key index) }
+    {
+        let packed = self.packed(index);
+        packed.list(squares)?;
+        Ok(Key {
+            boxes: BoxSet::of(alloc, squares)?,
+            least: packed.least,
+        })
+    }
+
+    /// The packed key at an index.
+    fn packed(&self, index: usize) -> PackedKey<N>
         requires small { N ≤ 16 }
         requires exists { index < length self.now }
         ensures { IsAt self.now (state_of result) index }
@@ -81,7 +156,7 @@ impl<const N: usize> PackedTable<N> {
     }
 
     /// The depth of the key at an index.
-    pub fn depth(&self, index: usize) -> u32
+    pub(crate) fn depth(&self, index: usize) -> u32
         requires small { N ≤ 16 }
         requires exists { index < length self.now }
         ensures { slice_get (values_of self.now) index ≡ Some result }
@@ -89,9 +164,8 @@ impl<const N: usize> PackedTable<N> {
         self.depths[index]
     }
 
-    /// Lowers the depth of the key at an index. False, and no change, where the depth there is no
-    /// greater.
-    pub fn lower_depth(&mut self, index: usize, depth: u32) -> bool
+    /// Lowers the depth of the key at an index.
+    pub(crate) fn lower_depth(&mut self, index: usize, depth: u32) -> bool
         requires small { N ≤ 16 }
         requires exists { index < length self.old }
         ensures { Lowers self.old index depth result self.new }

@@ -1,122 +1,181 @@
 //! Keys in the order of their insertion, with depths.
 
-ghost use Rattle.std.specs.Prelude.{◌≡◌, ◌<◌, [], Some, Contains, IfOk, OnErr, MatchOption, length};
-ghost use Rattle.std.specs.Prelude.{slice_get};
+ghost use Rattle.std.specs.Prelude.{◌≡◌, ◌<◌, ◌≤◌, [], Some, All, Contains, IfOk, OnErr, MatchOption};
+ghost use Rattle.std.specs.Prelude.{length, slice_get};
 ghost use Rattle.std.specs.Map.{keys_of, values_of};
-ghost use Rattle.indexmap.specs.IndexMap.{index_map_len};
-ghost use Rattle.indexmap.specs.Layout.{set_value_at};
-ghost use Rattle.sok_state.specs.Tables.{HasDistinctKeys, IsAt, Inserts, Lowers};
+ghost use Rattle.sok_board.specs.Limits.{box_limit, square_limit};
+ghost use Rattle.sok_state.specs.declared.key.Key.{Key};
+ghost use Rattle.sok_state.specs.Tables.{Enters, EntersNext, HasDistinctKeys, IsAt, Lowers};
 
 use crate::key::Key;
-use indexmap::IndexMap;
+use crate::packed_table::PackedTable;
+use sok_board::area::Sq;
 use sok_rules::fault::Memory;
 use std::alloc::Global;
 use std::marker::Model;
 
 /// The states that are known, each with a depth, in the order of their insertion. A table is seen
-/// as the list of its keys with their depths.
-#[derive(Debug, Drop)]
+/// as the list of its keys with their depths, and its room: the squares below that have a bit.
+#[derive(Drop)]
 pub struct Table {
-    depths: IndexMap<Key, u32>,
+    store: Store,
+}
+
+/// Keys that are as narrow as the squares of a board allow.
+#[derive(Drop)]
+enum Store {
+    One(PackedTable<1>),
+    Two(PackedTable<2>),
+    Four(PackedTable<4>),
+    Sixteen(PackedTable<16>),
 }
 
 impl Model for Table {
-    ghost use Rattle.std.specs.Prelude.{ℕ, List};
-    ghost use Rattle.sok_state.specs.declared.key.Key.{Key};
+    ghost use Rattle.sok_state.specs.Tables.{Tabled};
+    ghost use Rattle.sok_state.specs.Stores.{seen};
 
-    ghost Value = { List (Key × ℕ) };
+    ghost Value = { Tabled };
 
-    ghost view = { λ table. table.depths.entries };
+    ghost view = { λ table. seen table.store };
 }
 
 impl Table {
-    /// A table without a key. It keeps the allocator for what is inserted.
-    pub fn new(alloc: Global) -> Result<Table, Memory>
-        ensures { IfOk result (λ table. table ≡ []) }
+    /// A table without a key, and with room for so many squares. It keeps the allocator for what is
+    /// inserted.
+    pub fn new(alloc: Global, squares: usize) -> Table
+        requires { squares ≤ square_limit }
+        ensures none { result.entries ≡ [] }
+        ensures wide { squares ≤ result.room }
     {
-        Ok(Table {
-            depths: IndexMap::new(alloc),
-        })
+        if squares <= 64 {
+            let store = Store::One(PackedTable::new(alloc));
+            return Table { store };
+        }
+        if squares <= 128 {
+            let store = Store::Two(PackedTable::new(alloc));
+            return Table { store };
+        }
+        if squares <= 256 {
+            let store = Store::Four(PackedTable::new(alloc));
+            return Table { store };
+        }
+        let store = Store::Sixteen(PackedTable::new(alloc));
+        Table { store }
     }
 
     /// How many keys the table has.
     pub fn len(&self) -> usize
-        ensures count { result ≡ length self.now }
-        ensures distinct { HasDistinctKeys self.now }
+        ensures count { result ≡ length self.now.entries }
+        ensures distinct { HasDistinctKeys self.now.entries }
     {
-        self.depths.len()
+        match &self.store {
+            Store::One(table) => table.len(),
+            Store::Two(table) => table.len(),
+            Store::Four(table) => table.len(),
+            Store::Sixteen(table) => table.len(),
+        }
     }
 
-    /// Inserts a key, and tells its index: a new key goes last, with the depth, and one that is
-    /// present keeps its place and its depth. Where memory is refused the key is dropped.
-    pub fn insert(&mut self, key: Key, depth: u32) -> Result<usize, Memory>
-        ensures inserted { IfOk result (λ index. Inserts self.old key depth index self.new) }
+    /// Inserts a key, and tells its index and whether it is new: a new key goes last, with the
+    /// depth, and one that is present keeps its place and its depth. It refuses a new key alone, for
+    /// want of memory.
+    pub fn insert(&mut self, key: &Key, depth: u32) -> Result<(usize, bool), Memory>
+        requires { All (λ square. square < self.old.room) key.now.boxes }
+        ensures inserted { IfOk result (λ told.
+            Enters self.old.entries key.now depth told.0 told.1 self.new.entries) }
         ensures refused { OnErr result (self.new ≡ self.old) }
-        ensures refused_new { OnErr result (Contains (keys_of self.old) key → ⊥) }
+        ensures refused_new { OnErr result (Contains (keys_of self.old.entries) key.now → ⊥) }
+        ensures room { self.new.room ≡ self.old.room }
     {
-        let (index, kept) = self.depths.insert_full(key, depth)?;
-        match kept {
-            // The key is present: its depth comes back.
-            Some(kept) => {
-                set_depth(&mut self.depths, index, kept);
-                Ok(index)
-            }
-            None => Ok(index),
+        match &mut self.store {
+            Store::One(table) => table.insert(key, depth),
+            Store::Two(table) => table.insert(key, depth),
+            Store::Four(table) => table.insert(key, depth),
+            Store::Sixteen(table) => table.insert(key, depth),
+        }
+    }
+
+    /// Inserts the key after a push from the one at an index, as `insert` does: a box has left one
+    /// square and come to another, and the player can walk to another least square.
+    pub fn insert_next(
+        &mut self,
+        index: usize,
+        from: Sq,
+        to: Sq,
+        least: Sq,
+        depth: u32,
+    ) -> Result<(usize, bool), Memory>
+        requires exists { index < length self.old.entries }
+        requires from { from < self.old.room }
+        requires to { to < self.old.room }
+        ensures inserted { IfOk result (λ told. EntersNext
+            self.old.entries index from to least depth told.0 told.1 self.new.entries) }
+        ensures refused { OnErr result (self.new ≡ self.old) }
+        ensures room { self.new.room ≡ self.old.room }
+    {
+        match &mut self.store {
+            Store::One(table) => table.insert_next(index, from, to, least, depth),
+            Store::Two(table) => table.insert_next(index, from, to, least, depth),
+            Store::Four(table) => table.insert_next(index, from, to, least, depth),
+            Store::Sixteen(table) => table.insert_next(index, from, to, least, depth),
         }
     }
 
     /// The index of a key, counted from 0, and None where the table lacks it.
     pub fn get(&self, key: &Key) -> Option<usize>
+        requires { All (λ square. square < self.now.room) key.now.boxes }
         ensures { MatchOption result
-            (Contains (keys_of self.now) key.now → ⊥) (IsAt self.now key.now) }
+            (Contains (keys_of self.now.entries) key.now → ⊥) (IsAt self.now.entries key.now) }
     {
-        self.depths.get_index_of(key)
+        match &self.store {
+            Store::One(table) => table.get(key),
+            Store::Two(table) => table.get(key),
+            Store::Four(table) => table.get(key),
+            Store::Sixteen(table) => table.get(key),
+        }
     }
 
-    /// A copy of the key at an index.
-    pub fn key(&self, alloc: Global, index: usize) -> Result<Key, Memory>
-        requires { index < length self.now }
-        ensures { IfOk result (λ key. IsAt self.now key index) }
+    /// The key at an index. Its boxes are listed in a place for squares first. It refuses only for
+    /// want of memory.
+    pub fn key(&self, alloc: Global, squares: &mut Vec<Sq>, index: usize) -> Result<Key, Memory>
+        requires exists { index < length self.now.entries }
+        requires few { (key : Key) → IsAt self.now.entries key index
+            → length key.boxes ≤ box_limit }
+        ensures { IfOk result (λ key. IsAt self.now.entries key index) }
     {
-        let (key, _) = self.depths.get_index(index).unwrap();
-        key.copy(alloc)
+        match &self.store {
+            Store::One(table) => table.key(alloc, squares, index),
+            Store::Two(table) => table.key(alloc, squares, index),
+            Store::Four(table) => table.key(alloc, squares, index),
+            Store::Sixteen(table) => table.key(alloc, squares, index),
+        }
     }
 
     /// The depth of the key at an index.
     pub fn depth(&self, index: usize) -> u32
-        requires { index < length self.now }
-        ensures { slice_get (values_of self.now) index ≡ Some result }
+        requires { index < length self.now.entries }
+        ensures { slice_get (values_of self.now.entries) index ≡ Some result }
     {
-        let (_, depth) = self.depths.get_index(index).unwrap();
-        *depth
+        match &self.store {
+            Store::One(table) => table.depth(index),
+            Store::Two(table) => table.depth(index),
+            Store::Four(table) => table.depth(index),
+            Store::Sixteen(table) => table.depth(index),
+        }
     }
 
     /// Lowers the depth of the key at an index. False, and no change, where the depth there is no
     /// greater.
     pub fn lower_depth(&mut self, index: usize, depth: u32) -> bool
-        requires { index < length self.old }
-        ensures { Lowers self.old index depth result self.new }
+        requires { index < length self.old.entries }
+        ensures lowered { Lowers self.old.entries index depth result self.new.entries }
+        ensures room { self.new.room ≡ self.old.room }
     {
-        match self.depths.get_index_mut(index) {
-            Some(kept) => {
-                if depth < *kept {
-                    *kept = depth;
-                    true
-                } else {
-                    false
-                }
-            }
-            None => false,
+        match &mut self.store {
+            Store::One(table) => table.lower_depth(index, depth),
+            Store::Two(table) => table.lower_depth(index, depth),
+            Store::Four(table) => table.lower_depth(index, depth),
+            Store::Sixteen(table) => table.lower_depth(index, depth),
         }
-    }
-}
-
-/// Sets the depth of the key at an index.
-fn set_depth(depths: &mut IndexMap<Key, u32>, index: usize, depth: u32)
-    requires { index < index_map_len depths.old }
-    ensures { depths.new.entries ≡ set_value_at depths.old.entries index depth }
-{
-    if let Some(kept) = depths.get_index_mut(index) {
-        *kept = depth;
     }
 }

@@ -5,13 +5,17 @@ use Rattle.sok_board.proofs.Lists.{Contains-at}
 use Rattle.sok_cert.specs.Closed.{IsPosition}
 use Rattle.sok_cert.specs.Lookup.{IsClosedAt, TellsOpen}
 use Rattle.sok_cert.proofs.Entered.{before_more}
-use Rattle.sok_cert.proofs.Followed.{IsFollowed-found, IsFirstOpen-missing, key-at}
+use Rattle.sok_cert.proofs.Followed.{IsFollowed-found, IsFirstOpen-missing, few-at, key-at}
 use Rattle.sok_cert.proofs.following.check_pushes.Goals as goal
 use Rattle.sok_cert.proofs.following.check_pushes.Goals.{After-is_expanded}
 
 there : (c : After-is_expanded) → slice_get c.args.entries.now c.loop-index.index ≡ Some c.index-entries-index.result
 there c =
     slice_get-get_or c.args.entries.now c.loop-index.index c.index-entries-index.result c.loop-index-test.true ∙ ap Some (sym c.index-entries-index.is)
+
+pub key-requires-clause-few : goal.key-requires-clause-few
+key-requires-clause-few c = λ key at. few-at c.args.board.now c.args.entries.now c.args.table.now.entries c.requires.looking c.loop-index.index
+    c.index-entries-index.result key (there (goal.at.key-requires-clause-few c).After-is_expanded) at
 
 pub open_push-requires-clause-key : goal.open_push-requires-clause-key
 open_push-requires-clause-key c =
@@ -22,8 +26,8 @@ open_push-requires-clause-key c =
     record {
       player = e.player;
       boxes = e.boxes;
-      placed = (All-contains (IsPosition b) entries e c.requires.positions (Contains-at entries e c.loop-index.index at)).placed;
-      is = key-at b entries c.args.table.now c.requires c.loop-index.index e c.in_ok-key.key at c.in_ok-key.ensures;
+      placed = (All-contains (IsPosition b) entries e c.requires.looking.positions (Contains-at entries e c.loop-index.index at)).placed;
+      is = key-at b entries c.args.table.now.entries c.requires.looking c.loop-index.index e c.in_ok-key.key at c.in_ok-key.ensures;
     }
 
 pub returns-in-Some-clause-refused : goal.returns-in-Some-clause-refused
@@ -31,8 +35,8 @@ returns-in-Some-clause-refused c =
     let b = c.args.board.now in
     let e = c.index-entries-index.result in
     let at = there (goal.at.returns-in-Some-clause-refused c).After-is_expanded in
-    IsFirstOpen-missing b c.args.entries.now c.args.table.now c.requires c.loop-index.index e at c.in_ok-key.key c.in_ok-key.ensures c.in-Some.push
-    (sym c.if-not-is_expanded.ensures) (subst (TellsOpen b c.args.table.now c.in_ok-key.key e.depth) c.in-Some.is c.in_ok-push.ensures) c.loop-index.invariant
+    IsFirstOpen-missing b c.args.entries.now c.args.table.now.entries c.requires.looking c.loop-index.index e at c.in_ok-key.key c.in_ok-key.ensures c.in-Some.push
+    (sym c.if-not-is_expanded.ensures) (subst (TellsOpen b c.args.table.now.entries c.in_ok-key.key e.depth) c.in-Some.is c.in_ok-push.ensures) c.loop-index.invariant
 
 pub loop-index-preserved-then-not-is_expanded : goal.loop-index-preserved-then-not-is_expanded
 loop-index-preserved-then-not-is_expanded c =
@@ -49,9 +53,9 @@ loop-index-preserved c =
     let n = c.loop-index.index in
     let at = there (goal.at.loop-index-preserved c).After-is_expanded in
     before_more (λ _ f. IsClosedAt b entries f) entries n e at c.loop-index.invariant
-    (λ _. IsFollowed-found b entries c.args.table.now c.requires e (Contains-at entries e n at) c.in_ok-key.key
-    (key-at b entries c.args.table.now c.requires n e c.in_ok-key.key at c.in_ok-key.ensures)
-    (subst (TellsOpen b c.args.table.now c.in_ok-key.key e.depth) c.in_default.is c.in_ok-push.ensures))
+    (λ _. IsFollowed-found b entries c.args.table.now.entries c.requires.looking e (Contains-at entries e n at) c.in_ok-key.key
+    (key-at b entries c.args.table.now.entries c.requires.looking n e c.in_ok-key.key at c.in_ok-key.ensures)
+    (subst (TellsOpen b c.args.table.now.entries c.in_ok-key.key e.depth) c.in_default.is c.in_ok-push.ensures))
 
 pub returns-clause-followed : goal.returns-clause-followed
 returns-clause-followed c = λ k d within.

@@ -15,7 +15,7 @@ returns-then-not-branch c =
       (
         push,
         slice_get-get_or c.args.pushes.now at no_push c.loop-place-test.true,
-        subst (TellsFound c.args.board.now c.args.table.now c.args.key.now c.args.depth push) c.if-not-branch.true c.in_ok-is_found.ensures,
+        subst (TellsFound c.args.board.now c.args.table.now.entries c.args.key.now c.args.depth push) c.if-not-branch.true c.in_ok-is_found.ensures,
       ),
       c.loop-place.invariant,
     )
@@ -24,9 +24,9 @@ pub loop-place-preserved : goal.loop-place-preserved
 loop-place-preserved c =
     let at = c.loop-place.place in
     let here = get_or c.args.pushes.now at no_push in
-    before_more (λ _ push. IsFound c.args.board.now c.args.table.now c.args.key.now c.args.depth push) c.args.pushes.now at here
+    before_more (λ _ push. IsFound c.args.board.now c.args.table.now.entries c.args.key.now c.args.depth push) c.args.pushes.now at here
     (slice_get-get_or c.args.pushes.now at no_push c.loop-place-test.true) c.loop-place.invariant
-    (subst (TellsFound c.args.board.now c.args.table.now c.args.key.now c.args.depth here) c.if-not-branch.false c.in_ok-is_found.ensures)
+    (subst (TellsFound c.args.board.now c.args.table.now.entries c.args.key.now c.args.depth here) c.if-not-branch.false c.in_ok-is_found.ensures)
 
 pub returns : goal.returns
 returns c = λ i push there.

@@ -4,4 +4,4 @@ use Rattle.sok_cert.specs.Lookup.{IsFound}
 use Rattle.sok_cert.proofs.following.first_missing.Given as goal
 
 abbrev pub invariant-loop-place : goal.invariant-loop-place
-invariant-loop-place l = (i : ℕ) (push : Push) → i < l.place → slice_get l.pushes i ≡ Some push → IsFound l.board l.table l.key l.depth push
+invariant-loop-place l = (i : ℕ) (push : Push) → i < l.place → slice_get l.pushes i ≡ Some push → IsFound l.board l.table.entries l.key l.depth push

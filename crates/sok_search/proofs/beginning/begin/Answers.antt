@@ -1,36 +1,27 @@
-use Rattle.std.proofs.Common.{◌≡◌, ◌<◌, [], None, ap, arith, length, refl, subst}
-use Rattle.std.proofs.lemmas.List.Elements.{All-weaker}
+use Rattle.std.proofs.Common.{◌≡◌, [], None, ap, arith, refl, subst}
 use Rattle.sok_state.specs.Tables.{GoesLast}
 use Rattle.sok_search.specs.declared.note.Note.{Note}
 use Rattle.sok_search.specs.Searches.{Frame, Progress}
 use Rattle.sok_search.specs.Steps.{IsListed}
-use Rattle.sok_search.specs.Stores.{entries_in, room_of}
 use Rattle.sok_search.specs.Views.{progress_of}
 use Rattle.sok_search.proofs.Adding.{added-made, first-last}
 use Rattle.sok_search.proofs.Opening.{begun, nothing}
 use Rattle.sok_search.proofs.beginning.begin.Goals as goal
-
-pub insert-requires : goal.insert-requires
-insert-requires c =
-    let wide = c.new-store.ensures.wide in
-    let count = c.squares.ensures.count in
-    All-weaker (λ square. square < length c.args.board.now.area) (λ square. square < room_of c.new-store.result)
-    (λ square exists. omega (arith, wide, count, exists)) c.in_ok-key.key.boxes c.in_ok-key.ensures.of_board.is.placed.boxes_exist
 
 pub returns-clause-search : goal.returns-clause-search
 returns-clause-search c = λ limit positive.
     let b = c.args.board.now in
     let key = c.in_ok-key.key in
     let note : Note = record { origin = None; standing = c.in_ok-standing.standing } in
-    let frame : Frame = record { room = room_of c.new-store.result; whole = c.args.whole } in
-    let inserted : Frame = record { room = room_of c.insert.new.self; whole = c.args.whole } in
-    let table = entries_in c.insert.new.self in
+    let frame : Frame = record { room = c.new-table.result.room; whole = c.args.whole } in
+    let inserted : Frame = record { room = c.insert.new.self.room; whole = c.args.whole } in
+    let table = c.insert.new.self.entries in
     let room = c.in_ok-index.ensures.room in
     let same : inserted ≡ frame = λ i. record { room = room i; whole = c.args.whole } in
-    let wide = c.new-store.ensures.wide in
+    let wide = c.new-table.ensures.wide in
     let count = c.squares.ensures.count in
-    let last : GoesLast [] key 0 c.in_ok-index.index table = first-last (entries_in c.new-store.result) table key 0 c.in_ok-index.index c.in_ok-index._is_new
-    c.new-store.ensures.none c.in_ok-index.ensures.inserted in
+    let last : GoesLast [] key 0 c.in_ok-index.index table = first-last c.new-table.result.entries table key 0 c.in_ok-index.index c.in_ok-index._is_new
+    c.new-table.ensures.none c.in_ok-index.ensures.inserted in
     let begins : Progress = record { frame = inserted; table = table; notes = c.new.result.items; queue = c.new-2.result; best = None } in
     let bare : begins ≡ record (nothing frame) { frame = inserted; table = table } = λ i. record {
       frame = inserted;

@@ -4,12 +4,10 @@ use Rattle.sok_board.proofs.Beside.{beside-within}
 use Rattle.sok_push.specs.Pushing.{IsStuck}
 use Rattle.sok_cert.proofs.Starting.{at-within}
 use Rattle.sok_state.specs.declared.key.Key.{Key}
-use Rattle.sok_state.specs.Tables.{Entries, Enters, GoesLast, Stays}
+use Rattle.sok_state.specs.Tables.{Entries, Enters, GoesLast, Stays, Tabled}
 use Rattle.sok_search.specs.declared.search.Search.{Search}
-use Rattle.sok_search.specs.declared.store.Store.{Store}
 use Rattle.sok_search.specs.Searches.{Frame}
 use Rattle.sok_search.specs.Steps.{holding}
-use Rattle.sok_search.specs.Stores.{entries_in, room_of}
 use Rattle.sok_search.specs.Trials.{IsPushable}
 use Rattle.sok_search.specs.Views.{progress_of}
 use Rattle.sok_search.proofs.Adding.{added-made, note-within, taken, taken-deep, taken-key, taken-pushable}
@@ -48,7 +46,7 @@ step-least-requires-clause-pushable c =
     (c.args.key.now, can)
 
 pub insert_next-requires-clause-exists : goal.insert_next-requires-clause-exists
-insert_next-requires-clause-exists c = at-within (entries_in c.args.search.now.store) c.args.key.now c.args.index c.requires.state.there
+insert_next-requires-clause-exists c = at-within c.args.search.now.table.entries c.args.key.now c.args.index c.requires.state.there
 
 pub insert_next-requires-clause-to : goal.insert_next-requires-clause-to
 insert_next-requires-clause-to c =
@@ -58,7 +56,7 @@ insert_next-requires-clause-to c =
 
 pub overflow_cast-origin : goal.overflow_cast-origin
 overflow_cast-origin c =
-    let within = at-within (entries_in c.args.search.now.store) c.args.key.now c.args.index c.requires.state.there in
+    let within = at-within c.args.search.now.table.entries c.args.key.now c.args.index c.requires.state.there in
     let few = c.requires.state.running.search.few in
     omega (arith, within, few, c.ranges.limit.fits)
 
@@ -78,39 +76,39 @@ comes_in : (c : After-step-least) → ComesNext c.args.board.now c.args.key.now 
 comes_in c = comes-next c.args.board.now c.requires.state.running.accepted c.args.key.now c.args.push c.square_ahead-to.result c.step-least.result
     c.args.trial.now.layout (can_in c) c.square_ahead-to.ensures c.step-least.ensures.next
 
--- the frame of a search with another store
-abbrev frame_in : Search → Store → Frame
-frame_in search store = record { room = room_of store; whole = search.whole }
+-- the frame of a search with another table
+abbrev frame_in : Search → Tabled → Frame
+frame_in search table = record { room = table.room; whole = search.whole }
 
-same_frame : (search : Search) (store : Store) → room_of store ≡ room_of search.store → frame_in search store ≡ (progress_of search).frame
-same_frame search store same = λ i. record { room = same i; whole = search.whole }
+same_frame : (search : Search) (table : Tabled) → table.room ≡ search.table.room → frame_in search table ≡ (progress_of search).frame
+same_frame search table same = λ i. record { room = same i; whole = search.whole }
 
 -- the next state is known
 next_in : Then-not-is_new → Key
 next_in c = next_of c.args.key.now c.args.push.from c.square_ahead-to.result c.step-least.result
 
-stays_in : (c : Then-not-is_new) → Stays (entries_in c.args.search.now.store) (next_in c) c.in_ok-at.at (entries_in c.insert_next.new.self)
+stays_in : (c : Then-not-is_new) → Stays c.args.search.now.table.entries (next_in c) c.in_ok-at.at c.insert_next.new.self.entries
 unfolding next_in
 stays_in c =
     let can = taken-pushable c.args.board.now c.requires.state.running.accepted c.args.limit c.args.index (progress_of c.args.search.now) c.args.key.now c.args.depth
     c.requires.state.running.search c.requires.state.there c.requires.state.depth_is c.args.push c.requires.legal c.args.trial.now.layout c.requires.laid in
     let comes = comes-next c.args.board.now c.requires.state.running.accepted c.args.key.now c.args.push c.square_ahead-to.result c.step-least.result
     c.args.trial.now.layout can c.square_ahead-to.ensures c.step-least.ensures.next in
-    subst (λ t. Enters (entries_in c.args.search.now.store) (next_in c) (c.args.depth + 1) c.in_ok-at.at t (entries_in c.insert_next.new.self))
+    subst (λ t. Enters c.args.search.now.table.entries (next_in c) (c.args.depth + 1) c.in_ok-at.at t c.insert_next.new.self.entries)
     c.if-not-is_new.true (c.in_ok-at.ensures.inserted.enters c.args.key.now (next_in c) c.requires.state.there comes.is)
 
 pub approach-requires-clause-exists : goal.approach-requires-clause-exists
 approach-requires-clause-exists c =
     let here = (goal.at.approach-requires-clause-exists c).Then-not-is_new in
     let stays = stays_in here in
-    let within = at-within (entries_in c.args.search.now.store) (next_in here) c.in_ok-at.at stays.there in
+    let within = at-within c.args.search.now.table.entries (next_in here) c.in_ok-at.at stays.there in
     let same = ap (λ (es : Entries). length es) stays.unchanged in
     omega (arith, within, same)
 
 pub approach-requires-clause-small : goal.approach-requires-clause-small
 approach-requires-clause-small c =
     let here = (goal.at.approach-requires-clause-small c).Then-not-is_new in
-    let within = at-within (entries_in c.args.search.now.store) (next_in here) c.in_ok-at.at (stays_in here).there in
+    let within = at-within c.args.search.now.table.entries (next_in here) c.in_ok-at.at (stays_in here).there in
     let few = c.requires.state.running.search.few in
     omega (arith, within, few, c.ranges.limit.fits)
 
@@ -133,7 +131,7 @@ returns-then-not-is_new-clause-tells c =
     let stays = stays_in ((goal.at.returns-then-not-is_new-clause-tells c).Then-not-is_new) in
     pushed-known c.args.board.now c.args.limit c.args.index p c.requires.state.running.search c.args.key.now c.args.depth c.requires.state.there c.requires.state.depth_is
     one.note one.note_is c.args.push c.requires.legal next comes.came.exact comes.came.state comes.as_many
-    c.in_ok-at.at (frame_in c.args.search.now c.insert_next.new.self) (entries_in c.insert_next.new.self)
+    c.in_ok-at.at (frame_in c.args.search.now c.insert_next.new.self) c.insert_next.new.self.entries
     (same_frame c.args.search.now c.insert_next.new.self c.in_ok-at.ensures.room) stays
     (progress_of c.approach.new.search) c.in_ok-approach.ensures
 
@@ -147,8 +145,8 @@ returns-then-at-limit-clause-tells c =
     let p = progress_of c.args.search.now in
     let comes = comes_in ((goal.at.returns-then-at-limit-clause-tells c).After-step-least) in
     let next = next_of c.args.key.now c.args.push.from c.square_ahead-to.result c.step-least.result in
-    let last : GoesLast p.table next (c.args.depth + 1) c.in_ok-at.at (entries_in c.insert_next.new.self) = subst
-    (λ t. Enters p.table next (c.args.depth + 1) c.in_ok-at.at t (entries_in c.insert_next.new.self)) c.if-not-is_new.false
+    let last : GoesLast p.table next (c.args.depth + 1) c.in_ok-at.at c.insert_next.new.self.entries = subst
+    (λ t. Enters p.table next (c.args.depth + 1) c.in_ok-at.at t c.insert_next.new.self.entries) c.if-not-is_new.false
     (c.in_ok-at.ensures.inserted.enters c.args.key.now next c.requires.state.there comes.is) in
     let full = c.if-at-limit.true in
     let count = last.last in
@@ -176,8 +174,8 @@ returns-clause-tells c =
     let one = taken c.args.board.now c.args.limit c.args.index p c.args.key.now c.args.depth c.requires.state.running.search c.requires.state.there c.requires.state.depth_is in
     let comes = comes_in ((goal.at.returns-clause-tells c).After-step-least) in
     let next = next_of c.args.key.now c.args.push.from c.square_ahead-to.result c.step-least.result in
-    let last : GoesLast p.table next (c.args.depth + 1) at (entries_in c.insert_next.new.self) = subst
-    (λ t. Enters p.table next (c.args.depth + 1) at t (entries_in c.insert_next.new.self)) c.if-not-is_new.false
+    let last : GoesLast p.table next (c.args.depth + 1) at c.insert_next.new.self.entries = subst
+    (λ t. Enters p.table next (c.args.depth + 1) at t c.insert_next.new.self.entries) c.if-not-is_new.false
     (c.in_ok-at.ensures.inserted.enters c.args.key.now next c.requires.state.there comes.is) in
     let room = c.if-at-limit.false in
     let count = last.last in
@@ -185,6 +183,6 @@ returns-clause-tells c =
     c.args.depth c.requires.state.there c.requires.state.depth_is one.note one.note_is
     c.args.push c.requires.legal next comes.came.exact comes.came.state comes.as_many last.absent
     (omega (arith, room, count)) _ refl c.in_ok-standing.ensures.judged q
-    (added-made p (frame_in c.args.search.now c.insert_next.new.self) (entries_in c.insert_next.new.self) q next (c.args.depth + 1) at _
+    (added-made p (frame_in c.args.search.now c.insert_next.new.self) c.insert_next.new.self.entries q next (c.args.depth + 1) at _
     (same_frame c.args.search.now c.insert_next.new.self c.in_ok-at.ensures.room) last
     c.in_ok-add.ensures)

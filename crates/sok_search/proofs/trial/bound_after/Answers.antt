@@ -1,7 +1,7 @@
 use Rattle.std.proofs.Common.{◌<◌, List, ℕ, All, length, subst, sym}
 use Rattle.sok_price.specs.Matched.{TellsLeast}
 use Rattle.sok_board.specs.BoxSets.{put_in_order}
-use Rattle.sok_search.proofs.Stepped.{moved-same}
+use Rattle.sok_state.proofs.Moves.{moved-same}
 use Rattle.sok_search.proofs.trial.bound_after.Goals as goal
 
 pub returns-then-trial-clause-least : goal.returns-then-trial-clause-least

@@ -35,6 +35,6 @@ loop-square-smaller g c =
     let pushed = rw c.unwrap.ensures at c.push.ensures.items in
     rw pushed (let longer = length_push c.loop-square.squares.items c.in-Some.square in omega (arith, fewer, longer))
 
-pub returns-clause-listed : goal.returns-clause-listed
-returns-clause-listed g c = IsUnpacked-all c.args.self.now.boxes c.loop-square.left c.loop-square.squares.items c.loop-square.invariant.unpacked
+pub returns : goal.returns
+returns g c = IsUnpacked-all c.args.self.now.boxes c.loop-square.left c.loop-square.squares.items c.loop-square.invariant.unpacked
     c.in_default.ensures

@@ -1,11 +1,12 @@
-use Rattle.std.proofs.Common.{ℕ, ◌≡◌, ◌++◌, ◌∷◌, [], true, false, ap, sym, ◌∙◌, subst, arith, List, slice_get, if◌then◌else◌}
+use Rattle.std.proofs.Common.{ℕ, ◌≡◌, ◌++◌, ◌∷◌, [], true, false, ap, sym, ◌∙◌, subst, arith, List, slice_get, if◌then◌else◌, Contains, None, Some, OnErr, Result, Ok, Err}
+use Rattle.std.specs.Map.{keys_of}
 use Rattle.std.specs.List.{list_any}
 use Rattle.std.proofs.lemmas.Bool.{not-false, not-true}
 use Rattle.sok_state.specs.declared.packed.PackedKey.{PackedKey}
 use Rattle.sok_state.specs.PackedKeys.{ArePacked, entries_of, state_of}
-use Rattle.sok_state.specs.Tables.{Enters, Entries, GoesLast, Stays}
-use Rattle.sok_state.proofs.PackedTables.{packed_eq, ArePacked-more, GoesLast-packed, Stays-packed}
-use Rattle.sok_state.proofs.packed_table.PackedTable.insert.Goals as goal
+use Rattle.sok_state.specs.Tables.{Enters, Entries, GoesLast, IsAt, Stays}
+use Rattle.sok_state.proofs.PackedTables.{packed_eq, ArePacked-more, GoesLast-packed, Stays-packed, absent-packed, found-packed}
+use Rattle.sok_state.proofs.packed_table.PackedTable.enter.Goals as goal
 
 pub invariant_of-self-then-new : goal.invariant_of-self-then-new
 invariant_of-self-then-new g c =
@@ -19,6 +20,31 @@ invariant_of-self-then-new g c =
     (ap (λ (ds : List ℕ). ds ++ c.args.depth ∷ []) c.reserve.ensures.items) in
     subst (λ ks. ArePacked N ks c.push_reserved.new.self.items) (sym new_keys) (subst (λ ds. ArePacked N (keys ++ key ∷ []) ds) (sym new_depths)
     (ArePacked-more keys depths c.self.invariant key c.args.depth (record { long = omega arith; fits = c.fit.ensures })))
+
+on_err : {X E : Type 0} (P : Type 0) (r : Result X E) → P → OnErr r P
+on_err P (Ok x) holds = tt
+on_err P (Err e) holds = holds
+
+pub returns-in_default-clause-refused_new : goal.returns-in_default-clause-refused_new
+returns-in_default-clause-refused_new g c =
+    subst (λ (es : Entries). Contains (keys_of es) (state_of c.args.key) → ⊥) c.self.view_is
+    (found-packed c.self.inside.keys.keys c.self.inside.depths.items c.self.invariant c.args.key None (record { long = omega arith; fits = c.fit.ensures })
+    (sym c.in_default.is ∙ c.get_index_of.ensures.index))
+
+pub returns-then-is_err-clause-inserted : goal.returns-then-is_err-clause-inserted
+returns-then-is_err-clause-inserted g c =
+    let at = found-packed c.self.inside.keys.keys c.self.inside.depths.items c.self.invariant c.args.key (Some c.in-Some.index)
+    (record { long = omega arith; fits = c.fit.ensures }) (sym c.in-Some.is ∙ c.get_index_of.ensures.index) in
+    record {
+      there = subst (λ (es : Entries). IsAt es (state_of c.args.key) c.in-Some.index) c.self.view_is at;
+      unchanged = ap (entries_of c.self.inside.keys.keys) c.reserve.ensures.items ∙ c.self.view_is;
+    }
+
+pub returns-in_err-index-clause-refused_new : goal.returns-in_err-index-clause-refused_new
+returns-in_err-index-clause-refused_new g c = on_err (Contains (keys_of c.args.self.now) (state_of c.args.key) → ⊥) c.from_residual.result
+    (subst (λ (es : Entries). Contains (keys_of es) (state_of c.args.key) → ⊥) c.self.view_is
+    (absent-packed c.self.inside.keys.keys c.self.inside.depths.items c.self.invariant c.args.key (record { long = omega arith; fits = c.fit.ensures })
+    c.in_err-index.ensures.absent))
 
 pub returns-then-new-clause-inserted : goal.returns-then-new-clause-inserted
 returns-then-new-clause-inserted g c =

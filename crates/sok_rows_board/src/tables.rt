@@ -1,0 +1,176 @@
+//! Tables of states, as narrow and as wide as there are.
+
+ghost use Rattle.std.specs.Prelude.{◌<◌, ◌≤◌, All, IfOk, OnOk};
+
+use crate::setting::are_below;
+use sok_board::area::{SQUARE_LIMIT, Sq};
+use sok_sketch::sets::box_set;
+use sok_state::key::Key;
+use sok_state::table::Table;
+use std::alloc::Global;
+use std::process::Abort;
+use std::test::Fail;
+
+/// The key with boxes on rising squares, of which there are so many on a board, and a least square.
+fn key(rt: &impl Abort, alloc: Global, squares: usize, boxes: &[Sq], least: Sq) -> Result<Key, Fail>
+    ensures { IfOk result (λ key. All (λ square. square < squares) key.boxes) }
+{
+    assert!(rt; are_below(boxes, squares));
+    let boxes = box_set(alloc, boxes)?;
+    Ok(Key { boxes, least })
+}
+
+/// Whether a table has a key at an index, with a depth: it is found there, and comes back.
+fn has_key(
+    alloc: Global,
+    squares: usize,
+    table: &Table,
+    key: &Key,
+    index: usize,
+    depth: u32,
+) -> Result<bool, Fail>
+    requires wide { squares ≤ table.now.room }
+    requires exist { All (λ square. square < squares) key.now.boxes }
+{
+    // A key has few boxes, so the one that comes back has few.
+    let _boxes = key.boxes.list();
+    let Some(at) = table.get(key) else {
+        return Ok(false);
+    };
+    if at >= table.len() {
+        return Ok(false);
+    }
+    let mut list = Vec::new(alloc);
+    let found = table.key(alloc, &mut list, at)?;
+    Ok(at == index && table.depth(at) == depth && found == *key)
+}
+
+/// Whether an insertion tells an index and whether the key is new, and the table then has the key
+/// there with a depth.
+fn inserts(
+    alloc: Global,
+    squares: usize,
+    table: &mut Table,
+    key: &Key,
+    depth: u32,
+    told: (usize, bool),
+    kept: u32,
+) -> Result<bool, Fail>
+    requires wide { squares ≤ table.old.room }
+    requires exist { All (λ square. square < squares) key.now.boxes }
+    ensures wide { OnOk result (squares ≤ table.new.room) }
+{
+    let found = table.insert(key, depth)?;
+    Ok(found == told && has_key(alloc, squares, table, key, told.0, kept)?)
+}
+
+/// The same of the key after a push from the first one, with 0 as its least square.
+fn inserts_next(
+    rt: &impl Abort,
+    alloc: Global,
+    squares: usize,
+    table: &mut Table,
+    push: (Sq, Sq),
+    key: &Key,
+    depth: u32,
+    told: (usize, bool),
+    kept: u32,
+) -> Result<bool, Fail>
+    requires wide { squares ≤ table.old.room }
+    requires exist { All (λ square. square < squares) key.now.boxes }
+    ensures wide { OnOk result (squares ≤ table.new.room) }
+{
+    let (from, to) = push;
+    assert!(rt; (from as usize) < squares && (to as usize) < squares && table.len() > 0);
+    let found = table.insert_next(0, from, to, 0, depth)?;
+    Ok(found == told && has_key(alloc, squares, table, key, told.0, kept)?)
+}
+
+/// Whether the depth of the key at 0 is lowered or not, and what it is then.
+fn lowers(table: &mut Table, depth: u32, lowered: bool, kept: u32) -> bool {
+    if table.len() == 0 {
+        return false;
+    }
+    let told = table.lower_depth(0, depth);
+    told == lowered && 0 < table.len() && table.depth(0) == kept
+}
+
+/// A table for the squares of a board tells keys apart by their boxes and by their least squares.
+/// A present key keeps its place and its depth. Depths are lowered and never raised.
+fn assert_table(
+    rt: &impl Abort,
+    alloc: Global,
+    squares: usize,
+    boxes: &[Sq],
+    push: (Sq, Sq),
+    boxes_after: &[Sq],
+) -> Result<(), Fail> {
+    let first = key(rt, alloc, squares, boxes, 0)?;
+    let second = key(rt, alloc, squares, boxes, 1)?;
+    let after = key(rt, alloc, squares, boxes_after, 0)?;
+    assert!(rt; squares <= SQUARE_LIMIT);
+    let mut table = Table::new(alloc, squares);
+    assert!(rt; !has_key(alloc, squares, &table, &first, 0, 2)?);
+    assert!(rt; inserts(alloc, squares, &mut table, &first, 2, (0, true), 2)?);
+    assert!(rt; !has_key(alloc, squares, &table, &second, 0, 2)?);
+    assert!(rt; inserts(alloc, squares, &mut table, &second, 7, (1, true), 7)?);
+    assert!(rt; inserts(alloc, squares, &mut table, &first, 9, (0, false), 2)?);
+    assert!(rt; inserts(alloc, squares, &mut table, &second, 1, (1, false), 7)?);
+    assert!(rt; !has_key(alloc, squares, &table, &after, 2, 3)?);
+    assert!(rt;
+        inserts_next(
+            rt,
+            alloc,
+            squares,
+            &mut table,
+            push,
+            &after,
+            3,
+            (2, true),
+            3
+        )?
+    );
+    assert!(rt;
+        inserts_next(
+            rt,
+            alloc,
+            squares,
+            &mut table,
+            push,
+            &after,
+            8,
+            (2, false),
+            3
+        )?
+    );
+    assert!(rt; inserts(alloc, squares, &mut table, &after, 1, (2, false), 3)?);
+    assert!(rt; table.len() == 3);
+    for (depth, lowered, kept) in [(3, false, 2), (2, false, 2), (1, true, 1)] {
+        assert!(rt; lowers(&mut table, depth, lowered, kept), "{depth}");
+    }
+    Ok(())
+}
+
+/// Boards of as many squares as words have bits, and of one more: boxes on the first and the last
+/// square of words, one of which is pushed to another word where there is one.
+#[test]
+fn tables_of_each_width(rt: HostRuntime) -> Result<(), Fail> {
+    let cases: [(usize, &[Sq], (Sq, Sq), &[Sq]); 7] = [
+        (64, &[0, 31, 63], (63, 62), &[0, 31, 62]),
+        (65, &[0, 63], (63, 64), &[0, 64]),
+        (128, &[0, 63, 64, 127], (0, 126), &[63, 64, 126, 127]),
+        (129, &[5, 127], (127, 128), &[5, 128]),
+        (256, &[0, 128, 191, 255], (255, 192), &[0, 128, 191, 192]),
+        (257, &[5, 255], (255, 256), &[5, 256]),
+        (
+            1_024,
+            &[1, 64, 127, 640, 1_023],
+            (1_023, 1_022),
+            &[1, 64, 127, 640, 1_022],
+        ),
+    ];
+    for (squares, boxes, push, boxes_after) in cases {
+        assert_table(&rt, rt.alloc(), squares, boxes, push, boxes_after)?;
+    }
+    Ok(())
+}
