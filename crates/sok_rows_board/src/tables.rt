@@ -95,8 +95,52 @@ fn lowers(table: &mut Table, depth: u32, lowered: bool, kept: u32) -> bool {
     told == lowered && 0 < table.len() && table.depth(0) == kept
 }
 
+/// Whether a table tells keys apart by their least squares. A present key keeps its place and its
+/// depth.
+fn tells_apart(
+    rt: &impl Abort,
+    alloc: Global,
+    squares: usize,
+    table: &mut Table,
+    boxes: &[Sq],
+) -> Result<bool, Fail>
+    requires { squares ≤ table.old.room }
+    ensures { OnOk result (squares ≤ table.new.room) }
+{
+    let first = key(rt, alloc, squares, boxes, 0)?;
+    let second = key(rt, alloc, squares, boxes, 1)?;
+    Ok(
+        !has_key(alloc, squares, table, &first, 0, 2)?
+            && inserts(alloc, squares, table, &first, 2, (0, true), 2)?
+            && !has_key(alloc, squares, table, &second, 0, 2)?
+            && inserts(alloc, squares, table, &second, 7, (1, true), 7)?
+            && inserts(alloc, squares, table, &first, 9, (0, false), 2)?
+            && inserts(alloc, squares, table, &second, 1, (1, false), 7)?,
+    )
+}
+
+/// Whether the key after a push from the first one is another one, which is found there again.
+fn pushes_on(
+    rt: &impl Abort,
+    alloc: Global,
+    squares: usize,
+    table: &mut Table,
+    push: (Sq, Sq),
+    boxes_after: &[Sq],
+) -> Result<bool, Fail>
+    requires { squares ≤ table.old.room }
+{
+    let after = key(rt, alloc, squares, boxes_after, 0)?;
+    Ok(
+        !has_key(alloc, squares, table, &after, 2, 3)?
+            && inserts_next(rt, alloc, squares, table, push, &after, 3, (2, true), 3)?
+            && inserts_next(rt, alloc, squares, table, push, &after, 8, (2, false), 3)?
+            && inserts(alloc, squares, table, &after, 1, (2, false), 3)?,
+    )
+}
+
 /// A table for the squares of a board tells keys apart by their boxes and by their least squares.
-/// A present key keeps its place and its depth. Depths are lowered and never raised.
+/// Depths are lowered and never raised.
 fn assert_table(
     rt: &impl Abort,
     alloc: Global,
@@ -105,45 +149,10 @@ fn assert_table(
     push: (Sq, Sq),
     boxes_after: &[Sq],
 ) -> Result<(), Fail> {
-    let first = key(rt, alloc, squares, boxes, 0)?;
-    let second = key(rt, alloc, squares, boxes, 1)?;
-    let after = key(rt, alloc, squares, boxes_after, 0)?;
     assert!(rt; squares <= SQUARE_LIMIT);
     let mut table = Table::new(alloc, squares);
-    assert!(rt; !has_key(alloc, squares, &table, &first, 0, 2)?);
-    assert!(rt; inserts(alloc, squares, &mut table, &first, 2, (0, true), 2)?);
-    assert!(rt; !has_key(alloc, squares, &table, &second, 0, 2)?);
-    assert!(rt; inserts(alloc, squares, &mut table, &second, 7, (1, true), 7)?);
-    assert!(rt; inserts(alloc, squares, &mut table, &first, 9, (0, false), 2)?);
-    assert!(rt; inserts(alloc, squares, &mut table, &second, 1, (1, false), 7)?);
-    assert!(rt; !has_key(alloc, squares, &table, &after, 2, 3)?);
-    assert!(rt;
-        inserts_next(
-            rt,
-            alloc,
-            squares,
-            &mut table,
-            push,
-            &after,
-            3,
-            (2, true),
-            3
-        )?
-    );
-    assert!(rt;
-        inserts_next(
-            rt,
-            alloc,
-            squares,
-            &mut table,
-            push,
-            &after,
-            8,
-            (2, false),
-            3
-        )?
-    );
-    assert!(rt; inserts(alloc, squares, &mut table, &after, 1, (2, false), 3)?);
+    assert!(rt; tells_apart(rt, alloc, squares, &mut table, boxes)?);
+    assert!(rt; pushes_on(rt, alloc, squares, &mut table, push, boxes_after)?);
     assert!(rt; table.len() == 3);
     for (depth, lowered, kept) in [(3, false, 2), (2, false, 2), (1, true, 1)] {
         assert!(rt; lowers(&mut table, depth, lowered, kept), "{depth}");
