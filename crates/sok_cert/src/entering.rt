@@ -1,6 +1,6 @@
 //! The table of the entries' states.
 
-ghost use Rattle.std.specs.Prelude.{◌≡◌, ◌<◌, ◌≤◌, ◌+◌, IfOk, IfErr, length};
+ghost use Rattle.std.specs.Prelude.{◌≡◌, ◌<◌, ◌≤◌, ◌+◌, IfOk, IfErr, OnOk, length};
 ghost use Rattle.sok_board.specs.Area.{IsAccepted};
 ghost use Rattle.sok_cert.specs.Lookup.{IsTableOf};
 ghost use Rattle.sok_cert.specs.Refusals.{AreFine, IsRefused};
@@ -34,7 +34,7 @@ pub(crate) fn states(
 {
     let mut table = Table::new(alloc, board.squares());
     for index in 0..entries.len() {
-        table = enter(alloc, board, tables, claim, entries, index, table)?;
+        enter(alloc, board, tables, claim, entries, index, &mut table)?;
     }
     Ok(table)
 }
@@ -47,18 +47,18 @@ fn enter(
     claim: Claim,
     entries: &[Entry],
     index: usize,
-    mut table: Table,
-) -> Result<Table, CertFault>
+    table: &mut Table,
+) -> Result<(), CertFault>
     requires accepted { IsAccepted board.now }
     requires tables { tables.now.board ≡ board.now }
     requires exists { index < length entries.now }
     requires fine { AreFine board.now claim entries.now index }
-    requires entered { IsTableOf board.now entries.now index table.entries }
-    requires wide { length board.now.area ≤ table.room }
-    ensures fine { IfOk result (λ _. AreFine board.now claim entries.now (index + 1)) }
-    ensures entered { IfOk result
-        (λ after. IsTableOf board.now entries.now (index + 1) after.entries) }
-    ensures wide { IfOk result (λ after. length board.now.area ≤ after.room) }
+    requires entered { IsTableOf board.now entries.now index table.old.entries }
+    requires wide { length board.now.area ≤ table.old.room }
+    ensures fine { OnOk result (AreFine board.now claim entries.now (index + 1)) }
+    ensures entered { OnOk result
+        (IsTableOf board.now entries.now (index + 1) table.new.entries) }
+    ensures wide { OnOk result (length board.now.area ≤ table.new.room) }
     ensures refused { IfErr result (IsRefused board.now claim entries.now) }
 {
     let entry = &entries[index];
@@ -74,5 +74,5 @@ fn enter(
         Finding::Unreasoned => return Err(CertFault::BadReason(index)),
     }
     table.insert(&key, entry.depth)?;
-    Ok(table)
+    Ok(())
 }

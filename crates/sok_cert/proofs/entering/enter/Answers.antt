@@ -25,14 +25,14 @@ returns-then-is_some-clause-refused c =
       entry = c.index-entries-index.result;
       there = there at;
       before = c.requires.fine;
-      fault = IsRepeated-found c.args.board.now c.args.claim c.args.entries.now c.args.index c.args.table.entries c.index-entries-index.result c.in-Some.field-0.key
+      fault = IsRepeated-found c.args.board.now c.args.claim c.args.entries.now c.args.index c.args.table.now.entries c.index-entries-index.result c.in-Some.field-0.key
           place c.requires.accepted c.requires.exists c.requires.fine c.requires.entered found.position found.key_is is_at;
     }
 
 new : (c : After-judge) → (IsLocated c.args.board.now c.index-entries-index.result c.in-Some.field-0)
     → IsNew c.args.board.now c.args.entries.now c.args.index c.index-entries-index.result
 new c found =
-    IsNew-absent c.args.board.now c.args.claim c.args.entries.now c.args.index c.args.table.entries c.index-entries-index.result c.in-Some.field-0.key
+    IsNew-absent c.args.board.now c.args.claim c.args.entries.now c.args.index c.args.table.now.entries c.index-entries-index.result c.in-Some.field-0.key
     c.requires.accepted c.requires.fine c.requires.entered found.key_is (missing _ _ c.get.result c.get.ensures (sym c.if-is_some.ensures))
 
 pub returns-in-Solved-clause-refused : goal.returns-in-Solved-clause-refused
@@ -72,6 +72,6 @@ returns-clause-fine c =
 pub returns-clause-entered : goal.returns-clause-entered
 returns-clause-entered c =
     let at = (goal.at.returns-clause-entered c).After-get in
-    IsTableOf-more c.args.board.now c.args.entries.now c.args.index c.args.table.entries c.insert.new.self.entries c.index-entries-index.result c.in-Some.field-0.key
+    IsTableOf-more c.args.board.now c.args.entries.now c.args.index c.args.table.now.entries c.insert.new.self.entries c.index-entries-index.result c.in-Some.field-0.key
     c.in_ok-insert.field-0.0 c.in_ok-insert.field-0.1 (there at) c.requires.entered (located at).key_is (missing _ _ c.get.result c.get.ensures (sym c.if-is_some.ensures))
     c.in_ok-insert.ensures.inserted
