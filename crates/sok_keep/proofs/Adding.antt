@@ -4,6 +4,7 @@ use Rattle.std.proofs.Common.{Bool, true, false, IfErr, IfOk, IfSome, ap, arith,
 use Rattle.std.proofs.lemmas.Bool.Decides.{nat_tests}
 use Rattle.std.proofs.KnownBytes.{Keeps-refl}
 use Rattle.sqlite.specs.State.{State}
+use Rattle.sqlite.specs.View.{doubt}
 use Rattle.sok_rules.specs.declared.fault.LevelFault.{LevelFault}
 use Rattle.sok_rules.specs.declared.fault.LevelFault.TheVariants as level
 use Rattle.sok_rules.specs.Squares.{Rows}
@@ -29,7 +30,6 @@ use Rattle.sok_row.specs.Faults.{IsOutside}
 use Rattle.sok_store.specs.Calls.{Keeps, Turns, id_number, title_kept}
 use Rattle.sok_keep.specs.Adds.{AddsFirst, AddsLevel, WritesAdding, added, faulty, fault_line, id_line, more, none, title_at, unaccepted}
 use Rattle.sok_keep.specs.Adding.{LeavesLevel, LeavesLevels, seen}
-use Rattle.sok_keep.specs.Disk.{NoCleaner}
 
 -- ---- one level
 
@@ -49,17 +49,17 @@ level_added_unsaid old new n rows title id fault accepted turns memory clean boo
     (after, subst (λ f. LeavesLevel n (Ok rows) title book after (Err f)) (sym memory) (inr (line, added rows id refl accepted adds refl)), held)
 
 -- no board can be made of it
+pub no_board : (book : Book) (rows : Rows) (fault : BookFault) (cause : BoardFault) → IsOutside fault ⊎ IsNotAdded book rows fault
+    → fault ≡ refusal.Level cause → IsNotAdded book rows (refusal.Level cause)
+no_board book rows fault cause (inl (inl memory)) is = let no : ⊥ = cc in absurd no
+no_board book rows fault cause (inl (inr database)) is = let no : ⊥ = cc in absurd no
+no_board book rows fault cause (inr cannot) is = subst (IsNotAdded book rows) is cannot
+
 pub level_refused : (old new : State) (n : ℕ) (rows : Rows) (title : Option (List ℕ)) (fault : BookFault) (cause : BoardFault) (line : List ℕ)
     → Keeps old new (λ b. IsOutside fault ⊎ IsNotAdded b rows fault) → fault ≡ refusal.Level cause → line ≡ fault_line n (of_board cause)
     → Turns old new (λ b after. LeavesLevel n (Ok rows) title b after (Ok line))
 level_refused old new n rows title fault cause line keeps is told clean book holds =
-    let (why, held) = keeps clean book holds in
-    let refused : IsNotAdded book rows (refusal.Level cause) = elim why [
-      | inl (inl memory) ↦ let no : ⊥ = cc in absurd no
-      | inl (inr database) ↦ let no : ⊥ = cc in absurd no
-      | inr cannot ↦ subst (IsNotAdded book rows) is cannot
-    ] in
-    (book, unaccepted rows cause refl refused told refl, held)
+    let (why, held) = keeps clean book holds in (book, unaccepted rows cause refl (no_board book rows fault cause why is) told refl, held)
 
 -- why the call ends at a level
 stops : (b : Book) (n : ℕ) (rows : Rows) (title : Option (List ℕ)) (fault : BookFault) → ((cause : BoardFault) → fault ≢ refusal.Level cause)
@@ -87,10 +87,10 @@ level_unsaid old new n found title P told keeps memory clean book holds =
     (book, subst (λ f. LeavesLevel n found title book book (Err f)) (sym memory) (inl refl), held)
 
 -- a level as it is read, and one with a fault
-abbrev reads : Rows → Result Rows LevelFault
+abbrev pub reads : Rows → Result Rows LevelFault
 reads rows = Ok rows
 
-abbrev fails : LevelFault → Result Rows LevelFault
+abbrev pub fails : LevelFault → Result Rows LevelFault
 fails fault = Err fault
 
 -- the level of the collection, with its title
@@ -103,11 +103,15 @@ level_found old new n rows found title known result (inr is) same turns =
     (subst (λ l. Turns old new (λ b after. LeavesLevel n l title b after result)) is turns)
 
 -- it has a fault
-pub level_faulty : (s : State) (n : ℕ) (fault : LevelFault) (found : Result Rows LevelFault) (title : Option (List ℕ)) (line : List ℕ)
+pub is_faulty : (fault : LevelFault) (found : Result Rows LevelFault) → (fails fault ≡ fails level.Memory) ⊎ (fails fault ≡ found) → fault ≢ level.Memory
+    → found ≡ Err fault
+is_faulty fault found (inl memory) other = let is : fault ≡ level.Memory = cc in absurd (other is)
+is_faulty fault found (inr is) other = sym is
+
+level_faulty : (s : State) (n : ℕ) (fault : LevelFault) (found : Result Rows LevelFault) (title : Option (List ℕ)) (line : List ℕ)
     → (fails fault ≡ fails level.Memory) ⊎ (fails fault ≡ found) → fault ≢ level.Memory → line ≡ fault_line n (of_level fault)
     → Turns s s (λ b after. LeavesLevel n found title b after (Ok line))
-level_faulty s n fault found title line (inl memory) other told clean book holds = let is : fault ≡ level.Memory = cc in absurd (other is)
-level_faulty s n fault found title line (inr is) other told clean book holds = (book, faulty fault (sym is) told refl, holds)
+level_faulty s n fault found title line is other told clean book holds = (book, faulty fault (is_faulty fault found is other) told refl, holds)
 
 -- or memory was refused for its line
 pub level_unread : (s : State) (n : ℕ) (found : Result Rows LevelFault) (title : Option (List ℕ)) (told : ToolFault) → told ≡ tool.Memory
@@ -168,7 +172,7 @@ stopped_at blocks book n text middle after (tool.Book refusal.BookFull) within f
 stopped_at blocks book n text middle after fault within first never = absurd never
 
 -- the first levels, and then one more, or a stop
-module _ (old mid new : State) (blocks : List Block) (n : ℕ) (text : List ℕ) (cleaner : NoCleaner mid new) (within : n < length blocks)
+module _ (old mid new : State) (blocks : List Block) (n : ℕ) (text : List ℕ) (cleaner : doubt mid.is_clean ≤ doubt new.is_clean) (within : n < length blocks)
     (first : Turns old mid (λ b after. AddsFirst blocks b n text after)) where
   pub first_more : (line whole : List ℕ)
       → Turns mid new (λ b after. LeavesLevel (n + 1) (level_at blocks (n + 1)) (title_at blocks (n + 1)) b after (Ok line)) → whole ≡ text ++ line

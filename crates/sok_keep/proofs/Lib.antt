@@ -4,3 +4,4 @@ pub mod Ids
 pub mod Offering
 pub mod Proving
 pub mod Showing
+pub mod Treating

@@ -8,7 +8,7 @@ use Rattle.sok_book.specs.Books.{Book}
 use Rattle.sok_book.specs.Refusals.{IsNotAdded}
 use Rattle.sok_engine.specs.declared.fault.ToolFault.{ToolFault}
 use Rattle.sok_engine.specs.declared.fault.ToolFault.TheVariants as tool
-use Rattle.sok_keep.specs.Adds.{AddsFirst, AddsLevel, IsFullAt}
+use Rattle.sok_keep.specs.Adds.{AddsCount, AddsFirst, AddsLevel, IsFullAt}
 
 -- a result, with what is seen of its value
 abbrev pub seen : {A B E : Type 0} → (A → B) → Result A E → Result B E
@@ -22,6 +22,14 @@ LeavesLevel n level title book after (Err tool.Memory) = (after ≡ book) ⊎ ((
 LeavesLevel n level title book after (Err (tool.Book refusal.Database)) = after ≡ book
 LeavesLevel n level title book after (Err (tool.Book refusal.BookFull)) = (after ≡ book) × ((rows : Rows) × (level ≡ Ok rows) × IsNotAdded book rows refusal.BookFull)
 LeavesLevel n level title book after (Err fault) = ⊥
+
+-- the level is added, with some line
+abbrev pub AddsNext : ℕ → Result Rows LevelFault → Option (List ℕ) → Book → Book → Type 0
+AddsNext n level title book after = (line : List ℕ) × AddsLevel n level title book line after
+
+-- the first levels of a collection, as many as they are
+abbrev pub AddsSome : List Block → Book → Book → Type 0
+AddsSome blocks book after = (n : ℕ) × AddsCount blocks n book after
 
 -- why the next level is not added
 abbrev pub IsStopAt : List Block → ℕ → Book → ToolFault → Type 0

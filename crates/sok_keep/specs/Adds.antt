@@ -47,6 +47,14 @@ pub data AddsFirst (blocks : List Block) (book : Book) : ℕ → List ℕ → Bo
   more : (n : ℕ) (text line : List ℕ) (before after : Book) → AddsFirst blocks book n text before → n < length blocks
       → AddsLevel (n + 1) (level_at blocks (n + 1)) (title_at blocks (n + 1)) before line after → AddsFirst blocks book (n + 1) (text ++ line) after
 
+-- so many of them have been
+abbrev pub AddsCount : List Block → ℕ → Book → Book → Type 0
+AddsCount blocks n book after = (text : List ℕ) × AddsFirst blocks book n text after
+
+-- the first levels of the collection that a reader has left have been added, one or more of them, or none
+abbrev pub AddsBytes : Option (List ℕ) → Book → Book → Type 0
+AddsBytes known book after = (bytes : List ℕ) × IfSome known (λ all. bytes ≡ all) × (n : ℕ) × AddsCount (blocks_of bytes) n book after
+
 -- the n-th level is not there yet, and the book is full
 abbrev pub IsFullAt : List Block → ℕ → Book → Type 0
 IsFullAt blocks n book = (rows : Rows) × (level_at blocks n ≡ Ok rows) × IsNotAdded book rows refusal.BookFull

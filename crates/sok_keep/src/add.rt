@@ -1,6 +1,6 @@
 //! The levels of a collection are added to a book.
 
-ghost use Rattle.std.specs.Prelude.{◌≡◌, ◌≢◌, ◌⊎◌, IfErr, IfOk, Ok};
+ghost use Rattle.std.specs.Prelude.{◌≡◌, ◌≢◌, ◌⊎◌, IfErr, IfOk, OnOk, Ok};
 ghost use Rattle.std.specs.Prelude.{option_map, string_bytes};
 ghost use Rattle.sqlite.specs.Held.{state};
 ghost use Rattle.sok_text.specs.Collections.{blocks_of, level_at};
@@ -9,10 +9,10 @@ ghost use Rattle.sok_board.specs.declared.fault.BoardFault.{BoardFault};
 ghost use Rattle.sok_book.specs.declared.fault.BookFault.TheVariants as refusal;
 ghost use Rattle.sok_engine.specs.Faults.{of_board, of_book, of_level};
 ghost use Rattle.sok_engine.specs.declared.fault.ToolFault.TheVariants as tool;
-ghost use Rattle.sok_store.specs.Calls.{Turns};
-ghost use Rattle.sok_keep.specs.Adds.{WritesAdding, fault_line, id_line, title_at};
-ghost use Rattle.sok_keep.specs.Adding.{LeavesLevel, LeavesLevels, seen};
-ghost use Rattle.sok_keep.specs.Disk.{NoCleaner};
+ghost use Rattle.sok_store.specs.Calls.{KeepsOpen, Stops, Turns};
+ghost use Rattle.sok_keep.specs.Adds.{AddsBytes, WritesAdding, fault_line, id_line, title_at};
+ghost use Rattle.sok_keep.specs.Adding.{AddsNext, AddsSome, LeavesLevel, LeavesLevels, seen};
+ghost use Rattle.sok_keep.specs.Causes.{IsCausedFault, Treats};
 
 use sok_book::fault::BookFault;
 use sok_engine::answer::Answer;
@@ -44,7 +44,11 @@ pub fn add_bytes<S: Alter, R: Read, W: Write>(
     ensures writes { Turns (state S.Store book.old) (state S.Store book.new) (λ pages after.
         WritesAdding pages (R.remaining input.old) after (W.contents out.old) (W.contents out.new)
         result) }
-    ensures clean { NoCleaner (state S.Store book.old) (state S.Store book.new) }
+    ensures open { OnOk result (KeepsOpen (state S.Store book.old) (state S.Store book.new)) }
+    ensures stop { Stops (state S.Store book.old) (state S.Store book.new)
+        (AddsBytes (R.remaining input.old)) }
+    ensures cause { IfErr result (IsCausedFault (state S.Store book.old) (state S.Store book.new)
+        (AddsBytes (R.remaining input.old))) }
 {
     let bytes = read_input(alloc, input)?;
     let lines = added(alloc, book, bytes.as_slice())?;
@@ -56,7 +60,8 @@ pub fn add_bytes<S: Alter, R: Read, W: Write>(
 fn added<S: Alter>(alloc: Global, book: &mut Book<S>, bytes: &[u8]) -> Result<Vec<u8>, ToolFault>
     ensures leaves { Turns (state S.Store book.old) (state S.Store book.new) (λ pages after.
         LeavesLevels (blocks_of bytes.now) pages after (seen (λ v. v.items) result)) }
-    ensures clean { NoCleaner (state S.Store book.old) (state S.Store book.new) }
+    ensures treats { Treats (state S.Store book.old) (state S.Store book.new)
+        (AddsSome (blocks_of bytes.now)) result }
 {
     let collection = Collection::read(alloc, bytes)?;
     add_levels(alloc, book, &collection)
@@ -69,7 +74,8 @@ fn add_levels<S: Alter>(
 ) -> Result<Vec<u8>, ToolFault>
     ensures leaves { Turns (state S.Store book.old) (state S.Store book.new) (λ pages after.
         LeavesLevels collection.now pages after (seen (λ v. v.items) result)) }
-    ensures clean { NoCleaner (state S.Store book.old) (state S.Store book.new) }
+    ensures treats { Treats (state S.Store book.old) (state S.Store book.new)
+        (AddsSome collection.now) result }
 {
     let mut lines = Vec::new(alloc);
     for index in 0..collection.len() {
@@ -89,7 +95,8 @@ fn add_level<S: Alter>(
     ensures leaves { Turns (state S.Store book.old) (state S.Store book.new) (λ pages after.
         LeavesLevel n (level_at collection.now n) (title_at collection.now n) pages after
         (seen string_bytes result)) }
-    ensures clean { NoCleaner (state S.Store book.old) (state S.Store book.new) }
+    ensures treats { Treats (state S.Store book.old) (state S.Store book.new)
+        (AddsNext n (level_at collection.now n) (title_at collection.now n)) result }
 {
     let title = collection.title(n);
     match collection.level(alloc, n) {
@@ -121,7 +128,8 @@ fn add_made<S: Alter>(
     ensures leaves { Turns (state S.Store book.old) (state S.Store book.new) (λ pages after.
         LeavesLevel n (Ok level.now) (option_map (λ t. t.now) title.entry) pages after
         (seen string_bytes result)) }
-    ensures clean { NoCleaner (state S.Store book.old) (state S.Store book.new) }
+    ensures treats { Treats (state S.Store book.old) (state S.Store book.new)
+        (AddsNext n (Ok level.now) (option_map (λ t. t.now) title.entry)) result }
 {
     match book.add(level, title) {
         Ok(id) => Ok(id_line(alloc, n, id)?),

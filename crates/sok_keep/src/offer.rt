@@ -2,9 +2,8 @@
 
 ghost use Rattle.std.specs.Prelude.{◌≡◌, IfErr, OnOk};
 ghost use Rattle.sqlite.specs.Held.{state};
-ghost use Rattle.sok_store.specs.Calls.{EndsOpen, Turns};
+ghost use Rattle.sok_store.specs.Calls.{EndsOpen, Stops, Turns};
 ghost use Rattle.sok_keep.specs.Causes.{IsCausedFault};
-ghost use Rattle.sok_keep.specs.Disk.{NoCleaner};
 ghost use Rattle.sok_keep.specs.Offers.{OffersText, WritesOffer};
 ghost use Rattle.sok_keep.specs.Offers.{offer_line, offer_status, offer_word};
 
@@ -39,7 +38,8 @@ pub fn offer_bytes<S: Alter, W: Write>(
     ensures open { OnOk result (EndsOpen (state S.Store book.old) (state S.Store book.new)) }
     ensures cause { IfErr result (IsCausedFault (state S.Store book.old) (state S.Store book.new)
         (OffersText id text.now)) }
-    ensures clean { NoCleaner (state S.Store book.old) (state S.Store book.new) }
+    ensures stop { Stops (state S.Store book.old) (state S.Store book.new)
+        (OffersText id text.now) }
 {
     let letters = read_lurd(alloc, text)?;
     match book.offer_with_best(id, &letters) {

@@ -7,9 +7,8 @@ ghost use Rattle.sok_book.specs.declared.fault.BookFault.TheVariants as refusal;
 ghost use Rattle.sok_engine.specs.Faults.{of_book};
 ghost use Rattle.sok_engine.specs.declared.fault.ToolFault.TheVariants as tool;
 ghost use Rattle.sok_judge.specs.Verdicts.{verdict_answer};
-ghost use Rattle.sok_store.specs.Calls.{EndsOpen, Turns};
+ghost use Rattle.sok_store.specs.Calls.{EndsOpen, Stops, Turns};
 ghost use Rattle.sok_keep.specs.Causes.{IsCausedFault};
-ghost use Rattle.sok_keep.specs.Disk.{NoCleaner};
 ghost use Rattle.sok_keep.specs.Proves.{ProvesBytes, WritesProof, proved_line};
 
 use crate::line::{Line, write_line};
@@ -49,7 +48,8 @@ pub fn prove_bytes<S: Alter, C: Read, W: Write>(
         → EndsOpen (state S.Store book.old) (state S.Store book.new)) }
     ensures cause { IfErr result (IsCausedFault (state S.Store book.old) (state S.Store book.new)
         (ProvesBytes id (C.remaining cert_input.old))) }
-    ensures clean { NoCleaner (state S.Store book.old) (state S.Store book.new) }
+    ensures stop { Stops (state S.Store book.old) (state S.Store book.new)
+        (ProvesBytes id (C.remaining cert_input.old)) }
 {
     let bytes = read_certificate(alloc, cert_input)?;
     match book.prove(id, bytes.as_slice()) {

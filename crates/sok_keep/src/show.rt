@@ -9,9 +9,8 @@ ghost use Rattle.sok_engine.specs.Faults.{of_book};
 ghost use Rattle.sok_engine.specs.Written.{Gives, Writes};
 ghost use Rattle.sok_row.specs.Faults.{IsOutside};
 ghost use Rattle.sok_row.specs.Told.{IsRecordOf};
-ghost use Rattle.sok_store.specs.Calls.{Keeps, MakesNone, id_number};
+ghost use Rattle.sok_store.specs.Calls.{Keeps, MakesNone, Stops, id_number};
 ghost use Rattle.sok_keep.specs.Causes.{IsCausedFault};
-ghost use Rattle.sok_keep.specs.Disk.{NoCleaner};
 ghost use Rattle.sok_keep.specs.Shows.{IsExport, IsShow};
 
 use sok_engine::answer::Answer;
@@ -40,7 +39,7 @@ pub fn show_bytes<S: Alter, W: Write>(
         Writes (IsShow pages id) (W.contents out.old) (W.contents out.new) result) }
     ensures cause { IfErr result
         (IsCausedFault (state S.Store book.old) (state S.Store book.new) MakesNone) }
-    ensures clean { NoCleaner (state S.Store book.old) (state S.Store book.new) }
+    ensures stop { Stops (state S.Store book.old) (state S.Store book.new) MakesNone }
 {
     let answer = shown(alloc, book, id)?;
     answer.write(out)
@@ -52,7 +51,7 @@ fn shown<S: Alter>(alloc: Global, book: &mut Book<S>, id: i64) -> Result<Answer,
         (λ pages. Gives (IsShow pages id) result) }
     ensures cause { IfErr result
         (IsCausedFault (state S.Store book.old) (state S.Store book.new) MakesNone) }
-    ensures clean { NoCleaner (state S.Store book.old) (state S.Store book.new) }
+    ensures stop { Stops (state S.Store book.old) (state S.Store book.new) MakesNone }
 {
     let kept = record_at(book, id)?;
     Ok(Answer::new(shown_text(alloc, &kept)?, 0))
@@ -68,7 +67,7 @@ fn record_at<S: Alter>(book: &mut Book<S>, id: i64) -> Result<Record, ToolFault>
         ⊎ ((fault ≡ refusal.NoLevel) × IsNone (page_at pages (id_number id))))) }
     ensures cause { IfErr result
         (IsCausedFault (state S.Store book.old) (state S.Store book.new) MakesNone) }
-    ensures clean { NoCleaner (state S.Store book.old) (state S.Store book.new) }
+    ensures stop { Stops (state S.Store book.old) (state S.Store book.new) MakesNone }
 {
     match book.get(id) {
         Ok(kept) => Ok(kept),
@@ -90,7 +89,7 @@ pub fn export_bytes<S: Alter, W: Write>(
         Writes (IsExport pages) (W.contents out.old) (W.contents out.new) result) }
     ensures cause { IfErr result
         (IsCausedFault (state S.Store book.old) (state S.Store book.new) MakesNone) }
-    ensures clean { NoCleaner (state S.Store book.old) (state S.Store book.new) }
+    ensures stop { Stops (state S.Store book.old) (state S.Store book.new) MakesNone }
 {
     let answer = exported(alloc, book)?;
     answer.write(out)
@@ -102,7 +101,7 @@ fn exported<S: Alter>(alloc: Global, book: &mut Book<S>) -> Result<Answer, ToolF
         (λ pages. Gives (IsExport pages) result) }
     ensures cause { IfErr result
         (IsCausedFault (state S.Store book.old) (state S.Store book.new) MakesNone) }
-    ensures clean { NoCleaner (state S.Store book.old) (state S.Store book.new) }
+    ensures stop { Stops (state S.Store book.old) (state S.Store book.new) MakesNone }
 {
     match book.list() {
         Ok(records) => Ok(Answer::new(export_text(alloc, &records)?, 0)),

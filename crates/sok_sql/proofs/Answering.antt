@@ -1,5 +1,5 @@
 -- What a query leaves of a connection that holds the table, and what it answers.
-use Rattle.std.proofs.Common.{◌≡◌, ℕ, ◌+◌, pos, List, [], ◌∷◌, map, false, slice_get, sym, ap, subst, ◌∙◌, is_ok, Result, Ok, Err, IfOk, IfErr}
+use Rattle.std.proofs.Common.{◌≡◌, ℕ, ◌+◌, pos, List, [], ◌∷◌, map, false, slice_get, inl, inr, sym, ap, subst, ◌∙◌, is_ok, Result, Ok, Err, IfOk, IfErr}
 use Rattle.sqlite.specs.declared.types.Value.TheVariants.{Null, Int, Text as Words}
 use Rattle.sqlite.specs.Order.{Row}
 use Rattle.sqlite.specs.Tree.{Trees}
@@ -11,18 +11,21 @@ use Rattle.sqlite.proofs.StateLemmas.{survives_weaker}
 use Rattle.sqlite.specs.declared.error.Error.{Error}
 use Rattle.sqlite.proofs.Callers.{IsPlain, never_commits, command_of, reads_as}
 use Rattle.sok_sql.specs.Leaves.{Leaf, HasLeaves, ListsTable, level_schema, no_schema, shown_from, row_at, id_row, ids_with, last_ids}
-use Rattle.sok_sql.specs.Connections.{Shows, Stores, Holds, IsSame, IsSettled, Rests}
+use Rattle.sok_sql.specs.Connections.{Stores, Holds, IsKnown, IsSame, IsSettled, Rests}
 use Rattle.sok_sql.proofs.Texts.{select_of, names, pick_query, whole, all_query, find_query, last_query, one_text, one_is, one_plain, one_unlisted}
-use Rattle.sok_sql.proofs.Texts.{all_text, all_is, all_plain, all_unlisted, missing_is, find_text, find_is, find_plain, find_unlisted}
+use Rattle.sok_sql.proofs.Texts.{all_text, all_is, all_plain, all_unlisted, all_missing, find_text, find_is, find_plain, find_unlisted}
 use Rattle.sok_sql.proofs.Texts.{last_text, last_is, last_plain, last_unlisted}
 use Rattle.sok_sql.proofs.Choosing.{reads_one}
 use Rattle.sok_sql.proofs.Listing.{lists, lists_table, finds, lasts}
 use Rattle.sok_sql.proofs.Calls.{shown_up, shown_same, unchanged_holds, unchanged_same, undone_holds, unread_undone}
 
 -- a stop in the middle of a query leaves what was there
-query_commits : (s : State) (leaves : List Leaf) (sql : List ℕ) (params : Row) (db : Trees) → IsPlain (understood level_schema sql) → Shows s leaves
-    → ¬ CommitsShowing sql params s db
-query_commits s leaves sql params db plain was = never_commits sql params s db (subst (λ x. IsPlain (understood x sql)) (sym was.schema) plain)
+query_commits : (s : State) (sql : List ℕ) (params : Row) (db : Trees) → IsPlain (understood level_schema sql) → is_ok (understood no_schema sql) ≡ false
+    → IsKnown s → ¬ CommitsShowing sql params s db
+unfolding CommitsShowing
+query_commits s sql params db plain missing (inl none) =
+    λ h. absurd (let e = sym (ap is_ok h.1.is) ∙ ap (λ t. is_ok (understood t sql)) none ∙ missing in cc)
+query_commits s sql params db plain missing (inr has) = never_commits sql params s db (subst (λ x. IsPlain (understood x sql)) (sym has) plain)
 
 module _ (old new : State) (leaves : List Leaf) (holds : Holds old leaves) where
   query_holds : (sql : List ℕ) (params : Row) → IsPlain (understood level_schema sql) → (rows : List Row) → Shown sql params old new rows → Holds new leaves
@@ -63,7 +66,8 @@ module _ (old new : State) (leaves : List Leaf) (holds : Holds old leaves) where
       (a.0, lasts old.now.trees leaves rows a.1 a.2)
 
 -- a query leaves the rows, whether it is answered or not
-module _ {A : Type 0} (items : A → List Row) (old new : State) (sql : List ℕ) (params : Row) (plain : IsPlain (understood level_schema sql)) where
+module _ {A : Type 0} (items : A → List Row) (old new : State) (sql : List ℕ) (params : Row) (plain : IsPlain (understood level_schema sql))
+    (missing : is_ok (understood no_schema sql) ≡ false) where
   rests : HasCleanDisk new → (leaves : List Leaf) → Holds old leaves → (r : Result A Error) → IfOk r (λ rows. Shown sql params old new (items rows))
       → IfErr r (FailsToQuery sql params old new) → Holds new leaves
   rests clean leaves holds (Ok rows) h none = query_holds old new leaves holds sql params plain (items rows) h
@@ -74,7 +78,7 @@ module _ {A : Type 0} (items : A → List Row) (old new : State) (sql : List ℕ
       → (HasCleanDisk new → IfErr result (FailsToQuery sql params old new)) → Rests old new
   query_rests stop result shown fails = record {
     kept = λ clean leaves holds. rests clean leaves holds result (shown clean) (fails clean);
-    stop = survives_weaker old new _ _ (λ _ db h leaves was. query_commits old leaves sql params db plain was h) stop;
+    stop = survives_weaker old new _ _ (λ _ db h known. query_commits old sql params db plain missing known h) stop;
   }
 
 -- the rows that are found, of whatever the table has
@@ -88,4 +92,4 @@ found_rows old new settled rows has h =
 -- none where there is no table
 pub none_found : (old new : State) (rows : List Row) → old.now.schema ≡ no_schema → Shown all_text [] old new rows → ⊥
 unfolding Shown
-none_found old new rows has h = absurd (let e = sym (ap is_ok h.1.is) ∙ ap (λ s. is_ok (understood s all_text)) has ∙ ap is_ok missing_is in cc)
+none_found old new rows has h = absurd (let e = sym (ap is_ok h.1.is) ∙ ap (λ s. is_ok (understood s all_text)) has ∙ all_missing in cc)

@@ -12,12 +12,12 @@ use Rattle.sqlite.specs.Command.TheVariants.{Insert, CreateTable}
 use Rattle.sqlite.specs.Effect.{Database}
 use Rattle.sqlite.specs.Does.{Tally, lacks_sequence}
 use Rattle.sqlite.specs.Listing.{understood}
-use Rattle.sqlite.specs.State.{State, Executes, ExecutesIn, Writes, CommitsBy}
+use Rattle.sqlite.specs.State.{State, Executes, ExecutesIn, Writes, CommitsBy, MayCommit}
 use Rattle.sqlite.specs.Change.{created, next_tree}
 use Rattle.sqlite.proofs.Callers.{IsPlain, command_of, statement_of, runs_as}
 use Rattle.std.proofs.lemmas.List.Sorted.{IsPermutation-refl}
 use Rattle.sok_sql.specs.Leaves.{Leaf, HasLeaves, level, level_schema, no_schema, seen, shown, new_leaf}
-use Rattle.sok_sql.specs.Connections.{Shows, Holds, StaysOpen}
+use Rattle.sok_sql.specs.Connections.{Shows, Holds, LeavesEmpty, StaysOpen}
 use Rattle.sok_sql.proofs.Texts.{create_text, create_is, create_plain, create_statement, created_is, create_again_fails, create_defines}
 use Rattle.sok_sql.proofs.Texts.{insert_text, insert_is, insert_plain, insert_terms, pick_query, update_with}
 use Rattle.sok_sql.proofs.Writes.{DoesOn, went, same_value, new_params, inserted, rewritten, updated}
@@ -105,35 +105,37 @@ module _ (s : State) (leaves : List Leaf) (was : Shows s leaves) (db : Trees) wh
 
 -- ---- the table is made
 
-module _ (old new : State) (count : ℕ) (h : Executes create_text [] old new (Ok count)) where
-  pub create_holds : (IsTrue old.is_open → (old.now.schema ≡ no_schema) × (old.in_transaction ≡ false)) → Holds new []
-  create_holds was up =
-      let now_was = was (ran_up old new create_text [] count h up) in
-      let has = now_was.0 in
-      let auto = now_was.1 in
-      let ran = runs_as create_text [] old new no_schema has CreateTable create_is create_plain count h in
-      let w = subst (λ t. Writes old new None CreateTable t [] count) create_statement ran in
-      let all = went w.changed in
+-- of nothing, and it has no rows
+module _ (limit : Option ℕ) (trees : Trees) (tally : Tally) (after : Database) (does : DoesOn trees limit [] create_text CreateTable tally after no_schema) where
+  created_empty : (after.schema ≡ level_schema) × HasLeaves after.trees []
+  created_empty =
+      let all = went does in
       let first = went all.1 in
       let made = first.1 in
       let both : Ok made.table ≡ Ok level = sym made.defined ∙ create_defines in
       let same : made.table ≡ level = cc in
-      let schema : first.0.schema ≡ level_schema = made.is ∙ ap (λ s. created s made.table) has ∙ ap (created no_schema) same ∙ created_is in
+      let schema : first.0.schema ≡ level_schema = made.is ∙ ap (created no_schema) same ∙ created_is in
       let plain : lacks_sequence first.0.schema ≡ false = ap lacks_sequence schema in
-      let now : new.now ≡ first.0 = ap (λ (p : Tally × Database). p.1) (same_value all.2) ∙ same_value (rw plain at first.2) in
-      let empty : first.0.trees 0 ≡ [] = subst (λ s. first.0.trees (next_tree s) ≡ []) has made.empty in
-      record {
-        schema = ap (λ (d : Database). d.schema) now ∙ schema;
-        rows = subst (λ (d : Database). HasLeaves d.trees []) (sym now) (rw empty (IsPermutation-refl []));
-        settled = rw auto at w.shown.committed_is;
-        autocommit = w.shown.mode ∙ auto;
-      }
+      let now : after ≡ first.0 = ap (λ (p : Tally × Database). p.1) (same_value all.2) ∙ same_value (rw plain at first.2) in
+      let empty : first.0.trees 0 ≡ [] = made.empty in
+      (ap (λ (d : Database). d.schema) now ∙ schema, subst (λ (d : Database). HasLeaves d.trees []) (sym now) (rw empty (IsPermutation-refl [])))
+
+module _ (old new : State) (count : ℕ) (h : Executes create_text [] old new (Ok count)) where
+  create_runs : old.now.schema ≡ no_schema → Writes old new None CreateTable create_text [] count
+  create_runs has =
+      subst (λ t. Writes old new None CreateTable t [] count) create_statement
+      (runs_as create_text [] old new no_schema has CreateTable create_is create_plain count h)
+
+  pub create_holds : (IsTrue old.is_open → (old.now.schema ≡ no_schema) × (old.in_transaction ≡ false)) → Holds new []
+  create_holds was up =
+      let (has, auto) = was (ran_up old new create_text [] count h up) in
+      let w = create_runs has in
+      let made = created_empty old.step_limit old.now.trees w.tally new.now
+      (subst (DoesOn old.now.trees old.step_limit [] create_text CreateTable w.tally new.now) has w.changed) in
+      record { schema = made.0; rows = made.1; settled = rw auto at w.shown.committed_is; autocommit = w.shown.mode ∙ auto }
 
   pub create_open : (IsTrue old.is_open → (old.now.schema ≡ no_schema) × (old.in_transaction ≡ false)) → StaysOpen old new
-  create_open was up =
-      let ran = runs_as create_text [] old new no_schema (was up).0 CreateTable create_is create_plain count h in
-      let w = subst (λ t. Writes old new None CreateTable t [] count) create_statement ran in
-      w.shown.is_open
+  create_open was up = (create_runs (was up).0).shown.is_open
 
   -- and not where it is there
   create_again : (IsTrue old.is_open → old.now.schema ≡ level_schema) → IsTrue old.is_open → ⊥
@@ -142,3 +144,23 @@ module _ (old new : State) (count : ℕ) (h : Executes create_text [] old new (O
 
   pub create_refuses : (IsTrue old.is_open → old.now.schema ≡ level_schema) → (IsTrue old.is_open → ⊥) × (IsTrue new.is_open → ⊥)
   create_refuses was = (create_again was, λ up. create_again was (ran_up old new create_text [] count h up))
+
+-- what a stop in its middle may leave
+module _ (s : State) (db : Trees) (h : CommitsBy create_text [] s db) where
+  create_commits_none : s.now.schema ≡ no_schema → HasLeaves db []
+  create_commits_none has =
+      let may = subst (λ t. MayCommit s None CreateTable t [] db) create_statement
+      (commits_as create_text [] s no_schema has CreateTable create_is create_plain db h) in
+      elim may [
+        | inl ends ↦ elim ends.0 [ inl commit ↦ absurd cc | inr release ↦ absurd (let e = release.2 in cc) ]
+        | inr w ↦
+            let does = subst (DoesOn s.now.trees s.step_limit [] create_text CreateTable w.1 w.2) has w.3 in
+            rw w.5 (created_empty s.step_limit s.now.trees w.1 w.2 does).1
+      ]
+
+  create_commits_again : s.now.schema ≡ level_schema → ⊥
+  unfolding CommitsBy
+  create_commits_again has = absurd (let e = sym (ap is_ok h.1.is) ∙ ap (λ t. is_ok (understood t create_text)) has ∙ create_again_fails in cc)
+
+  pub create_commits : LeavesEmpty s db
+  create_commits = (create_commits_none, create_commits_again)

@@ -1,5 +1,5 @@
 -- What the texts mean under the schema.
-use Rattle.std.proofs.Common.{◌≡◌, ℕ, pos, negsuc, List, [], ◌∷◌, ◌++◌, codes, true, false, Ok, Err, Result, None, refl, is_ok, length, nat_le}
+use Rattle.std.proofs.Common.{◌≡◌, ℕ, pos, negsuc, List, [], ◌∷◌, ◌++◌, codes, true, false, Ok, Err, Result, None, ap, refl, is_ok, length, nat_le}
 use Rattle.sqlite.specs.declared.types.Value.TheVariants.{Null, Int}
 use Rattle.sqlite.specs.Term.{Term, lit, col, op1, op2}
 use Rattle.sqlite_sql.specs.declared.ops.BinaryOp.TheVariants.{Compare}
@@ -131,6 +131,23 @@ create_plain = (refl, refl)
 pub missing_is : understood no_schema all_text ≡ Err NoSuchTable
 unfolding understood everything listing_schema
 missing_is = refl
+
+-- none of the queries is a statement where there is no table
+
+pub all_missing : is_ok (understood no_schema all_text) ≡ false
+all_missing = ap is_ok missing_is
+
+pub one_missing : is_ok (understood no_schema one_text) ≡ false
+unfolding understood everything listing_schema
+one_missing = refl
+
+pub find_missing : is_ok (understood no_schema find_text) ≡ false
+unfolding understood everything listing_schema
+find_missing = refl
+
+pub last_missing : is_ok (understood no_schema last_text) ≡ false
+unfolding understood everything listing_schema
+last_missing = refl
 
 pub insert_is : command_of (understood level_schema insert_text) ≡ Insert 0 (Values insert_terms 8)
 unfolding understood everything

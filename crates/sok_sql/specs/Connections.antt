@@ -1,5 +1,6 @@
 -- A connection that holds the table of levels.
-use Rattle.std.specs.Prelude.{◌≡◌, ◌⊎◌, false, List, IsTrue}
+use Rattle.std.specs.Prelude.{◌≡◌, ◌⊎◌, false, List, [], IsTrue}
+use Rattle.sqlite.specs.Tree.{Trees}
 use Rattle.sqlite.specs.State.{State, HasCleanDisk, Survives}
 use Rattle.sok_sql.specs.Leaves.{Leaf, HasLeaves, level_schema, no_schema}
 
@@ -35,7 +36,11 @@ IsSettled s = IsTrue s.is_open → (s.now ≡ s.committed) × (s.in_transaction 
 abbrev pub IsKnown : State → Type 0
 IsKnown s = (s.now.schema ≡ no_schema) ⊎ (s.now.schema ≡ level_schema)
 
--- a call that only reads: the rows stay, and a stop in its middle leaves them too
+-- a call that only reads: the rows stay, and a stop in its middle leaves what was there
 pub record Rests (old new : State) : Type 0 where
   pub kept : HasCleanDisk new → (leaves : List Leaf) → Holds old leaves → Holds new leaves
-  pub stop : Survives old new (λ db. (leaves : List Leaf) → Shows old leaves → ⊥)
+  pub stop : Survives old new (λ _. IsKnown old → ⊥)
+
+-- what a stop in the middle of making the table leaves, if not what was there: where there was nothing no row, and nothing where the table was there
+abbrev pub LeavesEmpty : State → Trees → Type 0
+LeavesEmpty old db = (old.now.schema ≡ no_schema → HasLeaves db []) × (old.now.schema ≡ level_schema → ⊥)

@@ -1,11 +1,11 @@
 //! Making the table of levels.
 
-ghost use Rattle.std.specs.Prelude.{⊤, ◌≡◌, ◌≤◌, [], false, IfErr, IsTrue, OnOk, OnErr};
+ghost use Rattle.std.specs.Prelude.{◌≡◌, ◌≤◌, [], false, IfErr, IsTrue, OnOk, OnErr};
 ghost use Rattle.sqlite.specs.Held.{state};
 ghost use Rattle.sqlite.specs.State.{HasCleanDisk, Survives};
 ghost use Rattle.sqlite.specs.View.{doubt};
 ghost use Rattle.sok_sql.specs.Causes.{IsEmpty, IsExcused};
-ghost use Rattle.sok_sql.specs.Connections.{Holds, IsSame, IsSettled, StaysOpen};
+ghost use Rattle.sok_sql.specs.Connections.{Holds, IsSame, IsSettled, LeavesEmpty, StaysOpen};
 ghost use Rattle.sok_sql.specs.Leaves.{level_schema, no_schema};
 
 use sqlite::{Alter, Connection, Error};
@@ -27,7 +27,8 @@ pub fn create<S: Alter>(conn: &mut Connection<S>) -> Result<(), Error>
         → OnErr result (IsSame (state S.Store conn.old) (state S.Store conn.new)) }
     ensures cause { HasCleanDisk (state S.Store conn.new) → IsEmpty (state S.Store conn.old)
         → IfErr result (IsExcused (state S.Store conn.old) (state S.Store conn.new)) }
-    ensures survives { Survives (state S.Store conn.old) (state S.Store conn.new) (λ _. ⊤) }
+    ensures stop { Survives (state S.Store conn.old) (state S.Store conn.new)
+        (LeavesEmpty (state S.Store conn.old)) }
     ensures clean { doubt (state S.Store conn.old).is_clean
         ≤ doubt (state S.Store conn.new).is_clean }
 {

@@ -32,7 +32,7 @@ use Rattle.sok_row.proofs.Changes.{IsKeptPage-new}
 use Rattle.sok_row.proofs.Books.{IsKeptBook-push, leaves_of-push, length-leaves_of}
 use Rattle.sok_store.specs.Calls.{Changes, IsCaused, Keeps, MakesNone, Stops, id_number, title_kept}
 use Rattle.sok_store.specs.Entries.{AddsPage, IsCausedAdding, IsFull, IsNewPage, StopsAdding}
-use Rattle.sok_store.specs.Running.{RunsAdding, RunsAddingPage}
+use Rattle.sok_store.specs.Running.{Admits, RunsAdding, RunsAddingPage}
 use Rattle.sok_store.proofs.Calls.{held, held_shown, rests_holds, rests_stops, shown, stops_later}
 use Rattle.sok_store.proofs.Caused.{cause_before, few_leaves, kept_apart}
 
@@ -70,7 +70,7 @@ board_refused book rows fault is = inr ((λ e. cc), is)
 -- no page is added
 page_rests : (old new : State) (text : List ℕ) (title : Option (List ℕ)) → Rests old new → StopsAdding old new text title
 page_rests old new text title rests =
-    survives_weaker old new _ _ (λ _ db none book page shows new_is. absurd (none (leaves_of book) shows.1)) rests.stop
+    survives_weaker old new _ _ (λ _ db none book page shows new_is. absurd (none (inr shows.1.schema))) rests.stop
 
 module _ (old mid : State) (text : List ℕ) (title : Option (List ℕ)) (rests : Rests old mid) where
   pub page_uncounted : (error : Error) (fault : BookFault) → IsOutside fault → (IsMemory error → fault ≡ Memory)
@@ -108,7 +108,7 @@ module _ (old mid : State) (text : List ℕ) (title : Option (List ℕ)) (rests 
       page_stops : Survives mid new (λ db. (leaves : List Leaf) → Shows mid leaves → count + 1 ≡ 1 + length leaves → HasLeaves db (with_leaf leaves))
           → StopsAdding old new text title
       page_stops two = survives_then old mid new _ _ _
-          (λ _ db none book page shows new_is. absurd (none (leaves_of book) shows.1))
+          (λ _ db none book page shows new_is. absurd (none (inr shows.1.schema)))
           (λ clean db has book page shows_old new_is.
           let early : HasCleanDisk mid = omega (arith, clean, two.clean) in
           let (shows, is) = counted_pages early book (held_shown old book shows_old) in
@@ -221,23 +221,23 @@ module _ (old mid : State) (rows : Rows) (text : List ℕ) (text_is : text ≡ l
 
       level_caused : (result : Result ℤ BookFault) → IfErr result (IsCausedAdding mid new text (title_kept title))
           → (P Q : Trees → Type 0) → Survives old mid P → Survives mid new Q
-          → IfErr result (IsCaused old new (λ book after. (id : ℕ) × Adds book rows (title_kept title) id after))
+          → IfErr result (IsCaused old new (Admits rows (title_kept title)))
       level_caused (Ok id) caused P Q one two = tt
       level_caused (Err fault) caused P Q one two = λ database clean book holds.
           let (shows, unknown) = not_there (early clean) book holds in
           elim (caused database clean book added_page (held mid book shows) (page_is book unknown)) [
-            | inl (room, big) ↦ inl (book ++ added_page ∷ [], (length book + 1, is_new unknown room refl refl), big)
+            | inl (room, big) ↦ inl (book ++ added_page ∷ [], (accepted, (length book + 1, is_new unknown room refl refl)), big)
             | inr cause ↦ inr (cause_before old mid new P Q one two clean cause)
           ]
 
       level_stops : Rests old mid → StopsAdding mid new text (title_kept title)
-          → Stops old new (λ book after. (id : ℕ) × Adds book rows (title_kept title) id after)
+          → Stops old new (Admits rows (title_kept title))
       level_stops rests two =
-          stops_later old mid new (λ book after. (id : ℕ) × Adds book rows (title_kept title) id after) (rests_stops old mid rests MakesNone) _
+          stops_later old mid new (Admits rows (title_kept title)) (rests_stops old mid rests MakesNone) _
           (λ clean db has book shows_old.
           let (shows, unknown) = not_there (early clean) book (held_shown old book shows_old) in
           let (room, after) = has book added_page (shown mid book shows) (page_is book unknown) in
-          (book ++ added_page ∷ [], (length book + 1, is_new unknown room refl refl), after))
+          (book ++ added_page ∷ [], (accepted, (length book + 1, is_new unknown room refl refl)), after))
           two
 
       -- all of it

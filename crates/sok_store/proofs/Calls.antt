@@ -1,5 +1,5 @@
 -- Calls that leave a book as it was, and calls one after another.
-use Rattle.std.proofs.Common.{refl, inl, arith, IsTrue}
+use Rattle.std.proofs.Common.{refl, inl, inr, arith, IsTrue}
 use Rattle.sqlite.specs.Tree.{Trees}
 use Rattle.sqlite.specs.State.{State, HasCleanDisk, Survives}
 use Rattle.sqlite.proofs.StateLemmas.{survives_weaker, survives_then}
@@ -46,7 +46,7 @@ module _ (old new : State) (rests : Rests old new) where
   rests_holds clean book holds = (holds.0, rests.kept clean (leaves_of book) holds.1)
 
   pub rests_stops : (Makes : Book → Book → Type 0) → Stops old new Makes
-  rests_stops Makes = survives_weaker old new _ _ (λ _ db none book shows. absurd (none (leaves_of book) shows.1)) rests.stop
+  rests_stops Makes = survives_weaker old new _ _ (λ _ db none book shows. absurd (none (inr shows.1.schema))) rests.stop
 
 -- what may be made is more than is said
 pub stops_less : (old new : State) (Makes Less : Book → Book → Type 0) → ((book after : Book) → Makes book after → Less book after)

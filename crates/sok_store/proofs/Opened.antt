@@ -1,20 +1,21 @@
 -- A table that is read is that of a book.
-use Rattle.std.proofs.Common.{◌≡◌, ◌⊎◌, inl, inr, sym, ap, subst, ◌∙◌, List, map, IsTrue, arith}
+use Rattle.std.proofs.Common.{◌≡◌, ◌⊎◌, inl, inr, sym, ap, subst, ◌∙◌, List, [], map, IsTrue, arith}
 use Rattle.std.specs.List.Sorted.{IsPermutation}
 use Rattle.sqlite.specs.Order.{Row}
 use Rattle.sqlite.specs.Effect.{Database}
 use Rattle.sqlite.specs.declared.error.Error.{Error}
 use Rattle.sqlite.specs.Tree.{Trees}
 use Rattle.sqlite.specs.State.{State, HasCleanDisk, Survives}
+use Rattle.sqlite.proofs.StateLemmas.{survives_then, survives_weaker}
 use Rattle.sok_book.specs.declared.fault.BookFault.{BookFault}
 use Rattle.sok_book.specs.declared.fault.BookFault.TheVariants.{Memory}
 use Rattle.sok_book.specs.declared.fault.BookFault.TheVariants as told
 use Rattle.sok_sql.specs.Causes.{HasCause, HasTable, IsEmpty, IsExcused, IsMemory, IsMissing}
 use Rattle.sok_book.specs.Books.{Book}
-use Rattle.sok_sql.specs.Connections.{IsSame, IsSettled}
+use Rattle.sok_sql.specs.Connections.{IsSame, IsSettled, LeavesEmpty, Rests}
 use Rattle.sok_sql.specs.Leaves.{HasLeaves, ListsTable, level_schema, no_schema, seen, shown_from}
 use Rattle.sok_row.specs.Kept.{IsKeptBook, leaves_of}
-use Rattle.sok_store.specs.Opening.{IsCausedOpening, Opens}
+use Rattle.sok_store.specs.Opening.{IsCausedOpening, LeavesOpening, Opens}
 use Rattle.sok_store.proofs.Caused.{cause_after, cause_before}
 
 module _ (old new : State) (rows : List Row) (settled : IsSettled old)
@@ -44,6 +45,24 @@ module _ (old new : State) (rows : List Row) (settled : IsSettled old)
           ),
         );
   }
+
+-- ---- a stop in the middle
+
+no_pages : IsKeptBook []
+no_pages = record { pages = λ n page at. absurd cc; once = λ m n page other at. absurd cc; few = omega arith }
+
+-- where the rows are read
+pub read_stops : (old new : State) → Rests old new → Survives old new (LeavesOpening old)
+read_stops old new rests = survives_weaker old new _ _ (λ _ db none. (λ empty. absurd (none (inl empty)), λ has. none (inr has))) rests.stop
+
+-- and where the table is made then
+pub made_stops : (old mid new : State) → Rests old mid → (HasCleanDisk mid → IsTrue mid.is_open) → (HasCleanDisk mid → IsSame old mid)
+    → Survives mid new (LeavesEmpty mid) → Survives old new (LeavesOpening old)
+made_stops old mid new rests up same two =
+    survives_then old mid new _ _ _ (λ _ db none. (λ empty. absurd (none (inl empty)), λ has. none (inr has))) (λ clean db leaves.
+    let early : HasCleanDisk mid = omega (arith, clean, two.clean) in
+    let schema : mid.now.schema ≡ old.now.schema = ap (λ (d : Database). d.schema) (same early (up early)).1 in
+    (λ empty. (no_pages, leaves.0 (schema ∙ empty)), λ has. leaves.1 (schema ∙ has))) rests.stop two
 
 -- ---- why nothing was opened
 

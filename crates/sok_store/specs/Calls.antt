@@ -6,6 +6,7 @@ use Rattle.sok_book.specs.declared.fault.BookFault.TheVariants.{Database}
 use Rattle.sok_book.specs.Books.{Book}
 use Rattle.sok_page.specs.Titles.{kept_title}
 use Rattle.sok_sql.specs.Causes.{HasCause, IsTooBig}
+use Rattle.sok_sql.specs.Connections.{StaysOpen}
 use Rattle.sok_sql.specs.Leaves.{Leaf}
 use Rattle.sok_row.specs.Kept.{HasBook, HoldsBook, ShowsBook, StoresBook, leaves_of}
 
@@ -34,6 +35,15 @@ Changes old new Makes = HasCleanDisk new → (book : Book) → HoldsBook old boo
 -- the connection holds a book that is made so of the one that it held before
 abbrev pub Turns : State → State → (Book → Book → Type 0) → Type 0
 Turns old new Makes = HasCleanDisk new → (book : Book) → HoldsBook old book → (after : Book) × Makes book after × HoldsBook new after
+
+-- a book that is shown is followed by one that is made so of it, which is shown then, and the connection is not shut
+abbrev pub Carries : State → State → (Book → Book → Type 0) → Type 0
+Carries old new Makes =
+    HasCleanDisk new → (book : Book) → ShowsBook old book → (after : Book) × Makes book after × ShowsBook new after × StaysOpen old new
+
+-- the call does not shut a connection that holds a book
+abbrev pub KeepsOpen : State → State → Type 0
+KeepsOpen old new = HasCleanDisk new → (book : Book) → HoldsBook old book → StaysOpen old new
 
 -- a call that was done leaves the connection open, so that what it holds is shown
 abbrev pub EndsOpen : State → State → Type 0

@@ -1,6 +1,7 @@
 -- What is opened as a book, and why something is not.
 use Rattle.std.specs.Prelude.{ℤ, ◌≡◌, ◌⊎◌, []}
 use Rattle.sqlite.specs.State.{State, HasCleanDisk}
+use Rattle.sqlite.specs.Tree.{Trees}
 use Rattle.sok_sql.specs.Causes.{HasCause}
 use Rattle.sok_sql.specs.Connections.{IsKnown}
 use Rattle.sok_sql.specs.Leaves.{level_schema, no_schema}
@@ -15,6 +16,10 @@ use Rattle.sok_row.specs.Opening.{IsBadTable}
 pub record Opens (old new : State) : Type 0 where
   pub made : old.now.schema ≡ no_schema → StoresBook new []
   pub found : old.now.schema ≡ level_schema → (book : Book) × HasBook old.now.trees book × StoresBook new book
+
+-- what a stop in the middle of opening leaves, if not what was there: where there was nothing the empty book, and nothing where the table was there
+abbrev pub LeavesOpening : State → Trees → Type 0
+LeavesOpening old db = (old.now.schema ≡ no_schema → HasBook db []) × (old.now.schema ≡ level_schema → ⊥)
 
 -- memory was refused, or the database refused; or a row breaks a rule of books, and the fault names the first such row
 abbrev pub IsUnopened : State → State → BookFault → Type 0

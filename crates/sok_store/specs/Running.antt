@@ -3,6 +3,7 @@ use Rattle.std.specs.Prelude.{⊤, ℕ, ℤ, ◌≡◌, ◌⊎◌, List, Option,
 use Rattle.sqlite.specs.State.{State}
 use Rattle.sok_rules.specs.declared.cell.Dir.{Dir}
 use Rattle.sok_rules.specs.Squares.{Rows}
+use Rattle.sok_board.specs.Refusals.{IsAcceptable}
 use Rattle.sok_cert.specs.Claim.{Claim}
 use Rattle.sok_book.specs.declared.fault.BookFault.{BookFault}
 use Rattle.sok_book.specs.declared.fault.BookFault.TheVariants.{NoLevel}
@@ -46,10 +47,14 @@ pub record Runs {X : Type 0} (old new : State) (Makes : X → Book → Book → 
   pub stop : Stops old new MayMake
   pub cause : IfErr result (IsCaused old new MayMake)
 
+-- a level of which a board can be made is added, with a title if there is one
+abbrev pub Admits : Rows → Option (List ℕ) → Book → Book → Type 0
+Admits rows title book after = IsAcceptable rows × ((id : ℕ) × Adds book rows title id after)
+
 -- a level is added, with a title if there is one
 abbrev pub RunsAdding : State → State → Rows → Option (List ℕ) → Result ℤ BookFault → Type 0
 RunsAdding old new rows title =
-    Runs old new (λ id book after. Adds book rows title (id_number id) after) (λ book after. (id : ℕ) × Adds book rows title id after)
+    Runs old new (λ id book after. Adds book rows title (id_number id) after) (Admits rows title)
     (λ book fault. IsNotAdded book rows fault)
 
 -- letters are offered as a solution of the level with an id

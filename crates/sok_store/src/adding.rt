@@ -3,6 +3,7 @@
 ghost use Rattle.std.specs.Prelude.{◌≡◌, ◌≢◌, ◌⊎◌, IfErr, OnOk, option_map};
 ghost use Rattle.sqlite.specs.Held.{state};
 ghost use Rattle.sok_board.specs.Refusals.{IsAcceptable};
+ghost use Rattle.sok_board.specs.declared.fault.BoardFault.{BoardFault};
 ghost use Rattle.sok_book.specs.Books.{Book};
 ghost use Rattle.sok_book.specs.Refusals.{IsNotAdded};
 ghost use Rattle.sok_row.specs.Faults.{IsOutside};
@@ -29,6 +30,8 @@ pub(crate) fn add_to<S: Alter>(
     title: Option<&[u8]>,
 ) -> Result<i64, BookFault>
     ensures accepted { OnOk result (IsAcceptable level.now) }
+    ensures untouched { IfErr result (λ fault. (cause : BoardFault)
+        → fault ≡ BookFault.Level cause → conn.new ≡ conn.old) }
     ensures runs { RunsAdding (state S.Store conn.old) (state S.Store conn.new)
         level.now (title_kept (option_map (λ bytes. bytes.now) title.entry)) result }
 {
@@ -59,8 +62,9 @@ fn add_accepted<S: Alter>(
     title: Option<&[u8]>,
 ) -> Result<i64, BookFault>
     requires { IsAcceptable level.now }
-    ensures { RunsAdding (state S.Store conn.old) (state S.Store conn.new)
+    ensures runs { RunsAdding (state S.Store conn.old) (state S.Store conn.new)
         level.now (title_kept (option_map (λ bytes. bytes.now) title.entry)) result }
+    ensures other { IfErr result (λ fault. (cause : BoardFault) → fault ≢ BookFault.Level cause) }
 {
     // A level tells with its rows that it is one.
     let _rows = level.rows();
@@ -82,8 +86,9 @@ fn add_new<S: Alter>(
     text: &str,
     title: Option<&[u8]>,
 ) -> Result<i64, BookFault>
-    ensures { RunsAddingPage (state S.Store conn.old) (state S.Store conn.new)
+    ensures runs { RunsAddingPage (state S.Store conn.old) (state S.Store conn.new)
         text.now (option_map (λ bytes. bytes.now) title.entry) result }
+    ensures other { IfErr result (λ fault. (cause : BoardFault) → fault ≢ BookFault.Level cause) }
 {
     let count = match count(conn) {
         Ok(count) => count,

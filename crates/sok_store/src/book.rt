@@ -1,11 +1,12 @@
 //! A book over a connection to a database.
 
 ghost use Rattle.std.specs.Prelude.{◌≡◌, ◌⊎◌, false, IfErr, IfOk, IsNone, IsSomeAnd};
-ghost use Rattle.std.specs.Prelude.{OnOk, option_map};
+ghost use Rattle.std.specs.Prelude.{MatchResult, OnOk, option_map};
 ghost use Rattle.sqlite.specs.Held.{state};
-ghost use Rattle.sqlite.specs.State.{HasCleanDisk};
+ghost use Rattle.sqlite.specs.State.{HasCleanDisk, Survives};
 ghost use Rattle.sok_sql.specs.Connections.{IsKnown, IsSame};
 ghost use Rattle.sok_board.specs.Refusals.{IsAcceptable};
+ghost use Rattle.sok_board.specs.declared.fault.BoardFault.{BoardFault};
 ghost use Rattle.sok_book.specs.Books.{page_at};
 ghost use Rattle.sok_book.specs.Commands.{Adds, Offers, Proves};
 ghost use Rattle.sok_book.specs.Refusals.{IsNotAdded, IsNotOffered, IsNotProved};
@@ -15,7 +16,8 @@ ghost use Rattle.sok_row.specs.Faults.{IsOutside};
 ghost use Rattle.sok_row.specs.Told.{AreRecordsOf, IsRecordOf};
 ghost use Rattle.sok_store.specs.Calls.{Changes, Finds, IsCaused, Keeps, MakesNone, Stops};
 ghost use Rattle.sok_store.specs.Calls.{id_number, title_kept};
-ghost use Rattle.sok_store.specs.Opening.{IsCausedOpening, IsUnopened, Opens};
+ghost use Rattle.sok_store.specs.Opening.{IsCausedOpening, IsUnopened, LeavesOpening, Opens};
+ghost use Rattle.sok_store.specs.Running.{Admits};
 ghost use Rattle.sok_store.specs.Standing.{OffersTelling};
 ghost use Rattle.sok_store.specs.declared.standing.Standing.{Standing};
 
@@ -70,7 +72,8 @@ pub struct OpenRefused<S: Alter> {
 
 impl<S: Alter> Book<S> {
     /// Opens a database as a book, and makes its table where there is nothing. Every row of a table
-    /// is read. The first that breaks a rule of books is `BadBook`, and the connection comes back.
+    /// is read. The first that breaks a rule of books is `BadBook`, and the connection comes back. A
+    /// stop in the middle leaves what was there, or the empty book where there was nothing.
     pub fn open(alloc: Global, connection: Connection<S>) -> Result<Book<S>, OpenRefused<S>>
         requires { (state S.Store connection).in_transaction ≡ false }
         ensures opens { IfOk result (λ book. HasCleanDisk (state S.Store book)
@@ -81,6 +84,11 @@ impl<S: Alter> Book<S> {
         ensures same { IfErr result (λ refused. HasCleanDisk (state S.Store refused.connection)
             → IsKnown (state S.Store connection)
             → IsSame (state S.Store connection) (state S.Store refused.connection)) }
+        ensures stop { MatchResult result
+            (λ book. Survives (state S.Store connection) (state S.Store book)
+            (LeavesOpening (state S.Store connection)))
+            (λ refused. Survives (state S.Store connection) (state S.Store refused.connection)
+            (LeavesOpening (state S.Store connection))) }
         ensures cause { IfErr result (λ refused.
             IsCausedOpening (state S.Store connection) (state S.Store refused.connection)
             refused.fault) }
@@ -146,12 +154,12 @@ impl<S: Alter> Book<S> {
         ensures refused { IfErr result (λ fault.
             Keeps (state S.Store self.old) (state S.Store self.new)
             (λ book. IsOutside fault ⊎ IsNotAdded book level.now fault)) }
+        ensures untouched { IfErr result (λ fault. (cause : BoardFault)
+            → fault ≡ BookFault.Level cause → self.new ≡ self.old) }
         ensures stop { Stops (state S.Store self.old) (state S.Store self.new)
-            (λ book after. (id : _) × Adds book level.now
-            (title_kept (option_map (λ bytes. bytes.now) title.entry)) id after) }
+            (Admits level.now (title_kept (option_map (λ bytes. bytes.now) title.entry))) }
         ensures cause { IfErr result (IsCaused (state S.Store self.old) (state S.Store self.new)
-            (λ book after. (id : _) × Adds book level.now
-            (title_kept (option_map (λ bytes. bytes.now) title.entry)) id after)) }
+            (Admits level.now (title_kept (option_map (λ bytes. bytes.now) title.entry)))) }
     {
         add_to(&mut self.connection, self.alloc, level, title)
     }

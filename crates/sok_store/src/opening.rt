@@ -2,9 +2,9 @@
 
 ghost use Rattle.std.specs.Prelude.{IfErr, OnErr, OnOk};
 ghost use Rattle.sqlite.specs.Held.{state};
-ghost use Rattle.sqlite.specs.State.{HasCleanDisk};
+ghost use Rattle.sqlite.specs.State.{HasCleanDisk, Survives};
 ghost use Rattle.sok_sql.specs.Connections.{IsKnown, IsSame, IsSettled};
-ghost use Rattle.sok_store.specs.Opening.{IsCausedOpening, IsUnopened, Opens};
+ghost use Rattle.sok_store.specs.Opening.{IsCausedOpening, IsUnopened, LeavesOpening, Opens};
 
 use sok_book::fault::BookFault;
 use sok_row::book::records_of;
@@ -25,6 +25,9 @@ pub(crate) fn prepare<S: Alter>(conn: &mut Connection<S>, alloc: Global) -> Resu
     ensures same { OnErr result (HasCleanDisk (state S.Store conn.new)
         → IsSettled (state S.Store conn.old) → IsKnown (state S.Store conn.old)
         → IsSame (state S.Store conn.old) (state S.Store conn.new)) }
+    ensures stop { IsSettled (state S.Store conn.old)
+        → Survives (state S.Store conn.old) (state S.Store conn.new)
+        (LeavesOpening (state S.Store conn.old)) }
     ensures cause { IfErr result (λ fault. IsSettled (state S.Store conn.old)
         → IsCausedOpening (state S.Store conn.old) (state S.Store conn.new) fault) }
 {

@@ -1,12 +1,13 @@
 -- How a command on a book ends.
-use Rattle.std.proofs.Common.{ℕ, ◌≡◌, ◌∙◌, List, Option, Result, Err, IsErrAnd, ap, refl, subst}
+use Rattle.std.proofs.Common.{ℕ, ◌≡◌, ◌∙◌, inl, inr, List, Option, Result, Ok, Err, IfErr, IsErrAnd, ap, arith, refl, subst}
 use Rattle.std.proofs.KnownBytes.{Keeps-refl}
 use Rattle.std.proofs.lemmas.Result.{err_from_is_err_and}
 use Rattle.sqlite.specs.State.{State, HasCleanDisk}
 use Rattle.sok_book.specs.Books.{Book}
 use Rattle.sok_engine.specs.declared.fault.ToolFault.{ToolFault}
 use Rattle.sok_engine.specs.Certified.{Bytes}
-use Rattle.sok_store.specs.Calls.{Keeps, Turns}
+use Rattle.sok_store.specs.Calls.{Keeps, Stops, Turns}
+use Rattle.sok_keep.specs.Causes.{IsCausedFault}
 use Rattle.sok_tool.specs.Databases.{IsWithoutBook, OpensFound, Place, WorksOn, bookless, busy, fileless, refused, unconnected, unread, worked}
 
 -- a command without a file lacks none
@@ -17,25 +18,34 @@ fileless_too db lacks told (fileless none found kept left why) = absurd none
 fileless_too db lacks told (busy found kept left inside why) = busy found kept left inside why
 fileless_too db lacks told (bookless found left kept given why) = bookless found left kept given why
 
-module _ (db : Place) (lacks : Type 0) where
+module _ (db : Place) (lacks : Type 0) (MayMake : Book → Book → Type 0) where
   -- where there is no book nothing is written
   pub without_book : (Makes : Book → Book → Type 0) (held : Option (List ℕ)) (fault : ToolFault) (result : Result ℕ ToolFault)
-      → IsErrAnd result (λ told. told ≡ fault) → IsWithoutBook db lacks fault → WorksOn db lacks Makes (record { old = held; new = held }) result
+      → IsErrAnd result (λ told. told ≡ fault) → IsWithoutBook db lacks fault → WorksOn db lacks MayMake Makes (record { old = held; new = held }) result
   without_book Makes held fault result is none =
       let (told, errs, same) = err_from_is_err_and result is in
       refused fault none (errs ∙ ap Err same) (Keeps-refl held)
 
   -- and where there is one, its connection is given back
   pub works : (Makes : Book → Book → Type 0) (out : Bytes) (result : Result ℕ ToolFault) (opened left given : db.Connection) → OpensFound db opened
-      → given ≡ left → db.leaves given → (HasCleanDisk (db.shows left) → HasCleanDisk (db.shows opened)) → Turns (db.shows opened) (db.shows left) Makes
-      → WorksOn db lacks Makes out result
-  works Makes out result opened left given (found, kept, opens) same back clean turns =
-      worked found opened left kept (subst db.leaves same back) (λ is. opens (clean is)) turns
+      → given ≡ left → db.leaves given → Turns (db.shows opened) (db.shows left) Makes → Stops (db.shows opened) (db.shows left) MayMake
+      → IfErr result (IsCausedFault (db.shows opened) (db.shows left) MayMake) → WorksOn db lacks MayMake Makes out result
+  works Makes out result opened left given (found, kept, opens) same back turns stop cause =
+      worked found opened left kept (subst db.leaves same back) (λ is. opens (omega (arith, is, stop.clean))) turns stop cause
 
 -- what is made of a book is also something else
 pub Turns-weaker : (old new : State) (P Q : Book → Book → Type 0) → ((book after : Book) → P book after → Q book after) → Turns old new P → Turns old new Q
 Turns-weaker old new P Q weaker turns clean book holds =
     let (after, made, held) = turns clean book holds in (after, weaker book after made, held)
+
+-- and the cause of a fault that of more
+pub caused_weaker : (old new : State) (P Q : Book → Book → Type 0) → ((book after : Book) → P book after → Q book after) → (result : Result ℕ ToolFault)
+    → IfErr result (IsCausedFault old new P) → IfErr result (IsCausedFault old new Q)
+caused_weaker old new P Q weaker (Ok status) caused = tt
+caused_weaker old new P Q weaker (Err fault) caused = λ told same clean book holds. elim (caused told same clean book holds) [
+  | inl (after, made, big) ↦ inl (after, weaker book after made, big)
+  | inr why ↦ inr why
+]
 
 -- a book that is kept is made of itself
 pub Keeps-turns : (old new : State) (P : Book → Type 0) → Keeps old new P → Turns old new (λ book after. (after ≡ book) × P book)

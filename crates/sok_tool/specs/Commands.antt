@@ -11,12 +11,13 @@ use Rattle.sok_files.specs.Endings.{Ends, Runs}
 use Rattle.sok_files.specs.Files.{Files, OfFile, OfFiles}
 use Rattle.sok_files.specs.Solving.{SolvesLevel}
 use Rattle.sok_judge.specs.Checks.{IsCheck}
-use Rattle.sok_keep.specs.Adds.{WritesAdding}
-use Rattle.sok_keep.specs.Offers.{WritesOffer}
-use Rattle.sok_keep.specs.Proves.{WritesProof}
+use Rattle.sok_keep.specs.Adds.{AddsBytes, WritesAdding}
+use Rattle.sok_keep.specs.Offers.{OffersText, WritesOffer}
+use Rattle.sok_keep.specs.Proves.{ProvesBytes, WritesProof}
 use Rattle.sok_keep.specs.Shows.{IsExport, IsShow}
 use Rattle.sok_play.specs.Listing.{IsListing}
 use Rattle.sok_play.specs.Plays.{IsReplay}
+use Rattle.sok_store.specs.Calls.{MakesNone}
 use Rattle.sok_words.specs.Forms.{Form, add, check, export, limit_of, list, offer, prove, replay, show, solve}
 use Rattle.sok_tool.specs.Databases.{Databases, OfOpened, Place, WorksOn, at}
 
@@ -35,29 +36,31 @@ RunsSolve files file n most path out err exit =
     (result : Result ℕ ToolFault) × SolvesLevel (files.reads file) files.makes n most path out result × Ends result err.old err.new exit
 
 -- a command works on the book in a database, with a file that may be lacking, and the program ends with its status, or that of the fault
-abbrev pub RunsOn : Place → Type 0 → (Book → Book → Result ℕ ToolFault → Type 0) → Bytes → Bytes → ℕ → Type 0
-RunsOn db lacks Makes out err exit =
-    (result : Result ℕ ToolFault) × WorksOn db lacks (λ book after. Makes book after result) out result × Ends result err.old err.new exit
+abbrev pub RunsOn : Place → Type 0 → (Book → Book → Type 0) → (Book → Book → Result ℕ ToolFault → Type 0) → Bytes → Bytes → ℕ → Type 0
+RunsOn db lacks MayMake Makes out err exit =
+    (result : Result ℕ ToolFault) × WorksOn db lacks MayMake (λ book after. Makes book after result) out result × Ends result err.old err.new exit
 
 -- the levels of a file are added
 abbrev pub RunsAdd : Files → Databases → List ℕ → List ℕ → Bytes → Bytes → ℕ → Type 0
 RunsAdd files databases db file out err exit =
-    RunsOn (at databases db) (files.lacks file) (λ book after result. OfOpened (files.reads file) (λ known. WritesAdding book known after out.old out.new result)) out err exit
+    RunsOn (at databases db) (files.lacks file) (λ book after. OfOpened (files.reads file) (λ known. AddsBytes known book after))
+    (λ book after result. OfOpened (files.reads file) (λ known. WritesAdding book known after out.old out.new result)) out err exit
 
 -- a text is offered to the level with an id
 abbrev pub RunsOffer : Databases → List ℕ → ℤ → List ℕ → Bytes → Bytes → ℕ → Type 0
 RunsOffer databases db id text out err exit =
-    RunsOn (at databases db) ⊥ (λ book after result. WritesOffer book id text after out.old out.new result) out err exit
+    RunsOn (at databases db) ⊥ (OffersText id text) (λ book after result. WritesOffer book id text after out.old out.new result) out err exit
 
 -- the certificate in a file is judged for the level with an id
 abbrev pub RunsProve : Files → Databases → List ℕ → ℤ → List ℕ → Bytes → Bytes → ℕ → Type 0
 RunsProve files databases db id cert out err exit =
-    RunsOn (at databases db) (files.lacks cert) (λ book after result. OfOpened (files.reads cert) (λ known. WritesProof book id known after out.old out.new result)) out err exit
+    RunsOn (at databases db) (files.lacks cert) (λ book after. OfOpened (files.reads cert) (λ known. ProvesBytes id known book after))
+    (λ book after result. OfOpened (files.reads cert) (λ known. WritesProof book id known after out.old out.new result)) out err exit
 
 -- the book stays, and such an answer is written
 abbrev pub RunsShowing : Databases → List ℕ → (Book → Answers) → Bytes → Bytes → ℕ → Type 0
 RunsShowing databases db P out err exit =
-    RunsOn (at databases db) ⊥ (λ book after result. (after ≡ book) × Writes (P book) out.old out.new result) out err exit
+    RunsOn (at databases db) ⊥ MakesNone (λ book after result. (after ≡ book) × Writes (P book) out.old out.new result) out err exit
 
 -- what becomes of the output, of the files and of the book that a form names, with its values
 abbrev pub Serves : Files → Databases → Form → Bytes → Bytes → ℕ → Type 0

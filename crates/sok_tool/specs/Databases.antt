@@ -1,5 +1,5 @@
 -- What a command makes of the book in a database, and how it ends.
-use Rattle.std.specs.Prelude.{ℕ, ◌≡◌, ◌⊎◌, List, Option, Result, Err, IsTrue}
+use Rattle.std.specs.Prelude.{ℕ, ◌≡◌, ◌⊎◌, List, Option, Result, Err, IfErr, IsTrue}
 use Rattle.sqlite.specs.State.{State, HasCleanDisk}
 use Rattle.sok_book.specs.declared.fault.BookFault.{BookFault}
 use Rattle.sok_book.specs.declared.fault.BookFault.TheVariants as refusal
@@ -9,8 +9,9 @@ use Rattle.sok_engine.specs.declared.fault.ToolFault.TheVariants as tool
 use Rattle.sok_engine.specs.Certified.{Bytes, Stays}
 use Rattle.sok_engine.specs.Faults.{of_book}
 use Rattle.sok_sql.specs.Connections.{IsKnown, IsSame}
-use Rattle.sok_store.specs.Calls.{Turns}
-use Rattle.sok_store.specs.Opening.{IsUnopened, Opens}
+use Rattle.sok_store.specs.Calls.{Stops, Turns}
+use Rattle.sok_store.specs.Opening.{IsCausedOpening, IsUnopened, Opens}
+use Rattle.sok_keep.specs.Causes.{IsCausedFault}
 
 -- of the database at one path: the connections to it, what each shows, which one may be opened there, how it may be refused, and which one is given back
 pub record Place : Type 1 where
@@ -38,10 +39,12 @@ at databases path = place databases.shows (databases.keeps path) (databases.refu
 abbrev pub OfOpened : (Option (List ℕ) → Type 0) → (Option (List ℕ) → Type 0) → Type 0
 OfOpened reads P = (known : Option (List ℕ)) × reads known × P known
 
--- What was found is not opened as a book, and this is told. A database that was empty, or had the table of levels alone, is left as it was.
+-- What was found is not opened as a book, and this is told. A database that was empty, or had the table of levels alone, is left as it was, and of it
+-- `Database` is told only with a cause.
 abbrev pub IsNoBook : State → State → ToolFault → Type 0
 IsNoBook found left told =
     (cause : BookFault) × (told ≡ of_book cause) × IsUnopened found left cause × (HasCleanDisk left → IsKnown found → IsSame found left)
+    × IsCausedOpening found left cause
 
 -- Why a command on a book has none to work on. Memory was refused for its words; the database is refused; its file can't be opened, or the database is in a
 -- transaction, and the connection is given back as it was found; or what was found is no book, and the connection is given back.
@@ -57,9 +60,11 @@ pub data IsWithoutBook (db : Place) (lacks : Type 0) (told : ToolFault) : Type 0
 abbrev pub OpensFound : (db : Place) → db.Connection → Type 0
 OpensFound db opened = (found : db.Connection) × db.keeps found × (HasCleanDisk (db.shows opened) → Opens (db.shows found) (db.shows opened))
 
--- How a command on a book ends. Where it has none nothing is written. Else a book was opened, and the command makes so of it.
-pub data WorksOn (db : Place) (lacks : Type 0) (Makes : Book → Book → Type 0) (out : Bytes) (result : Result ℕ ToolFault) : Type 0 where
-  refused : (told : ToolFault) → IsWithoutBook db lacks told → result ≡ Err told → Stays out → WorksOn db lacks Makes out result
+-- How a command on a book ends. Where it has none nothing is written. Else a book was opened, and the command makes so of it; a stop in the middle leaves
+-- the book that was opened, or one that the command may make, and it tells `Database` only with a cause.
+pub data WorksOn (db : Place) (lacks : Type 0) (MayMake Makes : Book → Book → Type 0) (out : Bytes) (result : Result ℕ ToolFault) : Type 0 where
+  refused : (told : ToolFault) → IsWithoutBook db lacks told → result ≡ Err told → Stays out → WorksOn db lacks MayMake Makes out result
   worked : (found opened left : db.Connection) → db.keeps found → db.leaves left
       → (HasCleanDisk (db.shows left) → Opens (db.shows found) (db.shows opened)) → Turns (db.shows opened) (db.shows left) Makes
-      → WorksOn db lacks Makes out result
+      → Stops (db.shows opened) (db.shows left) MayMake → IfErr result (IsCausedFault (db.shows opened) (db.shows left) MayMake)
+      → WorksOn db lacks MayMake Makes out result

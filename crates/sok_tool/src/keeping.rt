@@ -4,9 +4,10 @@
 ghost use Rattle.std.specs.Prelude.{◌≡◌, IfErr, IfOk};
 ghost use Rattle.sqlite.specs.Held.{state};
 ghost use Rattle.sok_engine.specs.Written.{Writes};
-ghost use Rattle.sok_keep.specs.Adds.{WritesAdding};
-ghost use Rattle.sok_keep.specs.Offers.{WritesOffer};
-ghost use Rattle.sok_keep.specs.Proves.{WritesProof};
+ghost use Rattle.sok_store.specs.Calls.{MakesNone};
+ghost use Rattle.sok_keep.specs.Adds.{AddsBytes, WritesAdding};
+ghost use Rattle.sok_keep.specs.Offers.{OffersText, WritesOffer};
+ghost use Rattle.sok_keep.specs.Proves.{ProvesBytes, WritesProof};
 ghost use Rattle.sok_keep.specs.Shows.{IsExport, IsShow};
 ghost use Rattle.sok_tool.specs.Databases.{IsWithoutBook, OfOpened, OpensFound, WorksOn, place};
 
@@ -31,6 +32,7 @@ pub(crate) fn add<
 >(rt: &F, db: &str, path: &str, out: &mut W) -> Result<u8, ToolFault>
     ensures { WorksOn (place (state S.Store)
         (F.keeps rt.now db.now) (F.refuses rt.now db.now) (F.leaves rt.now db.now)) (F.lacks rt.now path.now)
+        (λ book after. OfOpened (F.reads rt.now path.now) (λ known. AddsBytes known book after))
         (λ book after. OfOpened (F.reads rt.now path.now) (λ known.
         WritesAdding book known after (W.contents out.old) (W.contents out.new) result))
         (record { old = W.contents out.old; new = W.contents out.new }) result }
@@ -51,6 +53,7 @@ pub(crate) fn offer<S: Alter + Drop, F: Databases<Opened = Connection<S>> + Allo
 ) -> Result<u8, ToolFault>
     ensures { WorksOn (place (state S.Store)
         (F.keeps rt.now db.now) (F.refuses rt.now db.now) (F.leaves rt.now db.now)) ⊥
+        (OffersText id text.now)
         (λ book after.
         WritesOffer book id text.now after (W.contents out.old) (W.contents out.new) result)
         (record { old = W.contents out.old; new = W.contents out.new }) result }
@@ -69,6 +72,7 @@ pub(crate) fn prove<
 >(rt: &F, db: &str, id: i64, path: &str, out: &mut W) -> Result<u8, ToolFault>
     ensures { WorksOn (place (state S.Store)
         (F.keeps rt.now db.now) (F.refuses rt.now db.now) (F.leaves rt.now db.now)) (F.lacks rt.now path.now)
+        (λ book after. OfOpened (F.reads rt.now path.now) (λ known. ProvesBytes id known book after))
         (λ book after. OfOpened (F.reads rt.now path.now) (λ known.
         WritesProof book id known after (W.contents out.old) (W.contents out.new) result))
         (record { old = W.contents out.old; new = W.contents out.new }) result }
@@ -87,7 +91,7 @@ pub(crate) fn show<S: Alter + Drop, F: Databases<Opened = Connection<S>> + Alloc
     out: &mut W,
 ) -> Result<u8, ToolFault>
     ensures { WorksOn (place (state S.Store)
-        (F.keeps rt.now db.now) (F.refuses rt.now db.now) (F.leaves rt.now db.now)) ⊥
+        (F.keeps rt.now db.now) (F.refuses rt.now db.now) (F.leaves rt.now db.now)) ⊥ MakesNone
         (λ book after. (after ≡ book)
         × Writes (IsShow book id) (W.contents out.old) (W.contents out.new) result)
         (record { old = W.contents out.old; new = W.contents out.new }) result }
@@ -105,7 +109,7 @@ pub(crate) fn export<S: Alter + Drop, F: Databases<Opened = Connection<S>> + All
     out: &mut W,
 ) -> Result<u8, ToolFault>
     ensures { WorksOn (place (state S.Store)
-        (F.keeps rt.now db.now) (F.refuses rt.now db.now) (F.leaves rt.now db.now)) ⊥
+        (F.keeps rt.now db.now) (F.refuses rt.now db.now) (F.leaves rt.now db.now)) ⊥ MakesNone
         (λ book after. (after ≡ book)
         × Writes (IsExport book) (W.contents out.old) (W.contents out.new) result)
         (record { old = W.contents out.old; new = W.contents out.new }) result }

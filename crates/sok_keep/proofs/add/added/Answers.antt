@@ -3,7 +3,10 @@ use Rattle.std.proofs.lemmas.Result.{err_from_is_err_and}
 use Rattle.sqlite.specs.Held.{state}
 use Rattle.sok_text.specs.Collections.{blocks_of}
 use Rattle.sok_store.specs.Calls.{Turns}
-use Rattle.sok_keep.specs.Adding.{LeavesLevels, seen}
+use Rattle.sok_keep.specs.Adding.{AddsSome, LeavesLevels, seen}
+use Rattle.sok_keep.specs.Causes.{Treats}
+use Rattle.sok_store.proofs.Calls.{stops_same}
+use Rattle.sok_keep.proofs.Treating.{memory_treats}
 use Rattle.sok_keep.proofs.Adding.{none_added}
 use Rattle.sok_keep.proofs.add.added.Goals as goal
 
@@ -16,3 +19,14 @@ pub returns-clause-leaves : goal.returns-clause-leaves
 returns-clause-leaves g c =
     subst (λ blocks. Turns (state g.S.Store c.args.book.now) (state g.S.Store c.add_levels.new.book)
     (λ pages after. LeavesLevels blocks pages after (seen (λ v. v.items) c.add_levels.result))) c.in_ok-collection.ensures c.add_levels.ensures.leaves
+
+pub returns-in_err-collection-clause-treats : goal.returns-in_err-collection-clause-treats
+returns-in_err-collection-clause-treats g c =
+    let p = err_from_is_err_and c.from_residual.result c.from_residual.ensures.1 in
+    let s = state g.S.Store c.args.book.now in
+    rw p.1 (memory_treats s s _ _ p.2 (stops_same s _))
+
+pub returns-clause-treats : goal.returns-clause-treats
+returns-clause-treats g c =
+    subst (λ blocks. Treats (state g.S.Store c.args.book.now) (state g.S.Store c.add_levels.new.book) (AddsSome blocks) c.add_levels.result)
+    c.in_ok-collection.ensures c.add_levels.ensures.treats

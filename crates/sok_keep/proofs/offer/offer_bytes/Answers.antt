@@ -6,6 +6,7 @@ use Rattle.sok_text.specs.Lurd.{Spells}
 use Rattle.sok_keep.specs.Offers.{OffersText}
 use Rattle.sok_keep.proofs.Ending.{caused_more, done_open, lurd_database, written_caused}
 use Rattle.sok_keep.proofs.Offering.{offer_done, offer_refused, offer_unread}
+use Rattle.sok_store.proofs.Calls.{stops_less, stops_same}
 use Rattle.sok_keep.proofs.offer.offer_bytes.Goals as goal
 
 pub returns-in_err-letters-clause-writes : goal.returns-in_err-letters-clause-writes
@@ -48,8 +49,17 @@ returns-in-Ok-clause-open g c =
     done_open (state g.S.Store c.args.book.now) (state g.S.Store c.offer_with_best.new.self) _ c.write_line.result
     (rw (to_z-of_z w64 c.args.id c.ranges.id) at c.in-Ok.ensures.offered)
 
-pub returns-in-Ok-clause-clean : goal.returns-in-Ok-clause-clean
-returns-in-Ok-clause-clean g c = c.offer_with_best.ensures.stop.clean
+pub returns-in_err-letters-clause-stop : goal.returns-in_err-letters-clause-stop
+returns-in_err-letters-clause-stop g c = stops_same (state g.S.Store c.args.book.now) _
 
-pub returns-clause-clean : goal.returns-clause-clean
-returns-clause-clean g c = c.offer_with_best.ensures.stop.clean
+pub returns-in-Ok-clause-stop : goal.returns-in-Ok-clause-stop
+returns-in-Ok-clause-stop g c =
+    let spelled : Spells c.args.text.now c.deref.result.now = subst (Spells c.args.text.now) (sym c.deref.ensures.value) c.in_ok-letters.ensures in
+    stops_less (state g.S.Store c.args.book.now) (state g.S.Store c.offer_with_best.new.self) _ (OffersText c.args.id c.args.text.now)
+    (λ book after made. (c.deref.result.now, spelled, made.0.offer, made.1.offered)) (rw (to_z-of_z w64 c.args.id c.ranges.id) at c.offer_with_best.ensures.stop)
+
+pub returns-clause-stop : goal.returns-clause-stop
+returns-clause-stop g c =
+    let spelled : Spells c.args.text.now c.deref.result.now = subst (Spells c.args.text.now) (sym c.deref.ensures.value) c.in_ok-letters.ensures in
+    stops_less (state g.S.Store c.args.book.now) (state g.S.Store c.offer_with_best.new.self) _ (OffersText c.args.id c.args.text.now)
+    (λ book after made. (c.deref.result.now, spelled, made.0.offer, made.1.offered)) (rw (to_z-of_z w64 c.args.id c.ranges.id) at c.offer_with_best.ensures.stop)

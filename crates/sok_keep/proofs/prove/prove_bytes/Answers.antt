@@ -5,6 +5,7 @@ use Rattle.sqlite.specs.Held.{state}
 use Rattle.sok_keep.specs.Proves.{ProvesBytes}
 use Rattle.sok_keep.proofs.Ending.{caused_more, changes_open, input_database, unproved_caused, written_caused, written_open}
 use Rattle.sok_keep.proofs.Proving.{proof_done, proof_failed, proof_refused, proof_unread, refused_status}
+use Rattle.sok_store.proofs.Calls.{stops_less, stops_same}
 use Rattle.sok_keep.proofs.prove.prove_bytes.Goals as goal
 
 pub returns-in_err-bytes-clause-writes : goal.returns-in_err-bytes-clause-writes
@@ -72,11 +73,23 @@ returns-in-Ok-clause-open g c =
     written_open _ (g.W.Write.contents c.args.out.now) (g.W.Write.contents c.write_line.new.out) c.write_line.result _ c.write_line.ensures
     (λ zero. changes_open (state g.S.Store c.args.book.now) (state g.S.Store c.prove.new.self) _ changes)
 
-pub returns-in-Ok-clause-clean : goal.returns-in-Ok-clause-clean
-returns-in-Ok-clause-clean g c = c.prove.ensures.stop.clean
+pub returns-in_err-bytes-clause-stop : goal.returns-in_err-bytes-clause-stop
+returns-in_err-bytes-clause-stop g c = stops_same (state g.S.Store c.args.book.now) _
 
-pub returns-in_err-answer-in-Err-clause-clean : goal.returns-in_err-answer-in-Err-clause-clean
-returns-in_err-answer-in-Err-clause-clean g c = c.prove.ensures.stop.clean
+pub returns-in-Ok-clause-stop : goal.returns-in-Ok-clause-stop
+returns-in-Ok-clause-stop g c =
+    stops_less (state g.S.Store c.args.book.now) (state g.S.Store c.prove.new.self) _ (ProvesBytes c.args.id (g.C.Read.remaining c.args.cert_input.now))
+    (λ book after made. (c.in_ok-bytes.bytes.items, c.in_ok-bytes.ensures.all, made.0, made.1))
+    (rw (to_z-of_z w64 c.args.id c.ranges.id, c.as_slice.ensures.value) at c.prove.ensures.stop)
 
-pub returns-clause-clean : goal.returns-clause-clean
-returns-clause-clean g c = c.prove.ensures.stop.clean
+pub returns-in_err-answer-in-Err-clause-stop : goal.returns-in_err-answer-in-Err-clause-stop
+returns-in_err-answer-in-Err-clause-stop g c =
+    stops_less (state g.S.Store c.args.book.now) (state g.S.Store c.prove.new.self) _ (ProvesBytes c.args.id (g.C.Read.remaining c.args.cert_input.now))
+    (λ book after made. (c.in_ok-bytes.bytes.items, c.in_ok-bytes.ensures.all, made.0, made.1))
+    (rw (to_z-of_z w64 c.args.id c.ranges.id, c.as_slice.ensures.value) at c.prove.ensures.stop)
+
+pub returns-clause-stop : goal.returns-clause-stop
+returns-clause-stop g c =
+    stops_less (state g.S.Store c.args.book.now) (state g.S.Store c.prove.new.self) _ (ProvesBytes c.args.id (g.C.Read.remaining c.args.cert_input.now))
+    (λ book after made. (c.in_ok-bytes.bytes.items, c.in_ok-bytes.ensures.all, made.0, made.1))
+    (rw (to_z-of_z w64 c.args.id c.ranges.id, c.as_slice.ensures.value) at c.prove.ensures.stop)

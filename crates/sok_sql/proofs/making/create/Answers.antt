@@ -1,6 +1,6 @@
 use Rattle.sqlite.specs.Held.{state}
 use Rattle.sok_sql.proofs.Calls.{refused_undone, undone_same}
-use Rattle.sok_sql.proofs.Changing.{create_holds, create_open, create_refuses}
+use Rattle.sok_sql.proofs.Changing.{create_commits, create_holds, create_open, create_refuses}
 use Rattle.sqlite.proofs.StateLemmas.{survives_weaker}
 use Rattle.sok_sql.proofs.Unmade.{create_refused}
 use Rattle.sok_sql.proofs.making.create.Goals as goal
@@ -25,10 +25,12 @@ pub returns-in-Err-clause-cause : goal.returns-in-Err-clause-cause
 returns-in-Err-clause-cause g c clean empty =
     create_refused (state g.S.Store c.args.conn.now) (state g.S.Store c.execute.new.self) c.in-Err.error empty (c.in-Err.ensures.runs clean)
 
-pub returns-in-Ok-clause-survives : goal.returns-in-Ok-clause-survives
-returns-in-Ok-clause-survives g c =
-    survives_weaker (state g.S.Store c.args.conn.now) (state g.S.Store c.execute.new.self) _ _ (λ _ db h. tt) c.execute.ensures.survives
+pub returns-in-Ok-clause-stop : goal.returns-in-Ok-clause-stop
+returns-in-Ok-clause-stop g c =
+    survives_weaker (state g.S.Store c.args.conn.now) (state g.S.Store c.execute.new.self) _ _ (λ _. create_commits (state g.S.Store c.args.conn.now))
+    c.execute.ensures.survives
 
-pub returns-in-Err-clause-survives : goal.returns-in-Err-clause-survives
-returns-in-Err-clause-survives g c =
-    survives_weaker (state g.S.Store c.args.conn.now) (state g.S.Store c.execute.new.self) _ _ (λ _ db h. tt) c.execute.ensures.survives
+pub returns-in-Err-clause-stop : goal.returns-in-Err-clause-stop
+returns-in-Err-clause-stop g c =
+    survives_weaker (state g.S.Store c.args.conn.now) (state g.S.Store c.execute.new.self) _ _ (λ _. create_commits (state g.S.Store c.args.conn.now))
+    c.execute.ensures.survives

@@ -1,6 +1,6 @@
 use Rattle.std.proofs.lemmas.Result.{IfErr-weaker, IfOk-weaker}
 use Rattle.sqlite.specs.Held.{state}
-use Rattle.sok_sql.proofs.Texts.{all_plain}
+use Rattle.sok_sql.proofs.Texts.{all_missing, all_plain}
 use Rattle.sok_sql.proofs.Calls.{shown_open, undone_same, unread_undone}
 use Rattle.sok_sql.proofs.Answering.{all_answers, found_rows, none_found, query_rests}
 use Rattle.sok_sql.proofs.Refused.{all_refused, missing_open, missing_refused}
@@ -8,7 +8,7 @@ use Rattle.sok_sql.proofs.reading.all_rows.Goals as goal
 
 pub returns-clause-rests : goal.returns-clause-rests
 returns-clause-rests g c =
-    query_rests (λ rows. rows.items) (state g.S.Store c.args.conn.now) (state g.S.Store c.query_all.new.self) _ _ all_plain c.query_all.ensures.survives
+    query_rests (λ rows. rows.items) (state g.S.Store c.args.conn.now) (state g.S.Store c.query_all.new.self) _ _ all_plain all_missing c.query_all.ensures.survives
     c.query_all.result c.query_all.ensures.ok c.query_all.ensures.err
 
 pub returns-clause-rows : goal.returns-clause-rows

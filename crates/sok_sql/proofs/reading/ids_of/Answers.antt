@@ -1,13 +1,13 @@
 use Rattle.std.proofs.lemmas.Result.{IfErr-weaker, IfOk-weaker}
 use Rattle.sqlite.specs.Held.{state}
-use Rattle.sok_sql.proofs.Texts.{find_plain}
+use Rattle.sok_sql.proofs.Texts.{find_missing, find_plain}
 use Rattle.sok_sql.proofs.Answering.{find_answers, query_rests}
 use Rattle.sok_sql.proofs.Refused.{find_refused}
 use Rattle.sok_sql.proofs.reading.ids_of.Goals as goal
 
 pub returns-clause-rests : goal.returns-clause-rests
 returns-clause-rests g c =
-    query_rests (λ rows. rows.items) (state g.S.Store c.args.conn.now) (state g.S.Store c.query_all.new.self) _ _ find_plain c.query_all.ensures.survives
+    query_rests (λ rows. rows.items) (state g.S.Store c.args.conn.now) (state g.S.Store c.query_all.new.self) _ _ find_plain find_missing c.query_all.ensures.survives
     c.query_all.result c.query_all.ensures.ok c.query_all.ensures.err
 
 pub returns-clause-rows : goal.returns-clause-rows

@@ -1,13 +1,13 @@
 use Rattle.std.proofs.lemmas.Result.{IfErr-weaker, IfOk-weaker}
 use Rattle.sqlite.specs.Held.{state}
-use Rattle.sok_sql.proofs.Texts.{last_plain}
+use Rattle.sok_sql.proofs.Texts.{last_missing, last_plain}
 use Rattle.sok_sql.proofs.Answering.{last_answers, query_rests}
 use Rattle.sok_sql.proofs.Refused.{last_refused}
 use Rattle.sok_sql.proofs.reading.last_rows.Goals as goal
 
 pub returns-clause-rests : goal.returns-clause-rests
 returns-clause-rests g c =
-    query_rests (λ rows. rows.items) (state g.S.Store c.args.conn.now) (state g.S.Store c.query_all.new.self) _ _ last_plain c.query_all.ensures.survives
+    query_rests (λ rows. rows.items) (state g.S.Store c.args.conn.now) (state g.S.Store c.query_all.new.self) _ _ last_plain last_missing c.query_all.ensures.survives
     c.query_all.result c.query_all.ensures.ok c.query_all.ensures.err
 
 pub returns-clause-rows : goal.returns-clause-rows

@@ -12,16 +12,16 @@ use Rattle.sok_store.proofs.Caused.{few_leaves, told}
 use Rattle.sok_row.specs.Kept.{leaves_of}
 use Rattle.sok_store.proofs.adding.add_accepted.Goals as goal
 
-pub returns-in-Err : goal.returns-in-Err
-returns-in-Err g c = record {
+pub returns-in-Err-clause-runs : goal.returns-in-Err-clause-runs
+returns-in-Err-clause-runs g c = record {
   done = tt;
   refused = λ clean book holds. (inl (inl refl), holds);
   stop = stops_same (state g.S.Store c.args.conn.now) _;
   cause = λ database. absurd cc;
 }
 
-pub returns-in-Ok-Some : goal.returns-in-Ok-Some
-returns-in-Ok-Some g c =
+pub returns-in-Ok-Some-clause-runs : goal.returns-in-Ok-Some-clause-runs
+returns-in-Ok-Some-clause-runs g c =
     let old = state g.S.Store c.args.conn.now in
     let mid = state g.S.Store c.find.new.conn in
     let title = title_kept (option_map (λ bytes. bytes.now) c.args.title) in
@@ -36,20 +36,20 @@ returns-in-Ok-Some g c =
       cause = tt;
     }
 
-pub returns-in-Ok-None : goal.returns-in-Ok-None
-returns-in-Ok-None g c =
+pub returns-in-Ok-None-clause-runs : goal.returns-in-Ok-None-clause-runs
+returns-in-Ok-None-clause-runs g c =
     let old = state g.S.Store c.args.conn.now in
     let mid = state g.S.Store c.find.new.conn in
     let new = state g.S.Store c.add_new.new.conn in
-    let early : HasCleanDisk new → HasCleanDisk mid = λ clean. omega (arith, clean, c.add_new.ensures.stop.clean) in
+    let early : HasCleanDisk new → HasCleanDisk mid = λ clean. omega (arith, clean, c.add_new.ensures.runs.stop.clean) in
     let level : IsLevel c.args.level.now = record { proper = c.rows-rows.ensures.proper; trimmed = c.rows-rows.ensures.trimmed } in
     let text : c.as_str-text.result.now ≡ level_text c.args.level.now = c.as_str-text.ensures.value ∙ c.in-Ok.ensures in
     level_runs old mid c.args.level.now c.as_str-text.result.now text level (option_map (λ bytes. bytes.now) c.args.title) c.requires
     (rw c.in-Ok-None.field-0-is at c.in-Ok-None.ensures.found) new early c.find.ensures.rests c.add_new.result
-    (rw (← c.kept.ensures) c.add_new.ensures)
+    (rw (← c.kept.ensures) c.add_new.ensures.runs)
 
-pub returns : goal.returns
-returns g c =
+pub returns-clause-runs : goal.returns-clause-runs
+returns-clause-runs g c =
     let old = state g.S.Store c.args.conn.now in
     let mid = state g.S.Store c.find.new.conn in
     record {

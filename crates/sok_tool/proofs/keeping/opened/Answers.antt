@@ -8,7 +8,13 @@ returns-in-Ok-clause-opens g c = (c.args.connection, c.requires, c.in-Ok.ensures
 pub returns-in-Err-clause-refused : goal.returns-in-Err-clause-refused
 returns-in-Err-clause-refused g c =
     let refused = c.in-Err.refused in
-    bookless c.args.connection refused.connection c.requires c.close-in-Err.ensures (refused.fault, c.from.ensures, c.in-Err.ensures.unopened, c.in-Err.ensures.same)
+    bookless c.args.connection refused.connection c.requires c.close-in-Err.ensures (
+      refused.fault,
+      c.from.ensures,
+      c.in-Err.ensures.unopened,
+      c.in-Err.ensures.same,
+      c.in-Err.ensures.cause,
+    )
 
 pub returns-then-not-is_autocommit-clause-refused : goal.returns-then-not-is_autocommit-clause-refused
 returns-then-not-is_autocommit-clause-refused g c = busy c.args.connection c.requires c.close.ensures (search rules) refl

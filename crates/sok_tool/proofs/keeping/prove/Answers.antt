@@ -1,13 +1,15 @@
-use Rattle.std.proofs.Common.{arith}
+use Rattle.std.proofs.Common.{IfErr}
 use Rattle.sqlite.specs.Held.{state}
-use Rattle.sok_store.specs.Calls.{Turns}
-use Rattle.sok_keep.specs.Proves.{WritesProof}
+use Rattle.sok_store.specs.Calls.{Stops, Turns}
+use Rattle.sok_store.proofs.Calls.{stops_less}
+use Rattle.sok_keep.specs.Causes.{IsCausedFault}
+use Rattle.sok_keep.specs.Proves.{ProvesBytes, WritesProof}
 use Rattle.sok_keep.proofs.Ids.{of_passed}
-use Rattle.sok_tool.proofs.Working.{Turns-weaker, without_book, works}
+use Rattle.sok_tool.proofs.Working.{Turns-weaker, caused_weaker, without_book, works}
 use Rattle.sok_tool.proofs.keeping.prove.Goals as goal
 
 pub returns-in_err-book : goal.returns-in_err-book
-returns-in_err-book g c = without_book _ _ _ _ _ _ c.from_residual.ensures.1 c.in_err-book.ensures.refused
+returns-in_err-book g c = without_book _ _ _ _ _ _ _ c.from_residual.ensures.1 c.in_err-book.ensures.refused
 
 pub returns : goal.returns
 returns g c =
@@ -17,5 +19,11 @@ returns g c =
     let later = g.W.Write.contents call.new.out in
     let proves = of_passed (λ id. Turns (state g.S.Store c.in_ok-book.book) (state g.S.Store call.new.book)
     (λ book after. WritesProof book id known after before later call.result)) c.args.id c.ranges.id call.ensures.writes in
-    works _ _ _ _ _ c.in_ok-book.book call.new.book _ c.in_ok-book.ensures.opens c.into_connection.ensures c.close.ensures
-    (λ clean. omega (arith, clean, call.ensures.clean)) (Turns-weaker _ _ _ _ (λ book after made. (known, c.in_ok-book.ensures.reads, made)) proves)
+    let stop = of_passed (λ id. Stops (state g.S.Store c.in_ok-book.book) (state g.S.Store call.new.book) (ProvesBytes id known)) c.args.id c.ranges.id call.ensures.stop in
+    let cause = of_passed (λ id. IfErr call.result (IsCausedFault (state g.S.Store c.in_ok-book.book) (state g.S.Store call.new.book) (ProvesBytes id known)))
+    c.args.id c.ranges.id call.ensures.cause in
+    works _ _ _ _ _ _ c.in_ok-book.book call.new.book _ c.in_ok-book.ensures.opens c.into_connection.ensures c.close.ensures
+    (Turns-weaker _ _ _ _ (λ book after made. (known, c.in_ok-book.ensures.reads, made)) proves)
+    (stops_less _ _ _ _ (λ book after made. (known, c.in_ok-book.ensures.reads, made)) stop)
+    (caused_weaker (state g.S.Store c.in_ok-book.book) (state g.S.Store call.new.book) (ProvesBytes c.args.id known) _
+    (λ book after made. (known, c.in_ok-book.ensures.reads, made)) call.result cause)

@@ -1,4 +1,3 @@
-use Rattle.std.proofs.Common.{arith}
 use Rattle.sqlite.specs.Held.{state}
 use Rattle.sok_engine.specs.Written.{Writes}
 use Rattle.sok_store.specs.Calls.{Keeps}
@@ -8,7 +7,7 @@ use Rattle.sok_tool.proofs.Working.{Keeps-turns, without_book, works}
 use Rattle.sok_tool.proofs.keeping.show.Goals as goal
 
 pub returns-in_err-book : goal.returns-in_err-book
-returns-in_err-book g c = without_book _ _ _ _ _ _ c.from_residual.ensures.1 c.in_err-book.ensures.refused
+returns-in_err-book g c = without_book _ _ _ _ _ _ _ c.from_residual.ensures.1 c.in_err-book.ensures.refused
 
 pub returns : goal.returns
 returns g c =
@@ -17,5 +16,5 @@ returns g c =
     let later = g.W.Write.contents call.new.out in
     let shown = of_passed (λ id. Keeps (state g.S.Store c.in_ok-book.book) (state g.S.Store call.new.book) (λ book. Writes (IsShow book id) before later call.result))
     c.args.id c.ranges.id call.ensures.writes in
-    works _ _ _ _ _ c.in_ok-book.book call.new.book _ c.in_ok-book.ensures.opens c.into_connection.ensures c.close.ensures
-    (λ clean. omega (arith, clean, call.ensures.clean)) (Keeps-turns _ _ _ shown)
+    works _ _ _ _ _ _ c.in_ok-book.book call.new.book _ c.in_ok-book.ensures.opens c.into_connection.ensures c.close.ensures
+    (Keeps-turns _ _ _ shown) call.ensures.stop call.ensures.cause
