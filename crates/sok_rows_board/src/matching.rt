@@ -105,9 +105,9 @@ fn moved(
     boxes_on(rt, alloc, board, after.list())
 }
 
-/// Moves a box to a square without one, and asserts that a matching tells of the move alone, and of
-/// the boxes after it, what is found from nothing. The boxes after it, or None where they are a
-/// crowd, or no box was moved.
+/// Moves the box at a place of the list to a square without one, and asserts that a matching tells
+/// of the move alone, and of the boxes after it, what is found from nothing. The boxes after it, or
+/// None where they are a crowd, or no box was moved.
 fn step(
     rt: &impl Abort,
     alloc: Global,
@@ -115,7 +115,7 @@ fn step(
     tables: &Tables,
     matching: &mut Matching,
     boxes: &BoxSet,
-    from: Sq,
+    place: usize,
     to: Sq,
 ) -> Result<Option<BoxSet>, Fail>
     requires tables { tables.now.board ≡ board.now }
@@ -125,6 +125,9 @@ fn step(
         (All (λ square. square < length board.now.area))) }
     ensures serves { OnOk result (Serves board.now matching.new) }
 {
+    let Some(from) = boxes.list().get(place).copied() else {
+        return Ok(None);
+    };
     if !boxes.has(from) || boxes.has(to) || to as usize >= board.squares() {
         return Ok(None);
     }
@@ -135,31 +138,6 @@ fn step(
     }
     match set(rt, alloc, tables, matching, &after)? {
         Some(_) => Ok(Some(after)),
-        None => Ok(None),
-    }
-}
-
-/// Moves one of the boxes to a square, both picked at random, as `step` does.
-fn step_at_random(
-    rt: &impl Abort,
-    alloc: Global,
-    board: &Board,
-    tables: &Tables,
-    matching: &mut Matching,
-    boxes: &BoxSet,
-    state: &mut u64,
-) -> Result<Option<BoxSet>, Fail>
-    requires tables { tables.now.board ≡ board.now }
-    requires boxes { All (λ square. square < length board.now.area) boxes.now }
-    requires serves { Serves board.now matching.old }
-    ensures boxes { IfOk result (λ after. IfSome after
-        (All (λ square. square < length board.now.area))) }
-    ensures serves { OnOk result (Serves board.now matching.new) }
-{
-    let place = next(state, boxes.list().len() + 1);
-    let to = next(state, board.squares() + 1) as Sq;
-    match boxes.list().get(place) {
-        Some(from) => step(rt, alloc, board, tables, matching, boxes, *from, to),
         None => Ok(None),
     }
 }
@@ -180,9 +158,9 @@ fn walk_on(
 {
     let mut state = 1;
     for _ in 0..moves {
-        if let Some(after) = step_at_random(
-            rt, alloc, board, tables, matching, &boxes, &mut state,
-        )? {
+        let place = next(&mut state, boxes.list().len() + 1);
+        let to = next(&mut state, board.squares() + 1) as Sq;
+        if let Some(after) = step(rt, alloc, board, tables, matching, &boxes, place, to)? {
             boxes = after;
         }
     }

@@ -81,6 +81,8 @@ fn a_book_in_a_file(rt: HostRuntime) -> Result<(), Fail> {
     prepare(&rt, "books")?;
     let other = first_other(&rt, &COMMANDS)?;
     assert_eq!(rt; other, None);
+    // a file that is no database gets no log beside it
+    assert!(rt; fs::open(&rt, "books/cert-wal").is_err());
     fs::remove_dir_all(&rt, "books")?;
     Ok(())
 }

@@ -5,9 +5,12 @@ ghost use Rattle.sok_book.specs.declared.fault.BookFault.TheVariants as refusal;
 ghost use Rattle.sok_engine.specs.declared.fault.ToolFault.{ToolFault};
 ghost use Rattle.sok_engine.specs.declared.fault.ToolFault.TheVariants as tool;
 
+use sok_book::fault::BookFault;
 use sok_engine::fault::ToolFault;
 use sok_row::fault::fault_of;
 use sqlite::{Connection, File, FileStore};
+use std::fs;
+use std::io::Read;
 
 /// Databases by their paths, as those in files of the machine.
 pub trait Databases {
@@ -46,6 +49,9 @@ impl Databases for HostRuntime {
     ghost leaves = { λ _ _ _. ⊤ };
 
     fn database(&self, path: &str) -> Result<Connection<FileStore<File>>, ToolFault> {
+        if is_other_file(self, path) {
+            return Err(ToolFault::Book(BookFault::Database));
+        }
         match Connection::open(self, path) {
             Ok(connection) => Ok(connection),
             Err(error) => Err(ToolFault::from(fault_of(error))),
@@ -57,5 +63,21 @@ impl Databases for HostRuntime {
     {
         // The log is copied into the database file. Where that fails, the next open reads the log.
         let _ = connection.close();
+    }
+}
+
+/// What a database begins with, where its file is not empty.
+const FRONT: [u8; 16] = *b"SQLite format 3\0";
+
+/// Whether there is a file that begins as no database does. Opened as one it would keep an empty
+/// log beside it.
+fn is_other_file(rt: &HostRuntime, path: &str) -> bool {
+    let Ok(mut file) = fs::open(rt, path) else {
+        return false;
+    };
+    let mut front = [0; 16];
+    match file.read(&mut front) {
+        Ok(0) | Err(_) => false,
+        Ok(_) => front != FRONT,
     }
 }
