@@ -2,11 +2,7 @@ pub mod Barring
 pub mod ClosedLaws
 pub mod Closing
 pub mod Entered
-pub mod Followed
 pub mod KnownPositions
-pub mod Looking
 pub mod OneRefusal
-pub mod Solved
-pub mod Starting
 pub mod Verdicts
 pub use Rattle.sok_entry.proofs.Readings

@@ -14,4 +14,3 @@ pub use Rattle.sok_entry.specs.declared.entry.Reason
 pub use Rattle.sok_entry.specs.declared.fault.CertFault
 -- words of the crate's own contracts
 pub mod Judging
-pub mod Lookup

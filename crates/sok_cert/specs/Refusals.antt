@@ -1,15 +1,15 @@
 -- Why a list of entries is not closed: the first fault, entry by entry, and then those of all entries.
-use Rattle.std.specs.Prelude.{ℕ, ◌≡◌, ◌<◌, ◌≤◌, ◌+◌, List, Some, true, false, IsTrue, Contains, length, slice_get}
-use Rattle.sok_rules.specs.Play.{Position, step, AllOnGoals}
+use Rattle.std.specs.Prelude.{ℕ, ◌≡◌, ◌<◌, List, Some, false, IsTrue, length, slice_get}
+use Rattle.sok_rules.specs.Play.{AllOnGoals}
 use Rattle.sok_rules.specs.States.{Same}
-use Rattle.sok_board.specs.Area.{Numbered, spot_of}
+use Rattle.sok_board.specs.Area.{Numbered}
 use Rattle.sok_state.specs.declared.push.Push.{Push}
-use Rattle.sok_state.specs.Pushes.{Precedes}
+use Rattle.sok_closed.specs.Lookup as lookup
 use Rattle.sok_entry.specs.declared.claim.Claim.{Claim}
 use Rattle.sok_entry.specs.declared.entry.Entry.{Entry}
 use Rattle.sok_entry.specs.declared.fault.CertFault.{CertFault}
 use Rattle.sok_entry.specs.declared.fault.CertFault.TheVariants as fault
-use Rattle.sok_cert.specs.Closed.{IsPosition, IsReasoned, IsBarredBy, IsStarter, is_expanded, entry_position}
+use Rattle.sok_cert.specs.Closed.{IsPosition, IsReasoned, IsBarredBy, IsStarter, is_expanded, node_of, entry_position}
 
 -- no entry before a place is of the entry's state
 abbrev pub IsNew : Numbered → List Entry → ℕ → Entry → Type 0
@@ -55,24 +55,13 @@ pub record IsUnreasoned (b : Numbered) (claim : Claim) (entries : List Entry) (i
   pub barring : is_expanded e.reason ≡ false
   pub fails : IsBarredBy b claim e → ⊥
 
--- a push that is legal from a position of an expanded entry's state, and leads to no entry at most one deeper
-pub record IsOpen (b : Numbered) (entries : List Entry) (e : Entry) (push : Push) : Type 0 where
-  pub expanded : IsTrue (is_expanded e.reason)
-  pub exists : push.from < length b.area
-  pub before : Position
-  pub after : Position
-  pub walked : Same b.rows (entry_position b e) before
-  pub steps : step b.rows push.dir before ≡ Some (record { position = after; pushed = true })
-  pub man : after.man ≡ spot_of b push.from
-  pub unfollowed : (f : Entry) → Contains entries f → f.depth ≤ e.depth + 1 → Same b.rows after (entry_position b f) → ⊥
+-- a push from an expanded entry leads to no entry at most one deeper
+abbrev pub IsOpen : Numbered → List Entry → Entry → Push → Type 0
+IsOpen b entries e push = lookup.IsOpen node_of b entries e push
 
--- the first open push: none of an entry before, and none before it of the same entry
-pub record IsFirstOpen (b : Numbered) (entries : List Entry) (i : ℕ) (push : Push) : Type 0 where
-  pub entry : Entry
-  pub there : slice_get entries i ≡ Some entry
-  pub is_open : IsOpen b entries entry push
-  pub earlier_entries : (j : ℕ) (f : Entry) (other : Push) → j < i → slice_get entries j ≡ Some f → IsOpen b entries f other → ⊥
-  pub earlier_pushes : (other : Push) → Precedes other push → IsOpen b entries entry other → ⊥
+-- the first such push
+abbrev pub IsFirstOpen : Numbered → List Entry → ℕ → Push → Type 0
+IsFirstOpen b entries i push = lookup.IsFirstOpen node_of b entries i push
 
 -- the fault's cause holds, and no earlier one does
 abbrev pub IsRefused : Numbered → Claim → List Entry → CertFault → Type 0

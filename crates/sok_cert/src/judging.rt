@@ -1,8 +1,7 @@
 //! What is found of an entry that is a position: whether it may stand, by its reason.
 
-ghost use Rattle.std.specs.Prelude.{ℕ, ◌≡◌, ◌<◌, ◌↔◌, IsTrue, IsOkAnd, All, length};
-ghost use Rattle.sok_rules.specs.Play.{AllOnGoals};
-ghost use Rattle.sok_board.specs.Area.{IsAccepted, position_of};
+ghost use Rattle.std.specs.Prelude.{◌≡◌, IsOkAnd};
+ghost use Rattle.sok_board.specs.Area.{IsAccepted};
 ghost use Rattle.sok_cert.specs.Closed.{IsPosition};
 ghost use Rattle.sok_cert.specs.Judging.{IsFinding};
 
@@ -11,6 +10,7 @@ use sok_bar::reason::reason_holds;
 use sok_board::area::Sq;
 use sok_board::board::Board;
 use sok_board::box_set::BoxSet;
+use sok_closed::solved::is_solved;
 use sok_entry::claim::Claim;
 use sok_entry::entry::Entry;
 use sok_push::tables::Tables;
@@ -55,14 +55,4 @@ pub(crate) fn judge(
         return Ok(Finding::Fine);
     }
     Ok(Finding::Unreasoned)
-}
-
-/// Whether all boxes of a position stand on goals, wherever the player stands.
-pub(crate) fn is_solved(board: &Board, boxes: &BoxSet) -> bool
-    requires accepted { IsAccepted board.now }
-    requires exist { All (λ square. square < length board.now.area) boxes.now }
-    ensures { (player : ℕ) → IsTrue result
-        ↔ AllOnGoals board.now.rows (position_of board.now player boxes.now) }
-{
-    board.are_goals(boxes.list())
 }

@@ -5,8 +5,7 @@
 //! |---|---|
 //! | `accepted` | what a certificate that was accepted shows |
 //! | `check` | the checker |
-//! | `entering` | the table of the entries' states (private) |
-//! | `following` | whether each push from an expanded entry leads to another entry (private) |
+//! | `entering` | the roll of the entries' states (private) |
 //! | `judging` | what is found of an entry by its reason (private) |
 //! | `law` | a closed certificate is true; a list has one judgement, and a text one verdict |
 //! | `placing` | which entries are positions, and of which state (private) |
@@ -16,7 +15,6 @@
 pub mod accepted;
 pub mod check;
 mod entering;
-mod following;
 mod judging;
 pub mod law;
 mod placing;

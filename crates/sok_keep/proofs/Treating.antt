@@ -1,6 +1,6 @@
 -- How levels that are added treat the connection.
 use Rattle.std.proofs.Common.{ℕ, ℤ, pos, ◌≡◌, ◌≢◌, ◌⊎◌, ◌∙◌, ◌+◌, ◌<◌, inl, inr, List, [], ◌++◌, Option, Result, Ok, Err, IfErr, IfOk, OnOk}
-use Rattle.std.proofs.Common.{ap, arith, length, refl, subst, sym}
+use Rattle.std.proofs.Common.{arith, length, refl, subst, sym}
 use Rattle.sqlite.specs.State.{State, HasCleanDisk}
 use Rattle.sqlite.proofs.StateLemmas.{survives_then}
 use Rattle.sok_rules.specs.declared.fault.LevelFault.{LevelFault}

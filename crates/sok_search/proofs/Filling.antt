@@ -18,7 +18,7 @@ use Rattle.sok_state.specs.Pushes.{LeadsTo}
 use Rattle.sok_state.specs.Tables.{IsAt}
 use Rattle.sok_state.proofs.Placed.{IsStanding-placed}
 use Rattle.sok_state.proofs.States.{IsKeyOf-Same, key_position, keys_equal}
-use Rattle.sok_cert.proofs.Looking.{same_index, standing-after}
+use Rattle.sok_closed.proofs.Looking.{same_index, standing-after}
 use Rattle.sok_search.specs.Searches.{Progress, IsSearch}
 use Rattle.sok_search.proofs.Knowing.{key-of-itself, known-key, some-at}
 use Rattle.sok_search.proofs.Chains.{IsReached, reached-more, state-reached}

@@ -1,12 +1,12 @@
 -- A finished search that is whole gives a closed list.
-use Rattle.std.proofs.Common.{ℕ, ◌≡◌, ◌∙◌, inl, inr, refl, sym, ap, subst, List, true≢false, Some, Bool, true, All, Contains, MatchBool, IsTrue, arith}
+use Rattle.std.proofs.Common.{ℕ, ◌≡◌, ◌∙◌, inl, inr, refl, sym, ap, subst, List, true≢false, Some, Bool, true, false, All, Contains, MatchBool, IsTrue, arith}
 use Rattle.std.proofs.Common.{length, get_or, slice_get}
 use Rattle.std.proofs.lemmas.Bool.{cases_Bool}
 use Rattle.std.proofs.lemmas.Option.{slice_get_within, slice_get-get_or}
-use Rattle.sok_rules.specs.Play.{AllOnGoals}
+use Rattle.sok_rules.specs.Play.{AllOnGoals, start}
 use Rattle.sok_rules.specs.States.{Same}
 use Rattle.sok_rules.proofs.Man.{IsStanding-start}
-use Rattle.sok_board.specs.Area.{Numbered, IsAccepted, position_of}
+use Rattle.sok_board.specs.Area.{Numbered, IsAccepted, boxes_of, position_of}
 use Rattle.sok_board.proofs.Lists.{Contains-at}
 use Rattle.sok_region.specs.Regions.{IsPlaced}
 use Rattle.sok_cert.specs.Claim.{Claim}
@@ -18,11 +18,13 @@ use Rattle.sok_state.specs.declared.push.Push.{Push}
 use Rattle.sok_state.specs.Keys.{IsKeyOf}
 use Rattle.sok_state.specs.Tables.{HasDistinctKeys, IsAt}
 use Rattle.sok_state.proofs.States.{keys_equal, key_position}
-use Rattle.sok_cert.specs.Closed.{IsClosed, IsFollowed, IsPosition, IsReasoned, is_expanded, entry_position, rest_of}
-use Rattle.sok_cert.specs.Lookup.{IsEntered, IsFound, IsLooking}
-use Rattle.sok_cert.proofs.Followed.{IsFollowed-found}
-use Rattle.sok_cert.proofs.Looking.{entry-stands, same_index}
-use Rattle.sok_cert.proofs.Starting.{one-starts}
+use Rattle.sok_cert.specs.Closed.{IsBarredBy, IsClosed, IsPosition, IsReasoned, is_expanded, node_of, entry_position, rest_of}
+use Rattle.sok_cert.proofs.Closing.{reason-is}
+use Rattle.sok_closed.specs.Rolls.{IsClosedAt, IsFollowed}
+use Rattle.sok_closed.specs.Lookup.{IsEntered, IsFound, IsLooking}
+use Rattle.sok_closed.proofs.Followed.{IsFollowed-found}
+use Rattle.sok_closed.proofs.Looking.{node-stands, same_index}
+use Rattle.sok_closed.proofs.Starting.{one-starts}
 use Rattle.sok_search.specs.declared.note.Note.{Note}
 use Rattle.sok_search.specs.declared.note.Standing.{Standing}
 use Rattle.sok_search.specs.declared.note.Standing.TheVariants as standing
@@ -75,7 +77,7 @@ key-made b accepted claim p i e made = subst (λ x. IsKeyOf b x made.key) (place
     (key-of-itself b accepted made.key made.noted.state)
 
 entered-made : (b : Numbered) → IsAccepted b → (claim : Claim) (p : Progress) (i : ℕ) (e : Entry) → Made b claim p i e
-    → IsEntered b p.table i e
+    → IsEntered b p.table i (node_of e)
 entered-made b accepted claim p i e made = record {
   key = made.key;
   there = made.state.there;
@@ -85,9 +87,10 @@ entered-made b accepted claim p i e made = record {
 
 -- the states are a table of the entries
 pub looking-made : (b : Numbered) → IsAccepted b → (limit : ℕ) (claim : Claim) (p : Progress) (entries : List Entry)
-    → IsSearch b limit p → AreFirstEntries b claim p (length p.table) entries → IsLooking b entries p.table
+    → IsSearch b limit p → AreFirstEntries b claim p (length p.table) entries → IsLooking node_of b (length (boxes_of b)) entries p.table
 looking-made b accepted limit claim p entries search are = record {
   accepted = accepted;
+  few = accepted.few_boxes;
   positions = all-at (IsPosition b) entries (λ i e there. position-made b claim p i e (made-at b limit claim p entries search are i e there));
   entered = record {
     count = sym are.as_many;
@@ -136,11 +139,11 @@ found-whole b p whole key depth push (inl found) = found
 found-whole b p whole key depth push (inr left) = absurd (true≢false (sym whole ∙ left.part))
 
 followed-standing : (b : Numbered) → IsAccepted b → (claim : Claim) (p : Progress) → p.frame.whole ≡ true → (entries : List Entry)
-    → IsLooking b entries p.table → (i : ℕ) (e : Entry) → Contains entries e
+    → IsLooking node_of b (length (boxes_of b)) entries p.table → (i : ℕ) (e : Entry) → Contains entries e
     → (made : Made b claim p i e) (s : Standing) → Stands b p i made.key made.depth s → IsReasonOf b claim made.key.boxes made.depth s e.reason
-    → IsTrue (is_expanded e.reason) → IsFollowed b entries e
+    → IsTrue (is_expanded e.reason) → IsFollowed node_of b entries (node_of e)
 followed-standing b accepted claim p whole entries looking i e listed made (standing.Expanded bound) (prices, unsolved, met) why expanded =
-    IsFollowed-found b entries p.table looking e listed made.key (key-made b accepted claim p i e made)
+    IsFollowed-found node_of b (length (boxes_of b)) entries p.table looking e listed made.key (key-made b accepted claim p i e made)
     (λ push legal. subst (λ depth. IsFound b p.table made.key depth push) (sym made.entry.depth_is)
     (found-whole b p whole made.key made.depth push (met push legal)))
 followed-standing b accepted claim p whole entries looking i e listed made (standing.Open bound) stands why expanded = absurd
@@ -155,7 +158,7 @@ apart-made b accepted claim p distinct i j e f of_e of_f same =
     let e_is = key-made b accepted claim p i e of_e in
     let f_is = key-made b accepted claim p j f of_f in
     let e_position = position-made b claim p i e of_e in
-    let standing = entry-stands b accepted e e_position in
+    let standing = node-stands b accepted (length (boxes_of b)) (node_of e) e_position in
     let equal : of_e.key ≡ of_f.key = keys_equal b accepted.numbered (entry_position b e) (entry_position b f) of_e.key of_f.key standing e_is f_is same in
     same_index p.table distinct of_f.key i j (subst (λ k. IsAt p.table k i) equal of_e.state.there) of_f.state.there
 
@@ -167,14 +170,21 @@ entries-closed b accepted limit claim p entries search whole are =
     let looking = looking-made b accepted limit claim p entries search are in
     let begun = search.begun in
     let made = made-at b limit claim p entries search are in
+    let reasoned = λ (i : ℕ) (e : Entry) (there : slice_get entries i ≡ Some e). let one = made i e there in
+    reasoned-standing b claim p i e one one.note.standing one.noted.stands one.entry.reason_is in
     record {
-      positions = looking.positions;
-      apart = λ i j e f e_there f_there same. apart-made b accepted claim p search.distinct i j e f (made i e e_there) (made j f f_there) same;
-      reasoned = all-at (IsReasoned b claim) entries
-          (λ i e there. let one = made i e there in reasoned-standing b claim p i e one one.note.standing one.noted.stands one.entry.reason_is);
-      starter = one-starts b entries p.table looking (IsStanding-start b.rows accepted.proper) begun.key begun.is 0 0 begun.there begun.depth_is refl;
-      followed = all-at (λ e. IsTrue (is_expanded e.reason) → IsFollowed b entries e) entries (λ i e there.
-          let one = made i e there in
-          followed-standing b accepted claim p whole entries looking i e
-          (Contains-at entries e i there) one one.note.standing one.noted.stands one.entry.reason_is);
+      rolled = record {
+        positions = looking.positions;
+        apart = λ i j e f e_there f_there same. apart-made b accepted claim p search.distinct i j e f (made i e e_there) (made j f f_there) same;
+        unsolved = all-at (λ e. IsTrue (is_expanded e.reason) → AllOnGoals b.rows (entry_position b e) → ⊥) entries
+            (λ i e there expanded. reason-is b claim e true expanded (reasoned i e there));
+        starter = one-starts node_of b (length (boxes_of b)) entries p.table looking (start b.rows) (IsStanding-start b.rows accepted.proper) begun.key begun.is 0 0
+            begun.there begun.depth_is refl;
+        followed = all-at (IsClosedAt node_of b entries) entries (λ i e there.
+            let one = made i e there in
+            followed-standing b accepted claim p whole entries looking i e
+            (Contains-at entries e i there) one one.note.standing one.noted.stands one.entry.reason_is);
+      };
+      barred = all-at (λ e. is_expanded e.reason ≡ false → IsBarredBy b claim e) entries
+          (λ i e there other. reason-is b claim e false other (reasoned i e there));
     }

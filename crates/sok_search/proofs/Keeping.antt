@@ -6,7 +6,7 @@ use Rattle.sok_board.specs.Area.{Numbered}
 use Rattle.sok_state.specs.declared.key.Key.{Key}
 use Rattle.sok_state.specs.declared.push.Push.{Push}
 use Rattle.sok_state.specs.Tables.{Entries, HasDistinctKeys}
-use Rattle.sok_cert.specs.Lookup.{IsFound}
+use Rattle.sok_closed.specs.Lookup.{IsFound}
 use Rattle.sok_search.specs.declared.note.Note.{Note}
 use Rattle.sok_search.specs.declared.note.Origin.{Origin}
 use Rattle.sok_search.specs.declared.note.Standing.{Standing}

@@ -15,9 +15,10 @@ use Rattle.sok_cert.specs.Claim.{Claim}
 use Rattle.sok_cert.specs.Claim.TheVariants.{Pushes, Unsolvable}
 use Rattle.sok_cert.specs.Closed.{IsTrueOf, rest_of}
 use Rattle.sok_cert.proofs.Barring.{Agrees-barred, Agrees-deeper}
-use Rattle.sok_cert.proofs.Followed.{leads-pushed}
-use Rattle.sok_cert.proofs.Looking.{standing-after}
-use Rattle.sok_cert.proofs.KnownPositions.{AllAgree, IsTrueOf-known, LeadsOn, solved-Same}
+use Rattle.sok_closed.proofs.Followed.{leads-pushed}
+use Rattle.sok_closed.proofs.Looking.{standing-after}
+use Rattle.sok_cert.proofs.KnownPositions.{AllAgree, IsTrueOf-known}
+use Rattle.sok_closed.proofs.KnownPositions.{LeadsOn, solved-Same}
 use Rattle.sok_state.specs.declared.key.Key.{Key}
 use Rattle.sok_state.specs.declared.push.Push.{Push}
 use Rattle.sok_state.specs.Pushes.{IsLegal, LeadsTo}

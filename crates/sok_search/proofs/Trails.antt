@@ -24,7 +24,7 @@ use Rattle.sok_state.specs.Keys.{IsKey, IsKeyOf}
 use Rattle.sok_state.specs.Pushes.{IsLegal, LeadsTo}
 use Rattle.sok_state.proofs.LegalPushes.{IsFree, beside-next, clear-legal, free-legal, next_behind}
 use Rattle.sok_state.proofs.States.{keys_equal, key_position}
-use Rattle.sok_cert.proofs.Looking.{standing-after}
+use Rattle.sok_closed.proofs.Looking.{standing-after}
 use Rattle.sok_search.specs.declared.trail.Trail.{Trail}
 use Rattle.sok_search.specs.Searches.{IsSolved}
 use Rattle.sok_search.specs.Trails.{GoesOn, IsBegun, IsFollowed, IsSolvedWith, IsSolvingTrace, IsTrail, LeadBy, Leads, pushes_of}

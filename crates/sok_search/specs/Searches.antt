@@ -11,7 +11,7 @@ use Rattle.sok_state.specs.declared.push.Push.{Push}
 use Rattle.sok_state.specs.Keys.{IsKey, IsKeyOf}
 use Rattle.sok_state.specs.Pushes.{IsLegal, LeadsTo}
 use Rattle.sok_state.specs.Tables.{Entries, HasDistinctKeys, IsAt}
-use Rattle.sok_cert.specs.Lookup.{IsFound}
+use Rattle.sok_closed.specs.Lookup.{IsFound}
 use Rattle.sok_search.specs.declared.note.Note.{Note}
 use Rattle.sok_search.specs.declared.note.Origin.{Origin}
 use Rattle.sok_search.specs.declared.note.Standing.{Standing}

@@ -1,8 +1,6 @@
-//! How a new state stands, and whether a state is solved.
+//! How a new state stands.
 
-ghost use Rattle.std.specs.Prelude.{ℕ, ◌≡◌, ◌<◌, ◌↔◌, IfOk, IsTrue, All, length};
-ghost use Rattle.sok_rules.specs.Play.{AllOnGoals};
-ghost use Rattle.sok_board.specs.Area.{position_of};
+ghost use Rattle.std.specs.Prelude.{◌≡◌, ◌<◌, IfOk, All, length};
 ghost use Rattle.sok_search.specs.Steps.{IsJudged};
 
 use crate::note::Standing;
@@ -34,13 +32,4 @@ pub(crate) fn judge(
         Match::Prices { total, .. } => Ok(Standing::Open(total)),
         Match::Crowd { .. } => Ok(Standing::Dead),
     }
-}
-
-/// Whether all boxes of a position stand on goals, wherever the player stands.
-pub(crate) fn is_solved(board: &Board, boxes: &BoxSet) -> bool
-    requires exist { All (λ square. square < length board.now.area) boxes.now }
-    ensures { (player : ℕ)
-        → IsTrue result ↔ AllOnGoals board.now.rows (position_of board.now player boxes.now) }
-{
-    board.are_goals(boxes.list())
 }

@@ -9,11 +9,11 @@ ghost use Rattle.sok_search.specs.Views.{progress_of, IsRunning, TellsTurned, Te
 ghost use Rattle.sok_search.specs.declared.note.Standing.TheVariants.{Open};
 
 use crate::expanding::{Scratch, expand};
-use crate::judging::is_solved;
 use crate::note::{Note, Standing};
 use crate::reaching::Reached;
 use crate::search::Search;
 use sok_board::board::Board;
+use sok_closed::solved::is_solved;
 use sok_push::tables::Tables;
 use sok_rules::fault::Memory;
 use std::alloc::Global;

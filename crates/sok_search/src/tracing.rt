@@ -6,10 +6,10 @@ ghost use Rattle.sok_search.specs.Searches.{IsSearching};
 ghost use Rattle.sok_search.specs.Trails.{GoesBack, IsSolvedAt, TracesBack};
 ghost use Rattle.sok_search.specs.Views.{progress_of};
 
-use crate::judging::is_solved;
 use crate::search::Search;
 use sok_board::area::Sq;
 use sok_board::board::Board;
+use sok_closed::solved::is_solved;
 use sok_rules::fault::Memory;
 use sok_state::push::Push;
 use std::alloc::Global;

@@ -5,11 +5,11 @@ use Rattle.sok_cert.specs.Refusals.{IsRefused}
 use Rattle.sok_cert.proofs.ClosedLaws.{ShowsClaims-accepted}
 use Rattle.sok_cert.proofs.check.judged.Goals as goal
 
-pub returns-in_err-table-clause-refused : goal.returns-in_err-table-clause-refused
-returns-in_err-table-clause-refused c =
-    let p = err_from_is_err_and c.from_residual-in_err-table.result c.from_residual-in_err-table.ensures.1 in
-    rw (p.1, p.2) (subst (λ es. IsRefused c.args.board.now c.args.claim es c.in_err-table.field-0.0) c.as_slice-entries.ensures.value
-    c.in_err-table.ensures.refused)
+pub returns-in_err-roll-clause-refused : goal.returns-in_err-roll-clause-refused
+returns-in_err-roll-clause-refused c =
+    let p = err_from_is_err_and c.from_residual-in_err-roll.result c.from_residual-in_err-roll.ensures.1 in
+    rw (p.1, p.2) (subst (λ es. IsRefused c.args.board.now c.args.claim es c.in_err-roll.field-0.0) c.as_slice-entries.ensures.value
+    c.in_err-roll.ensures.refused)
 
 pub returns-in_err-check_list-clause-refused : goal.returns-in_err-check_list-clause-refused
 returns-in_err-check_list-clause-refused c =

@@ -2,7 +2,7 @@ use Rattle.std.proofs.Common.{ap, ◌∙◌, subst, Some, Contains, arith, get_o
 use Rattle.std.proofs.lemmas.Option.{slice_get-get_or}
 use Rattle.sok_search.specs.Views.{TellsReached, progress_of}
 use Rattle.sok_search.specs.declared.reaching.Reached.TheVariants.{On}
-use Rattle.sok_cert.proofs.Looking.{no_push}
+use Rattle.sok_closed.proofs.Looking.{no_push}
 use Rattle.sok_search.proofs.Trailing.{Before, followed-along, followed-more, followed-none, held-stays}
 use Rattle.sok_search.proofs.expanding.follow.Goals as goal
 

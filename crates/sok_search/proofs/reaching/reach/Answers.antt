@@ -2,7 +2,7 @@ use Rattle.std.proofs.Common.{◌≡◌, ◌+◌, ap, subst, refl, arith, length
 use Rattle.sok_board.specs.Area.{Numbered}
 use Rattle.sok_board.proofs.Beside.{beside-within}
 use Rattle.sok_push.specs.Pushing.{IsStuck}
-use Rattle.sok_cert.proofs.Starting.{at-within}
+use Rattle.sok_closed.proofs.Starting.{at-within}
 use Rattle.sok_state.specs.declared.key.Key.{Key}
 use Rattle.sok_state.specs.Tables.{Entries, Enters, GoesLast, Stays, Tabled}
 use Rattle.sok_search.specs.declared.search.Search.{Search}

@@ -1,7 +1,0 @@
-use Rattle.std.proofs.Common.{ℕ, ◌≡◌, ◌<◌, Some, slice_get}
-use Rattle.sok_state.specs.declared.push.Push.{Push}
-use Rattle.sok_cert.specs.Lookup.{IsFound}
-use Rattle.sok_cert.proofs.following.first_missing.Given as goal
-
-abbrev pub invariant-loop-place : goal.invariant-loop-place
-invariant-loop-place l = (i : ℕ) (push : Push) → i < l.place → slice_get l.pushes i ≡ Some push → IsFound l.board l.table.entries l.key l.depth push

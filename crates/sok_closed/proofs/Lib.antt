@@ -1,0 +1,9 @@
+pub mod AllOnGoals
+pub mod Entered
+pub mod Followed
+pub mod KnownPositions
+pub mod Looking
+pub mod Missed
+pub mod RollLaws
+pub mod Rolling
+pub mod Starting

@@ -1,0 +1,46 @@
+use Rattle.std.proofs.Common.{◌≡◌, ◌∙◌, Bool, List, Some, ap, false, slice_get, subst, true}
+use Rattle.std.proofs.lemmas.Option.{slice_get-get_or}
+use Rattle.sok_closed.specs.Lookup.{TellsOpen}
+use Rattle.sok_closed.proofs.Missed.{followed-more, followed-unmarked}
+use Rattle.sok_closed.proofs.roll.Roll.first_missed.Goals as goal
+
+pub loop-index-preserved-then-not-expanded : goal.loop-index-preserved-then-not-expanded
+loop-index-preserved-then-not-expanded c =
+    let marks = c.deref-expanded-items.result.now in
+    let i = c.loop-index.index in
+    let mark : slice_get marks i ≡ Some false = slice_get-get_or marks i false c.loop-index-test.true ∙ ap Some c.if-not-expanded.true in
+    followed-unmarked c.args.board.now c.args.self.now i
+    (rw (← c.self.view_is) (subst (λ (all : List Bool). slice_get all i ≡ Some false) c.deref-expanded-items.ensures.value mark)) c.loop-index.invariant
+
+pub key-requires-clause-few : goal.key-requires-clause-few
+key-requires-clause-few c = λ key at. (c.requires.keys c.loop-index.index key (rw (← c.self.view_is) at)).1
+
+pub open_push-requires-clause-key : goal.open_push-requires-clause-key
+open_push-requires-clause-key c = (c.requires.keys c.loop-index.index c.in_ok-key.key (rw (← c.self.view_is) c.in_ok-key.ensures)).0
+
+pub returns-in-Some : goal.returns-in-Some
+returns-in-Some c =
+    let b = c.args.board.now in
+    let marks = c.deref-expanded-items.result.now in
+    let i = c.loop-index.index in
+    let mark : slice_get marks i ≡ Some true = slice_get-get_or marks i false c.loop-index-test.true ∙ ap Some c.if-not-expanded.false in
+    record {
+      key = c.in_ok-key.key;
+      depth = c.depth-depth.result;
+      marked = record {
+        expanded = rw (← c.self.view_is) (subst (λ (all : List Bool). slice_get all i ≡ Some true) c.deref-expanded-items.ensures.value mark);
+        there = rw (← c.self.view_is) c.in_ok-key.ensures;
+        depth_is = rw (← c.self.view_is) c.depth-depth.ensures;
+      };
+      missed = rw (← c.self.view_is)
+          (subst (TellsOpen b c.self.inside.table.entries c.in_ok-key.key c.depth-depth.result) c.in-Some.is c.in_ok-push.ensures);
+      before = c.loop-index.invariant;
+    }
+
+pub loop-index-preserved : goal.loop-index-preserved
+loop-index-preserved c =
+    let b = c.args.board.now in
+    followed-more b c.args.self.now c.loop-index.index c.in_ok-key.key c.depth-depth.result (rw (← c.self.view_is) c.in_ok-key.ensures)
+    (rw (← c.self.view_is) c.depth-depth.ensures)
+    (rw (← c.self.view_is) (subst (TellsOpen b c.self.inside.table.entries c.in_ok-key.key c.depth-depth.result) c.in_default.is c.in_ok-push.ensures))
+    c.loop-index.invariant

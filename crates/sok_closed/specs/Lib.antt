@@ -1,0 +1,3 @@
+-- words of public contracts
+pub mod Rolls
+pub mod Lookup

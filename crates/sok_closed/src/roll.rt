@@ -1,0 +1,127 @@
+//! The states of a list, with their depths and marks.
+
+ghost use Rattle.std.specs.Prelude.{ℕ, ◌≡◌, ◌<◌, ◌≤◌, ◌↔◌, ◌++◌, ◌∷◌, [], Some, All, Contains, IfOk, IsTrue};
+ghost use Rattle.std.specs.Prelude.{MatchBool, OnErr, OnOk, length, slice_get};
+ghost use Rattle.std.specs.Map.{keys_of, values_of};
+ghost use Rattle.sok_board.specs.Area.{IsAccepted};
+ghost use Rattle.sok_board.specs.Limits.{square_limit};
+ghost use Rattle.sok_state.specs.Tables.{IsAt};
+ghost use Rattle.sok_closed.specs.Lookup.{AreKeys, TellsMissed};
+
+use crate::following::open_push;
+use sok_board::board::Board;
+use sok_rules::fault::Memory;
+use sok_state::key::Key;
+use sok_state::push::Push;
+use sok_state::table::Table;
+use std::alloc::Global;
+use std::marker::Model;
+
+/// The states of a list in their order, each with its depth and a mark: whether it is expanded, so
+/// that every push from it has to lead to another of them. A roll is seen as its keys with their
+/// depths, its room (the squares below that have a bit), and its marks.
+#[derive(Drop)]
+pub struct Roll {
+    table: Table,
+    marks: Vec<bool>,
+}
+
+impl Model for Roll {
+    ghost use Rattle.std.specs.Prelude.{◌≡◌, length};
+    ghost use Rattle.sok_closed.specs.Lookup.{Rolled};
+
+    ghost Value = { Rolled };
+
+    ghost view = { λ roll. record {
+      entries = roll.table.entries;
+      room = roll.table.room;
+      marks = roll.marks.items;
+    } };
+
+    ghost invariant = { λ roll. length roll.marks.items ≡ length roll.table.entries };
+}
+
+impl Roll {
+    /// A roll without a state, with room for so many squares. It keeps the allocator for what is
+    /// entered.
+    pub fn new(alloc: Global, squares: usize) -> Roll
+        requires { squares ≤ square_limit }
+        ensures none { result.entries ≡ [] }
+        ensures unmarked { result.marks ≡ [] }
+        ensures wide { squares ≤ result.room }
+    {
+        Roll {
+            table: Table::new(alloc, squares),
+            marks: Vec::new(alloc),
+        }
+    }
+
+    /// Whether a state was entered.
+    pub fn has(&self, key: &Key) -> bool
+        requires { All (λ square. square < self.now.room) key.now.boxes }
+        ensures { MatchBool result ((place : ℕ) × IsAt self.now.entries key.now place)
+            (Contains (keys_of self.now.entries) key.now → ⊥) }
+    {
+        self.table.get(key).is_some()
+    }
+
+    /// Enters a state that is new, behind the others. Want of memory leaves the roll as it was.
+    pub fn enter(&mut self, key: &Key, depth: u32, expanded: bool) -> Result<(), Memory>
+        requires squares { All (λ square. square < self.old.room) key.now.boxes }
+        requires absent { Contains (keys_of self.old.entries) key.now → ⊥ }
+        ensures entered { OnOk result
+            (self.new.entries ≡ self.old.entries ++ (key.now, depth) ∷ []) }
+        ensures marked { OnOk result (self.new.marks ≡ self.old.marks ++ expanded ∷ []) }
+        ensures room { self.new.room ≡ self.old.room }
+        ensures refused { OnErr result (self.new ≡ self.old) }
+    {
+        self.marks.reserve(1)?;
+        self.table.insert(key, depth)?;
+        self.marks.push(expanded)?;
+        Ok(())
+    }
+
+    /// Whether a state was entered at depth 0.
+    pub fn starts(&self, key: &Key) -> bool
+        requires { All (λ square. square < self.now.room) key.now.boxes }
+        ensures { IsTrue result ↔ ((place : ℕ) × IsAt self.now.entries key.now place
+            × (slice_get (values_of self.now.entries) place ≡ Some 0)) }
+    {
+        // A table tells with its length that no key stands there twice.
+        let _states = self.table.len();
+        match self.table.get(key) {
+            Some(index) => self.table.depth(index) == 0,
+            None => false,
+        }
+    }
+
+    /// The place of the first expanded state from which a push leads to none of the states, or to
+    /// one that is more than one deeper, and the first such push. It refuses only for want of
+    /// memory.
+    pub fn first_missed(
+        &self,
+        alloc: Global,
+        board: &Board,
+    ) -> Result<Option<(usize, Push)>, Memory>
+        requires accepted { IsAccepted board.now }
+        requires keys { AreKeys board.now self.now.entries }
+        requires wide { length board.now.area ≤ self.now.room }
+        ensures { IfOk result (TellsMissed board.now self.now) }
+    {
+        // A table tells with its length that no key stands there twice.
+        let _states = self.table.len();
+        let mut squares = Vec::new(alloc);
+        let mut pushes = Vec::new(alloc);
+        for (index, expanded) in self.marks.iter().enumerate() {
+            if !*expanded {
+                continue;
+            }
+            let key = self.table.key(alloc, &mut squares, index)?;
+            let depth = self.table.depth(index);
+            if let Some(push) = open_push(alloc, board, &self.table, &key, depth, &mut pushes)? {
+                return Ok(Some((index, push)));
+            }
+        }
+        Ok(None)
+    }
+}
