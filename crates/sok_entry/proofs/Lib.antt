@@ -2,10 +2,10 @@ pub mod Claims
 pub mod EntryLines
 pub mod EntryNumbers
 pub mod Fitting
-pub mod Headers
-pub mod LineEnds
 pub mod Numbers
 pub mod Printable
 pub mod Reaching
 pub mod Readings
+pub mod Splits
+pub mod Stages
 pub mod Words

@@ -1,84 +1,59 @@
--- Reading entries line by line.
-use Rattle.std.proofs.Common.{ℕ, ◌≡◌, ◌≢◌, ◌<◌, ◌≤◌, ◌+◌, ◌-◌, List, [], ◌∷◌, ◌++◌, All, true, ◌==◌, length, map, sym, ap, ◌∙◌, refl, arith}
-use Rattle.std.proofs.lemmas.List.{append_assoc, map_push, length_push}
-use Rattle.std.proofs.lemmas.List.Elements.{All-nil, All-push}
-use Rattle.std.specs.Str.Lines.{lines}
-use Rattle.sok_text.specs.Lines.{first_line, after_line}
-use Rattle.sok_text.proofs.Lines.{lines-first}
+-- Reading a text line by line.
+use Rattle.std.proofs.Common.{ℕ, ◌≡◌, ◌≤◌, ◌+◌, ◌∙◌, sym, ap, refl, subst, List, [], ◌∷◌, ◌++◌, length, arith}
+use Rattle.std.proofs.lemmas.List.{append_assoc}
+use Rattle.std.specs.Str.Lines.{lines, strip_carriage_return}
+use Rattle.sok_text.specs.Lines.{IsCutAtEnd, IsUnended}
 use Rattle.sok_entry.specs.declared.entry.Entry.{Entry}
-use Rattle.sok_entry.specs.declared.fault.CertFault.TheVariants.{Truncated, Line}
-use Rattle.sok_entry.specs.Text.{entry_line, last_line, FitsEntry}
-use Rattle.sok_entry.specs.Reading.{IsEntryLine, cut, other, behind, StopsAt, ended_lines}
-use Rattle.sok_entry.proofs.EntryNumbers.{no_elements}
-use Rattle.sok_entry.proofs.LineEnds.{first_ended, first_unended, ended_lines-after_line}
-use Rattle.sok_text.proofs.Lines.{after_line-unended}
+use Rattle.sok_entry.specs.declared.fault.CertFault.{CertFault}
+use Rattle.sok_entry.specs.declared.stage.Stage.{Stage}
+use Rattle.sok_entry.specs.declared.stage.Stage.TheVariants.{AtHeader}
+use Rattle.sok_entry.specs.Reading.{GoesWrong, ended_lines}
+use Rattle.sok_entry.specs.Stages.{AreWrong, IsSplit, IsStage}
+use Rattle.sok_entry.proofs.Splits.{IsSplit-end, IsSplit-more, IsSplit-start}
 
--- a text begins with entries, and this rest of it stands behind them
-pub record Reached (text : List ℕ) (entries : List Entry) (rest : List ℕ) : Type 0 where
-  pub fit : All FitsEntry entries
-  pub has_lines : lines text ≡ map entry_line entries ++ lines rest
-  pub ended : ended_lines rest ≡ ended_lines text - length entries
+-- a front of whole lines that bring a certificate so far, and the rest of the text
+pub record Reached (text : List ℕ) (stage : Stage) (es : List Entry) (rest : List ℕ) : Type 0 where
+  pub front : List ℕ
+  pub passed : List (List ℕ)
+  pub whole : text ≡ front ++ rest
+  pub split : IsSplit front passed []
+  pub at : IsStage passed es stage
 
-pub Reached-start : (text : List ℕ) → Reached text [] text
-Reached-start text = record { fit = All-nil FitsEntry; has_lines = refl; ended = omega arith }
+pub Reached-start : (text : List ℕ) → Reached text AtHeader [] text
+Reached-start text = record { front = []; passed = []; whole = refl; split = IsSplit-start; at = (refl, refl) }
 
--- one more entry
-pub Reached-more : (text : List ℕ) (entries : List Entry) (rest : List ℕ) (e : Entry) → Reached text entries rest → 0 < length rest
-    → IsEntryLine (first_line rest) e
-    → Reached text (entries ++ e ∷ []) (after_line rest)
-Reached-more text entries rest e reached some is = record {
-  fit = All-push FitsEntry entries e reached.fit is.0;
-  has_lines =
-      reached.has_lines ∙ ap (λ ls. map entry_line entries ++ ls) (lines-first rest some ∙ ap (λ line. line ∷ lines (after_line rest)) is.1)
-      ∙ sym (append_assoc (map entry_line entries) (entry_line e ∷ []) (lines (after_line rest)))
-      ∙ ap (λ ls. ls ++ lines (after_line rest)) (sym (map_push entry_line entries e));
-  ended = omega (arith, ended_lines-after_line rest, reached.ended, length_push entries e);
-}
+module _ (text : List ℕ) (stage : Stage) (es : List Entry) (rest : List ℕ) (reached : Reached text stage es rest) where
+  module _ (part behind : List ℕ) (cut : IsCutAtEnd rest part behind) where
+    abbrev line : List ℕ
+    line = strip_carriage_return part
 
--- the lines from the first of the rest on
-lines-rest : (text : List ℕ) (entries : List Entry) (rest : List ℕ) → Reached text entries rest → 0 < length rest
-    → lines text ≡ map entry_line entries ++ first_line rest ∷ lines (after_line rest)
-lines-rest text entries rest reached some = reached.has_lines ∙ ap (λ ls. map entry_line entries ++ ls) (lines-first rest some)
+    -- the front with the next line
+    abbrev front_with : List ℕ
+    front_with = reached.front ++ part ++ 10 ∷ []
 
-lines-none : (text : List ℕ) → length text == 0 ≡ true → lines text ≡ []
-lines-none text none = ap lines (no_elements text none)
+    split_with : IsSplit front_with (reached.passed ++ line ∷ []) []
+    split_with = IsSplit-end (reached.front ++ part) reached.passed part (IsSplit-more reached.front part reached.passed [] reached.split cut.unended)
 
--- `end` and nothing behind it
-pub lines-Reached : (text : List ℕ) (entries : List Entry) (rest : List ℕ) → Reached text entries rest → 0 < length rest → first_line rest ≡ last_line
-    → length (after_line rest) == 0 ≡ true → lines text ≡ map entry_line entries ++ last_line ∷ []
-lines-Reached text entries rest reached some last none =
-    lines-rest text entries rest reached some ∙ (λ i. map entry_line entries ++ last i ∷ lines-none (after_line rest) none i)
+    whole_with : text ≡ front_with ++ behind
+    whole_with =
+        reached.whole ∙ ap (λ bytes. reached.front ++ bytes) cut.whole ∙ sym (append_assoc reached.front part (10 ∷ behind))
+        ∙ sym (append_assoc (reached.front ++ part) (10 ∷ []) behind)
 
-pub StopsAt-cut : (text : List ℕ) (entries : List Entry) (rest : List ℕ) → Reached text entries rest → 0 < length rest → first_line rest ≢ last_line
-    → length rest ≤ length (first_line rest)
-    → StopsAt (ended_lines text) (lines text) Truncated
-StopsAt-cut text entries rest reached some not_last long = record {
-  entries = entries;
-  rest = first_line rest ∷ [];
-  fit = reached.fit;
-  has_lines = lines-rest text entries rest reached some ∙ ap (λ after. map entry_line entries ++ first_line rest ∷ lines after) (after_line-unended rest long);
-  wrong = cut (first_line rest) refl not_last (omega (arith, first_unended rest long, reached.ended)) refl;
-}
-
-pub StopsAt-other : (text : List ℕ) (entries : List Entry) (rest : List ℕ) → Reached text entries rest → 0 < length rest → first_line rest ≢ last_line
-    → ((e : Entry) → IsEntryLine (first_line rest) e → ⊥) → length (first_line rest) < length rest → StopsAt (ended_lines text) (lines text)
-    (Line (3 + length entries))
-StopsAt-other text entries rest reached some not_last no_entry short = record {
-  entries = entries;
-  rest = first_line rest ∷ lines (after_line rest);
-  fit = reached.fit;
-  has_lines = lines-rest text entries rest reached some;
-  wrong = other (first_line rest) (lines (after_line rest)) refl not_last no_entry (omega (arith, first_ended rest short, reached.ended)) refl;
-}
-
-pub StopsAt-behind : (text : List ℕ) (entries : List Entry) (rest : List ℕ) → Reached text entries rest → 0 < length rest → first_line rest ≡ last_line
-    → 0 < length (after_line rest)
-    → StopsAt (ended_lines text) (lines text) (Line (4 + length entries))
-StopsAt-behind text entries rest reached some last more =
-    let after = after_line rest in record {
-      entries = entries;
-      rest = last_line ∷ first_line after ∷ lines (after_line after);
-      fit = reached.fit;
-      has_lines = lines-rest text entries rest reached some ∙ (λ i. map entry_line entries ++ last i ∷ lines-first after more i);
-      wrong = behind (first_line after) (lines (after_line after)) refl refl;
+    pub Reached-more : (next : Stage) (fs : List Entry) → IsStage (reached.passed ++ line ∷ []) fs next → Reached text next fs behind
+    Reached-more next fs at = record {
+      front = front_with;
+      passed = reached.passed ++ line ∷ [];
+      whole = whole_with;
+      split = split_with;
+      at = at;
     }
+
+    pub Reached-wrong : (fault : CertFault) → AreWrong (reached.passed ++ line ∷ []) fault → GoesWrong text fault
+    Reached-wrong fault wrong =
+        let count = ap ended_lines whole_with ∙ split_with.ended behind in
+        wrong text (lines behind) (ap lines whole_with ∙ split_with.has_lines behind) (omega (arith, count))
+
+  -- all of the text, where no line ends in the rest
+  pub Reached-ended : IsUnended rest → IsSplit text reached.passed rest
+  Reached-ended unended = subst (λ all. IsSplit all reached.passed rest) (sym reached.whole)
+      (IsSplit-more reached.front rest reached.passed [] reached.split unended)

@@ -1,6 +1,7 @@
 -- words of public contracts
 pub mod Faults
 pub mod Reading
+pub mod Stages
 pub mod Text
 -- words of the crate's own contracts
 pub mod Entries

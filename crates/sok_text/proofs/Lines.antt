@@ -1,6 +1,6 @@
 -- A text and its lines: the first line, and a front of whole lines.
 use Rattle.std.proofs.Common.{ℕ, ◌≡◌, ◌<◌, ◌≤◌, ◌+◌, List, [], ◌∷◌, ◌++◌, Some, None, true, false, All, if◌then◌else◌, nat_lt}
-use Rattle.std.proofs.Common.{length, take, drop, position, sym, ap, ◌∙◌, refl, inl, inr, arith}
+use Rattle.std.proofs.Common.{length, take, drop, position, sym, ap, ◌∙◌, refl, subst, inl, inr, arith}
 use Rattle.std.proofs.lemmas.Bool.{cases_Bool, cases_lt, eqb-true, ne_eqb}
 use Rattle.std.proofs.Common.{◌-◌, ◌==◌, slice_index}
 use Rattle.std.proofs.lemmas.Bool.Decides.{nat_tests}
@@ -10,7 +10,7 @@ use Rattle.std.proofs.lemmas.List.Splits.{slice_split_at, slice_split_none, leng
 use Rattle.std.proofs.lemmas.List.Sums.{fails_before_first, passes_at_first}
 use Rattle.std.specs.List.{position_or_len, before_first, slice_split}
 use Rattle.std.specs.Str.Lines.{lines, lines_of_parts, strip_carriage_return}
-use Rattle.sok_text.specs.Lines.{is_newline, first_line, after_line, IsLineEnd}
+use Rattle.sok_text.specs.Lines.{is_newline, first_line, after_line, IsCutAtEnd, IsLineEnd, IsUnended}
 
 -- where the first line ends
 abbrev pub end_of : List ℕ → ℕ
@@ -68,22 +68,22 @@ lines_of_parts-cons x [] some = absurd (omega arith)
 lines_of_parts-cons x (y ∷ more) some = refl
 
 -- lines after a line end
-pub lines-newline : (front more : List ℕ) → All (λ byte. is_newline byte ≡ false) front → lines (front ++ 10 ∷ more) ≡ strip_carriage_return front ∷ lines more
+pub lines-newline : (front more : List ℕ) → IsUnended front → lines (front ++ 10 ∷ more) ≡ strip_carriage_return front ∷ lines more
 lines-newline front more none =
     ap lines_of_parts (slice_split_at is_newline front 10 more none refl)
     ∙ lines_of_parts-cons front (slice_split is_newline more) (omega (arith, length-slice_split is_newline more))
 
 -- a text without a line end
-lines-last : (text : List ℕ) → 0 < length text → All (λ byte. is_newline byte ≡ false) text → lines text ≡ text ∷ []
+pub lines-last : (text : List ℕ) → 0 < length text → IsUnended text → lines text ≡ text ∷ []
 lines-last text some none = ap lines_of_parts (slice_split_none is_newline text none)
     ∙ ap (λ b. if b then [] else text ∷ []) (ne_eqb (length text) 0 (λ e. omega arith))
 
-none_before : (text : List ℕ) (n : ℕ) → n ≤ end_of text → All (λ byte. is_newline byte ≡ false) (take n text)
+none_before : (text : List ℕ) (n : ℕ) → n ≤ end_of text → IsUnended (take n text)
 none_before text n within k d inside =
     let short : k < n = omega (arith, length-take n text) in
     ap is_newline (get_or-take n text k d short) ∙ fails_before_first is_newline text k d (omega arith)
 
-none_in : (text : List ℕ) → nat_lt (end_of text) (length text) ≡ false → All (λ byte. is_newline byte ≡ false) text
+none_in : (text : List ℕ) → nat_lt (end_of text) (length text) ≡ false → IsUnended text
 none_in text past =
     let long : length text ≤ end_of text = grind (arith, nat_tests) in
     λ k d inside. fails_before_first is_newline text k d (omega arith)
@@ -176,3 +176,20 @@ lines-cons (byte ∷ text) line ls same =
     let first : first_line (byte ∷ text) ≡ line = cc in
     let rest : lines (after_line (byte ∷ text)) ≡ ls = cc in
     (first, rest)
+
+-- ---- cut at the first LF
+
+pub IsUnended-none : (text : List ℕ) → position is_newline text ≡ None → IsUnended text
+IsUnended-none text none = none_in text (has_no_end text none)
+
+pub IsCutAtEnd-some : (text : List ℕ) (end : ℕ) → position is_newline text ≡ Some end → IsCutAtEnd text (take end text) (drop (end + 1) text)
+IsCutAtEnd-some text end some =
+    let found = has_end text end some in
+    let front = before_first is_newline text in
+    let whole : text ≡ front ++ 10 ∷ after_line text =
+    head_of-append-after_line text ∙ ap (λ head. head ++ after_line text) (head-newline text (within text found.0))
+    ∙ append_assoc front (10 ∷ []) (after_line text) in
+    record {
+      whole = whole ∙ (λ i. take (found.1 i) text ++ 10 ∷ after_line-some text end some i);
+      unended = subst (λ n. IsUnended (take n text)) found.1 (none_before text (end_of text) (omega arith));
+    }

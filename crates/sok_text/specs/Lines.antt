@@ -1,5 +1,5 @@
 -- Lines of one kind, and reading a text line by line.
-use Rattle.std.specs.Prelude.{ℕ, ◌≡◌, List, [], ◌∷◌, ◌++◌, ◌⊎◌, Bool, All, if◌then◌else◌, ◌==◌, length, nat_lt, codes}
+use Rattle.std.specs.Prelude.{ℕ, ◌≡◌, List, [], ◌∷◌, ◌++◌, ◌⊎◌, Bool, false, All, if◌then◌else◌, ◌==◌, length, nat_lt, codes}
 use Rattle.std.specs.List.{position_or_len, before_first, after_first}
 use Rattle.std.specs.Str.Lines.{lines, strip_carriage_return}
 use Rattle.sok_text.specs.Characters.{code}
@@ -15,6 +15,15 @@ first_line text = if nat_lt (position_or_len is_newline text) (length text) then
 -- the text behind its first line
 unfoldable pub after_line : List ℕ → List ℕ
 after_line text = after_first is_newline text
+
+-- a text in which no line ends
+abbrev pub IsUnended : List ℕ → Type 0
+IsUnended text = All (λ byte. is_newline byte ≡ false) text
+
+-- a text is cut at its first LF
+pub record IsCutAtEnd (text front rest : List ℕ) : Type 0 where
+  pub whole : text ≡ front ++ 10 ∷ rest
+  pub unended : IsUnended front
 
 -- only board lines (true), or only notes (false)
 abbrev pub AreOf : Bool → List (List ℕ) → Type 0

@@ -1,8 +1,9 @@
 //! The lines of a text, and runs of board lines and of notes.
 
-ghost use Rattle.std.specs.Prelude.{◌≡◌, ◌≤◌, ◌-◌, ◌==◌, position, length, take, not};
+ghost use Rattle.std.specs.Prelude.{◌≡◌, ◌≤◌, ◌-◌, ◌==◌, MatchOption, position, length, take, not};
 ghost use Rattle.std.specs.Str.Lines.{lines, strip_carriage_return};
-ghost use Rattle.sok_text.specs.Lines.{first_line, after_line, StartsWith, Passes};
+ghost use Rattle.sok_text.specs.Lines.{first_line, after_line, IsCutAtEnd, IsUnended};
+ghost use Rattle.sok_text.specs.Lines.{StartsWith, Passes};
 ghost use Rattle.sok_text.specs.Xsb.{is_board_line};
 
 use crate::xsb::is_board_line;
@@ -63,6 +64,17 @@ pub fn cut_line(text: &[u8]) -> (&[u8], &[u8])
     }
 }
 
+/// The bytes before the first LF of a text, and those behind it; None where there is none.
+pub fn cut_at_end(text: &[u8]) -> Option<(&[u8], &[u8])>
+    ensures { MatchOption result (IsUnended text.now)
+        (λ cut. IsCutAtEnd text.now cut.0.now cut.1.now) }
+{
+    match line_end(text) {
+        Some(end) => Some((&text[..end], &text[end + 1..])),
+        None => None,
+    }
+}
+
 fn line_end(text: &[u8]) -> Option<usize>
     ensures { result ≡ position (λ byte. byte == 10) text.now }
 {
@@ -70,7 +82,7 @@ fn line_end(text: &[u8]) -> Option<usize>
 }
 
 /// A line without the one carriage return at its end, if it has one.
-fn without_return(line: &[u8]) -> &[u8]
+pub fn without_return(line: &[u8]) -> &[u8]
     ensures { result.now ≡ strip_carriage_return line.now }
 {
     match line {

@@ -1,49 +1,45 @@
-use Rattle.std.proofs.Common.{◌≡◌, ◌≢◌, not, sym, ap, ◌∙◌, inl, inr, refl, subst}
-use Rattle.std.proofs.lemmas.Bool.{not-false}
-use Rattle.std.proofs.lemmas.Bool.Decides.{Decides-eqb}
+use Rattle.std.proofs.Common.{◌≡◌, ◌∷◌, ◌++◌, [], length, inl, inr, subst, rules}
 use Rattle.std.proofs.lemmas.Result.{err_from_is_err_and}
-use Rattle.std.proofs.lemmas.Slice.Eq.{slice_eq-Decides}
-use Rattle.std.specs.Str.Lines.{lines}
-use Rattle.sok_text.specs.Lines.{first_line, after_line}
-use Rattle.sok_entry.specs.Text.{header}
-use Rattle.sok_entry.specs.Reading.{at_header, StopsAt, ended_lines}
-use Rattle.sok_entry.proofs.Headers.{LacksHeader-first, LacksHeader-second, Spells-front, GoesWrong-behind}
+use Rattle.sok_entry.specs.Stages.{AreWrong, IsStage}
+use Rattle.sok_entry.proofs.Reaching.{Reached-start, Reached-more, Reached-wrong, Reached-ended}
 use Rattle.sok_entry.proofs.reading.certificate_of.Goals as goal
 
-pub returns-then-ne : goal.returns-then-ne
-unfolding header
-returns-then-ne c =
-    let decides = slice_eq-Decides Decides-eqb c.cut_line.result.0.now header _ refl in
-    let other : first_line c.args.text.now ≢ header = λ same. let yes = c.ne.ensures ∙ ap not (decides.1 (c.cut_line.ensures.line ∙ same)) in cc in
-    inr (at_header (LacksHeader-first c.args.text.now other) refl)
-
-pub returns-in-None : goal.returns-in-None
-returns-in-None c =
-    let none = rw (c.cut_line-2.ensures.line, c.cut_line.ensures.rest) at c.in-None.ensures in
-    inr (at_header (LacksHeader-second c.args.text.now none) refl)
-
-pub returns-in_ok-entries-in-Some : goal.returns-in_ok-entries-in-Some
-unfolding header
-returns-in_ok-entries-in-Some c =
-    let decides = slice_eq-Decides Decides-eqb c.cut_line.result.0.now header _ refl in
-    let first : first_line c.args.text.now ≡ header = sym c.cut_line.ensures.line ∙ decides.0 (not-false _ (sym c.ne.ensures ∙ c.if-ne.false)) in
-    let second = rw (c.cut_line-2.ensures.line, c.cut_line.ensures.rest) at c.in-Some.ensures in
-    let rest = rw (c.cut_line-2.ensures.rest, c.cut_line.ensures.rest) at c.in_ok-entries-in-Some.ensures.1 in
-    Spells-front c.args.text.now c.in-Some.claim c.in_ok-entries-in-Some.entries.items first second c.in_ok-entries-in-Some.ensures.0 rest
-
-pub returns-in_err-entries-in-Some : goal.returns-in_err-entries-in-Some
-unfolding header
-returns-in_err-entries-in-Some c =
-    let text = c.args.text.now in
-    let fault = c.in_err-entries-in-Some.field-0.0 in
-    let decides = slice_eq-Decides Decides-eqb c.cut_line.result.0.now header _ refl in
-    let first : first_line text ≡ header = sym c.cut_line.ensures.line ∙ decides.0 (not-false _ (sym c.ne.ensures ∙ c.if-ne.false)) in
-    let second = rw (c.cut_line-2.ensures.line, c.cut_line.ensures.rest) at c.in-Some.ensures in
+pub returns-in_err-stage : goal.returns-in_err-stage
+returns-in_err-stage c =
     let p = err_from_is_err_and c.from_residual.result c.from_residual.ensures.1 in
+    let now = c.loop-line in
+    let reached = now.invariant in
+    let fault = c.in_err-stage.field-0.0 in
     rw (p.1, p.2)
-    (elim c.in_err-entries-in-Some.ensures [
+    (elim (c.in_err-stage.ensures reached.passed reached.at) [
       | inl memory ↦ inl memory
-      | inr stops ↦
-          let there = c.cut_line-2.ensures.rest ∙ ap after_line c.cut_line.ensures.rest in
-          inr (GoesWrong-behind text c.in-Some.claim fault first second (subst (λ rest. StopsAt (ended_lines rest) (lines rest) fault) there stops))
+      | inr wrong ↦
+          inr (Reached-wrong c.args.text.now now.stage now.entries.items now.rest.now reached c.in-Some.line.now c.in-Some.behind.now c.in-Some.ensures fault
+          (subst (λ line. AreWrong (reached.passed ++ line ∷ []) fault) c.without_return.ensures wrong))
     ])
+
+pub loop-line-preserved : goal.loop-line-preserved
+loop-line-preserved c =
+    let now = c.loop-line in
+    let reached = now.invariant in
+    let stage = c.in_ok-stage.stage in
+    let entries = c.read_line.new.entries.items in
+    Reached-more c.args.text.now now.stage now.entries.items now.rest.now reached c.in-Some.line.now c.in-Some.behind.now c.in-Some.ensures stage entries
+    (subst (λ line. IsStage (reached.passed ++ line ∷ []) entries stage) c.without_return.ensures (c.in_ok-stage.ensures reached.passed reached.at))
+
+pub returns-in_err-claim : goal.returns-in_err-claim
+returns-in_err-claim c =
+    let p = err_from_is_err_and c.from_residual-in_err-claim.result c.from_residual-in_err-claim.ensures.1 in
+    let now = c.loop-line in
+    let reached = now.invariant in
+    let count : length now.entries.items ≡ c.len.result = search rules in
+    let split = Reached-ended c.args.text.now now.stage now.entries.items now.rest.now reached c.in_default.ensures in
+    rw (p.1, p.2) (inr (c.in_err-claim.ensures c.args.text.now reached.passed now.entries.items count split reached.at))
+
+pub returns : goal.returns
+returns c =
+    let now = c.loop-line in
+    let reached = now.invariant in
+    let count : length now.entries.items ≡ c.len.result = search rules in
+    let split = Reached-ended c.args.text.now now.stage now.entries.items now.rest.now reached c.in_default.ensures in
+    (c.in_ok-claim.ensures c.args.text.now reached.passed now.entries.items count split reached.at).0

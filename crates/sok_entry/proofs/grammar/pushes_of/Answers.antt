@@ -1,5 +1,5 @@
 use Rattle.sok_entry.proofs.Claims.{IsClaimLine-pushes, no_pushes}
-use Rattle.sok_entry.proofs.reading.pushes_of.Goals as goal
+use Rattle.sok_entry.proofs.grammar.pushes_of.Goals as goal
 
 pub returns-in-Some : goal.returns-in-Some
 returns-in-Some c = IsClaimLine-pushes c.args.word.now c.in-Some.pushes c.in-Some.ensures

@@ -2,7 +2,7 @@ use Rattle.std.proofs.Common.{codes}
 use Rattle.std.proofs.lemmas.Bool.Decides.{Decides-eqb}
 use Rattle.std.proofs.lemmas.Slice.Eq.{slice_eq-Decides, strip_prefix_is}
 use Rattle.sok_entry.proofs.Claims.{IsClaimLine-unsolvable, no_claim}
-use Rattle.sok_entry.proofs.reading.claim_of_line.Goals as goal
+use Rattle.sok_entry.proofs.grammar.claim_of_line.Goals as goal
 
 pub returns-then-eq : goal.returns-then-eq
 returns-then-eq c = IsClaimLine-unsolvable c.args.line.now

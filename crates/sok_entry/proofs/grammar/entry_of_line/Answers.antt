@@ -5,7 +5,7 @@ use Rattle.sok_entry.specs.Text.{numbers_of}
 use Rattle.sok_entry.specs.Entries.{entry_of}
 use Rattle.sok_entry.specs.Reading.{IsEntryLine, Tells}
 use Rattle.sok_entry.proofs.EntryLines.{two_bytes, long-IsEntryLine, IsEntryLine-reads, Tells-entry_of}
-use Rattle.sok_entry.proofs.reading.entry_of_line.Goals as goal
+use Rattle.sok_entry.proofs.grammar.entry_of_line.Goals as goal
 
 pub returns-then-line-lt2 : goal.returns-then-line-lt2
 returns-then-line-lt2 c = λ e is. omega (arith, long-IsEntryLine c.args.line.now e is)
