@@ -3,6 +3,8 @@ pub mod ClosedLaws
 pub mod Closing
 pub mod Entered
 pub mod KnownPositions
+pub mod Longer
 pub mod OneRefusal
+pub mod Streaming
 pub mod Verdicts
 pub use Rattle.sok_entry.proofs.Readings

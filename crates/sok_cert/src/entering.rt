@@ -1,10 +1,10 @@
 //! The roll of the entries' states.
 
-ghost use Rattle.std.specs.Prelude.{◌≡◌, ◌<◌, ◌≤◌, ◌+◌, IfOk, IfErr, OnOk, length};
+ghost use Rattle.std.specs.Prelude.{◌≡◌, ◌++◌, ◌∷◌, [], IfOk, IfErr, List, length};
 ghost use Rattle.sok_board.specs.Area.{IsAccepted};
-ghost use Rattle.sok_closed.specs.Lookup.{IsRolled};
-ghost use Rattle.sok_cert.specs.Closed.{node_of};
-ghost use Rattle.sok_cert.specs.Refusals.{AreFine, IsRefused};
+ghost use Rattle.sok_cert.specs.Refusals.{IsRefused};
+ghost use Rattle.sok_cert.specs.Rosters.{AreEntered, IsOfBoard, TellsEntries};
+ghost use Rattle.sok_entry.specs.declared.entry.Entry.{Entry};
 
 use crate::judging::{Finding, judge};
 use crate::placing::{Located, locate};
@@ -15,6 +15,7 @@ use sok_entry::claim::Claim;
 use sok_entry::entry::Entry;
 use sok_entry::fault::CertFault;
 use sok_push::tables::Tables;
+use sok_rules::fault::Memory;
 use std::alloc::Global;
 
 /// The roll of the entries' states, in order, with their depths and with marks where they are
@@ -28,53 +29,48 @@ pub(crate) fn states(
 ) -> Result<Roll, CertFault>
     requires accepted { IsAccepted board.now }
     requires tables { tables.now.board ≡ board.now }
-    ensures fine { IfOk result (λ _. AreFine board.now claim entries.now (length entries.now)) }
-    ensures entered { IfOk result
-        (IsRolled node_of board.now entries.now (length entries.now)) }
-    ensures wide { IfOk result (λ roll. length board.now.area ≤ roll.room) }
+    ensures entered { IfOk result (AreEntered board.now claim entries.now) }
+    ensures of_board { IfOk result (IsOfBoard board.now) }
     ensures refused { IfErr result (IsRefused board.now claim entries.now) }
 {
     let mut roll = Roll::new(alloc, board.squares());
-    for index in 0..entries.len() {
-        enter(alloc, board, tables, claim, entries, index, &mut roll)?;
+    for entry in entries {
+        if let Some(fault) = enter(alloc, board, tables, claim, entry, &mut roll)? {
+            return Err(fault);
+        }
     }
     Ok(roll)
 }
 
-/// Enters the state of an entry into the roll of those before it.
-fn enter(
+/// Enters the state of an entry into the roll of those before it. If the entry has a fault of its
+/// own, it is told, and the roll stays.
+pub(crate) fn enter(
     alloc: Global,
     board: &Board,
     tables: &Tables,
     claim: Claim,
-    entries: &[Entry],
-    index: usize,
+    entry: &Entry,
     roll: &mut Roll,
-) -> Result<(), CertFault>
+) -> Result<Option<CertFault>, Memory>
     requires accepted { IsAccepted board.now }
     requires tables { tables.now.board ≡ board.now }
-    requires exists { index < length entries.now }
-    requires fine { AreFine board.now claim entries.now index }
-    requires entered { IsRolled node_of board.now entries.now index roll.old }
-    requires wide { length board.now.area ≤ roll.old.room }
-    ensures fine { OnOk result (AreFine board.now claim entries.now (index + 1)) }
-    ensures entered { OnOk result
-        (IsRolled node_of board.now entries.now (index + 1) roll.new) }
-    ensures wide { OnOk result (length board.now.area ≤ roll.new.room) }
-    ensures refused { IfErr result (IsRefused board.now claim entries.now) }
+    requires of_board { IsOfBoard board.now roll.old }
+    ensures tells { (entries : List Entry) → AreEntered board.now claim entries roll.old
+        → IfOk result (TellsEntries board.now claim (entries ++ entry.now ∷ []) roll.new) }
+    ensures of_board { IsOfBoard board.now roll.new }
 {
-    let entry = &entries[index];
+    let index = roll.len();
     let Some(Located { boxes, key }) = locate(alloc, board, entry)? else {
-        return Err(CertFault::BadEntry(index));
+        return Ok(Some(CertFault::BadEntry(index)));
     };
     if roll.has(&key) {
-        return Err(CertFault::Duplicate(index));
+        return Ok(Some(CertFault::Duplicate(index)));
     }
     match judge(alloc, board, tables, claim, entry, &boxes)? {
         Finding::Fine => {}
-        Finding::Solved => return Err(CertFault::SolvedEntry(index)),
-        Finding::Unreasoned => return Err(CertFault::BadReason(index)),
+        Finding::Solved => return Ok(Some(CertFault::SolvedEntry(index))),
+        Finding::Unreasoned => return Ok(Some(CertFault::BadReason(index))),
     }
     roll.enter(&key, entry.depth, is_expanded(&entry.reason))?;
-    Ok(())
+    Ok(None)
 }

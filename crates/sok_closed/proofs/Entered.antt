@@ -1,5 +1,5 @@
 -- One entry more in the table.
-use Rattle.std.proofs.Common.{ℕ, ◌≡◌, ◌<◌, ◌≤◌, ◌+◌, ◌∙◌, ◌≢◌, sym, ap, subst, List, [], ◌∷◌, ◌++◌, Some, Bool, true, false}
+use Rattle.std.proofs.Common.{ℕ, ◌≡◌, ◌<◌, ◌≤◌, ◌+◌, ◌∙◌, ◌≢◌, inl, inr, sym, ap, subst, List, [], ◌∷◌, ◌++◌, Some, Bool, true, false}
 use Rattle.std.proofs.Common.{below_more, MatchBool, All, AllPairs, Contains, arith, length, get_or, slice_get}
 use Rattle.std.specs.Map.{keys_of, values_of}
 use Rattle.std.proofs.lemmas.Option.{same_Some, slice_get_within}
@@ -7,16 +7,19 @@ use Rattle.std.proofs.lemmas.List.{get_or_default, length-append, length-map, ma
 use Rattle.sok_rules.specs.Play.{Position}
 use Rattle.sok_rules.specs.States.{Same}
 use Rattle.sok_rules.proofs.Steps.{IsStanding}
-use Rattle.sok_board.specs.Area.{Numbered, IsAccepted}
+use Rattle.sok_rules.proofs.Walking.{boxes-Same}
+use Rattle.sok_board.specs.Area.{Numbered, IsAccepted, position_of}
+use Rattle.sok_board.specs.Limits.{box_limit}
 use Rattle.sok_board.proofs.Lists.{AllPairs-append, Contains-at, slice_get-push}
-use Rattle.sok_region.proofs.Floods.{slice_get-append}
+use Rattle.sok_region.proofs.Floods.{slice_get-append, slice_get-push_cases}
 use Rattle.sok_state.specs.declared.key.Key.{Key}
-use Rattle.sok_state.specs.Keys.{IsKeyOf}
+use Rattle.sok_state.specs.Keys.{IsKey, IsKeyOf}
 use Rattle.sok_state.specs.Tables.{Entries, IsAt}
+use Rattle.sok_state.proofs.Placed.{same_boxes}
 use Rattle.sok_state.proofs.States.{keys_equal, Same-keys}
-use Rattle.sok_closed.specs.Rolls.{Node, node_position}
-use Rattle.sok_closed.specs.Lookup.{IsEntered, IsRolled, IsTableOf, Rolled}
-use Rattle.sok_closed.proofs.Looking.{entered-key, entry_at}
+use Rattle.sok_closed.specs.Rolls.{IsPosition, Node, node_position}
+use Rattle.sok_closed.specs.Lookup.{AreKeys, IsEntered, IsRolled, IsTableOf, Rolled}
+use Rattle.sok_closed.proofs.Looking.{entered-key, entry_at, slice_get-front}
 
 -- an entry whose key stands in the table has the state of the one there
 pub found-place : {E : Type 0} (node : E → Node) (b : Numbered) (entries : List E) (i : ℕ) (table : Entries) (x : Position) (key : Key) (place : ℕ)
@@ -117,3 +120,48 @@ present P Q found told is = subst (λ t. MatchBool t P Q) is told
 
 pub missing : (P Q : Type 0) (found : Bool) → MatchBool found P Q → found ≡ false → Q
 missing P Q found told is = subst (λ t. MatchBool t P Q) is told
+
+-- ---- a front of a list
+
+-- what holds of each element before a place holds of the same of a longer list
+pub before-append : {X : Type 0} (P Q : ℕ → X → Type 0) (xs ys : List X) (n : ℕ) → n ≤ length xs → ((i : ℕ) (x : X) → i < n → P i x → Q i x)
+    → ((i : ℕ) (x : X) → i < n → slice_get xs i ≡ Some x → P i x) → (i : ℕ) (x : X) → i < n → slice_get (xs ++ ys) i ≡ Some x → Q i x
+before-append P Q xs ys n within to before i x below there = to i x below (before i x below (slice_get-front xs ys i x (omega arith) there))
+
+pub IsRolled-append : {E : Type 0} (node : E → Node) (b : Numbered) (entries more : List E) (n : ℕ) (roll : Rolled) → n ≤ length entries
+    → IsRolled node b entries n roll → IsRolled node b (entries ++ more) n roll
+IsRolled-append {E} node b entries more n roll within rolled =
+    let entered : ℕ → E → Type 0 = λ i e. IsEntered b roll.entries i (node e) in
+    let marked : ℕ → E → Type 0 = λ i e. slice_get roll.marks i ≡ Some (node e).expanded in
+    record {
+      table = record {
+        count = rolled.table.count;
+        distinct = rolled.table.distinct;
+        entered = before-append entered entered entries more n within (λ i e below is. is) rolled.table.entered;
+      };
+      as_many = rolled.as_many;
+      marks = before-append marked marked entries more n within (λ i e below is. is) rolled.marks;
+    }
+
+-- a key of the board more
+pub AreKeys-more : (b : Numbered) (table : Entries) (key : Key) (depth : ℕ) → AreKeys b table → IsKey b key × (length key.boxes ≤ box_limit)
+    → AreKeys b (table ++ (key, depth) ∷ [])
+AreKeys-more b table key depth keys is i one at =
+    let entry : Key × ℕ = (key, depth) in
+    let there : slice_get (keys_of table ++ key ∷ []) i ≡ Some one =
+    subst (λ all. slice_get all i ≡ Some one) (map-append (λ (pair : Key × ℕ). pair.0) table (entry ∷ [])) at in
+    elim (slice_get-push_cases (keys_of table) key i one there) [
+      | inl before ↦ keys i one before
+      | inr last ↦ subst (λ k. IsKey b k × (length k.boxes ≤ box_limit)) last.1 is
+    ]
+
+-- the key of a position is of the board
+pub IsKey-position : (b : Numbered) → IsAccepted b → (count : ℕ) (n : Node) (key : Key) → count ≤ box_limit → IsPosition b count n
+    → IsKeyOf b (node_position b n) key → IsKey b key × (length key.boxes ≤ box_limit)
+IsKey-position b accepted count n key few position is =
+    let boxes : key.boxes ≡ n.boxes = same_boxes b accepted.numbered key.least n.player key.boxes n.boxes is.placed position.placed
+    (boxes-Same b.rows (node_position b n) (position_of b key.least key.boxes) is.same) in
+    let as_many = position.as_many in (
+      record { player = n.player; boxes = n.boxes; placed = position.placed; is = is },
+      omega (arith, ap length boxes, as_many, few),
+    )

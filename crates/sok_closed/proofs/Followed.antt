@@ -1,5 +1,5 @@
 -- From states that are found in the table to entries that follow.
-use Rattle.std.proofs.Common.{ℕ, ◌≡◌, ◌<◌, ◌≤◌, ◌∙◌, ◌↔◌, inl, inr, refl, sym, ap, subst, List, Some, None, true, AllPairs, Contains, arith, length, get_or}
+use Rattle.std.proofs.Common.{ℕ, ◌≡◌, ◌<◌, ◌∙◌, ◌↔◌, inl, inr, refl, sym, ap, subst, List, Some, None, true, AllPairs, Contains, arith, length, get_or}
 use Rattle.std.proofs.Common.{slice_get, IsTrue}
 use Rattle.std.specs.Map.{keys_of}
 use Rattle.std.proofs.lemmas.Bool.{cases_eq, cases_lt}
@@ -10,9 +10,8 @@ use Rattle.sok_rules.specs.declared.cell.Dir.{Dir}
 use Rattle.sok_rules.specs.Play.{After, Position, step}
 use Rattle.sok_rules.specs.States.{Same}
 use Rattle.sok_rules.proofs.Steps.{IsStanding}
-use Rattle.sok_rules.proofs.Walking.{Same-sym, Same-trans, boxes-Same}
+use Rattle.sok_rules.proofs.Walking.{Same-sym, Same-trans}
 use Rattle.sok_board.specs.Area.{Numbered, InArea, IsAccepted, position_of}
-use Rattle.sok_board.specs.Limits.{box_limit}
 use Rattle.sok_board.proofs.AreaLaws.{InArea-spot_of}
 use Rattle.sok_board.proofs.Confined.{confines-play}
 use Rattle.sok_board.proofs.Lists.{Contains-at}
@@ -23,7 +22,6 @@ use Rattle.sok_state.specs.declared.push.Push.{Push}
 use Rattle.sok_state.specs.Keys.{IsKeyOf}
 use Rattle.sok_state.specs.Pushes.{IsLegal, LeadsTo, Precedes}
 use Rattle.sok_state.specs.Tables.{Entries, IsAt}
-use Rattle.sok_state.proofs.Placed.{same_boxes}
 use Rattle.sok_state.proofs.Order.{Precedes-asym}
 use Rattle.sok_state.proofs.States.{IsKeyOf-Same, Same-keys}
 use Rattle.sok_closed.specs.Rolls.{IsClosedAt, IsFollowed, IsFollower, IsPosition, Node, node_position}
@@ -64,19 +62,6 @@ pub key-at : {E : Type 0} (node : E → Node) (b : Numbered) (count : ℕ) (entr
     → slice_get entries i ≡ Some e → IsAt table key i → IsKeyOf b (node_position b (node e)) key
 key-at node b count entries table looking i e key there at =
     entered-key b table i (node e) key (looking.entered.entered i e (slice_get_within entries i e there) there) at
-
--- so it has few boxes
-pub few-at : {E : Type 0} (node : E → Node) (b : Numbered) (count : ℕ) (entries : List E) (table : Entries) → IsLooking node b count entries table → (i : ℕ) (e : E) (key : Key)
-    → slice_get entries i ≡ Some e → IsAt table key i → length key.boxes ≤ box_limit
-few-at node b count entries table looking i e key there at =
-    let is = key-at node b count entries table looking i e key there at in
-    let position = position-at node b count entries table looking i e there in
-    let boxes : key.boxes ≡ (node e).boxes = same_boxes b looking.accepted.numbered key.least (node e).player key.boxes (node e).boxes is.placed position.placed
-    (boxes-Same b.rows (node_position b (node e)) (position_of b key.least key.boxes) is.same) in
-    let long = ap length boxes in
-    let as_many = position.as_many in
-    let few = looking.few in
-    omega (arith, long, as_many, few)
 
 -- a push from a position of an entry's state leads on from its key
 leads-from : {E : Type 0} (node : E → Node) (b : Numbered) (count : ℕ) (entries : List E) (table : Entries) → IsLooking node b count entries table → (e : E) → Contains entries e → (key : Key)

@@ -1,5 +1,5 @@
 -- Whether the state that a push leads to is in a table.
-use Rattle.std.proofs.Common.{ℕ, zero, suc, List, [], ◌∷◌, length, ◌≡◌, ◌<◌, ◌≤◌, ◌+◌, ◌∙◌, inl, inr, refl, sym, ap, subst, Some, Bool, true, false, Contains, arith, slice_get}
+use Rattle.std.proofs.Common.{ℕ, zero, suc, List, [], ◌∷◌, ◌++◌, length, ◌≡◌, ◌<◌, ◌≤◌, ◌+◌, ◌∙◌, inl, inr, refl, sym, ap, subst, Some, Bool, true, false, Contains, arith, slice_get}
 use Rattle.std.specs.Map.{keys_of, values_of}
 use Rattle.std.proofs.lemmas.Bool.{cases_eq, cases_lt}
 use Rattle.std.proofs.lemmas.Option.{same_Some, slice_get_within, get_or_from_slice_get}
@@ -9,6 +9,7 @@ use Rattle.sok_rules.proofs.Steps.{IsStanding, IsStanding-step}
 use Rattle.sok_rules.proofs.Walking.{Same-refl}
 use Rattle.sok_board.specs.Area.{Numbered, IsAccepted, IsArea}
 use Rattle.sok_board.proofs.Lists.{Contains-at}
+use Rattle.sok_region.proofs.Floods.{slice_get-append}
 use Rattle.sok_state.specs.declared.key.Key.{Key}
 use Rattle.sok_state.specs.declared.push.Push.{Push}
 use Rattle.sok_state.specs.Keys.{IsKeyOf}
@@ -24,6 +25,12 @@ pub entry_at : {X : Type 0} (xs : List X) (i : ℕ) → i < length xs → (x : X
 entry_at [] i within = absurd (omega arith)
 entry_at (x ∷ xs) zero within = (x, refl)
 entry_at (x ∷ xs) (suc i) within = entry_at xs i (omega arith)
+
+-- what stands in a front of a list at a place of it
+pub slice_get-front : {X : Type 0} (xs ys : List X) (i : ℕ) (x : X) → i < length xs → slice_get (xs ++ ys) i ≡ Some x → slice_get xs i ≡ Some x
+slice_get-front xs ys i x within there =
+    let (y, y_there) = entry_at xs i within in
+    y_there ∙ sym (slice_get-append xs ys i y y_there) ∙ there
 
 -- one key stands at an index
 pub same_key : (table : Entries) (i : ℕ) (first second : Key) → IsAt table first i → IsAt table second i → first ≡ second

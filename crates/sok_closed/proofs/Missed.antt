@@ -12,10 +12,10 @@ use Rattle.sok_state.specs.declared.push.Push.{Push}
 use Rattle.sok_state.specs.Keys.{IsKeyOf}
 use Rattle.sok_state.specs.Tables.{IsAt}
 use Rattle.sok_closed.specs.Rolls.{IsClosedAt, IsStarter, Node}
-use Rattle.sok_closed.specs.Lookup.{AreFollowed, AreKeys, IsFirstOpen, IsLooking, IsMarked, IsMissed, IsRolled, Rolled, TellsOpen}
+use Rattle.sok_closed.specs.Lookup.{AreFollowed, IsFirstOpen, IsLooking, IsMarked, IsMissed, IsRolled, Rolled, TellsOpen}
 use Rattle.sok_closed.proofs.Looking.{entry_at, same_key}
-use Rattle.sok_closed.proofs.Followed.{IsFirstOpen-missing, IsFollowed-found, few-at, key-at, position-at}
-use Rattle.sok_closed.proofs.Starting.{at-within, one-starts, starter-at}
+use Rattle.sok_closed.proofs.Followed.{IsFirstOpen-missing, IsFollowed-found}
+use Rattle.sok_closed.proofs.Starting.{one-starts, starter-at}
 
 -- ---- along the marks
 
@@ -40,21 +40,6 @@ followed-more b roll i key depth at depth_is found followed j other deep below m
 
 module _ {E : Type 0} (node : E → Node) (b : Numbered) (count : ℕ) (entries : List E) (roll : Rolled) (looking : IsLooking node b count entries roll.entries)
   where
-    -- its keys are of the board
-    pub keys-looking : AreKeys b roll.entries
-    keys-looking i key at =
-        let below = at-within roll.entries key i at in
-        let as_many = looking.entered.count in
-        let (e, there) = entry_at entries i (omega (arith, below, as_many)) in (
-          record {
-            player = (node e).player;
-            boxes = (node e).boxes;
-            placed = (position-at node b count entries roll.entries looking i e there).placed;
-            is = key-at node b count entries roll.entries looking i e key there at;
-          },
-          few-at node b count entries roll.entries looking i e key there at,
-        )
-
     module _ (rolled : IsRolled node b entries (length entries) roll) where
       -- an entry before a place to which all are followed
       pub closed-before : (n : ℕ) → AreFollowed b roll n → (j : ℕ) (f : E) → j < n → slice_get entries j ≡ Some f → IsClosedAt node b entries f

@@ -56,6 +56,13 @@ impl Roll {
         }
     }
 
+    /// How many states were entered.
+    pub fn len(&self) -> usize
+        ensures { result ≡ length self.now.marks }
+    {
+        self.marks.len()
+    }
+
     /// Whether a state was entered.
     pub fn has(&self, key: &Key) -> bool
         requires { All (λ square. square < self.now.room) key.now.boxes }

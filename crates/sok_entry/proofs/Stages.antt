@@ -10,7 +10,7 @@ use Rattle.sok_entry.specs.declared.entry.Entry.{Entry}
 use Rattle.sok_entry.specs.declared.fault.CertFault.TheVariants.{Header, Line, Truncated}
 use Rattle.sok_entry.specs.declared.stage.Stage.TheVariants.{AtHeader, AtClaim, AtEntries, AtEnd}
 use Rattle.sok_entry.specs.declared.stage.LineRead.TheVariants.{Listed, Passed}
-use Rattle.sok_entry.specs.Text.{header, claim_line, entry_line, last_line, lines_of, Fits, FitsEntry, Spells}
+use Rattle.sok_entry.specs.Text.{header, claim_line, entry_line, last_line, lines_of, FitsEntry, Spells}
 use Rattle.sok_entry.specs.Reading.{IsClaimLine, IsEntryLine, IsWrong, missing, cut, other, behind, GoesWrong, at_header, behind_header, ended_lines}
 use Rattle.sok_entry.specs.Stages.{AreWrong, IsRead, IsSplit, IsStage}
 use Rattle.sok_entry.proofs.Splits.{ended_lines-split, lines-split, lines-unended}
@@ -143,7 +143,7 @@ module _ (ls : List (List ℕ)) (es : List Entry) where
     ended-last claim stage last = record {
       has_lines = behind-claim claim stage
           ∙ ap (λ ms. header ∷ claim_line claim ∷ map entry_line es ++ ms)
-              (lines-last rest (omega (arith, ap length last, length-last_line)) split.unended ∙ ap (λ l. l ∷ []) last);
+          (lines-last rest (omega (arith, ap length last, length-last_line)) split.unended ∙ ap (λ l. l ∷ []) last);
       fits = stage.0;
     }
 

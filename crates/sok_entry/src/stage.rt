@@ -42,12 +42,7 @@ pub enum LineRead {
 impl Stage {
     /// Reads one more line, without its end, behind so many entries. It refuses only for want of
     /// memory.
-    pub fn line(
-        &self,
-        alloc: Global,
-        line: &[u8],
-        entries: usize,
-    ) -> Result<LineRead, AllocError>
+    pub fn line(&self, alloc: Global, line: &[u8], entries: usize) -> Result<LineRead, AllocError>
         requires { entries < 2 ^ 63 }
         ensures { (ls : List (List ℕ)) (es : List Entry)
             → length es ≡ entries → IsStage ls es self.now

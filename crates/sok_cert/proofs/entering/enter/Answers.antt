@@ -1,79 +1,47 @@
-use Rattle.std.proofs.Common.{◌≡◌, ◌∙◌, ◌++◌, ◌∷◌, [], sym, ap, subst, Some, MatchOption, slice_get}
-use Rattle.std.proofs.lemmas.Option.{slice_get-get_or}
-use Rattle.sok_closed.proofs.Entered.{IsRolled-more, missing, present}
-use Rattle.sok_cert.specs.Closed.{IsPosition, node_of}
+use Rattle.std.proofs.Common.{◌∙◌, ◌++◌, ◌∷◌, [], ap, subst, MatchOption}
+use Rattle.sok_closed.proofs.Entered.{missing, present}
+use Rattle.sok_cert.specs.Closed.{IsPosition}
 use Rattle.sok_cert.specs.Judging.{IsFinding, IsLocated}
-use Rattle.sok_cert.specs.Refusals.{IsNew}
-use Rattle.sok_cert.proofs.Entered.{IsRepeated-found, IsNew-absent, AreFine-more}
+use Rattle.sok_cert.proofs.Entered.{tells-misplaced, tells-repeated, tells-solved, tells-unreasoned, tells-fine, IsOfBoard-more}
 use Rattle.sok_cert.proofs.entering.enter.Goals as goal
-use Rattle.sok_cert.proofs.entering.enter.Goals.{After-has, After-judge}
+use Rattle.sok_cert.proofs.entering.enter.Goals.{After-has}
 
-there : (c : After-has) → slice_get c.args.entries.now c.args.index ≡ Some c.index-entries-index.result
-there c =
-    slice_get-get_or c.args.entries.now c.args.index c.index-entries-index.result c.requires.exists ∙ ap Some (sym c.index-entries-index.is)
-
-located : (c : After-has) → IsLocated c.args.board.now c.index-entries-index.result c.in-Some.field-0
+located : (c : After-has) → IsLocated c.args.board.now c.args.entry.now c.in-Some.field-0
 located c =
-    let e = c.index-entries-index.result in
+    let e = c.args.entry.now in
     subst (λ o. MatchOption o (IsPosition c.args.board.now e → ⊥) (IsLocated c.args.board.now e)) c.in-Some.is c.in_ok-boxes.ensures
 
-pub returns-then-has-clause-refused : goal.returns-then-has-clause-refused
-returns-then-has-clause-refused c =
-    let at = (goal.at.returns-then-has-clause-refused c).After-has in
-    let found = located at in
+pub returns-in_default-clause-tells : goal.returns-in_default-clause-tells
+returns-in_default-clause-tells c = λ entries known.
+    tells-misplaced c.args.board.now c.args.claim entries c.args.roll.now c.requires.accepted known c.args.entry.now c.args.roll.now c.len-index.result
+    c.len-index.ensures (subst (λ o. MatchOption o (IsPosition c.args.board.now c.args.entry.now → ⊥) (IsLocated c.args.board.now c.args.entry.now)) c.in_default.is c.in_ok-boxes.ensures)
+
+pub returns-then-has-clause-tells : goal.returns-then-has-clause-tells
+returns-then-has-clause-tells c = λ entries known.
     let (place, is_at) = present _ _ c.has.result c.has.ensures c.if-has.true in
-    record {
-      entry = c.index-entries-index.result;
-      there = there at;
-      before = c.requires.fine;
-      fault = IsRepeated-found c.args.board.now c.args.entries.now c.args.index c.args.roll.now c.index-entries-index.result c.in-Some.field-0.key place
-          c.requires.accepted c.requires.exists c.requires.entered found.position found.key_is is_at;
-    }
+    tells-repeated c.args.board.now c.args.claim entries c.args.roll.now c.requires.accepted known c.args.entry.now c.in-Some.field-0
+    (located (goal.at.returns-then-has-clause-tells c).After-has) c.args.roll.now c.len-index.result c.len-index.ensures place is_at
 
-new : (c : After-judge) → (IsLocated c.args.board.now c.index-entries-index.result c.in-Some.field-0)
-    → IsNew c.args.board.now c.args.entries.now c.args.index c.index-entries-index.result
-new c found =
-    IsNew-absent c.args.board.now c.args.claim c.args.entries.now c.args.index c.args.roll.now c.index-entries-index.result c.in-Some.field-0.key
-    c.requires.accepted c.requires.fine c.requires.entered found.key_is (missing _ _ c.has.result c.has.ensures c.if-has.false)
+pub returns-in-Solved-clause-tells : goal.returns-in-Solved-clause-tells
+returns-in-Solved-clause-tells c = λ entries known.
+    tells-solved c.args.board.now c.args.claim entries c.args.roll.now c.requires.accepted known c.args.entry.now c.in-Some.field-0
+    (located (goal.at.returns-in-Solved-clause-tells c).After-has) (missing _ _ c.has.result c.has.ensures c.if-has.false) c.args.roll.now c.len-index.result
+    c.len-index.ensures (subst (IsFinding c.args.board.now c.args.claim c.args.entry.now) c.in-Solved.is c.in_ok-judge.ensures)
 
-pub returns-in-Solved-clause-refused : goal.returns-in-Solved-clause-refused
-returns-in-Solved-clause-refused c =
-    let at = goal.at.returns-in-Solved-clause-refused c in
-    let found = located at.After-has in
-    let (expanded, solved) = subst (IsFinding c.args.board.now c.args.claim c.index-entries-index.result) c.in-Solved.is c.in_ok-judge.ensures in
-    record {
-      entry = c.index-entries-index.result;
-      there = there at.After-has;
-      before = c.requires.fine;
-      fault = record { position = found.position; new = new at.After-judge found; expanded = expanded; solved = solved };
-    }
+pub returns-in-Unreasoned-clause-tells : goal.returns-in-Unreasoned-clause-tells
+returns-in-Unreasoned-clause-tells c = λ entries known.
+    tells-unreasoned c.args.board.now c.args.claim entries c.args.roll.now c.requires.accepted known c.args.entry.now c.in-Some.field-0
+    (located (goal.at.returns-in-Unreasoned-clause-tells c).After-has) (missing _ _ c.has.result c.has.ensures c.if-has.false) c.args.roll.now
+    c.len-index.result c.len-index.ensures (subst (IsFinding c.args.board.now c.args.claim c.args.entry.now) c.in-Unreasoned.is c.in_ok-judge.ensures)
 
-pub returns-in-Unreasoned-clause-refused : goal.returns-in-Unreasoned-clause-refused
-returns-in-Unreasoned-clause-refused c =
-    let at = goal.at.returns-in-Unreasoned-clause-refused c in
-    let found = located at.After-has in
-    let (barring, fails) = subst (IsFinding c.args.board.now c.args.claim c.index-entries-index.result) c.in-Unreasoned.is c.in_ok-judge.ensures in
-    record {
-      entry = c.index-entries-index.result;
-      there = there at.After-has;
-      before = c.requires.fine;
-      fault = record { position = found.position; new = new at.After-judge found; barring = barring; fails = fails };
-    }
-
-pub returns-clause-fine : goal.returns-clause-fine
-returns-clause-fine c =
-    let at = goal.at.returns-clause-fine c in
-    let found = located at.After-has in
-    AreFine-more c.args.board.now c.args.claim c.args.entries.now c.args.index c.index-entries-index.result (there at.After-has) c.requires.fine (record {
-      position = found.position;
-      new = new at.After-judge found;
-      reasoned = subst (IsFinding c.args.board.now c.args.claim c.index-entries-index.result) c.in-Fine.is c.in_ok-judge.ensures;
-    })
-
-pub returns-clause-entered : goal.returns-clause-entered
-returns-clause-entered c =
-    let at = (goal.at.returns-clause-entered c).After-has in
-    let found = located at in
-    IsRolled-more node_of c.args.board.now c.args.entries.now c.args.index c.args.roll.now c.enter.new.self c.index-entries-index.result c.in-Some.field-0.key
-    (there at) c.requires.entered found.key_is (missing _ _ c.has.result c.has.ensures c.if-has.false) c.in_ok-enter.ensures.entered
+pub returns-clause-tells : goal.returns-clause-tells
+returns-clause-tells c = λ entries known.
+    tells-fine c.args.board.now c.args.claim entries c.args.roll.now c.requires.accepted known c.args.entry.now c.in-Some.field-0
+    (located (goal.at.returns-clause-tells c).After-has) (missing _ _ c.has.result c.has.ensures c.if-has.false) c.enter.new.self
+    (subst (IsFinding c.args.board.now c.args.claim c.args.entry.now) c.in-Fine.is c.in_ok-judge.ensures) c.in_ok-enter.ensures.entered
     (c.in_ok-enter.ensures.marked ∙ ap (λ mark. c.args.roll.now.marks ++ mark ∷ []) c.is_expanded.ensures)
+
+pub returns-clause-of_board : goal.returns-clause-of_board
+returns-clause-of_board c =
+    IsOfBoard-more c.args.board.now c.requires.accepted c.args.roll.now c.enter.new.self c.args.entry.now c.in-Some.field-0
+    (located (goal.at.returns-clause-of_board c).After-has) c.requires.of_board c.in_ok-enter.ensures.entered c.in_ok-enter.ensures.room

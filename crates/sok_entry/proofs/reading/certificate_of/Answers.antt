@@ -1,7 +1,7 @@
 use Rattle.std.proofs.Common.{◌≡◌, ◌∷◌, ◌++◌, [], length, inl, inr, subst, rules}
 use Rattle.std.proofs.lemmas.Result.{err_from_is_err_and}
 use Rattle.sok_entry.specs.Stages.{AreWrong, IsStage}
-use Rattle.sok_entry.proofs.Reaching.{Reached-start, Reached-more, Reached-wrong, Reached-ended}
+use Rattle.sok_entry.proofs.Reaching.{Reached-more, Reached-wrong, Reached-ended}
 use Rattle.sok_entry.proofs.reading.certificate_of.Goals as goal
 
 pub returns-in_err-stage : goal.returns-in_err-stage

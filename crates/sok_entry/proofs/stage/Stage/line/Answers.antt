@@ -1,4 +1,4 @@
-use Rattle.std.proofs.Common.{◌≡◌, ◌≢◌, ◌+◌, ◌∷◌, ◌++◌, [], codes, sym, ap, subst}
+use Rattle.std.proofs.Common.{◌≢◌, ◌+◌, ◌∷◌, ◌++◌, [], codes, sym, subst}
 use Rattle.std.proofs.lemmas.Bool.Decides.{Decides-eqb}
 use Rattle.std.proofs.lemmas.Slice.Eq.{slice_eq-Decides}
 use Rattle.sok_entry.specs.declared.fault.CertFault.TheVariants.{Line}

@@ -4,7 +4,7 @@ use Rattle.sok_rules.proofs.Man.{IsStanding-start}
 use Rattle.sok_board.specs.Area.{boxes_of}
 use Rattle.sok_closed.proofs.Missed.{rolled-starts}
 use Rattle.sok_cert.specs.Closed.{node_of}
-use Rattle.sok_cert.proofs.check.has_start.Goals as goal
+use Rattle.sok_cert.proofs.close.has_start.Goals as goal
 
 pub returns : goal.returns
 returns c = λ entries looking.

@@ -1,0 +1,56 @@
+-- What a stream of a certificate's bytes has come to.
+use Rattle.std.specs.Prelude.{ℕ, ◌≡◌, ◌++◌, List, Option, Some, None, length}
+use Rattle.sok_board.specs.Area.{Numbered}
+use Rattle.sok_entry.specs.declared.claim.Claim.{Claim}
+use Rattle.sok_entry.specs.declared.entry.Entry.{Entry}
+use Rattle.sok_entry.specs.declared.fault.CertFault.{CertFault}
+use Rattle.sok_entry.specs.declared.stage.Stage.{Stage}
+use Rattle.sok_entry.specs.Reading.{GoesWrong}
+use Rattle.sok_entry.specs.Stages.{IsSplit, IsStage, MayClaim}
+use Rattle.sok_entry.specs.Text.{Spells}
+use Rattle.sok_cert.specs.Rosters.{Rostered, TellsEntries}
+
+-- what was read so far: what comes next, the bytes of the line that is not ended yet, why the text is no certificate, if that is known, and the entries
+pub record Progressed : Type 0 where
+  pub stage : Stage
+  pub line : List ℕ
+  pub wrong : Option CertFault
+  pub roster : Rostered
+
+-- lines with entries bring a certificate to a stage, and each entry is judged
+pub record AreJudged (b : Numbered) (stage : Stage) (roster : Rostered) (ls : List (List ℕ)) (entries : List Entry) : Type 0 where
+  pub at : IsStage ls entries stage
+  pub count : roster.count ≡ length entries
+  pub tells : (claim : Claim) → MayClaim stage claim → TellsEntries b claim entries roster.roll roster.fault
+
+-- so do the lines of a text, up to the one that is not ended yet
+pub record IsReadSo (b : Numbered) (text : List ℕ) (p : Progressed) : Type 0 where
+  pub passed : List (List ℕ)
+  pub entries : List Entry
+  pub split : IsSplit text passed p.line
+  pub judged : AreJudged b p.stage p.roster passed entries
+
+abbrev pub StandsBy : Numbered → List ℕ → Progressed → Option CertFault → Type 0
+StandsBy b text p None = IsReadSo b text p
+StandsBy b text p (Some fault) = (more : List ℕ) → GoesWrong (text ++ more) fault
+
+-- what was read is the text: its lines, entries and faults; or it goes wrong in this way, whatever comes behind it
+abbrev pub StandsFor : Numbered → List ℕ → Progressed → Type 0
+StandsFor b text p = StandsBy b text p p.wrong
+
+-- a stream, with the board that it judges by
+pub record Streamed : Type 0 where
+  pub board : Numbered
+  pub progress : Progressed
+
+-- the end of a stream
+pub record Ending : Type 0 where
+  pub board : Numbered
+  pub claim : Claim
+  pub roster : Rostered
+
+-- it stands for a text that is a certificate
+pub record EndsFor (text : List ℕ) (e : Ending) : Type 0 where
+  pub entries : List Entry
+  pub spelled : Spells text e.claim entries
+  pub tells : TellsEntries e.board e.claim entries e.roster.roll e.roster.fault

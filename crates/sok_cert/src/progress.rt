@@ -1,0 +1,149 @@
+//! A certificate that is read in pieces: how far it has come.
+
+ghost use Rattle.std.specs.Prelude.{ℕ, ◌≡◌, ◌++◌, ◌∷◌, [], List, IfOk, MatchOption, OnOk};
+ghost use Rattle.sok_text.specs.Lines.{IsUnended};
+ghost use Rattle.sok_board.specs.Area.{IsAccepted, Numbered};
+ghost use Rattle.sok_entry.specs.Stages.{AreWrong};
+ghost use Rattle.sok_entry.specs.declared.entry.Entry.{Entry};
+ghost use Rattle.sok_cert.specs.Parts.{progressed_of, rostered_of};
+ghost use Rattle.sok_cert.specs.Rosters.{IsOfBoard};
+ghost use Rattle.sok_cert.specs.Streams.{AreJudged, StandsFor};
+
+use crate::roster::Roster;
+use sok_board::board::Board;
+use sok_entry::fault::CertFault;
+use sok_entry::stage::{LineRead, Stage};
+use sok_push::tables::Tables;
+use sok_rules::fault::Memory;
+use sok_text::line::{cut_at_end, without_return};
+use std::alloc::Global;
+
+/// How far a certificate has come: what comes next in it, the bytes of the line that is not ended
+/// yet, why the text goes wrong, if that is known, and its entries so far, each of which was judged.
+#[derive(Drop)]
+pub(crate) struct Progress {
+    pub(crate) stage: Stage,
+    pub(crate) line: Vec<u8>,
+    pub(crate) wrong: Option<CertFault>,
+    pub(crate) roster: Roster,
+}
+
+impl Progress {
+    /// Nothing is read.
+    pub(crate) fn new(alloc: Global, board: &Board) -> Progress
+        ensures nothing { StandsFor board.now [] (progressed_of result) }
+        ensures of_board { IsOfBoard board.now result.roster.roll }
+    {
+        Progress {
+            stage: Stage::AtHeader,
+            line: Vec::new(alloc),
+            wrong: None,
+            roster: Roster::new(alloc, board),
+        }
+    }
+
+    /// Reads one more piece.
+    pub(crate) fn take(
+        &mut self,
+        alloc: Global,
+        board: &Board,
+        tables: &Tables,
+        piece: &[u8],
+    ) -> Result<(), Memory>
+        requires accepted { IsAccepted board.now }
+        requires tables { tables.now.board ≡ board.now }
+        requires of_board { IsOfBoard board.now self.old.roster.roll }
+        ensures stands { (text : List ℕ) → StandsFor board.now text (progressed_of self.old)
+            → OnOk result
+            (StandsFor board.now (text ++ piece.now) (progressed_of self.new)) }
+        ensures of_board { IsOfBoard board.now self.new.roster.roll }
+    {
+        let mut rest = piece;
+        while let Some((part, behind)) = cut_at_end(rest) {
+            self.end_line(alloc, board, tables, part)?;
+            rest = behind;
+        }
+        self.keep(rest)
+    }
+
+    /// Reads the bytes of a line up to its end.
+    fn end_line(
+        &mut self,
+        alloc: Global,
+        board: &Board,
+        tables: &Tables,
+        part: &[u8],
+    ) -> Result<(), Memory>
+        requires accepted { IsAccepted board.now }
+        requires tables { tables.now.board ≡ board.now }
+        requires of_board { IsOfBoard board.now self.old.roster.roll }
+        requires unended { IsUnended part.now }
+        ensures stands { (text : List ℕ) → StandsFor board.now text (progressed_of self.old)
+            → OnOk result
+            (StandsFor board.now (text ++ part.now ++ 10 ∷ []) (progressed_of self.new)) }
+        ensures of_board { IsOfBoard board.now self.new.roster.roll }
+    {
+        if self.wrong.is_some() {
+            return Ok(());
+        }
+        self.line.extend_from_slice(part)?;
+        let line = without_return(self.line.as_slice());
+        self.wrong = judge_line(
+            alloc,
+            board,
+            tables,
+            &mut self.stage,
+            &mut self.roster,
+            line,
+        )?;
+        self.line.clear();
+        Ok(())
+    }
+
+    /// Keeps bytes of a line that is not ended yet.
+    fn keep(&mut self, part: &[u8]) -> Result<(), Memory>
+        requires unended { IsUnended part.now }
+        ensures stands { (b : Numbered) (text : List ℕ) → StandsFor b text (progressed_of self.old)
+            → OnOk result (StandsFor b (text ++ part.now) (progressed_of self.new)) }
+        ensures roster { self.new.roster ≡ self.old.roster }
+    {
+        if self.wrong.is_some() {
+            return Ok(());
+        }
+        self.line.extend_from_slice(part)?;
+        Ok(())
+    }
+}
+
+/// Reads a line that has its end, and judges the entry if it is one. If the text goes wrong with
+/// it, that fault is told.
+fn judge_line(
+    alloc: Global,
+    board: &Board,
+    tables: &Tables,
+    stage: &mut Stage,
+    roster: &mut Roster,
+    line: &[u8],
+) -> Result<Option<CertFault>, Memory>
+    requires accepted { IsAccepted board.now }
+    requires tables { tables.now.board ≡ board.now }
+    requires of_board { IsOfBoard board.now roster.old.roll }
+    ensures judged { (ls : List (List ℕ)) (entries : List Entry)
+        → AreJudged board.now stage.old (rostered_of roster.old) ls entries
+        → IfOk result (λ wrong. MatchOption wrong ((es : List Entry)
+        × AreJudged board.now stage.new (rostered_of roster.new) (ls ++ line.now ∷ []) es)
+        (AreWrong (ls ++ line.now ∷ []))) }
+    ensures of_board { IsOfBoard board.now roster.new.roll }
+{
+    match stage.line(alloc, line, roster.len())? {
+        LineRead::Listed(claim, entry) => {
+            roster.enter(alloc, board, tables, claim, &entry)?;
+            Ok(None)
+        }
+        LineRead::Passed(next) => {
+            *stage = next;
+            Ok(None)
+        }
+        LineRead::Wrong(fault) => Ok(Some(fault)),
+    }
+}

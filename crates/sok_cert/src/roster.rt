@@ -1,0 +1,98 @@
+//! The entries of a certificate, judged one by one.
+
+ghost use Rattle.std.specs.Prelude.{◌≡◌, ◌+◌, ◌++◌, ◌∷◌, [], List, MatchResult, OnOk};
+ghost use Rattle.sok_board.specs.Area.{IsAccepted};
+ghost use Rattle.sok_cert.specs.Closed.{IsClosed};
+ghost use Rattle.sok_cert.specs.Refusals.{IsRefused};
+ghost use Rattle.sok_cert.specs.Parts.{rostered_of};
+ghost use Rattle.sok_cert.specs.Rosters.{IsOfBoard, TellsEntries};
+ghost use Rattle.sok_entry.specs.declared.claim.Claim.{Claim};
+ghost use Rattle.sok_entry.specs.declared.entry.Entry.{Entry};
+
+use crate::close::close;
+use crate::entering::enter;
+use sok_board::board::Board;
+use sok_closed::roll::Roll;
+use sok_entry::claim::Claim;
+use sok_entry::entry::Entry;
+use sok_entry::fault::CertFault;
+use sok_push::tables::Tables;
+use sok_rules::fault::Memory;
+use std::alloc::Global;
+
+/// Entries that are judged one by one. Of each the state is kept, with its depth and whether it is
+/// expanded, up to the first that has a fault of its own; then that fault, and how many there are.
+#[derive(Drop)]
+pub(crate) struct Roster {
+    pub(crate) roll: Roll,
+    pub(crate) fault: Option<CertFault>,
+    /// As many as there are entries: a list of nothing, which takes no memory.
+    pub(crate) seen: Vec<()>,
+}
+
+impl Roster {
+    /// A roster without entries, for a board.
+    pub(crate) fn new(alloc: Global, board: &Board) -> Roster
+        ensures none { (claim : Claim)
+            → TellsEntries board.now claim [] result.roll result.fault }
+        ensures count { (rostered_of result).count ≡ 0 }
+        ensures of_board { IsOfBoard board.now result.roll }
+    {
+        Roster {
+            roll: Roll::new(alloc, board.squares()),
+            fault: None,
+            seen: Vec::new(alloc),
+        }
+    }
+
+    /// How many entries there are.
+    pub(crate) fn len(&self) -> usize
+        ensures { result ≡ (rostered_of self.now).count }
+    {
+        self.seen.len()
+    }
+
+    /// Judges one more entry.
+    pub(crate) fn enter(
+        &mut self,
+        alloc: Global,
+        board: &Board,
+        tables: &Tables,
+        claim: Claim,
+        entry: &Entry,
+    ) -> Result<(), Memory>
+        requires accepted { IsAccepted board.now }
+        requires tables { tables.now.board ≡ board.now }
+        requires of_board { IsOfBoard board.now self.old.roll }
+        ensures tells { (entries : List Entry)
+            → TellsEntries board.now claim entries self.old.roll self.old.fault
+            → OnOk result (TellsEntries board.now claim (entries ++ entry.now ∷ [])
+            self.new.roll self.new.fault) }
+        ensures count { OnOk result
+            ((rostered_of self.new).count ≡ (rostered_of self.old).count + 1) }
+        ensures of_board { IsOfBoard board.now self.new.roll }
+    {
+        self.seen.push(())?;
+        if self.fault.is_some() {
+            return Ok(());
+        }
+        self.fault = enter(alloc, board, tables, claim, entry, &mut self.roll)?;
+        Ok(())
+    }
+
+    /// Judges the entries, all of them: the first fault of one by itself, and then those of the
+    /// list.
+    pub(crate) fn close(&self, alloc: Global, board: &Board) -> Result<(), CertFault>
+        requires accepted { IsAccepted board.now }
+        requires of_board { IsOfBoard board.now self.now.roll }
+        ensures { (claim : Claim) (entries : List Entry)
+            → TellsEntries board.now claim entries self.now.roll self.now.fault
+            → MatchResult result (λ _. IsClosed board.now claim entries)
+            (IsRefused board.now claim entries) }
+    {
+        match self.fault {
+            Some(fault) => Err(fault),
+            None => close(alloc, board, &self.roll),
+        }
+    }
+}

@@ -1,0 +1,201 @@
+//! Certificates that are judged as they are read.
+
+ghost use Rattle.std.specs.Prelude.{ℕ, ◌≡◌, ◌≢◌, ◌⊎◌, ◌++◌, [], List, IfErr, IfOk, MatchResult};
+ghost use Rattle.std.specs.List.{flat_map};
+ghost use Rattle.sok_entry.specs.Reading.{GoesWrong};
+ghost use Rattle.sok_entry.specs.declared.fault.CertFault.TheVariants as cert;
+ghost use Rattle.sok_cert.specs.Streams.{EndsFor, StandsFor};
+ghost use Rattle.sok_cert.specs.Verdicts.{IsShown, IsUnshown};
+
+use crate::accepted::Accepted;
+use crate::progress::Progress;
+use crate::roster::Roster;
+use sok_board::board::Board;
+use sok_entry::claim::Claim;
+use sok_entry::fault::CertFault;
+use sok_push::tables::Tables;
+use sok_rules::fault::Memory;
+use std::alloc::Global;
+use std::marker::Model;
+
+/// A certificate for a board, judged as its bytes come, in whatever pieces. Each entry is judged
+/// when its line ends, and of those that are fine only the states are kept. The first fault of an
+/// entry is kept, and reading goes on, since the faults of the text come first. A stream is seen as
+/// its board and how far the certificate has come.
+#[derive(Drop)]
+pub struct Stream<'a> {
+    alloc: Global,
+    board: &'a Board,
+    tables: Tables,
+    progress: Progress,
+}
+
+impl<'a> Model for Stream<'a> {
+    ghost use Rattle.std.specs.Prelude.{ℕ, ◌≡◌, List};
+    ghost use Rattle.sok_board.specs.Area.{IsAccepted};
+    ghost use Rattle.sok_cert.specs.Parts.{progressed_of};
+    ghost use Rattle.sok_cert.specs.Rosters.{IsOfBoard};
+    ghost use Rattle.sok_cert.specs.Streams.{StandsFor, Streamed};
+
+    ghost Value = { Streamed };
+
+    ghost view = { λ stream. record {
+      board = stream.board.now;
+      progress = progressed_of stream.progress;
+    } };
+
+    ghost invariant = { λ stream. IsAccepted stream.board.now
+        × (stream.tables.board ≡ stream.board.now)
+        × IsOfBoard stream.board.now stream.progress.roster.roll
+        × ((text : List ℕ) × StandsFor stream.board.now text (progressed_of stream.progress)) };
+}
+
+/// What is left of a stream at its end, of a text that is a certificate. It is seen as the board,
+/// the claim, and what the entries came to.
+#[derive(Drop)]
+pub struct Ended<'a> {
+    alloc: Global,
+    board: &'a Board,
+    claim: Claim,
+    roster: Roster,
+}
+
+impl<'a> Model for Ended<'a> {
+    ghost use Rattle.std.specs.Prelude.{List};
+    ghost use Rattle.sok_board.specs.Area.{IsAccepted};
+    ghost use Rattle.sok_entry.specs.declared.entry.Entry.{Entry};
+    ghost use Rattle.sok_cert.specs.Parts.{rostered_of};
+    ghost use Rattle.sok_cert.specs.Rosters.{IsOfBoard, TellsEntries};
+    ghost use Rattle.sok_cert.specs.Streams.{Ending};
+
+    ghost Value = { Ending };
+
+    ghost view = { λ ended. record {
+      board = ended.board.now;
+      claim = ended.claim;
+      roster = rostered_of ended.roster;
+    } };
+
+    ghost invariant = { λ ended. IsAccepted ended.board.now
+        × IsOfBoard ended.board.now ended.roster.roll
+        × ((entries : List Entry)
+        × TellsEntries ended.board.now ended.claim entries ended.roster.roll ended.roster.fault) };
+}
+
+impl<'a> Stream<'a> {
+    /// A stream of which no byte has come. It keeps the allocator for what comes.
+    pub fn new(alloc: Global, board: &'a Board) -> Result<Stream<'a>, Memory>
+        ensures nothing { IfOk result (λ stream. StandsFor board.now [] stream.progress) }
+        ensures board { IfOk result (λ stream. stream.board ≡ board.now) }
+    {
+        let tables = Tables::new(alloc, board)?;
+        let progress = Progress::new(alloc, board);
+        Ok(Stream {
+            alloc,
+            board,
+            tables,
+            progress,
+        })
+    }
+
+    /// Takes the next piece. It refuses only for want of memory.
+    pub fn take(self, piece: &[u8]) -> Result<Stream<'a>, Memory>
+        ensures stands { (text : List ℕ) → StandsFor self.entry.board text self.entry.progress
+            → IfOk result (λ stream.
+            StandsFor self.entry.board (text ++ piece.now) stream.progress) }
+        ensures board { IfOk result (λ stream. stream.board ≡ self.entry.board) }
+    {
+        let Stream {
+            alloc,
+            board,
+            tables,
+            mut progress,
+        } = self;
+        progress.take(alloc, board, &tables, piece)?;
+        Ok(Stream {
+            alloc,
+            board,
+            tables,
+            progress,
+        })
+    }
+
+    /// Ends the text. Refused is one that is no certificate, for the fault that `read` names. It
+    /// takes no memory.
+    pub fn ended(self) -> Result<Ended<'a>, CertFault>
+        ensures ends { (text : List ℕ) → StandsFor self.entry.board text self.entry.progress
+            → MatchResult result (EndsFor text) (GoesWrong text) }
+        ensures board { IfOk result (λ ended. ended.board ≡ self.entry.board) }
+    {
+        let Stream {
+            alloc,
+            board,
+            tables: _tables,
+            progress,
+        } = self;
+        let Progress {
+            stage,
+            line,
+            wrong,
+            roster,
+        } = progress;
+        if let Some(fault) = wrong {
+            return Err(fault);
+        }
+        let claim = stage.ended(line.as_slice(), roster.len())?;
+        Ok(Ended {
+            alloc,
+            board,
+            claim,
+            roster,
+        })
+    }
+}
+
+impl Ended<'_> {
+    /// What the certificate claims. It takes no memory.
+    pub fn claim(&self) -> Claim
+        ensures { result ≡ self.now.claim }
+    {
+        self.claim
+    }
+
+    /// Judges the certificate, as `check` does with what `read` tells of its text.
+    pub fn judge(self) -> Result<Accepted, CertFault>
+        ensures claim { IfOk result (λ accepted. accepted.claim ≡ self.entry.claim) }
+        ensures level { IfOk result (λ accepted. accepted.rows ≡ self.entry.board.rows) }
+        ensures shown { (text : List ℕ) → EndsFor text self.entry
+            → IfOk result (λ accepted. IsShown self.entry.board text accepted.claim) }
+        ensures refused { (text : List ℕ) → EndsFor text self.entry
+            → IfErr result (λ fault. (fault ≡ cert.Memory)
+            ⊎ IsUnshown self.entry.board text fault) }
+    {
+        let Ended {
+            alloc,
+            board,
+            claim,
+            roster,
+        } = self;
+        let level = board.level();
+        roster.close(alloc, board)?;
+        Ok(Accepted::new(level.copy(alloc)?, claim))
+    }
+}
+
+/// Judges a certificate that comes in pieces. However it is cut, the answer is what `read` and then
+/// `check` tell of the pieces joined, memory aside: a claim that they show, or the first fault of
+/// the text, or of the certificate that it is.
+pub fn judge_pieces(alloc: Global, board: &Board, pieces: &[Vec<u8>]) -> Result<Accepted, CertFault>
+    ensures level { IfOk result (λ accepted. accepted.rows ≡ board.now.rows) }
+    ensures shown { IfOk result (λ accepted.
+        IsShown board.now (flat_map (λ piece. piece.items) pieces.now) accepted.claim) }
+    ensures refused { IfErr result (λ fault. (fault ≡ cert.Memory)
+        ⊎ (GoesWrong (flat_map (λ piece. piece.items) pieces.now) fault
+        ⊎ IsUnshown board.now (flat_map (λ piece. piece.items) pieces.now) fault)) }
+{
+    let mut stream = Stream::new(alloc, board)?;
+    for piece in pieces {
+        stream = stream.take(piece.as_slice())?;
+    }
+    stream.ended()?.judge()
+}
