@@ -8,7 +8,7 @@ use sok_rules::level::Level;
 use std::marker::Model;
 
 /// What a certificate that was accepted shows: a claim that is true of its level. It is made by
-/// `check` alone. It is seen as the level's rows and the claim.
+/// `check`, and by the end of a `Stream`. It is seen as the level's rows and the claim.
 #[derive(Debug, Drop)]
 pub struct Accepted {
     level: Level,
