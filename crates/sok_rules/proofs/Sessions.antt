@@ -9,7 +9,8 @@ use Rattle.sok_rules.specs.Squares.{Rows}
 use Rattle.sok_rules.specs.Play.{After, Position, one_if, pushes, run, start, step}
 use Rattle.sok_rules.specs.Kept.{IsSession}
 use Rattle.sok_rules.specs.Replay.{push_marks}
-use Rattle.sok_rules.specs.Session.{Letters, StepsOn, position_of, with_letter}
+use Rattle.sok_rules.specs.Session.{Letters, StaysAt, StepsOn, position_of, with_letter}
+use Rattle.sok_rules.specs.declared.fault.PlayFault.TheVariants.{Memory}
 use Rattle.sok_rules.specs.Scene.{CameBy, SameGround, Steps}
 use Rattle.sok_rules.proofs.Man.{IsStanding-start}
 use Rattle.sok_rules.proofs.Marks.{IsLetter-at, length-push_marks, push_marks-append, some_of, take-push_marks}
@@ -146,6 +147,13 @@ few_pushes rows scene letters pushed played count session =
 -- what is seen of a session
 abbrev pub viewed : Rows → List Dir → ℕ → Letters
 viewed rows letters played = record { rows = rows; played = take played letters; undone = drop played letters }
+
+-- want of memory changes nothing, and comes where no letter is undone
+pub StaysAt-memory : (rows : Rows) (letters same : List Dir) (played : ℕ) (d : Dir) → same ≡ letters → played ≡ length letters → played < 1000000
+    → StaysAt (viewed rows letters played) d (viewed rows same played) Memory
+StaysAt-memory rows letters same played d is end few =
+    let size : length (take played letters) ≡ played = length-take-le played letters (omega arith) in
+    record { unchanged = ap (λ items. viewed rows items played) is; cause = (omega arith, drop_all played letters (omega arith)) }
 
 pub IsNone-blocked : (rows scene : Rows) (letters : List Dir) (pushed : List Bool) (played count : ℕ) (d : Dir)
     → IsSession rows scene letters pushed played count

@@ -34,11 +34,11 @@ pub record StepsOn (old : Letters) (d : Dir) (new : Letters) (pushed : Bool) : T
   pub few : length old.played < letter_limit
   pub legal : IsSomeAnd (position_of old) (λ x. IsSomeAnd (step old.rows d x) (λ a. a.pushed ≡ pushed))
 
--- why a letter is not played
+-- why a letter is not played; behind one that was undone there is room for it
 abbrev pub IsStepFault : Letters → Dir → PlayFault → Type 0
 IsStepFault old d TooLong = length old.played ≡ letter_limit
 IsStepFault old d (Blocked at) = (length old.played < letter_limit) × (at ≡ length old.played) × IsNone (position_of (with_letter old d))
-IsStepFault old d Memory = length old.played < letter_limit
+IsStepFault old d Memory = (length old.played < letter_limit) × (old.undone ≡ [])
 
 -- a step that is refused changes nothing
 pub record StaysAt (old : Letters) (d : Dir) (new : Letters) (fault : PlayFault) : Type 0 where

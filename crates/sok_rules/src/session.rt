@@ -67,7 +67,8 @@ impl Session {
 
     /// Plays a letter, and answers whether it pushed. Refused are, in this order, a letter past
     /// 1,000,000 and one that is not legal, with the number of letters played so far. A letter that
-    /// is played drops those undone, and a refused one changes nothing.
+    /// is played drops those undone, and a refused one changes nothing. No memory is asked for where
+    /// a letter was undone.
     pub fn step(&mut self, dir: Dir) -> Result<bool, PlayFault>
         ensures { MatchResult result
             (StepsOn self.old dir self.new) (StaysAt self.old dir self.new) }
@@ -168,13 +169,14 @@ impl Session {
     }
 }
 
-ghost use Rattle.std.specs.Prelude.{◌∷◌, ◌++◌, ◌<◌, take, vec_len, vec_capacity};
+ghost use Rattle.std.specs.Prelude.{◌∷◌, ◌++◌, ◌<◌, OnErr, take, vec_len, vec_capacity};
 
 /// Makes room for one item behind so many others. Where there are more, it has room already.
 fn reserve_behind<T>(items: &mut Vec<T>, place: usize) -> Result<(), Memory>
     requires { place ≤ vec_len items.old }
     ensures same { items.new.items ≡ items.old.items }
     ensures room { IsOk result → place < vec_capacity items.new }
+    ensures full { OnErr result (place ≡ vec_len items.old) }
 {
     if place == items.len() {
         items.reserve(1)?;

@@ -1,10 +1,11 @@
-use Rattle.std.proofs.Common.{◌<◌, ◌++◌, ◌∷◌, [], ◌∙◌, sym, ap, subst, arith, ◌+◌, length, take}
+use Rattle.std.proofs.Common.{◌≡◌, ◌<◌, ◌++◌, ◌∷◌, [], ◌∙◌, sym, ap, subst, arith, ◌+◌, length, take}
 use Rattle.std.proofs.lemmas.List.{length-take-le}
-use Rattle.sok_rules.specs.declared.fault.PlayFault.TheVariants.{Blocked}
+use Rattle.std.proofs.lemmas.Result.{err_from_is_err_and}
+use Rattle.sok_rules.specs.declared.fault.PlayFault.TheVariants.{Blocked, Memory}
 use Rattle.sok_rules.specs.Play.{one_if}
 use Rattle.sok_rules.specs.Session.{StaysAt, StepsOn}
 use Rattle.sok_rules.proofs.Replays.{one_if-is}
-use Rattle.sok_rules.proofs.Sessions.{IsNone-blocked, IsSession-same, IsSession-stepped, StepsOn-stepped, few_pushes, length-IsSession, viewed}
+use Rattle.sok_rules.proofs.Sessions.{IsNone-blocked, IsSession-same, IsSession-stepped, StaysAt-memory, StepsOn-stepped, few_pushes, length-IsSession, viewed}
 use Rattle.sok_rules.proofs.session.Session.step.Goals as goal
 
 pub reserve_behind-requires-2 : goal.reserve_behind-requires-2
@@ -33,6 +34,16 @@ invariant_of-self-in-Some c =
     (omega (arith, c.from.ensures))
     (IsSession-stepped s.level s.scene c.step.new.self s.letters.items s.pushed.items s.played s.pushes c.args.dir c.in-Some.pushed c.self.invariant few
     c.in-Some.ensures)
+
+pub returns-in_err-reserve_behind-2 : goal.returns-in_err-reserve_behind-2
+returns-in_err-reserve_behind-2 c =
+    let s = c.self.inside in
+    let p = err_from_is_err_and c.from_residual-in_err-reserve_behind-2.result c.from_residual-in_err-reserve_behind-2.ensures.1 in
+    let end : s.played ≡ length s.letters.items =
+    omega (arith, length-IsSession _ _ _ _ _ _ c.self.invariant, c.in_err-reserve_behind-2.ensures.full, s.pushed.ok.0) in
+    let few : s.played < 1000000 = omega (arith, c.self.invariant.mark, c.self.invariant.few, c.if-self-eq-LIMIT.false) in
+    rw (p.1, p.2) (subst (λ old. StaysAt old c.args.dir (viewed s.level c.reserve_behind.new.items.items s.played) Memory) c.self.view_is
+    (StaysAt-memory s.level s.letters.items c.reserve_behind.new.items.items s.played c.args.dir c.in_ok-reserve_behind.ensures.same end few))
 
 pub returns-in-None : goal.returns-in-None
 returns-in-None c =
