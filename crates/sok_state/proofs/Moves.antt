@@ -2,6 +2,7 @@
 use Rattle.std.proofs.Common.{ℕ, ◌≡◌, ◌<◌, inl, inr, refl, sym, ap, ◌∙◌, subst, List, Bool, true, true≢false, All, length, get_or}
 use Rattle.std.specs.Cmp.{both_ways}
 use Rattle.std.proofs.lemmas.Bool.{cases_Bool}
+use Rattle.std.proofs.lemmas.Option.{same_Some}
 use Rattle.std.proofs.lemmas.List.Elements.{All-contains, Contains-get_or}
 use Rattle.std.specs.List.Sorted.{IsStrictlyIncreasing}
 use Rattle.sok_rules.specs.declared.cell.Spot.{Spot}
@@ -16,7 +17,7 @@ use Rattle.sok_board.proofs.Positions.{listed_box}
 use Rattle.sok_board.specs.BoxSets.{IsMoved}
 use Rattle.sok_region.specs.Regions.{IsPlaced}
 use Rattle.sok_state.specs.declared.key.Key.{Key}
-use Rattle.sok_state.specs.Tables.{IsNext}
+use Rattle.sok_state.specs.Tables.{Entries, IsAt, IsNext}
 use Rattle.sok_state.proofs.Placed.{box_cases, decoration_there, same_rising}
 
 -- boxes with one of them moved are one list
@@ -31,6 +32,13 @@ next-same key from to least one other is also =
     let boxes = moved-same key.boxes one.boxes other.boxes from to is.moved is.rising also.moved also.rising in
     let number = is.least_is ∙ sym also.least_is in
     λ i. record { boxes = boxes i; least = number i }
+
+-- so has the one at an index of a table
+pub next-at : (old : Entries) (index from to least : ℕ) (found key one other : Key) → IsAt old found index → IsNext found from to least one
+    → IsAt old key index → IsNext key from to least other → one ≡ other
+next-at old index from to least found key one other here is there also =
+    let same = same_Some found key (sym here ∙ there) in
+    next-same key from to least one other (subst (λ (k : Key). IsNext k from to least one) same is) also
 
 -- a box that stands elsewhere than on the square that one has left
 moved-there : (boxes : Spot → Bool) (from to s : Spot) → boxes s ≡ true → (s ≡ from → ⊥) → moved boxes from to s ≡ true

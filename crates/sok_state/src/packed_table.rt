@@ -6,7 +6,7 @@ ghost use Rattle.std.specs.Map.{keys_of, values_of};
 ghost use Rattle.sok_board.specs.Limits.{box_limit};
 ghost use Rattle.sok_state.specs.declared.key.Key.{Key};
 ghost use Rattle.sok_state.specs.PackedKeys.{state_of};
-ghost use Rattle.sok_state.specs.Tables.{Enters, EntersNext, HasDistinctKeys, IsAt, Lowers};
+ghost use Rattle.sok_state.specs.Tables.{Enters, EntersNext, HasDistinctKeys, IsAt, LacksNext, Lowers};
 
 use crate::key::Key;
 use crate::packed::PackedKey;
@@ -86,6 +86,7 @@ impl<const N: usize> PackedTable<N> {
         ensures inserted { IfOk result
             (λ told. EntersNext self.old index from to least depth told.0 told.1 self.new) }
         ensures refused { OnErr result (self.new ≡ self.old) }
+        ensures refused_new { OnErr result (LacksNext self.old index from to least) }
     {
         let packed = self.packed(index);
         self.enter(packed.moved(from, to, least), depth)

@@ -5,7 +5,7 @@ ghost use Rattle.std.specs.Prelude.{length, slice_get};
 ghost use Rattle.std.specs.Map.{keys_of, values_of};
 ghost use Rattle.sok_board.specs.Limits.{box_limit, square_limit};
 ghost use Rattle.sok_state.specs.declared.key.Key.{Key};
-ghost use Rattle.sok_state.specs.Tables.{Enters, EntersNext, HasDistinctKeys, IsAt, Lowers};
+ghost use Rattle.sok_state.specs.Tables.{Enters, EntersNext, HasDistinctKeys, IsAt, LacksNext, Lowers};
 
 use crate::key::Key;
 use crate::packed_table::PackedTable;
@@ -111,6 +111,7 @@ impl Table {
         ensures inserted { IfOk result (λ told. EntersNext
             self.old.entries index from to least depth told.0 told.1 self.new.entries) }
         ensures refused { OnErr result (self.new ≡ self.old) }
+        ensures refused_new { OnErr result (LacksNext self.old.entries index from to least) }
         ensures room { self.new.room ≡ self.old.room }
     {
         match &mut self.store {
