@@ -1,9 +1,15 @@
--- A fault of a certificate's text, as a fault of the book.
-use Rattle.std.proofs.Common.{◌≡◌, ◌⊎◌, inl, inr, refl, ap, ℕ, List, Option}
+-- A fault of a certificate's text or of its list, as a fault of the book.
+use Rattle.std.proofs.Common.{◌≡◌, ◌⊎◌, inl, inr, refl, ap, subst, ℕ, List, Option}
 use Rattle.sok_board.specs.Area.{Numbered}
+use Rattle.sok_entry.proofs.Readings.{Spells-one}
 use Rattle.sok_cert.specs.CertFault.{CertFault}
 use Rattle.sok_cert.specs.CertFault.TheVariants as cert
+use Rattle.sok_cert.specs.Claim.{Claim}
+use Rattle.sok_cert.specs.Entry.{Entry}
 use Rattle.sok_cert.specs.Reading.{GoesWrong}
+use Rattle.sok_cert.specs.Text.{Spells}
+use Rattle.sok_cert.specs.Verdicts.{IsUnshown}
+use Rattle.sok_book.specs.Commands.{Meets}
 use Rattle.sok_book.specs.declared.fault.BookFault.TheVariants as book
 use Rattle.sok_book.specs.Faults.{of_certificate}
 use Rattle.sok_book.specs.Refusals.{IsNoProof}
@@ -13,3 +19,20 @@ pub IsNoProof-text : (b : Numbered) (best : Option ℕ) (bytes : List ℕ) (faul
 IsNoProof-text b best bytes fault (inl same) = inl (ap of_certificate same)
 IsNoProof-text b best bytes cert.Memory (inr wrong) = inl refl
 IsNoProof-text b best bytes fault (inr wrong) = inr ((λ e. cc), inl wrong)
+
+-- the certificate that the text spells is about the best
+pub IsNoProof-list : (b : Numbered) (best : Option ℕ) (bytes : List ℕ) (claim : Claim) (entries : List Entry) (fault : CertFault)
+    → Spells bytes claim entries → Meets claim best → (fault ≡ cert.Memory) ⊎ IsUnshown b bytes fault
+    → (of_certificate fault ≡ book.Memory) ⊎ IsNoProof b best bytes (of_certificate fault)
+IsNoProof-list b best bytes claim entries fault spelled meets (inl same) = inl (ap of_certificate same)
+IsNoProof-list b best bytes claim entries cert.Memory spelled meets (inr unshown) = inl refl
+IsNoProof-list b best bytes claim entries fault spelled meets (inr unshown) = inr (
+  (λ e. cc),
+  inr (record {
+    claim = unshown.claim;
+    entries = unshown.entries;
+    spelled = unshown.spelled;
+    meets = subst (λ c. Meets c best) (Spells-one bytes claim unshown.claim entries unshown.entries spelled unshown.spelled).0 meets;
+    refused = unshown.refused;
+  }),
+)

@@ -1,19 +1,18 @@
 //! Whether bytes prove something of a level's best solution.
 
-ghost use Rattle.std.specs.Prelude.{◌≡◌, ◌⊎◌, ◌≢◌, IfOk, IfErr, List};
-ghost use Rattle.sok_cert.specs.Text.{Spells};
-ghost use Rattle.sok_cert.specs.Entry.{Entry};
+ghost use Rattle.std.specs.Prelude.{◌≡◌, ◌⊎◌, IfOk, IfErr, MatchOption};
+ghost use Rattle.sok_cert.specs.CertFault.TheVariants as cert;
+ghost use Rattle.sok_cert.specs.Reading.{GoesWrong};
+ghost use Rattle.sok_cert.specs.Streams.{EndsFor};
 ghost use Rattle.sok_book.specs.Commands.{IsCertificate, Meets};
 ghost use Rattle.sok_book.specs.Refusals.{Differs, IsNoProof};
 ghost use Rattle.sok_book.specs.declared.fault.BookFault.TheVariants as book;
 
 use crate::fault::BookFault;
 use sok_board::board::Board;
-use sok_cert::check::check;
 use sok_cert::claim::Claim;
-use sok_cert::entry::Cert;
 use sok_cert::fault::CertFault;
-use sok_cert::reading::read;
+use sok_cert::stream::{Ended, Stream};
 use std::alloc::Global;
 
 /// The claim that the bytes of a certificate show of a board, where it is about the pushes of the
@@ -31,14 +30,21 @@ pub fn judge_proof(
     ensures refused { IfErr result
         (λ fault. (fault ≡ book.Memory) ⊎ IsNoProof board.now best bytes.now fault) }
 {
-    let (claim, cert) = read(alloc, bytes)?;
-    match difference(claim, best) {
+    let ended = certificate_of(alloc, board, bytes)?;
+    match difference(ended.claim(), best) {
         Some(fault) => Err(fault),
-        None => judge_list(alloc, board, best, bytes, claim, &cert),
+        None => Ok(ended.judge()?.claim()),
     }
 }
 
-ghost use Rattle.std.specs.Prelude.{MatchOption};
+/// The certificate that bytes spell, its entries judged by a board.
+fn certificate_of<'a>(alloc: Global, board: &'a Board, bytes: &[u8]) -> Result<Ended<'a>, CertFault>
+    ensures board { IfOk result (λ ended. ended.board ≡ board.now) }
+    ensures ends { IfOk result (EndsFor bytes.now) }
+    ensures wrong { IfErr result (λ fault. (fault ≡ cert.Memory) ⊎ GoesWrong bytes.now fault) }
+{
+    Stream::new(alloc, board)?.take(bytes)?.ended()
+}
 
 /// Why a claim is not about the best solution.
 fn difference(claim: Claim, best: Option<u64>) -> Option<BookFault>
@@ -56,25 +62,4 @@ fn difference(claim: Claim, best: Option<u64>) -> Option<BookFault>
         (Claim::Unsolvable, Some(_)) => Some(BookFault::ClaimDiffers),
         (Claim::Unsolvable, None) => None,
     }
-}
-
-/// Judges the list of a certificate that the bytes spell.
-fn judge_list(
-    alloc: Global,
-    board: &Board,
-    best: Option<u64>,
-    bytes: &[u8],
-    claim: Claim,
-    cert: &Cert,
-) -> Result<Claim, BookFault>
-    requires spelled { Spells bytes.now claim cert.now.entries.items }
-    requires meets { Meets claim best }
-    ensures same { IfOk result (λ shown. shown ≡ claim) }
-    ensures certificate { IfOk result (IsCertificate board.now.rows bytes.now) }
-    ensures refused { IfErr result
-        (λ fault. (fault ≡ book.Memory) ⊎ IsNoProof board.now best bytes.now fault) }
-{
-    // A board tells with its level that the level is accepted.
-    let _level = board.level();
-    Ok(check(alloc, board, &claim, cert)?.claim())
 }

@@ -4,6 +4,7 @@ ghost use Rattle.std.specs.Prelude.{◌<◌, ◌≤◌, ◌≡◌, IfOk, IfSome,
 ghost use Rattle.sok_engine.specs.Limits.{cert_limit, input_limit};
 ghost use Rattle.sok_engine.specs.declared.input.InputFault.TheVariants as fault;
 
+use sok_rules::fault::Memory;
 use std::alloc::{AllocError, Global};
 use std::io::Read;
 use thiserror::Error;
@@ -32,6 +33,14 @@ impl From<AllocError> for InputFault {
     ghost from_gives = { λ _ e. e ≡ fault.Memory };
 
     fn from(_error: AllocError) -> InputFault {
+        InputFault::Memory
+    }
+}
+
+impl From<Memory> for InputFault {
+    ghost from_gives = { λ _ e. e ≡ fault.Memory };
+
+    fn from(_error: Memory) -> InputFault {
         InputFault::Memory
     }
 }

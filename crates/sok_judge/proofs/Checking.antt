@@ -20,15 +20,22 @@ use Rattle.sok_engine.specs.Written.{Answer, Answers, IsFaultOf, Writes}
 use Rattle.sok_engine.proofs.Answering.{IsFaultOf-weaker, Within-few, Writes-none, Writes-weaker}
 use Rattle.sok_judge.specs.Boards.{OnBoard, IsBoardOf, LacksBoard, accepted, faulty, memory, refused, unaccepted}
 use Rattle.sok_judge.specs.Checks.{IsCheck, IsCheckOf, TellsVerdict, TellsVerdictWithin}
-use Rattle.sok_cert.specs.Verdicts.{IsVerdict}
+use Rattle.sok_judge.specs.Verdicts.{verdict_answer}
+use Rattle.sok_cert.specs.Verdicts.{IsUnshown, IsVerdict}
 
--- why a text is no certificate, unless memory was refused
-pub unread : (b : Numbered) (text : List ℕ) (fault : CertFault) (result : Result Claim CertFault) → result ≡ Err fault
-    → (fault ≡ cert.Memory) ⊎ GoesWrong text fault
+-- why a text shows nothing, unless memory was refused
+pub untold : (b : Numbered) (text : List ℕ) (fault : CertFault) (result : Result Claim CertFault) → result ≡ Err fault
+    → (fault ≡ cert.Memory) ⊎ (GoesWrong text fault ⊎ IsUnshown b text fault)
     → (result ≡ Err cert.Memory) ⊎ IsVerdict b text result
-unread b text cert.Memory result is _ = inl is
-unread b text fault result is (inl same) = inl (is ∙ ap Err same)
-unread b text fault result is (inr wrong) = inr (subst (IsVerdict b text) (sym is) ((λ same. cc), inl wrong))
+untold b text cert.Memory result is _ = inl is
+untold b text fault result is (inl same) = inl (is ∙ ap Err same)
+untold b text fault result is (inr wrong) = inr (subst (IsVerdict b text) (sym is) ((λ same. cc), wrong))
+
+-- the answer that tells it
+pub tells : (b : Numbered) (text : List ℕ) (verdict : Result Claim CertFault) (answer : Answer) → answer ≡ verdict_answer verdict
+    → (verdict ≡ Err cert.Memory → ⊥) → (verdict ≡ Err cert.Memory) ⊎ IsVerdict b text verdict → TellsVerdict b text (Ok answer)
+tells b text verdict answer same kept (inl none) = absurd (kept none)
+tells b text verdict answer same kept (inr is) = (verdict, is, ap Ok same)
 
 -- a level that is not made has no board
 pub no_level : (found : Result Rows LevelFault) (fault : LevelFault) (made : Result Rows LevelFault) → made ≡ Err fault

@@ -1,3 +1,4 @@
 pub mod Checking
 pub mod OneBoard
 pub mod OneCheck
+pub mod Streaming

@@ -4,6 +4,7 @@ ghost use Rattle.std.specs.Prelude.{◌≡◌, ◌⊎◌, ℕ, List, IfSome, Mat
 ghost use Rattle.sok_text.specs.Collections.{blocks_of, level_at};
 ghost use Rattle.sok_board.specs.Area.{Numbered};
 ghost use Rattle.sok_cert.specs.CertFault.TheVariants as cert;
+ghost use Rattle.sok_cert.specs.Streams.{StandsFor};
 ghost use Rattle.sok_engine.specs.Inputs.{OfReader, Within};
 ghost use Rattle.sok_engine.specs.Limits.{cert_limit, input_limit};
 ghost use Rattle.sok_engine.specs.Written.{HasOne, Writes};
@@ -12,15 +13,15 @@ ghost use Rattle.sok_judge.specs.Boards.{IsBoardOf, LacksBoard};
 ghost use Rattle.sok_judge.specs.Checks.{IsCheck, IsCheckOf, TellsVerdict};
 ghost use Rattle.sok_cert.specs.Verdicts.{IsVerdict};
 
+use crate::reading::stream_of;
 use crate::verdict::{accepted_answer, refused_answer};
 use sok_board::board::Board;
-use sok_cert::check::check;
 use sok_cert::claim::Claim;
 use sok_cert::fault::CertFault;
-use sok_cert::reading::read;
+use sok_cert::stream::Stream;
 use sok_engine::answer::Answer;
 use sok_engine::fault::ToolFault;
-use sok_engine::input::{read_certificate, read_input};
+use sok_engine::input::read_input;
 use sok_text::collection::Collection;
 use std::alloc::Global;
 use std::io::{Read, Write};
@@ -74,18 +75,19 @@ fn judge_input<C: Read, W: Write>(
     ensures { Writes (OfReader (C.remaining input.old) (Within cert_limit (TellsVerdict board.now)))
         (W.contents out.old) (W.contents out.new) result }
 {
-    let text = read_certificate(alloc, input)?;
-    let answer = judged(alloc, board, text.as_slice())?;
+    let stream = stream_of(alloc, board, input)?;
+    let answer = judged(alloc, stream)?;
     answer.write(out)
 }
 
-/// The answer to the text of a certificate.
-fn judged(alloc: Global, board: &Board, text: &[u8]) -> Result<Answer, ToolFault>
-    ensures { MatchResult result
-        (λ answer. TellsVerdict board.now text.now (Ok answer))
+/// The answer to a certificate that was read to its end.
+fn judged(alloc: Global, stream: Stream<'_>) -> Result<Answer, ToolFault>
+    ensures { (text : List ℕ) → StandsFor stream.entry.board text stream.entry.progress
+        → MatchResult result
+        (λ answer. TellsVerdict stream.entry.board text (Ok answer))
         (λ fault. fault ≡ tool.Memory) }
 {
-    match verdict(alloc, board, text) {
+    match verdict(stream) {
         Ok(claim) => Ok(accepted_answer(alloc, claim)?),
         Err(CertFault::Memory) => Err(ToolFault::Memory),
         Err(fault) => Ok(refused_answer(alloc, fault)?),
@@ -93,11 +95,11 @@ fn judged(alloc: Global, board: &Board, text: &[u8]) -> Result<Answer, ToolFault
 }
 
 /// The claim that the text of a certificate shows, or the first fault.
-fn verdict(alloc: Global, board: &Board, text: &[u8]) -> Result<Claim, CertFault>
-    ensures { (result ≡ Err cert.Memory) ⊎ IsVerdict board.now text.now result }
+fn verdict(stream: Stream<'_>) -> Result<Claim, CertFault>
+    ensures { (text : List ℕ) → StandsFor stream.entry.board text stream.entry.progress
+        → (result ≡ Err cert.Memory) ⊎ IsVerdict stream.entry.board text result }
 {
-    let (claim, certificate) = read(alloc, text)?;
-    Ok(check(alloc, board, &claim, &certificate)?.claim())
+    Ok(stream.ended()?.judge()?.claim())
 }
 
 /// A collection and a certificate have one answer at most.

@@ -3,8 +3,10 @@
 //! | Module | What it holds |
 //! |---|---|
 //! | `check` | the judgement |
+//! | `reading` | a certificate, judged as it is read (private) |
 //! | `verdict` | how it is told |
 #![tactic(auto)]
 
 pub mod check;
+mod reading;
 pub mod verdict;

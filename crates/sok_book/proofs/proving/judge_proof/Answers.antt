@@ -1,9 +1,24 @@
--- A fault of the text is answered as it was read.
+-- A fault of the text, or of the list, is answered as it was told.
+use Rattle.std.proofs.Common.{◌≡◌, ◌⊎◌, subst}
 use Rattle.std.proofs.lemmas.Result.{err_from_is_err_and}
-use Rattle.sok_book.proofs.NoProofs.{IsNoProof-text}
+use Rattle.sok_cert.specs.CertFault.TheVariants as cert
+use Rattle.sok_cert.specs.Verdicts.{IsUnshown}
+use Rattle.sok_book.specs.Commands.{Meets}
+use Rattle.sok_book.proofs.NoProofs.{IsNoProof-list, IsNoProof-text}
 use Rattle.sok_book.proofs.proving.judge_proof.Goals as goal
 
-pub returns-in_err-claim-clause-refused : goal.returns-in_err-claim-clause-refused
-returns-in_err-claim-clause-refused c =
+pub returns-in_err-ended-clause-refused : goal.returns-in_err-ended-clause-refused
+returns-in_err-ended-clause-refused c =
     let p = err_from_is_err_and c.from_residual.result c.from_residual.ensures.1 in
-    rw (p.1, p.2) (IsNoProof-text c.args.board.now c.args.best c.args.bytes.now c.in_err-claim.field-0.0 (c.in_err-claim.ensures.fault))
+    rw (p.1, p.2) (IsNoProof-text c.args.board.now c.args.best c.args.bytes.now c.in_err-ended.field-0.0 c.in_err-ended.ensures.wrong)
+
+pub returns-in_err-judge-in-None-clause-refused : goal.returns-in_err-judge-in-None-clause-refused
+returns-in_err-judge-in-None-clause-refused c =
+    let p = err_from_is_err_and c.from_residual-in_err-judge-in-None.result c.from_residual-in_err-judge-in-None.ensures.1 in
+    let bytes = c.args.bytes.now in
+    let ended = c.in_ok-ended.ended in
+    let ends = c.in_ok-ended.ensures.ends in
+    let fault = c.in_err-judge-in-None.field-0.0 in
+    let meets = subst (λ claim. Meets claim c.args.best) c.claim.ensures c.in-None.ensures in
+    let told = subst (λ b. (fault ≡ cert.Memory) ⊎ IsUnshown b bytes fault) c.in_ok-ended.ensures.board (c.in_err-judge-in-None.ensures.refused bytes ends) in
+    rw (p.1, p.2) (IsNoProof-list c.args.board.now c.args.best bytes ended.claim ends.entries fault ends.spelled meets told)

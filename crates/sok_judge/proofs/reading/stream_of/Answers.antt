@@ -1,0 +1,17 @@
+use Rattle.std.proofs.Common.{arith, sym, take}
+use Rattle.sok_engine.specs.Limits.{cert_limit}
+use Rattle.sok_judge.proofs.Streaming.{ReadSo-more, ReadSo-much, ReadSo-start}
+use Rattle.sok_judge.proofs.reading.stream_of.Goals as goal
+
+pub input-init : goal.input-init
+input-init g c = ReadSo-start _ c.args.board.now c.in_ok-stream.stream c.in_ok-stream.ensures.board c.in_ok-stream.ensures.nothing
+
+pub input-preserved : goal.input-preserved
+input-preserved g c =
+    let read = c.in-Ok.ensures in
+    let next = c.in_ok-stream-2 in
+    ReadSo-more _ _ _ c.args.board.now c.input.stream next.stream c.input.total c.in-Ok.count (take c.in-Ok.count c.read.new.buf) c.input.invariant
+    read.bytes.0 (sym read.bound.1) next.ensures.board next.ensures.stands
+
+pub returns-clause-much : goal.returns-clause-much
+returns-clause-much g c = λ same. ReadSo-much _ _ cert_limit _ _ c.input.total c.input.invariant (let past = c.input-test.false in omega arith)
