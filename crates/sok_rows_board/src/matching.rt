@@ -10,6 +10,7 @@ use sok_board::box_set::BoxSet;
 use sok_price::assign::{Match, assign};
 use sok_price::matching::Matching;
 use sok_push::tables::Tables;
+use sok_sketch::chance::next;
 use sok_sketch::sets::board;
 use sok_sketch::{rooms, sketch};
 use std::alloc::Global;
@@ -53,17 +54,6 @@ fn set(
     let total = matching.set(boxes);
     assert_eq!(rt; total, least(alloc, tables, boxes)?);
     Ok(total)
-}
-
-/// The next of some numbers (the linear congruential generator of Knuth's MMIX), below an end.
-fn next(state: &mut u64, end: usize) -> usize
-    requires { 0 < end }
-    ensures { result < end }
-{
-    *state = state
-        .wrapping_mul(6_364_136_223_846_793_005)
-        .wrapping_add(1_442_695_040_888_963_407);
-    (*state >> 33) as usize % end
 }
 
 /// What a matching tells of some boxes with one of them moved, once it is set to them. None where
