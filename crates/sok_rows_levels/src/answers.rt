@@ -179,7 +179,7 @@ const PASSAGE_BEHIND_A_BOX: &str = "\
 ########
 ";
 
-const TWO_CHAMBERS: &str = "\
+pub(crate) const TWO_CHAMBERS: &str = "\
 ########
 #. #   #
 #  $ $ #

@@ -45,3 +45,19 @@ pub(crate) fn replay_bytes<R: Read, W: Write>(
 ) -> Result<u8, ToolFault> {
     sok_play::play::replay_bytes(alloc, input, n, text, out)
 }
+
+pub(crate) fn play_bytes<R: Read, W: Write>(
+    alloc: Global,
+    input: &mut R,
+    out: &mut W,
+) -> Result<u8, ToolFault> {
+    sok_play::play::play_bytes(alloc, input, out)
+}
+
+pub(crate) fn list_bytes<R: Read, W: Write>(
+    alloc: Global,
+    input: &mut R,
+    out: &mut W,
+) -> Result<u8, ToolFault> {
+    sok_play::listing::list_bytes(alloc, input, out)
+}

@@ -5,8 +5,10 @@
 //! |---|---|
 //! | `answers` | the solver's whole answers, the limits, and levels whose states were all searched |
 //! | `collections` | which levels a text holds, their titles and their texts |
+//! | `devices` | readers that fail |
 //! | `engines` | the engines, without their contracts (no test) |
 //! | `faults` | what the solver refuses, and writers that are full |
+//! | `forgeries` | certificates that are forged |
 //! | `letters` | which letters a text spells, and the text of played letters |
 //! | `levels` | which rows are a level |
 //! | `limits` | which certificates have a text |
@@ -22,9 +24,13 @@ mod answers;
 #[cfg(test)]
 mod collections;
 #[cfg(test)]
+mod devices;
+#[cfg(test)]
 mod engines;
 #[cfg(test)]
 mod faults;
+#[cfg(test)]
+mod forgeries;
 #[cfg(test)]
 mod letters;
 #[cfg(test)]

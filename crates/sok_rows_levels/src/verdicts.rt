@@ -1,10 +1,13 @@
 //! Certificates of worked levels, judged.
 
+ghost use Rattle.std.specs.Prelude.{◌<◌};
+
 use sok_board::board::Board;
 use sok_cert::check::check;
 use sok_cert::claim::Claim;
 use sok_cert::fault::CertFault;
 use sok_cert::reading::read;
+use sok_cert::stream::judge_pieces;
 use sok_rules::cell::Dir;
 use sok_sketch::{sets, sketch};
 use std::alloc::Global;
@@ -73,7 +76,21 @@ const TWO_IN_A_ROW: [Case; 2] = [
     ("unsolvable\nx 0 0 2 1 2\nend\n", UNSOLVABLE),
 ];
 
-const CORRIDOR_OF_SIX_PUSHES: [Case; 10] = [
+const CORRIDOR_OF_SIX_PUSHES: [Case; 13] = [
+    // with each line end, and with a last line that has none
+    (
+        "pushes 6\r\nx 0 4 1 5\r\nx 1 5 1 6\nb 2 6 1 7 4 0\r\nend\r\n",
+        SIX_PUSHES,
+    ),
+    (
+        "pushes 6\r\nx 0 4 1 5\r\nx 1 5 1 6\nb 2 6 1 7 4 0\r\nend\r",
+        Err(CertFault::Truncated),
+    ),
+    // the text's fault comes before that of an entry
+    (
+        "pushes 6\nx 0 4 1 5\nx 1 5 1 6\nb 2 6 1 7 5 0\n",
+        Err(CertFault::Truncated),
+    ),
     // in each order
     (
         "pushes 6\nx 0 4 1 5\nx 1 5 1 6\nb 2 6 1 7 4 0\nend\n",
@@ -190,9 +207,44 @@ const ONE_PUSH_DOWN: [Case; 1] = [(
 )];
 
 /// The claim that a text shows of a board, or its first fault.
-fn judged(alloc: Global, board: &Board, text: &[u8]) -> Result<Claim, CertFault> {
+pub(crate) fn judged(alloc: Global, board: &Board, text: &[u8]) -> Result<Claim, CertFault> {
     let (claim, cert) = read(alloc, text)?;
     Ok(check(alloc, board, &claim, &cert)?.claim())
+}
+
+/// The same of a text that comes in pieces of so many bytes.
+fn judged_in_pieces(
+    alloc: Global,
+    board: &Board,
+    text: &[u8],
+    size: usize,
+) -> Result<Claim, CertFault>
+    requires { 0 < size }
+{
+    let mut pieces = Vec::new(alloc);
+    for piece in text.chunks(size) {
+        pieces.push(Vec::from_slice(alloc, piece)?)?;
+    }
+    Ok(judge_pieces(alloc, board, pieces.as_slice())?.claim())
+}
+
+/// Judges a text, whole and in pieces of several sizes.
+fn judge_text(
+    rt: &impl Abort,
+    alloc: Global,
+    board: &Board,
+    text: &[u8],
+    told: Result<Claim, CertFault>,
+) {
+    assert_eq!(rt; judged(alloc, board, text), told);
+    assert_eq!(rt; judged_in_pieces(alloc, board, text, 1000), told);
+    for size in 1..8 {
+        assert_eq!(rt;
+            judged_in_pieces(alloc, board, text, size),
+            told,
+            "in pieces of {size}"
+        );
+    }
 }
 
 /// Judges each case of a board.
@@ -201,8 +253,7 @@ fn judge(rt: &impl Abort, alloc: Global, rows: &str, cases: &[Case]) -> Result<(
     for (lines, told) in cases {
         let mut text = String::from_str(alloc, "sokoban-certificate 1\n")?;
         text.push_str(lines)?;
-        let found = judged(alloc, &board, text.as_bytes());
-        assert_eq!(rt; found, *told, "{text}{rows}");
+        judge_text(rt, alloc, &board, text.as_bytes(), *told);
     }
     Ok(())
 }
@@ -266,7 +317,7 @@ fn corridor_cut_at_each_length(rt: HostRuntime) -> Result<(), Fail> {
             68 | 69 => SIX_PUSHES,
             _ => Err(CertFault::Line(7)),
         };
-        assert_eq!(rt; judged(alloc, &board, &text[..length]), told, "at {length}");
+        judge_text(&rt, alloc, &board, &text[..length], told);
     }
     Ok(())
 }

@@ -10,7 +10,7 @@ use sqlite::Connection;
 use std::test::Fail;
 
 /// That the room cannot be solved with fewer than two pushes.
-const TWO_PUSHES: &str = "sokoban-certificate 1\npushes 2\nb 0 6 1 5 2 0\nend\n";
+pub(crate) const TWO_PUSHES: &str = "sokoban-certificate 1\npushes 2\nb 0 6 1 5 2 0\nend\n";
 
 const NO_PUSHES: &str = "sokoban-certificate 1\npushes 0\ns 0 0 1 2\nend\n";
 

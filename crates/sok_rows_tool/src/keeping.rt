@@ -1,7 +1,10 @@
 //! The commands on a book in a file, which is opened anew by each.
 
 use crate::rows::{OPEN_FAILED, first_other, prepare};
+use sok_engine::input::INPUT_LIMIT;
 use sok_sketch::tutorial::Row;
+use sqlite::Connection;
+use std::alloc::Global;
 use std::fs;
 use std::test::Fail;
 
@@ -84,5 +87,46 @@ fn a_book_in_a_file(rt: HostRuntime) -> Result<(), Fail> {
     // a file that is no database gets no log beside it
     assert!(rt; fs::open(&rt, "books/cert-wal").is_err());
     fs::remove_dir_all(&rt, "books")?;
+    Ok(())
+}
+
+/// A table whose second row has a best that does not solve its level.
+const BAD_ROW: &str = "
+CREATE TABLE level (id, text, title, lurd, pushes, moves, verdict);
+INSERT INTO level VALUES (1, '#####\n#@$.#\n#####\n', NULL, NULL, NULL, NULL, 0);
+INSERT INTO level VALUES (2, '###\n#@#\n#$#\n#.#\n###\n', NULL, 'd', 1, 1, 0);
+";
+
+const BAD_BOOK: &str = "fault 34 BadBook 2\n";
+
+const TOO_MUCH: &str = "fault 52 TooMuch\n";
+
+const UNREADABLE: [Row; 6] = [
+    ("sok show faulty/book 1", "", BAD_BOOK, 5),
+    ("sok offer faulty/book 1 R", "", BAD_BOOK, 5),
+    // the rows are read before the file is
+    ("sok add faulty/book faulty/large", "", BAD_BOOK, 5),
+    ("sok list faulty/large", "", TOO_MUCH, 3),
+    ("sok check faulty/large 1 faulty/cert", "", TOO_MUCH, 3),
+    ("sok replay faulty/levels 1 R", "solved 1 1\n", "", 0),
+];
+
+/// A file of a byte more than a collection may have.
+fn make_large(rt: &HostRuntime, alloc: Global) -> Result<(), Fail> {
+    let bytes = vec![in alloc; b'#'; INPUT_LIMIT + 1]?;
+    fs::write(rt, "faulty/large", bytes.as_slice())?;
+    Ok(())
+}
+
+#[test]
+fn a_book_with_a_bad_row_and_a_file_that_is_too_large(rt: HostRuntime) -> Result<(), Fail> {
+    prepare(&rt, "faulty")?;
+    make_large(&rt, rt.alloc())?;
+    let mut connection = Connection::open(&rt, "faulty/book")?;
+    connection.execute_batch(BAD_ROW)?;
+    drop(connection);
+    let other = first_other(&rt, &UNREADABLE)?;
+    assert_eq!(rt; other, None);
+    fs::remove_dir_all(&rt, "faulty")?;
     Ok(())
 }

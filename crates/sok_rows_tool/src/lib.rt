@@ -18,11 +18,13 @@
 //! | `pages` | rows as records, and what is shown of them |
 //! | `plays` | the replay of a text, its words and its streams |
 //! | `printing` | the line of each fault |
+//! | `reads` | readers that fail, for the commands on a book |
 //! | `refusing` | help, and words that ask for nothing |
 //! | `replaying` | `replay` on files |
 //! | `rows` | command lines on the files of a folder (no test) |
 //! | `solving` | `solve` on files |
 //! | `statements` | each statement once, with ample memory |
+//! | `stops` | commands that are stopped, and the book that is found then |
 //! | `tables` | tables that are opened as a book, or that are not |
 //! | `tutorial` | the session of the tutorial |
 #![tactic(auto)]
@@ -56,6 +58,8 @@ mod plays;
 #[cfg(test)]
 mod printing;
 #[cfg(test)]
+mod reads;
+#[cfg(test)]
 mod refusing;
 #[cfg(test)]
 mod replaying;
@@ -65,6 +69,8 @@ mod rows;
 mod solving;
 #[cfg(test)]
 mod statements;
+#[cfg(test)]
+mod stops;
 #[cfg(test)]
 mod tables;
 #[cfg(test)]

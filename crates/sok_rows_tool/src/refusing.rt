@@ -6,10 +6,18 @@ use std::test::Fail;
 
 /// A line, a part of what is written to the output, or where the status is 2 to the error stream,
 /// and the status.
-const REFUSALS: [(&str, &str, u8); 15] = [
+const REFUSALS: [(&str, &str, u8); 23] = [
     ("sok --help", "Exit status:", 0),
     ("sok help solve", "limit S", 0),
     ("sok solve --help", "[default: 100000]", 0),
+    ("sok list --help", "N ROWS COLS BOXES GOALS TITLE", 0),
+    ("sok replay --help", "open PUSHES MOVES", 0),
+    ("sok check --help", "accepted at least K pushes", 0),
+    ("sok add --help", "N id ID", 0),
+    ("sok offer --help", "kept PUSHES MOVES", 0),
+    ("sok prove --help", "proved optimal K", 0),
+    ("sok show --help", "best PUSHES MOVES LETTERS", 0),
+    ("sok export --help", "in order of ids", 0),
     ("sok sovle F 1", "unrecognized subcommand 'sovle'", 2),
     ("sok list", "<FILE>", 2),
     ("sok list F G", "unexpected argument 'G'", 2),

@@ -1,0 +1,199 @@
+//! Commands that are stopped at each call of the disk, and the book that is found when its files
+//! are opened again.
+
+use crate::answering::{Command, answer};
+use crate::commands::TWO_PUSHES;
+use sok_sketch::sketch::ROOM_OF_TWO_ROWS;
+use sok_store::book::Book;
+use sqlite::{Connection, FileStore, Files, Options};
+use sqlite_disk::{Crash, Disk, Fuse, Memory};
+use std::alloc::Global;
+use std::process::Abort;
+use std::test::Fail;
+
+/// The files of a database, each of which stops after some calls.
+type Stopping = Files<Fuse<Memory>>;
+
+/// A command on the book that others made, what is looked at then, and what may be found: the last
+/// of these, where the command has answered.
+struct Stop {
+    before: &'static [Command<'static>],
+    command: Command<'static>,
+    look: Command<'static>,
+    found: &'static [&'static str],
+}
+
+const STOPS: [Stop; 3] = [
+    Stop {
+        before: &[
+            Command::Add(ROOM_OF_TWO_ROWS),
+            Command::Offer(1, "rlulldRurrdLulldRR"),
+        ],
+        command: Command::Offer(1, "ulldRR"),
+        look: Command::Show(1),
+        found: &[
+            "######\n#    #\n# $@.#\n######\nbest 4 18 rlulldRurrdLulldRR\nverdict untested\n",
+            "######\n#    #\n# $@.#\n######\nbest 2 6 ulldRR\nverdict untested\n",
+        ],
+    },
+    Stop {
+        before: &[Command::Add(ROOM_OF_TWO_ROWS), Command::Offer(1, "ulldRR")],
+        command: Command::Prove(1, TWO_PUSHES),
+        look: Command::Show(1),
+        found: &[
+            "######\n#    #\n# $@.#\n######\nbest 2 6 ulldRR\nverdict untested\n",
+            "######\n#    #\n# $@.#\n######\nbest 2 6 ulldRR\nverdict optimal\n",
+        ],
+    },
+    Stop {
+        before: &[],
+        command: Command::Add(
+            "###\n#@#\n#$#\n#.#\n###\n\n#####\n#@$.#\n#####\n\n####\n#@*#\n####\n",
+        ),
+        look: Command::Export,
+        found: &[
+            "",
+            "###\n#@#\n#$#\n#.#\n###\n\n",
+            "###\n#@#\n#$#\n#.#\n###\n\n#####\n#@$.#\n#####\n\n",
+            "###\n#@#\n#$#\n#.#\n###\n\n#####\n#@$.#\n#####\n\n####\n#@*#\n####\n\n",
+        ],
+    },
+];
+
+/// A file that holds these bytes, and stops after so many calls.
+fn stopping(alloc: Global, bytes: &[u8], calls: u64) -> Result<Fuse<Memory>, Fail> {
+    let mut file = Memory::new(alloc);
+    file.write_at(0, bytes)?;
+    file.sync()?;
+    Ok(Fuse::new(file, calls))
+}
+
+/// Files with the bytes of others, which stop after so many calls to each.
+fn copy_of(alloc: Global, files: &Stopping, log: u64, db: u64) -> Result<Stopping, Fail> {
+    Ok(Files {
+        log: stopping(alloc, files.log.inner().bytes(), log)?,
+        db: stopping(alloc, files.db.inner().bytes(), db)?,
+    })
+}
+
+/// Works on the book in a database: what is left of the files, and what was written, if it
+/// answered.
+fn worked_in(
+    alloc: Global,
+    connection: Connection<FileStore<Fuse<Memory>>>,
+    command: Command<'_>,
+) -> Result<(Stopping, Option<Vec<u8>>), Fail> {
+    if !connection.is_autocommit() {
+        return Err("a transaction is open".into());
+    }
+    match Book::open(alloc, connection) {
+        Err(refused) => Ok((refused.connection.into_store().close(), None)),
+        Ok(mut book) => {
+            let mut out = Vec::new(alloc);
+            let told = answer(alloc, &mut book, command, &mut out);
+            let files = book.into_connection().into_store().close();
+            Ok((files, told.ok().map(|_| out)))
+        }
+    }
+}
+
+/// The same of the database in some files, which is opened first.
+fn worked(
+    alloc: Global,
+    files: Stopping,
+    command: Command<'_>,
+) -> Result<(Stopping, Option<Vec<u8>>), Fail> {
+    if !files.may_be_used() {
+        return Err("a sync has failed".into());
+    }
+    match Connection::open_files(alloc, files, Options::new(1)) {
+        Err((_, left)) => Ok((left.into_files(), None)),
+        Ok(connection) => worked_in(alloc, connection, command),
+    }
+}
+
+/// The files of the book that commands made.
+fn made(alloc: Global, commands: &[Command<'_>]) -> Result<Stopping, Fail> {
+    let mut files = Files {
+        log: Fuse::new(Memory::new(alloc), u64::MAX),
+        db: Fuse::new(Memory::new(alloc), u64::MAX),
+    };
+    for command in commands {
+        let (next, told) = worked(alloc, files, *command)?;
+        told.ok_or("a command was refused")?;
+        files = next;
+    }
+    Ok(files)
+}
+
+/// Asserts that what is found in files may be found there.
+fn look(
+    rt: &impl Abort,
+    alloc: Global,
+    files: Stopping,
+    stop: &Stop,
+    answered: bool,
+) -> Result<(), Fail> {
+    let (_, told) = worked(alloc, files, stop.look)?;
+    let told = String::from_utf8(told.ok_or("the book is not opened again")?)?;
+    let last = stop.found.last().copied();
+    let may_stand = if answered {
+        last == Some(told.as_str())
+    } else {
+        stop.found.iter().any(|text| *text == told.as_str())
+    };
+    assert!(rt; may_stand, "{told}");
+    Ok(())
+}
+
+/// Stops a command after so many calls to the log and to the database, and looks at what it leaves:
+/// all that it wrote, and all that is left if the machine stops with it. Whether it answered.
+fn is_answered(
+    rt: &impl Abort,
+    alloc: Global,
+    before: &Stopping,
+    calls: (u64, u64),
+    stop: &Stop,
+) -> Result<bool, Fail> {
+    let files = copy_of(alloc, before, calls.0, calls.1)?;
+    let (mut left, told) = worked(alloc, files, stop.command)?;
+    let written = copy_of(alloc, &left, u64::MAX, u64::MAX)?;
+    look(rt, alloc, written, stop, told.is_some())?;
+    left.log.crash();
+    left.db.crash();
+    look(rt, alloc, left, stop, told.is_some())?;
+    Ok(told.is_some())
+}
+
+/// Stops a command after no call to one of the files, after one, and so on, until it answers.
+fn stop_each(
+    rt: &impl Abort,
+    alloc: Global,
+    before: &Stopping,
+    to_log: bool,
+    stop: &Stop,
+) -> Result<bool, Fail> {
+    for calls in 0..1_000 {
+        let calls = if to_log {
+            (calls, u64::MAX)
+        } else {
+            (u64::MAX, calls)
+        };
+        if is_answered(rt, alloc, before, calls, stop)? {
+            return Ok(true);
+        }
+    }
+    Ok(false)
+}
+
+#[test]
+fn stops_at_each_call(rt: HostRuntime) -> Result<(), Fail> {
+    let alloc = rt.alloc();
+    for stop in &STOPS {
+        let before = made(alloc, stop.before)?;
+        for to_log in [true, false] {
+            assert!(rt; stop_each(&rt, alloc, &before, to_log, stop)?);
+        }
+    }
+    Ok(())
+}
