@@ -101,7 +101,7 @@ const BAD_BOOK: &str = "fault 34 BadBook 2\n";
 
 const TOO_MUCH: &str = "fault 52 TooMuch\n";
 
-const UNREADABLE: [Row; 6] = [
+const UNREADABLE: [Row; 7] = [
     ("sok show faulty/book 1", "", BAD_BOOK, 5),
     ("sok offer faulty/book 1 R", "", BAD_BOOK, 5),
     // the rows are read before the file is
@@ -109,6 +109,8 @@ const UNREADABLE: [Row; 6] = [
     ("sok list faulty/large", "", TOO_MUCH, 3),
     ("sok check faulty/large 1 faulty/cert", "", TOO_MUCH, 3),
     ("sok replay faulty/levels 1 R", "solved 1 1\n", "", 0),
+    // a database whose making was cut off
+    ("sok show faulty/half 1", "", "fault 30 NoLevel\n", 3),
 ];
 
 /// A file of a byte more than a collection may have.
@@ -122,6 +124,7 @@ fn make_large(rt: &HostRuntime, alloc: Global) -> Result<(), Fail> {
 fn a_book_with_a_bad_row_and_a_file_that_is_too_large(rt: HostRuntime) -> Result<(), Fail> {
     prepare(&rt, "faulty")?;
     make_large(&rt, rt.alloc())?;
+    fs::write(&rt, "faulty/half", "\0")?;
     let mut connection = Connection::open(&rt, "faulty/book")?;
     connection.execute_batch(BAD_ROW)?;
     drop(connection);

@@ -66,7 +66,8 @@ impl Databases for HostRuntime {
     }
 }
 
-/// What a database begins with, where its file is not empty.
+/// What a database begins with, where its file is not empty. While one is made its first byte is 0,
+/// and so it stays where that was cut off: the next open makes it anew.
 const FRONT: [u8; 16] = *b"SQLite format 3\0";
 
 /// Whether there is a file that begins as no database does. Opened as one it would keep an empty
@@ -78,6 +79,6 @@ fn is_other_file(rt: &HostRuntime, path: &str) -> bool {
     let mut front = [0; 16];
     match file.read(&mut front) {
         Ok(0) | Err(_) => false,
-        Ok(_) => front != FRONT,
+        Ok(_) => front[0] != 0 && front != FRONT,
     }
 }
