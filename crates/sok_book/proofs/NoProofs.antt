@@ -1,7 +1,6 @@
 -- A fault of a certificate's text or of its list, as a fault of the book.
 use Rattle.std.proofs.Common.{◌≡◌, ◌⊎◌, inl, inr, refl, ap, subst, ℕ, List, Option}
 use Rattle.sok_board.specs.Area.{Numbered}
-use Rattle.sok_entry.proofs.Readings.{Spells-one}
 use Rattle.sok_cert.specs.CertFault.{CertFault}
 use Rattle.sok_cert.specs.CertFault.TheVariants as cert
 use Rattle.sok_cert.specs.Claim.{Claim}
@@ -9,6 +8,7 @@ use Rattle.sok_cert.specs.Entry.{Entry}
 use Rattle.sok_cert.specs.Reading.{GoesWrong}
 use Rattle.sok_cert.specs.Text.{Spells}
 use Rattle.sok_cert.specs.Verdicts.{IsUnshown}
+use Rattle.sok_cert.proofs.Readings.{Spells-one}
 use Rattle.sok_book.specs.Commands.{Meets}
 use Rattle.sok_book.specs.declared.fault.BookFault.TheVariants as book
 use Rattle.sok_book.specs.Faults.{of_certificate}

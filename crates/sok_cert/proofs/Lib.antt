@@ -3,6 +3,7 @@ pub mod ClosedLaws
 pub mod Closing
 pub mod Entered
 pub mod KnownPositions
+pub mod LongLines
 pub mod Longer
 pub mod OneRefusal
 pub mod Streaming

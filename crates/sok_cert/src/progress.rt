@@ -1,9 +1,11 @@
 //! A certificate that is read in pieces: how far it has come.
 
-ghost use Rattle.std.specs.Prelude.{ℕ, ◌≡◌, ◌++◌, ◌∷◌, [], List, IfOk, MatchOption, OnOk};
+ghost use Rattle.std.specs.Prelude.{ℕ, ◌≡◌, ◌++◌, ◌∷◌, [], List, IfOk, IsTrue, MatchOption, OnOk};
 ghost use Rattle.sok_text.specs.Lines.{IsUnended};
 ghost use Rattle.sok_board.specs.Area.{IsAccepted, Numbered};
-ghost use Rattle.sok_entry.specs.Stages.{AreWrong};
+ghost use Rattle.sok_entry.specs.Reading.{GoesWrong};
+ghost use Rattle.sok_entry.specs.Stages.{AreWrong, IsSplit, IsStage};
+ghost use Rattle.sok_entry.specs.declared.fault.CertFault.TheVariants as cert;
 ghost use Rattle.sok_entry.specs.declared.entry.Entry.{Entry};
 ghost use Rattle.sok_cert.specs.Parts.{progressed_of, rostered_of};
 ghost use Rattle.sok_cert.specs.Rosters.{IsOfBoard};
@@ -100,7 +102,8 @@ impl Progress {
         Ok(())
     }
 
-    /// Keeps bytes of a line that is not ended yet.
+    /// Keeps bytes of a line that is not ended yet. Of one of the first two lines it keeps no more
+    /// than may stand there: once it is longer, the text goes wrong, whatever comes.
     fn keep(&mut self, part: &[u8]) -> Result<(), Memory>
         requires unended { IsUnended part.now }
         ensures stands { (b : Numbered) (text : List ℕ) → StandsFor b text (progressed_of self.old)
@@ -111,7 +114,30 @@ impl Progress {
             return Ok(());
         }
         self.line.extend_from_slice(part)?;
+        if is_too_long(self.stage, self.line.as_slice()) {
+            self.line.clear();
+            self.wrong = Some(CertFault::Header);
+            return Ok(());
+        }
         Ok(())
+    }
+}
+
+/// No header and no claim is as long.
+const FRONT: usize = 64;
+
+/// Whether a line that is not ended yet is one of the first two, and too long.
+fn is_too_long(stage: Stage, line: &[u8]) -> bool
+    ensures { IsTrue result → (text : List ℕ) (ls : List (List ℕ)) (es : List Entry)
+        → IsSplit text ls line.now → IsStage ls es stage
+        → (more : List ℕ) → GoesWrong (text ++ more) cert.Header }
+{
+    if line.len() <= FRONT {
+        return false;
+    }
+    match stage {
+        Stage::AtHeader | Stage::AtClaim => true,
+        Stage::AtEntries(_) | Stage::AtEnd(_) => false,
     }
 }
 

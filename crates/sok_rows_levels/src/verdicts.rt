@@ -25,7 +25,13 @@ const UNSOLVABLE: Result<Claim, CertFault> = Ok(Claim::Unsolvable);
 /// The lines of a certificate behind the first, and what comes of it.
 type Case = (&'static str, Result<Claim, CertFault>);
 
-const ONE_PUSH: [Case; 10] = [
+const ONE_PUSH: [Case; 11] = [
+    // a claim that goes on for longer than any
+    (
+        "pushes 00000000000000000000000000000000000000000000000000000000000000000000000000000001\n\
+         b 0 0 1 1 1 0\nend\n",
+        Err(CertFault::Header),
+    ),
     ("pushes 1\nb 0 0 1 1 1 0\nend\n", Ok(Claim::Pushes(1))),
     ("pushes 1\ns 1 0 1 1\nend\n", Err(CertFault::Start)),
     ("pushes 1\nend\n", Err(CertFault::Start)),
