@@ -1,5 +1,5 @@
 -- Lemmas on the definitions of this crate, which crates above cite too: `Grid` (tests of a cell), `Spots` (squares), `Moved` (boxes),
--- `Steps`, `Runs`, `Walking`, `Marks`, `Outcomes` (letters and lists of letters), `Places`, `ReadingOrder` (the places of a text), `Proper`, `Man` (levels).
+-- `Steps`, `Runs`, `Walking`, `Marks`, `Outcomes`, `Thinner` (letters and lists of letters), `Places`, `ReadingOrder` (the places of a text), `Proper`, `Man` (levels).
 -- The proof's own: `Backs`, `Replays`, `Rows`, `Scenes`, `Seen`, `Sessions`; `Worked` computes a few levels.
 pub mod Backs
 pub mod Grid
@@ -18,5 +18,6 @@ pub mod Seen
 pub mod Sessions
 pub mod Spots
 pub mod Steps
+pub mod Thinner
 pub mod Walking
 pub mod Worked
