@@ -2,6 +2,7 @@ pub mod Counting
 pub mod Jams
 pub mod Kept
 pub mod Narrowing
+pub mod Patterns
 pub mod Prices
 pub mod ReasonLaws
 pub mod Removal

@@ -1,5 +1,5 @@
 -- Numbers that rise, and members of a list by their indices.
-use Rattle.std.proofs.Common.{ℕ, ◌≡◌, ◌<◌, ◌≤◌, inl, inr, refl, sym, ap, ◌∙◌, List, true, true≢false, Some, Result, Ok, Err, Contains, arith, length, get_or}
+use Rattle.std.proofs.Common.{ℕ, zero, suc, ◌≡◌, ◌<◌, ◌≤◌, ◌+◌, inl, inr, refl, sym, ap, ◌∙◌, List, true, true≢false, Some, Result, Ok, Err, All, Contains, add-one, arith, length, get_or}
 use Rattle.std.proofs.Common.{slice_get, is_ok, subst}
 use Rattle.std.specs.List.Sorted.{IsStrictlyIncreasing, IsBinarySearchResult}
 use Rattle.std.specs.Ordering.{nat_cmp}
@@ -40,6 +40,21 @@ same_index xs i j x rising at_i at_j =
             absurd (omega (arith, less, here, there))
       ]
     ]
+
+-- rising numbers are as many as the last of them says, or fewer
+no_less : (xs : List ℕ) → IsStrictlyIncreasing xs → (k : ℕ) → k < length xs → k ≤ get_or xs k 0
+no_less xs rising zero within = omega arith
+no_less xs rising (suc k) within =
+    let before = no_less xs rising k (omega (arith, within)) in
+    let more = rising k (omega (arith, within)) in
+    let next : get_or xs (suc k) 0 ≡ get_or xs (k + 1) 0 = rw add-one in
+    omega (arith, before, more, next)
+
+pub few-rising : (xs : List ℕ) (n : ℕ) → IsStrictlyIncreasing xs → All (λ x. x < n) xs → length xs ≤ n
+few-rising xs n rising below = elim (cases_lt n (length xs)) [
+  | inl within ↦ let most = no_less xs rising n within in let least = below n 0 within in absurd (omega (arith, most, least))
+  | inr short ↦ short
+]
 
 -- what a binary search in numbers that rise finds
 pub found : (xs : List ℕ) (x : ℕ) (r : Result ℕ ℕ) → IsStrictlyIncreasing xs → IsBinarySearchResult (λ y. nat_cmp y x) xs r

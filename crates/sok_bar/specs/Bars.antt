@@ -3,29 +3,42 @@ use Rattle.std.specs.Prelude.{ℕ, ◌≡◌, List, Option, Some, None}
 use Rattle.sok_board.specs.Area.{Numbered}
 use Rattle.sok_region.specs.Regions.{IsPlaced}
 use Rattle.sok_price.specs.Prices.{Priced, IsCrowd}
+use Rattle.sok_entry.specs.declared.entry.Inner.{Inner}
 use Rattle.sok_entry.specs.declared.entry.Reason.{Reason}
-use Rattle.sok_entry.specs.declared.entry.Reason.TheVariants.{Expanded, Spent, Bound, Crowd, Frozen}
+use Rattle.sok_entry.specs.declared.entry.Reason.TheVariants.{Expanded, Spent, Bound, Crowd, Frozen, Pattern}
 use Rattle.sok_bar.specs.declared.rest.Rest.{Rest}
 use Rattle.sok_bar.specs.declared.rest.Rest.TheVariants.{AtLeast, Never}
 use Rattle.sok_bar.specs.Jam.{IsJam}
+use Rattle.sok_bar.specs.Patterns.{IsPattern}
 use Rattle.sok_bar.specs.Rests.{IsBarred}
 
--- a reason for barring a position, with its numbers: prices u of the boxes and v of the goals, or members of the boxes
+-- a reason for barring a position, with its numbers: prices u of the boxes and v of the goals, or members of the boxes, with
+-- positions of them alone for a pattern
 pub data Barring : Type 0 where
   spent : Barring
   bound : (u v : List ℕ) → Barring
   crowd : (members : List ℕ) → Barring
   frozen : (members : List ℕ) → Barring
+  pattern : (members : List ℕ) (inner : List Inner) → Barring
 
--- what a reason says of a position with these boxes: no more pushes are asked for; the prices bound the pushes, and say
--- nothing of positions without a solution; the members are a crowd, or a jam, whatever is to be shown
-abbrev pub Bars : Numbered → List ℕ → Barring → Rest → Type 0
-Bars b boxes Barring.spent (AtLeast n) = n ≡ 0
-Bars b boxes Barring.spent Never = ⊥
-Bars b boxes (Barring.bound u v) (AtLeast n) = Priced b boxes u v n
-Bars b boxes (Barring.bound u v) Never = ⊥
-Bars b boxes (Barring.crowd members) rest = IsCrowd b boxes members
-Bars b boxes (Barring.frozen members) rest = IsJam b boxes members
+-- what a reason says of a position with a player and these boxes: no more pushes are asked for; the prices bound the pushes,
+-- and say nothing of positions without a solution; the members are a crowd, a jam or a pattern, whatever is to be shown
+abbrev pub Bars : Numbered → ℕ → List ℕ → Barring → Rest → Type 0
+Bars b player boxes Barring.spent (AtLeast n) = n ≡ 0
+Bars b player boxes Barring.spent Never = ⊥
+Bars b player boxes (Barring.bound u v) (AtLeast n) = Priced b boxes u v n
+Bars b player boxes (Barring.bound u v) Never = ⊥
+Bars b player boxes (Barring.crowd members) rest = IsCrowd b boxes members
+Bars b player boxes (Barring.frozen members) rest = IsJam b boxes members
+Bars b player boxes (Barring.pattern members inner) rest = IsPattern b player boxes members inner
+
+-- a reason that looks at the boxes alone, wherever the player stands
+abbrev pub IsOfBoxes : Barring → Type 0
+IsOfBoxes Barring.spent = Unit {0}
+IsOfBoxes (Barring.bound u v) = Unit {0}
+IsOfBoxes (Barring.crowd members) = Unit {0}
+IsOfBoxes (Barring.frozen members) = Unit {0}
+IsOfBoxes (Barring.pattern members inner) = ⊥
 
 -- the reason by which an entry is barred; an expanded one gives none
 abbrev pub barring : Reason → Option Barring
@@ -34,8 +47,9 @@ barring Spent = Some Barring.spent
 barring (Bound u v) = Some (Barring.bound u v)
 barring (Crowd members) = Some (Barring.crowd members)
 barring (Frozen members) = Some (Barring.frozen members)
+barring (Pattern members inner) = Some (Barring.pattern members inner)
 
 -- the law of reasons: a position that is barred by what a reason says is barred by what rests to be shown
 abbrev pub ReasonsBar : Numbered → Type 0
-ReasonsBar b = (player : ℕ) (boxes : List ℕ) (reason : Barring) (rest : Rest) → IsPlaced b boxes player → Bars b boxes reason rest → IsBarred b player boxes
-    rest
+ReasonsBar b = (player : ℕ) (boxes : List ℕ) (reason : Barring) (rest : Rest) → IsPlaced b boxes player → Bars b player boxes reason rest
+    → IsBarred b player boxes rest

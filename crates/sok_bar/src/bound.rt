@@ -45,7 +45,7 @@ impl Bar for Bound<'_> {
             (λ holds. IsTrue holds → IsBarred board.now player boxes.now rest) }
         ensures exact { IsOkAnd result
             (λ holds. IsTrue holds
-            ↔ Bars board.now boxes.now (Barring.bound self.now.u.now self.now.v.now) rest) }
+            ↔ Bars board.now player boxes.now (Barring.bound self.now.u.now self.now.v.now) rest) }
     {
         let Rest::AtLeast(pushes) = rest else {
             return Ok(false);

@@ -45,7 +45,7 @@ impl Bar for Crowd<'_> {
             (λ holds. IsTrue holds → IsBarred board.now player boxes.now rest) }
         ensures exact { IsOkAnd result
             (λ holds. IsTrue holds
-            ↔ Bars board.now boxes.now (Barring.crowd self.now.members.now) rest) }
+            ↔ Bars board.now player boxes.now (Barring.crowd self.now.members.now) rest) }
     {
         let boxes = boxes.list();
         if !are_members(boxes, self.members) {

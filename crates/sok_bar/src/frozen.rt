@@ -47,7 +47,7 @@ impl Bar for Frozen<'_> {
             (λ holds. IsTrue holds → IsBarred board.now player boxes.now rest) }
         ensures exact { IsOkAnd result
             (λ holds. IsTrue holds
-            ↔ Bars board.now boxes.now (Barring.frozen self.now.members.now) rest) }
+            ↔ Bars board.now player boxes.now (Barring.frozen self.now.members.now) rest) }
     {
         let boxes = boxes.list();
         if !are_members(boxes, self.members) {

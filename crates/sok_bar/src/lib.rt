@@ -2,6 +2,7 @@
 //!
 //! | Module | What it holds |
 //! |---|---|
+//! | `alone` | whether positions of some boxes alone are closed under pushes (private) |
 //! | `bar` | what a reason promises |
 //! | `bound` | prices that bound the pushes from below |
 //! | `crowd` | boxes that share too few goals |
@@ -9,12 +10,14 @@
 //! | `held` | which boxes are held along both axes |
 //! | `layout_jam` | whether the boxes of a layout have a jam |
 //! | `law` | what a reason says of a position bars it |
-//! | `members` | lists of members of a box list; whether numbers rise |
+//! | `members` | lists of members of a box list (private) |
+//! | `pattern` | boxes that are never solved, taken alone |
 //! | `reason` | whether the reason of an entry holds |
 //! | `rest` | what is still to be shown of a position |
 //! | `spent` | no more pushes are asked for |
 #![tactic(auto)]
 
+mod alone;
 pub mod bar;
 pub mod bound;
 pub mod crowd;
@@ -22,7 +25,8 @@ pub mod frozen;
 mod held;
 pub mod law;
 pub mod layout_jam;
-pub mod members;
+mod members;
+pub mod pattern;
 pub mod reason;
 pub mod rest;
 pub mod spent;

@@ -1,11 +1,12 @@
 //! Lists of members of a list of boxes, by their indices in it.
 
-ghost use Rattle.std.specs.Prelude.{◌≡◌, ◌<◌, ◌≤◌, ◌↔◌, All, IsTrue, length};
+ghost use Rattle.std.specs.Prelude.{◌≤◌, ◌↔◌, IsTrue, length};
 ghost use Rattle.std.specs.List.Sorted.{IsStrictlyIncreasing};
 ghost use Rattle.sok_board.specs.Limits.{box_limit};
 ghost use Rattle.sok_price.specs.Prices.{AreMembers, IsMember};
 
 use sok_board::area::Sq;
+use sok_closed::placing::rises;
 
 /// Whether the numbers are indices of boxes, each above the one before.
 pub(crate) fn are_members(boxes: &[Sq], members: &[u32]) -> bool
@@ -15,18 +16,6 @@ pub(crate) fn are_members(boxes: &[Sq], members: &[u32]) -> bool
         && members
             .iter()
             .all(|member| (*member as usize) < boxes.len())
-}
-
-/// Whether each number is above the one before.
-pub fn rises(numbers: &[u32]) -> bool
-    ensures { IsTrue result ↔ IsStrictlyIncreasing numbers.now }
-{
-    for i in 1..numbers.len() {
-        if numbers[i - 1] >= numbers[i] {
-            return false;
-        }
-    }
-    true
 }
 
 /// Whether a member stands on a square.

@@ -1,13 +1,15 @@
 //! Whether the reason of an entry holds.
 
-ghost use Rattle.std.specs.Prelude.{◌≡◌, ◌<◌, ◌↔◌, IsTrue, IsOkAnd, IsSomeAnd, All, Contains};
-ghost use Rattle.std.specs.Prelude.{length};
+ghost use Rattle.std.specs.Prelude.{◌≡◌, ◌<◌, ◌↔◌, IsTrue, IfOk, IsSomeAnd, All, Contains};
+ghost use Rattle.std.specs.Prelude.{OnErr, length};
+ghost use Rattle.sok_entry.specs.Text.{is_pattern};
 ghost use Rattle.sok_bar.specs.Bars.{Bars, barring};
 
 use crate::bar::Bar;
 use crate::bound::Bound;
 use crate::crowd::Crowd;
 use crate::frozen::Frozen;
+use crate::pattern::Pattern;
 use crate::rest::Rest;
 use crate::spent::Spent;
 use sok_board::area::Sq;
@@ -18,8 +20,8 @@ use sok_push::tables::Tables;
 use sok_rules::fault::Memory;
 use std::alloc::Global;
 
-/// Whether the reason that is named holds, with its numbers; never for an expanded entry. It takes
-/// no memory.
+/// Whether the reason that is named holds, with its numbers; never for an expanded entry. It refuses
+/// only for want of memory, and only where the reason is a pattern.
 pub fn reason_holds(
     alloc: Global,
     reason: &Reason,
@@ -33,8 +35,9 @@ pub fn reason_holds(
     requires boxes_exist { All (λ square. square < length board.now.area) boxes.now }
     requires player_exists { player < length board.now.area }
     requires player_free { Contains boxes.now player → ⊥ }
-    ensures { IsOkAnd result (λ holds. IsTrue holds
-        ↔ IsSomeAnd (barring reason.now) (λ one. Bars board.now boxes.now one rest)) }
+    ensures exact { IfOk result (λ holds. IsTrue holds
+        ↔ IsSomeAnd (barring reason.now) (λ one. Bars board.now player boxes.now one rest)) }
+    ensures refused { OnErr result (IsTrue (is_pattern reason.now)) }
 {
     match reason {
         Reason::Expanded => Ok(false),
@@ -51,6 +54,11 @@ pub fn reason_holds(
         Reason::Frozen { members } => {
             let members = members.as_slice();
             Frozen { members }.holds(alloc, board, tables, boxes, player, rest)
+        }
+        Reason::Pattern { members, inner } => {
+            let members = members.as_slice();
+            let inner = inner.as_slice();
+            Pattern { members, inner }.holds(alloc, board, tables, boxes, player, rest)
         }
     }
 }

@@ -31,7 +31,7 @@ impl Bar for Spent {
         ensures law { IfOk result
             (λ holds. IsTrue holds → IsBarred board.now player boxes.now rest) }
         ensures exact { IsOkAnd result
-            (λ holds. IsTrue holds ↔ Bars board.now boxes.now Barring.spent rest) }
+            (λ holds. IsTrue holds ↔ Bars board.now player boxes.now Barring.spent rest) }
     {
         Ok(matches!(rest, Rest::AtLeast(0)))
     }

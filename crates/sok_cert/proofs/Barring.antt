@@ -16,7 +16,7 @@ use Rattle.sok_cert.specs.Closed.{IsBarredBy, IsPosition, barring, rest_of}
 
 -- by the law of reasons
 some_bars : (b : Numbered) → IsAccepted b → (player : ℕ) (boxes : List ℕ) (rest : Rest) → IsPlaced b boxes player → (reason : Option Barring)
-    → IsSomeAnd reason (λ one. Bars b boxes one rest) → IsBarred b player boxes rest
+    → IsSomeAnd reason (λ one. Bars b player boxes one rest) → IsBarred b player boxes rest
 some_bars b accepted player boxes rest placed None none = absurd none
 some_bars b accepted player boxes rest placed (Some reason) bars = reasons-bar b accepted player boxes reason rest placed bars
 

@@ -1,5 +1,5 @@
 -- A line that is too long for the first two of a certificate.
-use Rattle.std.proofs.Common.{ℕ, ◌≡◌, ◌⊎◌, ◌<◌, ◌≤◌, ◌+◌, ◌-◌, ◌==◌, ◌∙◌, refl, sym, ap, subst, List, [], ◌∷◌, ◌++◌, if◌then◌else◌, true, false, length, take, slice_index, inl, inr, arith, lit≤}
+use Rattle.std.proofs.Common.{ℕ, ◌≡◌, ◌⊎◌, ◌<◌, ◌≤◌, ◌+◌, ◌-◌, ◌==◌, ◌∙◌, refl, sym, ap, subst, List, [], ◌∷◌, ◌++◌, if◌then◌else◌, false, length, take, slice_index, inl, inr, arith, lit≤}
 use Rattle.std.proofs.lemmas.Bool.{cases_Bool, eqb-true}
 use Rattle.std.proofs.lemmas.Fmt.{length-decimal-le}
 use Rattle.std.proofs.lemmas.List.{append_assoc, append-nil, length-append, length-take}
@@ -13,6 +13,8 @@ use Rattle.sok_entry.specs.declared.claim.Claim.TheVariants.{Pushes, Unsolvable}
 use Rattle.sok_entry.specs.declared.entry.Entry.{Entry}
 use Rattle.sok_entry.specs.declared.fault.CertFault.TheVariants.{Header}
 use Rattle.sok_entry.specs.declared.stage.Stage.{Stage}
+use Rattle.sok_entry.specs.declared.version.Version.{Version}
+use Rattle.sok_entry.specs.declared.version.Version.TheVariants.{One, Two}
 use Rattle.sok_entry.specs.declared.stage.Stage.TheVariants.{AtClaim, AtHeader}
 use Rattle.sok_entry.specs.Reading.{GoesWrong, at_header}
 use Rattle.sok_entry.specs.Stages.{IsSplit, IsStage}
@@ -60,9 +62,10 @@ begins front (byte ∷ more) unended some = elim (cases_Bool (is_newline byte)) 
       }
 ]
 
-short-header : length header ≤ 21
+short-header : (version : Version) → length (header version) ≤ 21
 unfolding header
-short-header = lit≤ tt
+short-header One = lit≤ tt
+short-header Two = lit≤ tt
 
 short-claim : (claim : Claim) → FitsClaim claim → length (claim_line claim) ≤ 14
 unfolding claim_line
@@ -74,25 +77,26 @@ wrong-header : (text line : List ℕ) → 64 < length line → IsSplit text [] l
 wrong-header text line many split more =
     let begun = begins line more split.unended (omega arith) in
     let long = begun.long in
-    at_header (λ claim ls fits same.
-    let both : begun.first ∷ begun.others ≡ header ∷ claim_line claim ∷ ls = sym begun.has ∙ sym (split.has_lines more) ∙ same in
-    let first : begun.first ≡ header = cc in
-    omega (arith, ap length first, short-header)) refl
+    at_header (λ version claim ls fits same.
+    let both : begun.first ∷ begun.others ≡ header version ∷ claim_line claim ∷ ls = sym begun.has ∙ sym (split.has_lines more) ∙ same in
+    let first : begun.first ≡ header version = cc in
+    omega (arith, ap length first, short-header version)) refl
 
 -- and one whose second line goes on for longer than a claim
-wrong-claim : (text line : List ℕ) → 64 < length line → IsSplit text (header ∷ []) line → (more : List ℕ) → GoesWrong (text ++ more) Header
-wrong-claim text line many split more =
+wrong-claim : (version : Version) (text line : List ℕ) → 64 < length line → IsSplit text (header version ∷ []) line → (more : List ℕ)
+    → GoesWrong (text ++ more) Header
+wrong-claim version text line many split more =
     let begun = begins line more split.unended (omega arith) in
     let long = begun.long in
-    at_header (λ claim ls fits same.
-    let both : header ∷ begun.first ∷ begun.others ≡ header ∷ claim_line claim ∷ ls =
-    ap (λ rest. header ∷ rest) (sym begun.has) ∙ sym (split.has_lines more) ∙ same in
+    at_header (λ other claim ls fits same.
+    let both : header version ∷ begun.first ∷ begun.others ≡ header other ∷ claim_line claim ∷ ls =
+    ap (λ rest. header version ∷ rest) (sym begun.has) ∙ sym (split.has_lines more) ∙ same in
     let first : begun.first ≡ claim_line claim = cc in
     omega (arith, ap length first, short-claim claim fits)) refl
 
-pub wrong-front : (stage : Stage) (text : List ℕ) (ls : List (List ℕ)) (es : List Entry) (line : List ℕ) → (stage ≡ AtHeader) ⊎ (stage ≡ AtClaim)
+pub wrong-front : (stage : Stage) (text : List ℕ) (ls : List (List ℕ)) (es : List Entry) (line : List ℕ) → (stage ≡ AtHeader) ⊎ ((version : Version) × (stage ≡ AtClaim version))
     → 64 < length line → IsSplit text ls line → IsStage ls es stage → (more : List ℕ) → GoesWrong (text ++ more) Header
 wrong-front stage text ls es line (inl is) many split at =
     wrong-header text line many (subst (λ passed. IsSplit text passed line) (subst (IsStage ls es) is at).0 split)
-wrong-front stage text ls es line (inr is) many split at =
-    wrong-claim text line many (subst (λ passed. IsSplit text passed line) (subst (IsStage ls es) is at).0 split)
+wrong-front stage text ls es line (inr (version, is)) many split at =
+    wrong-claim version text line many (subst (λ passed. IsSplit text passed line) (subst (IsStage ls es) is at).0 split)

@@ -1,6 +1,6 @@
 -- A certificate that is judged as it is read.
-use Rattle.std.proofs.Common.{ℕ, ◌≡◌, ◌∙◌, sym, ap, refl, subst, List, [], ◌∷◌, ◌++◌, Option, Some, None, is_some, true, false, true≢false, MatchOption, arith}
-use Rattle.std.proofs.lemmas.List.{append_assoc, append-nil}
+use Rattle.std.proofs.Common.{ℕ, ◌≡◌, ◌+◌, ◌∙◌, sym, ap, refl, subst, List, [], ◌∷◌, ◌++◌, Option, Some, None, is_some, true, false, true≢false, MatchOption, arith}
+use Rattle.std.proofs.lemmas.List.{append_assoc, append-nil, length_push}
 use Rattle.std.specs.Str.Lines.{lines, strip_carriage_return}
 use Rattle.sok_text.specs.Lines.{IsCutAtEnd, IsUnended}
 use Rattle.sok_board.specs.Area.{Numbered}
@@ -51,14 +51,15 @@ GoesWrong-now b p text fault is stands =
     subst (λ t. GoesWrong t fault) (append-nil text) (told [])
 
 -- nothing is read
-pub stands-nothing : (b : Numbered) (line : List ℕ) (roster : Rostered) → line ≡ [] → roster.count ≡ 0
+pub stands-nothing : (b : Numbered) (lines : ℕ) (line : List ℕ) (roster : Rostered) → line ≡ [] → lines ≡ 0
     → ((claim : Claim) → TellsEntries b claim [] roster.roll roster.fault)
-    → IsReadSo b [] (record { stage = AtHeader; line = line; wrong = None; roster = roster })
-stands-nothing b line roster empty none tells = record {
+    → IsReadSo b [] (record { stage = AtHeader; lines = lines; line = line; wrong = None; roster = roster })
+stands-nothing b lines line roster empty none tells = record {
   passed = [];
   entries = [];
   split = subst (IsSplit [] []) (sym empty) IsSplit-start;
-  judged = record { at = (refl, refl); count = none; tells = λ claim may. tells claim };
+  count = sym none;
+  judged = record { at = (refl, refl); tells = λ claim may. tells claim };
 }
 
 -- more bytes of the line
@@ -68,6 +69,7 @@ IsReadSo-more b text part line p so unended is = subst (λ bytes. IsReadSo b (te
   passed = so.passed;
   entries = so.entries;
   split = IsSplit-more text part so.passed p.line so.split unended;
+  count = so.count;
   judged = so.judged;
 })
 
@@ -78,27 +80,29 @@ stands-more b text part line p none unended is stands =
     read-stands b (record p { line = line }) (text ++ part) p.wrong none so
 
 -- the line ends
-module _ (b : Numbered) (text : List ℕ) (p next : Progressed) (so : IsReadSo b text p) (empty : next.line ≡ []) where
-  abbrev passed : List (List ℕ)
-  passed = so.passed ++ strip_carriage_return p.line ∷ []
+module _ (b : Numbered) (text : List ℕ) (p next : Progressed) (so : IsReadSo b text p) (empty : next.line ≡ []) (more_lines : next.lines ≡ p.lines + 1)
+  where
+    abbrev passed : List (List ℕ)
+    passed = so.passed ++ strip_carriage_return p.line ∷ []
 
-  ends : (wrong : Option CertFault)
-      → MatchOption wrong ((es : List Entry) × AreJudged b next.stage next.roster passed es) (AreWrong passed)
-      → StandsBy b (text ++ 10 ∷ []) next wrong
-  ends None (es, judged) = record {
-    passed = passed;
-    entries = es;
-    split = subst (IsSplit (text ++ 10 ∷ []) passed) (sym empty) (IsSplit-end text so.passed p.line so.split);
-    judged = judged;
-  }
-  ends (Some fault) wrong = λ more.
-      let split = IsSplit-end text so.passed p.line so.split in
-      let count = split.ended more in
-      wrong ((text ++ 10 ∷ []) ++ more) (lines more) (split.has_lines more) (omega (arith, count))
+    ends : (wrong : Option CertFault)
+        → MatchOption wrong ((es : List Entry) × AreJudged b next.stage next.roster passed es) (AreWrong passed)
+        → StandsBy b (text ++ 10 ∷ []) next wrong
+    ends None (es, judged) = record {
+      passed = passed;
+      entries = es;
+      split = subst (IsSplit (text ++ 10 ∷ []) passed) (sym empty) (IsSplit-end text so.passed p.line so.split);
+      count = length_push so.passed (strip_carriage_return p.line) ∙ ap (λ n. n + 1) so.count ∙ sym more_lines;
+      judged = judged;
+    }
+    ends (Some fault) wrong = λ more.
+        let split = IsSplit-end text so.passed p.line so.split in
+        let count = split.ended more in
+        wrong ((text ++ 10 ∷ []) ++ more) (lines more) (split.has_lines more) (omega (arith, count))
 
-  pub stands-end : MatchOption next.wrong ((es : List Entry) × AreJudged b next.stage next.roster passed es) (AreWrong passed)
-      → StandsFor b (text ++ 10 ∷ []) next
-  stands-end told = ends next.wrong told
+    pub stands-end : MatchOption next.wrong ((es : List Entry) × AreJudged b next.stage next.roster passed es) (AreWrong passed)
+        → StandsFor b (text ++ 10 ∷ []) next
+    stands-end told = ends next.wrong told
 
 -- ---- along a piece
 

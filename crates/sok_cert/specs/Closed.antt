@@ -1,8 +1,9 @@
 -- A certificate: positions in which each legal push leads to another of them, or which are barred with a reason.
-use Rattle.std.specs.Prelude.{ℕ, ◌≡◌, ◌-◌, List, Bool, true, false, IsSomeAnd, MatchBool, All, length}
+use Rattle.std.specs.Prelude.{ℕ, ◌-◌, List, Bool, true, false, IsSomeAnd, length}
 use Rattle.sok_rules.specs.Squares.{Rows}
-use Rattle.sok_rules.specs.Play.{Position, start, AllOnGoals, AtLeast, IsUnsolvable}
+use Rattle.sok_rules.specs.Play.{Position, start, AtLeast, IsUnsolvable}
 use Rattle.sok_board.specs.Area.{Numbered, boxes_of}
+use Rattle.sok_closed.specs.Fine as fine
 use Rattle.sok_closed.specs.Rolls as roll
 use Rattle.sok_closed.specs.Rolls.{Node, node_position}
 use Rattle.sok_bar.specs.declared.rest.Rest.{Rest}
@@ -27,7 +28,7 @@ rest_of Unsolvable depth = rest.Never
 
 -- by what its reason says, an entry is barred by what rests of the claim at its depth
 abbrev pub IsBarredBy : Numbered → Claim → Entry → Type 0
-IsBarredBy b claim e = IsSomeAnd (barring e.reason) (λ reason. Bars b e.boxes reason (rest_of claim e.depth))
+IsBarredBy b claim e = IsSomeAnd (barring e.reason) (λ reason. Bars b e.player e.boxes reason (rest_of claim e.depth))
 
 abbrev pub is_expanded : Reason → Bool
 is_expanded Expanded = true
@@ -50,13 +51,11 @@ IsStarter b entries e = roll.IsStarter node_of b (start b.rows) entries e
 
 -- an expanded entry has a box off a goal, and each other one bars
 abbrev pub IsReasoned : Numbered → Claim → Entry → Type 0
-IsReasoned b claim e =
-    MatchBool (is_expanded e.reason) (AllOnGoals b.rows (entry_position b e) → ⊥) (IsBarredBy b claim e)
+IsReasoned b claim e = fine.IsReasoned node_of b (IsBarredBy b claim) e
 
 -- the entries are closed under the pushes from those that are expanded, the start among them, and each other one bars
-pub record IsClosed (b : Numbered) (claim : Claim) (entries : List Entry) : Type 0 where
-  pub rolled : roll.IsRoll node_of b (length (boxes_of b)) (start b.rows) entries
-  pub barred : All (λ e. is_expanded e.reason ≡ false → IsBarredBy b claim e) entries
+abbrev pub IsClosed : Numbered → Claim → List Entry → Type 0
+IsClosed b claim entries = roll.IsClosed node_of b (length (boxes_of b)) (start b.rows) (IsBarredBy b claim) entries
 
 -- so a closed list shows its claim
 abbrev pub ShowsClaims : Numbered → Type 0

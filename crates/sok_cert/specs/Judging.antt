@@ -1,20 +1,18 @@
 -- What is found of one entry: that it is a position, and whether it may stand.
-use Rattle.std.specs.Prelude.{◌≡◌, false, IsTrue}
+use Rattle.std.specs.Prelude.{◌≡◌, false, IsTrue, length}
 use Rattle.sok_rules.specs.Play.{AllOnGoals}
-use Rattle.sok_board.specs.Area.{Numbered}
+use Rattle.sok_board.specs.Area.{Numbered, boxes_of}
+use Rattle.sok_closed.specs.Placing as placing
+use Rattle.sok_closed.specs.declared.placing.Located.{Located}
 use Rattle.sok_entry.specs.declared.claim.Claim.{Claim}
 use Rattle.sok_entry.specs.declared.entry.Entry.{Entry}
-use Rattle.sok_state.specs.Keys.{IsKeyOf}
 use Rattle.sok_cert.specs.declared.judging.Finding.{Finding}
 use Rattle.sok_cert.specs.declared.judging.Finding.TheVariants.{Fine, Solved, Unreasoned}
-use Rattle.sok_cert.specs.declared.placing.Located.{Located}
-use Rattle.sok_cert.specs.Closed.{IsBarredBy, IsPosition, IsReasoned, is_expanded, entry_position}
+use Rattle.sok_cert.specs.Closed.{IsBarredBy, IsReasoned, is_expanded, node_of, entry_position}
 
 -- it is a position, with these boxes and of this state
-pub record IsLocated (b : Numbered) (e : Entry) (found : Located) : Type 0 where
-  pub position : IsPosition b e
-  pub boxes_are : found.boxes ≡ e.boxes
-  pub key_is : IsKeyOf b (entry_position b e) found.key
+abbrev pub IsLocated : Numbered → Entry → Located → Type 0
+IsLocated b e found = placing.IsLocated b (length (boxes_of b)) (node_of e) found
 
 -- it may stand; it is expanded, with all boxes on goals; or it has another reason, which does not bar
 abbrev pub IsFinding : Numbered → Claim → Entry → Finding → Type 0

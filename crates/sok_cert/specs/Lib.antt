@@ -16,6 +16,7 @@ pub use Rattle.sok_entry.specs.declared.entry.Entry
 pub use Rattle.sok_entry.specs.declared.entry.Reason
 pub use Rattle.sok_entry.specs.declared.fault.CertFault
 pub use Rattle.sok_entry.specs.declared.stage.Stage
+pub use Rattle.sok_entry.specs.declared.version.Version
 -- words of the crate's own contracts
 pub mod Judging
 pub mod Parts

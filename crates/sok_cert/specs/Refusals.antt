@@ -2,28 +2,27 @@
 use Rattle.std.specs.Prelude.{ℕ, ◌≡◌, ◌<◌, List, Some, false, IsTrue, length, slice_get}
 use Rattle.sok_rules.specs.Play.{AllOnGoals}
 use Rattle.sok_rules.specs.States.{Same}
-use Rattle.sok_board.specs.Area.{Numbered}
+use Rattle.sok_board.specs.Area.{Numbered, boxes_of}
 use Rattle.sok_state.specs.declared.push.Push.{Push}
+use Rattle.sok_closed.specs.Fine as fine
 use Rattle.sok_closed.specs.Lookup as lookup
 use Rattle.sok_entry.specs.declared.claim.Claim.{Claim}
 use Rattle.sok_entry.specs.declared.entry.Entry.{Entry}
 use Rattle.sok_entry.specs.declared.fault.CertFault.{CertFault}
 use Rattle.sok_entry.specs.declared.fault.CertFault.TheVariants as fault
-use Rattle.sok_cert.specs.Closed.{IsPosition, IsReasoned, IsBarredBy, IsStarter, is_expanded, node_of, entry_position}
+use Rattle.sok_cert.specs.Closed.{IsPosition, IsBarredBy, IsStarter, is_expanded, node_of, entry_position}
 
 -- no entry before a place is of the entry's state
 abbrev pub IsNew : Numbered → List Entry → ℕ → Entry → Type 0
-IsNew b entries i e = (j : ℕ) (f : Entry) → j < i → slice_get entries j ≡ Some f → Same b.rows (entry_position b f) (entry_position b e) → ⊥
+IsNew b entries i e = fine.IsNew node_of b entries i e
 
 -- an entry without a fault of its own
-pub record IsFine (b : Numbered) (claim : Claim) (entries : List Entry) (i : ℕ) (e : Entry) : Type 0 where
-  pub position : IsPosition b e
-  pub new : IsNew b entries i e
-  pub reasoned : IsReasoned b claim e
+abbrev pub IsFine : Numbered → Claim → List Entry → ℕ → Entry → Type 0
+IsFine b claim entries i e = fine.IsFine node_of b (length (boxes_of b)) (IsBarredBy b claim) entries i e
 
 -- so are all entries before a place
 abbrev pub AreFine : Numbered → Claim → List Entry → ℕ → Type 0
-AreFine b claim entries n = (i : ℕ) (e : Entry) → i < n → slice_get entries i ≡ Some e → IsFine b claim entries i e
+AreFine b claim entries n = fine.AreFine node_of b (length (boxes_of b)) (IsBarredBy b claim) entries n
 
 -- the first entry with a fault of its own
 pub record IsFaulty (b : Numbered) (claim : Claim) (entries : List Entry) (i : ℕ) (Fault : Entry → Type 0) : Type 0 where

@@ -10,9 +10,11 @@ use Rattle.sok_entry.specs.Stages.{IsSplit, IsStage, MayClaim}
 use Rattle.sok_entry.specs.Text.{Spells}
 use Rattle.sok_cert.specs.Rosters.{Rostered, TellsEntries}
 
--- what was read so far: what comes next, the bytes of the line that is not ended yet, why the text is no certificate, if that is known, and the entries
+-- what was read so far: what comes next, how many lines ended, the bytes of the line that did not yet, why the text is no certificate, if that is known,
+-- and the entries
 pub record Progressed : Type 0 where
   pub stage : Stage
+  pub lines : ℕ
   pub line : List ℕ
   pub wrong : Option CertFault
   pub roster : Rostered
@@ -20,7 +22,6 @@ pub record Progressed : Type 0 where
 -- lines with entries bring a certificate to a stage, and each entry is judged
 pub record AreJudged (b : Numbered) (stage : Stage) (roster : Rostered) (ls : List (List ℕ)) (entries : List Entry) : Type 0 where
   pub at : IsStage ls entries stage
-  pub count : roster.count ≡ length entries
   pub tells : (claim : Claim) → MayClaim stage claim → TellsEntries b claim entries roster.roll roster.fault
 
 -- so do the lines of a text, up to the one that is not ended yet
@@ -28,6 +29,7 @@ pub record IsReadSo (b : Numbered) (text : List ℕ) (p : Progressed) : Type 0 w
   pub passed : List (List ℕ)
   pub entries : List Entry
   pub split : IsSplit text passed p.line
+  pub count : length passed ≡ p.lines
   pub judged : AreJudged b p.stage p.roster passed entries
 
 abbrev pub StandsBy : Numbered → List ℕ → Progressed → Option CertFault → Type 0

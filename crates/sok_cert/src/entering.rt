@@ -1,15 +1,17 @@
 //! The roll of the entries' states.
 
-ghost use Rattle.std.specs.Prelude.{◌≡◌, ◌++◌, ◌∷◌, [], IfOk, IfErr, List, length};
+ghost use Rattle.std.specs.Prelude.{◌≡◌, ◌++◌, ◌∷◌, [], IfOk, IfErr, List, MatchOption, length};
 ghost use Rattle.sok_board.specs.Area.{IsAccepted};
+ghost use Rattle.sok_cert.specs.Closed.{IsPosition};
+ghost use Rattle.sok_cert.specs.Judging.{IsLocated};
 ghost use Rattle.sok_cert.specs.Refusals.{IsRefused};
 ghost use Rattle.sok_cert.specs.Rosters.{AreEntered, IsOfBoard, TellsEntries};
 ghost use Rattle.sok_entry.specs.declared.entry.Entry.{Entry};
 
 use crate::judging::{Finding, judge};
-use crate::placing::{Located, locate};
 use crate::reason::is_expanded;
 use sok_board::board::Board;
+use sok_closed::placing::{Located, locate};
 use sok_closed::roll::Roll;
 use sok_entry::claim::Claim;
 use sok_entry::entry::Entry;
@@ -60,7 +62,7 @@ pub(crate) fn enter(
     ensures of_board { IsOfBoard board.now roll.new }
 {
     let index = roll.len();
-    let Some(Located { boxes, key }) = locate(alloc, board, entry)? else {
+    let Some(Located { boxes, key }) = locate_entry(alloc, board, entry)? else {
         return Ok(Some(CertFault::BadEntry(index)));
     };
     if roll.has(&key) {
@@ -73,4 +75,15 @@ pub(crate) fn enter(
     }
     roll.enter(&key, entry.depth, is_expanded(&entry.reason))?;
     Ok(None)
+}
+
+/// The boxes and the state of an entry that is a position with all boxes of the board, and None
+/// where it is none. It refuses only for want of memory.
+fn locate_entry(alloc: Global, board: &Board, entry: &Entry) -> Result<Option<Located>, Memory>
+    requires { IsAccepted board.now }
+    ensures { IfOk result (λ found. MatchOption found
+        (IsPosition board.now entry.now → ⊥) (IsLocated board.now entry.now)) }
+{
+    let count = board.start().1.len();
+    locate(alloc, board, count, entry.player, entry.boxes.as_slice())
 }

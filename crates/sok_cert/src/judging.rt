@@ -1,6 +1,6 @@
 //! What is found of an entry that is a position: whether it may stand, by its reason.
 
-ghost use Rattle.std.specs.Prelude.{◌≡◌, IsOkAnd};
+ghost use Rattle.std.specs.Prelude.{◌≡◌, IfOk};
 ghost use Rattle.sok_board.specs.Area.{IsAccepted};
 ghost use Rattle.sok_cert.specs.Closed.{IsPosition};
 ghost use Rattle.sok_cert.specs.Judging.{IsFinding};
@@ -28,7 +28,7 @@ pub(crate) enum Finding {
     Unreasoned,
 }
 
-/// Whether an entry may stand, given with its boxes. It takes no memory.
+/// Whether an entry may stand, given with its boxes. It refuses only for want of memory.
 pub(crate) fn judge(
     alloc: Global,
     board: &Board,
@@ -41,7 +41,7 @@ pub(crate) fn judge(
     requires tables { tables.now.board ≡ board.now }
     requires position { IsPosition board.now entry.now }
     requires boxes { boxes.now ≡ entry.now.boxes }
-    ensures { IsOkAnd result (IsFinding board.now claim entry.now) }
+    ensures { IfOk result (IsFinding board.now claim entry.now) }
 {
     if is_expanded(&entry.reason) {
         if is_solved(board, boxes) {

@@ -9,7 +9,6 @@
 //! | `entering` | the roll of the entries' states (private) |
 //! | `judging` | what is found of an entry by its reason (private) |
 //! | `law` | a closed certificate is true; a list has one judgement, and a text one verdict |
-//! | `placing` | which entries are positions, and of which state (private) |
 //! | `progress` | how far a certificate has come that is read in pieces (private) |
 //! | `reason` | what rests of a claim at a depth, and which entries are expanded (private) |
 //! | `roster` | entries that are judged one by one (private) |
@@ -22,10 +21,11 @@ mod close;
 mod entering;
 mod judging;
 pub mod law;
-mod placing;
 mod progress;
 mod reason;
 mod roster;
 pub mod stream;
 
-pub use sok_entry::{claim, entry, fault, law as text_law, limits, reading, stage, writing};
+pub use sok_entry::{
+    claim, entry, fault, law as text_law, limits, reading, stage, version, writing,
+};

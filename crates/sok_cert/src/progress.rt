@@ -1,6 +1,7 @@
 //! A certificate that is read in pieces: how far it has come.
 
-ghost use Rattle.std.specs.Prelude.{ℕ, ◌≡◌, ◌++◌, ◌∷◌, [], List, IfOk, IsTrue, MatchOption, OnOk};
+ghost use Rattle.std.specs.Prelude.{ℕ, ◌≡◌, ◌<◌, ◌^◌, ◌++◌, ◌∷◌, [], List, IfOk, IsTrue, MatchOption};
+ghost use Rattle.std.specs.Prelude.{OnOk, length};
 ghost use Rattle.sok_text.specs.Lines.{IsUnended};
 ghost use Rattle.sok_board.specs.Area.{IsAccepted, Numbered};
 ghost use Rattle.sok_entry.specs.Reading.{GoesWrong};
@@ -19,12 +20,16 @@ use sok_push::tables::Tables;
 use sok_rules::fault::Memory;
 use sok_text::line::{cut_at_end, without_return};
 use std::alloc::Global;
+use std::mem;
 
 /// How far a certificate has come: what comes next in it, the bytes of the line that is not ended
 /// yet, why the text goes wrong, if that is known, and its entries so far, each of which was judged.
+/// A refusal leaves it of no use.
 #[derive(Drop)]
 pub(crate) struct Progress {
     pub(crate) stage: Stage,
+    /// As many as there are lines that ended: a list of nothing, which takes no memory.
+    pub(crate) ended: Vec<()>,
     pub(crate) line: Vec<u8>,
     pub(crate) wrong: Option<CertFault>,
     pub(crate) roster: Roster,
@@ -38,6 +43,7 @@ impl Progress {
     {
         Progress {
             stage: Stage::AtHeader,
+            ended: Vec::new(alloc),
             line: Vec::new(alloc),
             wrong: None,
             roster: Roster::new(alloc, board),
@@ -89,12 +95,15 @@ impl Progress {
             return Ok(());
         }
         self.line.extend_from_slice(part)?;
+        let lines = self.ended.len();
+        self.ended.push(())?;
         let line = without_return(self.line.as_slice());
         self.wrong = judge_line(
             alloc,
             board,
             tables,
             &mut self.stage,
+            lines,
             &mut self.roster,
             line,
         )?;
@@ -114,7 +123,7 @@ impl Progress {
             return Ok(());
         }
         self.line.extend_from_slice(part)?;
-        if is_too_long(self.stage, self.line.as_slice()) {
+        if is_too_long(&self.stage, self.line.as_slice()) {
             self.line.clear();
             self.wrong = Some(CertFault::Header);
             return Ok(());
@@ -127,43 +136,47 @@ impl Progress {
 const FRONT: usize = 64;
 
 /// Whether a line that is not ended yet is one of the first two, and too long.
-fn is_too_long(stage: Stage, line: &[u8]) -> bool
+fn is_too_long(stage: &Stage, line: &[u8]) -> bool
     ensures { IsTrue result → (text : List ℕ) (ls : List (List ℕ)) (es : List Entry)
-        → IsSplit text ls line.now → IsStage ls es stage
+        → IsSplit text ls line.now → IsStage ls es stage.now
         → (more : List ℕ) → GoesWrong (text ++ more) cert.Header }
 {
     if line.len() <= FRONT {
         return false;
     }
     match stage {
-        Stage::AtHeader | Stage::AtClaim => true,
-        Stage::AtEntries(_) | Stage::AtEnd(_) => false,
+        Stage::AtHeader | Stage::AtClaim(_) => true,
+        Stage::AtEntries(..) | Stage::AtInner { .. } | Stage::AtEnd(_) => false,
     }
 }
 
-/// Reads a line that has its end, and judges the entry if it is one. If the text goes wrong with
-/// it, that fault is told.
+/// Reads a line that has its end, behind so many, and judges the entry if it is the last line of
+/// one. If the text goes wrong with it, that fault is told.
 fn judge_line(
     alloc: Global,
     board: &Board,
     tables: &Tables,
     stage: &mut Stage,
+    lines: usize,
     roster: &mut Roster,
     line: &[u8],
 ) -> Result<Option<CertFault>, Memory>
+    requires few { lines < 2 ^ 63 }
     requires accepted { IsAccepted board.now }
     requires tables { tables.now.board ≡ board.now }
     requires of_board { IsOfBoard board.now roster.old.roll }
-    ensures judged { (ls : List (List ℕ)) (entries : List Entry)
+    ensures judged { (ls : List (List ℕ)) (entries : List Entry) → length ls ≡ lines
         → AreJudged board.now stage.old (rostered_of roster.old) ls entries
         → IfOk result (λ wrong. MatchOption wrong ((es : List Entry)
         × AreJudged board.now stage.new (rostered_of roster.new) (ls ++ line.now ∷ []) es)
         (AreWrong (ls ++ line.now ∷ []))) }
     ensures of_board { IsOfBoard board.now roster.new.roll }
 {
-    match stage.line(alloc, line, roster.len())? {
-        LineRead::Listed(claim, entry) => {
+    let now = mem::replace(stage, Stage::AtHeader);
+    match now.line(alloc, line, lines)? {
+        LineRead::Listed(claim, entry, next) => {
             roster.enter(alloc, board, tables, claim, &entry)?;
+            *stage = next;
             Ok(None)
         }
         LineRead::Passed(next) => {

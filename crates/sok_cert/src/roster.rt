@@ -21,13 +21,11 @@ use sok_rules::fault::Memory;
 use std::alloc::Global;
 
 /// Entries that are judged one by one. Of each the state is kept, with its depth and whether it is
-/// expanded, up to the first that has a fault of its own; then that fault, and how many there are.
+/// expanded, up to the first that has a fault of its own; then that fault.
 #[derive(Drop)]
 pub(crate) struct Roster {
     pub(crate) roll: Roll,
     pub(crate) fault: Option<CertFault>,
-    /// As many as there are entries: a list of nothing, which takes no memory.
-    pub(crate) seen: Vec<()>,
 }
 
 impl Roster {
@@ -35,21 +33,12 @@ impl Roster {
     pub(crate) fn new(alloc: Global, board: &Board) -> Roster
         ensures none { (claim : Claim)
             → TellsEntries board.now claim [] result.roll result.fault }
-        ensures count { (rostered_of result).count ≡ 0 }
         ensures of_board { IsOfBoard board.now result.roll }
     {
         Roster {
             roll: Roll::new(alloc, board.squares()),
             fault: None,
-            seen: Vec::new(alloc),
         }
-    }
-
-    /// How many entries there are.
-    pub(crate) fn len(&self) -> usize
-        ensures { result ≡ (rostered_of self.now).count }
-    {
-        self.seen.len()
     }
 
     /// Judges one more entry.
@@ -68,11 +57,8 @@ impl Roster {
             → TellsEntries board.now claim entries self.old.roll self.old.fault
             → OnOk result (TellsEntries board.now claim (entries ++ entry.now ∷ [])
             self.new.roll self.new.fault) }
-        ensures count { OnOk result
-            ((rostered_of self.new).count ≡ (rostered_of self.old).count + 1) }
         ensures of_board { IsOfBoard board.now self.new.roll }
     {
-        self.seen.push(())?;
         if self.fault.is_some() {
             return Ok(());
         }

@@ -135,6 +135,7 @@ impl<'a> Stream<'a> {
         } = self;
         let Progress {
             stage,
+            ended,
             line,
             wrong,
             roster,
@@ -142,7 +143,7 @@ impl<'a> Stream<'a> {
         if let Some(fault) = wrong {
             return Err(fault);
         }
-        let claim = stage.ended(line.as_slice(), roster.len())?;
+        let claim = stage.ended(line.as_slice(), ended.len())?;
         Ok(Ended {
             alloc,
             board,

@@ -1,5 +1,6 @@
 pub mod AllOnGoals
 pub mod Entered
+pub mod Fine
 pub mod Followed
 pub mod KnownPositions
 pub mod Looking

@@ -1,3 +1,5 @@
 -- words of public contracts
-pub mod Rolls
+pub mod Fine
 pub mod Lookup
+pub mod Placing
+pub mod Rolls

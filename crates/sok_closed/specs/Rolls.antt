@@ -1,5 +1,5 @@
 -- Lists of states, in which each legal push from one that is expanded leads to another.
-use Rattle.std.specs.Prelude.{ℕ, ◌≡◌, ◌≤◌, ◌+◌, List, Some, Bool, true, IsTrue, Contains, All, length, slice_get}
+use Rattle.std.specs.Prelude.{ℕ, ◌≡◌, ◌≤◌, ◌+◌, List, Some, Bool, true, false, IsTrue, Contains, All, length, slice_get}
 use Rattle.sok_rules.specs.declared.cell.Dir.{Dir}
 use Rattle.sok_rules.specs.Play.{Position, After, step, AllOnGoals}
 use Rattle.sok_rules.specs.States.{Same}
@@ -58,3 +58,8 @@ pub record IsRoll {E : Type 0} (node : E → Node) (b : Numbered) (count : ℕ) 
   pub unsolved : All (λ e. IsTrue (node e).expanded → AllOnGoals b.rows (node_position b (node e)) → ⊥) entries
   pub starter : (e : E) × IsStarter node b from entries e
   pub followed : All (IsClosedAt node b entries) entries
+
+-- So is a list closed, where each other entry is barred by what its reason says, whatever that may be.
+pub record IsClosed {E : Type 0} (node : E → Node) (b : Numbered) (count : ℕ) (from : Position) (IsBarred : E → Type 0) (entries : List E) : Type 0 where
+  pub rolled : IsRoll node b count from entries
+  pub barred : All (λ e. (node e).expanded ≡ false → IsBarred e) entries

@@ -1,8 +1,9 @@
 -- Lists of numbers that are within the limits.
-use Rattle.std.proofs.Common.{◌≡◌, ◌↔◌, List, [], ◌∷◌, ◌++◌, All, Bool, false, IsTrue, length, sym, ◌∙◌, true≢false}
+use Rattle.std.proofs.Common.{ℕ, ◌≡◌, ◌↔◌, List, [], ◌∷◌, ◌++◌, All, Bool, false, IsTrue, length, sym, ◌∙◌, true≢false}
 use Rattle.std.proofs.lemmas.List.Elements.{All-append, All-cons, All-head, All-tail, All-nil}
 use Rattle.sok_entry.specs.declared.entry.Entry.{Entry}
-use Rattle.sok_entry.specs.Text.{IsSmall, numbers_of_position, numbers_of_reason, FitsEntry, FitsReason}
+use Rattle.sok_entry.specs.declared.entry.Inner.{Inner}
+use Rattle.sok_entry.specs.Text.{IsSmall, numbers_of_position, numbers_of_reason, FitsEntry, FitsInner, FitsReason}
 
 -- of two tests the first is passed, and the second decides
 pub second_decides : {P Q : Type 0} (second : Bool) → (IsTrue second ↔ P) → (P → Q) → (Q → P) → IsTrue second ↔ Q
@@ -22,10 +23,28 @@ All-parts P (x ∷ xs) ys h =
 pub FitsEntry-parts : (e : Entry) → FitsEntry e → All IsSmall (numbers_of_position e) × FitsReason e.reason (length e.boxes)
 FitsEntry-parts e fits =
     let parts = All-parts IsSmall (numbers_of_position e) (numbers_of_reason e.reason) fits.small in
-    (parts.0, (fits.priced, parts.1))
+    (parts.0, (fits.priced, parts.1, fits.inner))
 
 pub FitsEntry-from_parts : (e : Entry) → All IsSmall (numbers_of_position e) → FitsReason e.reason (length e.boxes) → FitsEntry e
 FitsEntry-from_parts e position reason = record {
   small = All-append IsSmall (numbers_of_position e) (numbers_of_reason e.reason) position reason.1;
   priced = reason.0;
+  inner = reason.2;
 }
+
+-- members behind their count, and how many inner positions there are
+abbrev counts_of_pattern : List ℕ → List Inner → List ℕ
+counts_of_pattern members inner = length members ∷ members ++ length inner ∷ []
+
+pub pattern-from_parts : (members : List ℕ) (inner : List Inner) → All IsSmall (length members ∷ members) → IsSmall (length inner) × All FitsInner inner
+    → All IsSmall (counts_of_pattern members inner) × All FitsInner inner
+pattern-from_parts members inner first (short, fit) = (
+  All-append IsSmall (length members ∷ members) (length inner ∷ []) first (All-cons IsSmall (length inner) [] short (All-nil IsSmall)),
+  fit,
+)
+
+pub pattern-parts : (members : List ℕ) (inner : List Inner) → All IsSmall (counts_of_pattern members inner) × All FitsInner inner
+    → All IsSmall (length members ∷ members) × (IsSmall (length inner) × All FitsInner inner)
+pattern-parts members inner (small, fit) =
+    let parts = All-parts IsSmall (length members ∷ members) (length inner ∷ []) small in
+    (parts.0, (All-head IsSmall (length inner) [] parts.1, fit))

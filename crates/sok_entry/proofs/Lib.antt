@@ -2,10 +2,13 @@ pub mod Claims
 pub mod EntryLines
 pub mod EntryNumbers
 pub mod Fitting
+pub mod HeadNumbers
 pub mod Numbers
+pub mod Openings
 pub mod Printable
 pub mod Reaching
 pub mod Readings
 pub mod Splits
 pub mod Stages
 pub mod Words
+pub mod Wrongs

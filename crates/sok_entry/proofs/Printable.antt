@@ -1,23 +1,26 @@
 -- The lines of a certificate, and the text that they make.
-use Rattle.std.proofs.Common.{ℕ, ◌≡◌, ◌≤◌, ◌-◌, List, [], ◌∷◌, ◌++◌, All, true, false, ◌==◌, if◌then◌else◌, codes, decimal, length, get_or, map, nat_le}
+use Rattle.std.proofs.Common.{ℕ, ◌≡◌, ◌≤◌, ◌-◌, List, [], ◌∷◌, ◌++◌, All, Bool, true, false, ◌==◌, if◌then◌else◌, codes, decimal, length, get_or, map, nat_le}
 use Rattle.std.proofs.Common.{slice_index, suc, take, ap, ◌∙◌, refl, arith}
-use Rattle.std.proofs.lemmas.Bool.{ne_eqb, leb-true, and_parts}
+use Rattle.std.proofs.lemmas.Bool.{ne_eqb, leb-true, and_parts, or_parts}
 use Rattle.std.proofs.lemmas.Bool.Decides.{nat_tests}
 use Rattle.std.proofs.lemmas.List.{append_assoc}
 use Rattle.std.proofs.lemmas.List.Elements.{All-nil, All-cons, All-append, All-head, All-tail, All-from_get_or, All-map}
 use Rattle.std.proofs.lemmas.List.Splits.{slice_split_at, length-slice_split}
 use Rattle.std.proofs.lemmas.Str.Parse.{digit_at}
-use Rattle.std.specs.List.{flat_map, list_all, slice_split}
+use Rattle.std.specs.List.{flat_map, list_all, list_any, slice_split}
 use Rattle.std.specs.Str.Lines.{lines, lines_of_parts, strip_carriage_return}
 use Rattle.sok_text.proofs.Lines.{lines_of_parts-cons}
 use Rattle.sok_text.specs.Lines.{is_newline}
 use Rattle.sok_entry.specs.declared.claim.Claim.{Claim}
 use Rattle.sok_entry.specs.declared.claim.Claim.TheVariants.{Pushes, Unsolvable}
 use Rattle.sok_entry.specs.declared.entry.Entry.{Entry}
+use Rattle.sok_entry.specs.declared.entry.Inner.{Inner}
 use Rattle.sok_entry.specs.declared.entry.Reason.{Reason}
-use Rattle.sok_entry.specs.declared.entry.Reason.TheVariants.{Expanded, Spent, Bound, Crowd, Frozen}
-use Rattle.sok_entry.specs.Text.{IsSmall, header, last_line, claim_line, entry_line, ended, lines_of, text_of, letter_of, numbers_of, spaced, FitsClaim}
-use Rattle.sok_entry.specs.Text.{FitsEntry, Fits, Spells}
+use Rattle.sok_entry.specs.declared.entry.Reason.TheVariants.{Expanded, Spent, Bound, Crowd, Frozen, Pattern}
+use Rattle.sok_entry.specs.declared.version.Version.{Version}
+use Rattle.sok_entry.specs.declared.version.Version.TheVariants.{One, Two}
+use Rattle.sok_entry.specs.Text.{IsSmall, header, last_line, claim_line, entry_alike, entry_line, entry_lines, ended, inner_line, inner_of, is_pattern, lines_of}
+use Rattle.sok_entry.specs.Text.{text_of, letter_of, numbers_of, spaced, version_of, FitsClaim, FitsEntry, FitsInner, FitsVersion, Fits, Spells}
 use Rattle.sok_entry.proofs.Numbers.{IsNumeral-decimal}
 
 -- no control characters: so a line has no LF, and no CR at its end
@@ -68,11 +71,12 @@ letter-printable Spent = omega arith
 letter-printable (Bound u v) = omega arith
 letter-printable (Crowd members) = omega arith
 letter-printable (Frozen members) = omega arith
+letter-printable (Pattern members inner) = omega arith
 
-IsPrintable-entry_line : (e : Entry) → FitsEntry e → IsPrintable (entry_line e)
+IsPrintable-entry_line : (e : Entry) → All IsSmall (numbers_of e) → IsPrintable (entry_line e)
 unfolding entry_line
-IsPrintable-entry_line e fits =
-    All-cons (λ c. 32 ≤ c) (letter_of e.reason) (spaced (numbers_of e)) (letter-printable e.reason) (IsPrintable-spaced (numbers_of e) fits.small)
+IsPrintable-entry_line e small =
+    All-cons (λ c. 32 ≤ c) (letter_of e.reason) (spaced (numbers_of e)) (letter-printable e.reason) (IsPrintable-spaced (numbers_of e) small)
 
 -- by a test of each byte
 IsPrintable-test : (line : List ℕ) → list_all (λ c. nat_le 32 c) line ≡ true → IsPrintable line
@@ -81,9 +85,10 @@ IsPrintable-test (c ∷ line) passed =
     let parts = and_parts (nat_le 32 c) (list_all (λ b. nat_le 32 b) line) passed in
     All-cons (λ b. 32 ≤ b) c line (leb-true 32 c parts.0) (IsPrintable-test line parts.1)
 
-IsPrintable-header : IsPrintable header
+IsPrintable-header : (version : Version) → IsPrintable (header version)
 unfolding header
-IsPrintable-header = IsPrintable-test header refl
+IsPrintable-header One = IsPrintable-test (header One) refl
+IsPrintable-header Two = IsPrintable-test (header Two) refl
 
 IsPrintable-last_line : IsPrintable last_line
 unfolding last_line
@@ -95,20 +100,45 @@ IsPrintable-claim_line (Pushes k) fits = All-append (λ c. 32 ≤ c) (codes "pus
     (IsPrintable-decimal k fits)
 IsPrintable-claim_line Unsolvable fits = IsPrintable-test (codes "unsolvable") refl
 
-entries_printable : (entries : List Entry) → All FitsEntry entries → All IsPrintable (map entry_line entries)
-entries_printable entries fit = All-map IsPrintable entry_line entries (λ k d within. IsPrintable-entry_line (get_or entries k d) (fit k d within))
+inner_printable : (inner : List Inner) → All FitsInner inner → All IsPrintable (map inner_line inner)
+inner_printable inner fit =
+    All-map IsPrintable inner_line inner (λ k d within. IsPrintable-entry_line (entry_alike (get_or inner k d)) (fit k d within))
 
-lines_printable : (claim : Claim) (entries : List Entry) → Fits claim entries → All IsPrintable (lines_of claim entries)
-lines_printable claim entries fits =
-    let behind = map entry_line entries ++ last_line ∷ [] in
-    All-cons IsPrintable header (claim_line claim ∷ behind) IsPrintable-header
+entry_printable : (e : Entry) → FitsEntry e → All IsPrintable (entry_lines e)
+entry_printable e fits =
+    All-cons IsPrintable (entry_line e) (map inner_line (inner_of e.reason)) (IsPrintable-entry_line e fits.small) (inner_printable (inner_of e.reason) fits.inner)
+
+entries_printable : (entries : List Entry) → All FitsEntry entries → All IsPrintable (flat_map entry_lines entries)
+entries_printable [] fit = All-nil IsPrintable
+entries_printable (e ∷ entries) fit =
+    All-append IsPrintable (entry_lines e) (flat_map entry_lines entries) (entry_printable e (All-head FitsEntry e entries fit))
+    (entries_printable entries (All-tail FitsEntry e entries fit))
+
+lines_printable : (version : Version) (claim : Claim) (entries : List Entry) → Fits claim entries → All IsPrintable (lines_of version claim entries)
+lines_printable version claim entries fits =
+    let behind = flat_map entry_lines entries ++ last_line ∷ [] in
+    All-cons IsPrintable (header version) (claim_line claim ∷ behind) (IsPrintable-header version)
     (All-cons IsPrintable (claim_line claim) behind (IsPrintable-claim_line claim fits.claim_fits)
-    (All-append IsPrintable (map entry_line entries) (last_line ∷ []) (entries_printable entries fits.entries_fit)
+    (All-append IsPrintable (flat_map entry_lines entries) (last_line ∷ []) (entries_printable entries fits.entries_fit)
     (All-cons IsPrintable last_line [] IsPrintable-last_line (All-nil IsPrintable))))
+
+no_patterns : (entries : List Entry) → list_any (λ (e : Entry). is_pattern e.reason) entries ≡ false → All (FitsVersion One) entries
+no_patterns [] none = All-nil (FitsVersion One)
+no_patterns (e ∷ entries) none =
+    let parts = or_parts (is_pattern e.reason) (list_any (λ (f : Entry). is_pattern f.reason) entries) none in
+    All-cons (FitsVersion One) e entries parts.0 (no_patterns entries parts.1)
+
+-- the version that is written allows the entries
+written_allowed : (entries : List Entry) (any : Bool) → list_any (λ (e : Entry). is_pattern e.reason) entries ≡ any
+    → All (FitsVersion (if any then Two else One)) entries
+written_allowed entries true is = λ k d within. tt
+written_allowed entries false is = no_patterns entries is
 
 -- what is printed has the lines that it is made of
 pub Spells-text_of : (claim : Claim) (entries : List Entry) → Fits claim entries → Spells (text_of claim entries) claim entries
 Spells-text_of claim entries fits = record {
-  has_lines = lines-flat_map (lines_of claim entries) (lines_printable claim entries fits);
+  version = version_of entries;
+  has_lines = lines-flat_map (lines_of (version_of entries) claim entries) (lines_printable (version_of entries) claim entries fits);
+  allowed = written_allowed entries (list_any (λ (e : Entry). is_pattern e.reason) entries) refl;
   fits = fits;
 }

@@ -1,8 +1,9 @@
--- The entry that a letter and numbers make.
-use Rattle.std.specs.Prelude.{ℕ, List, [], ◌∷◌, Option, Some, None, ◌==◌, codes, nat_lt, if◌then◌else◌, drop, length, option_map, take}
+-- The entry that a letter and numbers make, and the first line of a pattern.
+use Rattle.std.specs.Prelude.{ℕ, ◌+◌, List, [], ◌∷◌, Option, Some, None, ◌==◌, codes, nat_lt, if◌then◌else◌, drop, length, option_map, slice_index, take}
 use Rattle.sok_entry.specs.declared.entry.Entry.{Entry}
 use Rattle.sok_entry.specs.declared.entry.Reason.{Reason}
 use Rattle.sok_entry.specs.declared.entry.Reason.TheVariants.{Expanded, Spent, Bound, Crowd, Frozen}
+use Rattle.sok_entry.specs.declared.head.Head.{Head}
 use Rattle.sok_entry.specs.Text.{code}
 
 -- the members behind their count
@@ -34,3 +35,15 @@ entry_of letter (depth ∷ player ∷ boxes ∷ more) =
     if nat_lt (length more) boxes then None
     else option_map (λ reason. record { depth = depth; player = player; boxes = take boxes more; reason = reason }) (reason_of letter boxes (drop boxes more))
 entry_of letter _ = None
+
+-- the members behind their count, and how many inner positions there are
+unfoldable pub counts_of : List ℕ → Option (List ℕ × ℕ)
+counts_of [] = None
+counts_of (count ∷ more) = if length more == count + 1 then Some (take count more, slice_index more count) else None
+
+-- depth, player, boxes and members behind their counts, and how many inner positions there are
+unfoldable pub head_of : List ℕ → Option Head
+head_of (depth ∷ player ∷ boxes ∷ more) =
+    if nat_lt (length more) boxes then None
+    else option_map (λ (counts : List ℕ × ℕ). record { depth = depth; player = player; boxes = take boxes more; members = counts.0; count = counts.1 }) (counts_of (drop boxes more))
+head_of _ = None

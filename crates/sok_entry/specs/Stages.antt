@@ -1,16 +1,19 @@
 -- How far a certificate is read, line by line.
-use Rattle.std.specs.Prelude.{ℕ, ◌≡◌, ◌≤◌, ◌+◌, List, [], ◌∷◌, ◌++◌, length, map}
+use Rattle.std.specs.Prelude.{ℕ, ◌≡◌, ◌≤◌, ◌+◌, List, [], ◌∷◌, ◌++◌, All, length}
+use Rattle.std.specs.List.{flat_map}
 use Rattle.std.specs.Str.Lines.{lines}
 use Rattle.sok_text.specs.Lines.{IsUnended}
 use Rattle.sok_entry.specs.declared.claim.Claim.{Claim}
 use Rattle.sok_entry.specs.declared.entry.Entry.{Entry}
 use Rattle.sok_entry.specs.declared.fault.CertFault.{CertFault}
 use Rattle.sok_entry.specs.declared.stage.Stage.{Stage}
-use Rattle.sok_entry.specs.declared.stage.Stage.TheVariants.{AtHeader, AtClaim, AtEntries, AtEnd}
+use Rattle.sok_entry.specs.declared.stage.Stage.TheVariants.{AtHeader, AtClaim, AtEntries, AtInner, AtEnd}
 use Rattle.sok_entry.specs.declared.stage.LineRead.{LineRead}
 use Rattle.sok_entry.specs.declared.stage.LineRead.TheVariants.{Listed, Passed, Wrong}
-use Rattle.sok_entry.specs.Text.{header, claim_line, entry_line, lines_of, Fits}
-use Rattle.sok_entry.specs.Reading.{GoesWrong, ended_lines}
+use Rattle.sok_entry.specs.declared.version.Version.{Version}
+use Rattle.sok_entry.specs.declared.version.Version.TheVariants.{Two}
+use Rattle.sok_entry.specs.Text.{header, claim_line, entry_lines, last_line, Fits, FitsVersion}
+use Rattle.sok_entry.specs.Reading.{GoesWrong, IsUnfinished, ended_lines, unfinished_lines}
 
 -- a text is these lines, each of which has its end, and then bytes in which none ends
 pub record IsSplit (text : List ℕ) (ls : List (List ℕ)) (open_part : List ℕ) : Type 0 where
@@ -18,12 +21,19 @@ pub record IsSplit (text : List ℕ) (ls : List (List ℕ)) (open_part : List �
   pub ended : (more : List ℕ) → ended_lines (text ++ more) ≡ length ls + ended_lines (open_part ++ more)
   pub unended : IsUnended open_part
 
+-- in this version lines tell a claim and entries, and then these
+pub record AreRead (ls : List (List ℕ)) (version : Version) (claim : Claim) (es : List Entry) (tail : List (List ℕ)) : Type 0 where
+  pub fits : Fits claim es
+  pub allowed : All (FitsVersion version) es
+  pub is : ls ≡ header version ∷ claim_line claim ∷ flat_map entry_lines es ++ tail
+
 -- lines with these entries bring a certificate so far
 abbrev pub IsStage : List (List ℕ) → List Entry → Stage → Type 0
 IsStage ls es AtHeader = (ls ≡ []) × (es ≡ [])
-IsStage ls es AtClaim = (ls ≡ header ∷ []) × (es ≡ [])
-IsStage ls es (AtEntries claim) = Fits claim es × (ls ≡ header ∷ claim_line claim ∷ map entry_line es)
-IsStage ls es (AtEnd claim) = Fits claim es × (ls ≡ lines_of claim es)
+IsStage ls es (AtClaim version) = (ls ≡ header version ∷ []) × (es ≡ [])
+IsStage ls es (AtEntries version claim) = AreRead ls version claim es []
+IsStage ls es (AtInner claim head inner) = IsUnfinished head inner.items × AreRead ls Two claim es (unfinished_lines head inner.items)
+IsStage ls es (AtEnd claim) = (version : Version) × AreRead ls version claim es (last_line ∷ [])
 
 -- each text that begins with these lines goes wrong in this way
 abbrev pub AreWrong : List (List ℕ) → CertFault → Type 0
@@ -32,12 +42,13 @@ AreWrong ls fault = (text : List ℕ) (more : List (List ℕ)) → lines text �
 -- what may be claimed by a certificate that has come so far
 abbrev pub MayClaim : Stage → Claim → Type 0
 MayClaim AtHeader claim = Unit {0}
-MayClaim AtClaim claim = Unit {0}
-MayClaim (AtEntries c) claim = claim ≡ c
+MayClaim (AtClaim version) claim = Unit {0}
+MayClaim (AtEntries version c) claim = claim ≡ c
+MayClaim (AtInner c head inner) claim = claim ≡ c
 MayClaim (AtEnd c) claim = claim ≡ c
 
 -- what a line is, the last of these, behind entries and at a stage
 abbrev pub IsRead : List (List ℕ) → List Entry → Stage → LineRead → Type 0
-IsRead ls es stage (Listed claim e) = (stage ≡ AtEntries claim) × IsStage ls (es ++ e ∷ []) stage
+IsRead ls es stage (Listed claim e next) = MayClaim stage claim × IsStage ls (es ++ e ∷ []) next × ((other : Claim) → MayClaim next other → other ≡ claim)
 IsRead ls es stage (Passed next) = IsStage ls es next × ((claim : Claim) → MayClaim next claim → MayClaim stage claim)
 IsRead ls es stage (Wrong fault) = AreWrong ls fault

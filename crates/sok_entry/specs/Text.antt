@@ -1,15 +1,22 @@
 -- The text of a certificate: which lines it has.
-use Rattle.std.specs.Prelude.{ℕ, ◌≡◌, ◌≤◌, List, [], ◌∷◌, ◌++◌, All, codes, decimal, length, map, slice_index}
-use Rattle.std.specs.List.{flat_map}
+use Rattle.std.specs.Prelude.{ℕ, ◌≡◌, ◌≤◌, List, [], ◌∷◌, ◌++◌, All, Bool, true, false, codes, decimal, if◌then◌else◌, length, map, slice_index}
+use Rattle.std.specs.List.{flat_map, list_any}
 use Rattle.std.specs.Str.Lines.{lines}
 use Rattle.sok_entry.specs.declared.claim.Claim.{Claim}
 use Rattle.sok_entry.specs.declared.claim.Claim.TheVariants.{Pushes, Unsolvable}
 use Rattle.sok_entry.specs.declared.entry.Entry.{Entry}
+use Rattle.sok_entry.specs.declared.entry.Inner.{Inner}
+use Rattle.sok_entry.specs.declared.entry.InnerReason.{InnerReason}
+use Rattle.sok_entry.specs.declared.entry.InnerReason.TheVariants as inside
 use Rattle.sok_entry.specs.declared.entry.Reason.{Reason}
-use Rattle.sok_entry.specs.declared.entry.Reason.TheVariants.{Expanded, Spent, Bound, Crowd, Frozen}
+use Rattle.sok_entry.specs.declared.entry.Reason.TheVariants.{Expanded, Spent, Bound, Crowd, Frozen, Pattern}
+use Rattle.sok_entry.specs.declared.head.Head.{Head}
+use Rattle.sok_entry.specs.declared.version.Version.{Version}
+use Rattle.sok_entry.specs.declared.version.Version.TheVariants.{One, Two}
 
-unfoldable pub header : List ℕ
-header = codes "sokoban-certificate 1"
+unfoldable pub header : Version → List ℕ
+header One = codes "sokoban-certificate 1"
+header Two = codes "sokoban-certificate 2"
 
 unfoldable pub last_line : List ℕ
 last_line = codes "end"
@@ -29,14 +36,16 @@ letter_of Spent = code (codes "s")
 letter_of (Bound u v) = code (codes "b")
 letter_of (Crowd members) = code (codes "c")
 letter_of (Frozen members) = code (codes "f")
+letter_of (Pattern members inner) = code (codes "p")
 
--- prices as they stand, and members behind their count
+-- prices as they stand, members behind their count, and how many inner positions a pattern has
 abbrev pub numbers_of_reason : Reason → List ℕ
 numbers_of_reason Expanded = []
 numbers_of_reason Spent = []
 numbers_of_reason (Bound u v) = u ++ v
 numbers_of_reason (Crowd members) = length members ∷ members
 numbers_of_reason (Frozen members) = length members ∷ members
+numbers_of_reason (Pattern members inner) = length members ∷ members ++ length inner ∷ []
 
 -- depth, player, how many boxes, and the boxes
 abbrev pub numbers_of_position : Entry → List ℕ
@@ -50,12 +59,45 @@ numbers_of e = numbers_of_position e ++ numbers_of_reason e.reason
 abbrev pub spaced : List ℕ → List ℕ
 spaced ns = flat_map (λ n. codes " " ++ decimal n) ns
 
+-- the first line of an entry, and the only one unless it is a pattern
 unfoldable pub entry_line : Entry → List ℕ
 entry_line e = letter_of e.reason ∷ spaced (numbers_of e)
 
+abbrev pub reason_alike : InnerReason → Reason
+reason_alike inside.Expanded = Expanded
+reason_alike (inside.Crowd members) = Crowd members
+reason_alike (inside.Frozen members) = Frozen members
+
+-- the entry that has the form of an inner position
+abbrev pub entry_alike : Inner → Entry
+entry_alike i = record { depth = i.depth; player = i.player; boxes = i.boxes; reason = reason_alike i.reason }
+
+abbrev pub inner_line : Inner → List ℕ
+inner_line i = entry_line (entry_alike i)
+
+-- the inner positions of a pattern
+abbrev pub inner_of : Reason → List Inner
+inner_of (Pattern members inner) = inner
+inner_of _ = []
+
+-- the lines of an entry: behind its first line those of its inner positions
+abbrev pub entry_lines : Entry → List (List ℕ)
+entry_lines e = entry_line e ∷ map inner_line (inner_of e.reason)
+
 -- the lines of a certificate
-abbrev pub lines_of : Claim → List Entry → List (List ℕ)
-lines_of claim entries = header ∷ claim_line claim ∷ map entry_line entries ++ last_line ∷ []
+abbrev pub lines_of : Version → Claim → List Entry → List (List ℕ)
+lines_of version claim entries = header version ∷ claim_line claim ∷ flat_map entry_lines entries ++ last_line ∷ []
+
+-- the numbers of the first line of a pattern
+abbrev pub numbers_of_head : Head → List ℕ
+numbers_of_head h = h.depth ∷ h.player ∷ length h.boxes ∷ h.boxes ++ (length h.members ∷ h.members ++ h.count ∷ [])
+
+unfoldable pub head_line : Head → List ℕ
+head_line h = code (codes "p") ∷ spaced (numbers_of_head h)
+
+-- the pattern with this first line, where there are as many inner positions as it counts
+abbrev pub entry_with : Head → List Inner → Entry
+entry_with h inner = record { depth = h.depth; player = h.player; boxes = h.boxes; reason = Pattern h.members inner }
 
 -- LF
 abbrev pub line_feed : ℕ
@@ -70,9 +112,21 @@ pub record Grows (old new : List ℕ) : Type 0 where
 abbrev pub ended : List ℕ → List ℕ
 ended line = line ++ line_feed ∷ []
 
+-- the lines of an entry, with LF behind each
+abbrev pub entry_text : Entry → List ℕ
+entry_text e = flat_map ended (entry_lines e)
+
+abbrev pub is_pattern : Reason → Bool
+is_pattern (Pattern members inner) = true
+is_pattern _ = false
+
+-- the version that is written: version 1 exactly where no entry is a pattern
+abbrev pub version_of : List Entry → Version
+version_of entries = if list_any (λ (e : Entry). is_pattern e.reason) entries then Two else One
+
 -- the text of a certificate, with LF behind each line
 abbrev pub text_of : Claim → List Entry → List ℕ
-text_of claim entries = flat_map ended (lines_of claim entries)
+text_of claim entries = flat_map ended (lines_of (version_of entries) claim entries)
 
 -- the greatest number of a certificate
 abbrev pub number_limit : ℕ
@@ -91,21 +145,33 @@ abbrev pub PricesEachBox : ℕ → Reason → Type 0
 PricesEachBox boxes (Bound u v) = length u ≡ boxes
 PricesEachBox boxes _ = Unit {0}
 
+-- an inner position that has a line
+abbrev pub FitsInner : Inner → Type 0
+FitsInner i = All IsSmall (numbers_of (entry_alike i))
+
 -- the numbers of a reason are small enough, and it prices this many boxes, if it prices any
 abbrev pub FitsReason : Reason → ℕ → Type 0
-FitsReason reason boxes = PricesEachBox boxes reason × All IsSmall (numbers_of_reason reason)
+FitsReason reason boxes = PricesEachBox boxes reason × All IsSmall (numbers_of_reason reason) × All FitsInner (inner_of reason)
 
--- an entry that has a line: each number of the line is small enough
+-- an entry that has lines: each number of them is small enough
 pub record FitsEntry (e : Entry) : Type 0 where
   pub small : All IsSmall (numbers_of e)
   pub priced : PricesEachBox (length e.boxes) e.reason
+  pub inner : All FitsInner (inner_of e.reason)
+
+-- in version 1 no entry is a pattern
+abbrev pub FitsVersion : Version → Entry → Type 0
+FitsVersion One e = is_pattern e.reason ≡ false
+FitsVersion Two e = Unit {0}
 
 -- a certificate that has a text
 pub record Fits (claim : Claim) (entries : List Entry) : Type 0 where
   pub claim_fits : FitsClaim claim
   pub entries_fit : All FitsEntry entries
 
--- the text has the lines of this certificate, with LF or CR LF between them; the last may have no end
+-- the text has the lines of this certificate in one of the versions, with LF or CR LF between them; the last may have no end
 pub record Spells (text : List ℕ) (claim : Claim) (entries : List Entry) : Type 0 where
-  pub has_lines : lines text ≡ lines_of claim entries
+  pub version : Version
+  pub has_lines : lines text ≡ lines_of version claim entries
+  pub allowed : All (FitsVersion version) entries
   pub fits : Fits claim entries

@@ -36,6 +36,63 @@ pub enum Reason {
     Crowd { members: Numbers },
     /// Some boxes block one another for ever. Members as in a crowd.
     Frozen { members: Numbers },
+    /// Some boxes, taken alone, are never solved from where the player stands. Members as in a crowd,
+    /// and a list of positions of these boxes alone that is closed under pushes.
+    Pattern { members: Numbers, inner: Inners },
+}
+
+/// A position of some boxes alone: the player and the boxes, by numbers of squares, with the pushes
+/// that were made before it. A well-formed one has its boxes in rising order.
+#[derive(Debug, Drop)]
+pub struct Inner {
+    pub depth: u32,
+    pub player: u32,
+    pub boxes: Numbers,
+    pub reason: InnerReason,
+}
+
+/// Why a position of some boxes alone may stand in a pattern.
+#[derive(Debug, Drop)]
+pub enum InnerReason {
+    /// Every push of these boxes alone leads to another position of the pattern.
+    Expanded,
+    /// Some of these boxes have too few goals within their reach. Members are indices, from 0, in
+    /// the list of the boxes of this position.
+    Crowd { members: Numbers },
+    /// Some of these boxes block one another for ever. Members as in a crowd.
+    Frozen { members: Numbers },
+}
+
+/// Positions of some boxes alone, in order. They are seen as a list.
+#[derive(Debug, Drop)]
+pub struct Inners {
+    items: Vec<Inner>,
+}
+
+impl Model for Inners {
+    ghost use Rattle.std.specs.Prelude.{List};
+    ghost use Rattle.sok_entry.specs.declared.entry.Inner.{Inner};
+
+    ghost Value = { List Inner };
+
+    ghost view = { λ inners. inners.items.items };
+}
+
+impl Inners {
+    /// The positions, with no copy made.
+    pub fn as_slice(&self) -> &[Inner]
+        ensures { result.now ≡ self.now }
+    {
+        &self.items
+    }
+}
+
+impl From<Vec<Inner>> for Inners {
+    ghost from_gives = { λ items inners. inners ≡ items.items };
+
+    fn from(items: Vec<Inner>) -> Inners {
+        Inners { items }
+    }
 }
 
 /// Numbers in order. They are seen as a list.

@@ -16,7 +16,8 @@ use thiserror::Error;
 pub enum CertFault {
     /// The first line or the second is missing, or has another form.
     Header,
-    /// This line is neither an entry nor `end`, or stands after `end`.
+    /// This line is neither an entry nor `end`, or no inner position where one belongs, or stands
+    /// after `end`.
     Line(usize),
     /// The text ends before a line `end`.
     Truncated,

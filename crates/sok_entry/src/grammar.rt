@@ -1,16 +1,22 @@
 //! The lines of a certificate, read.
 
 ghost use Rattle.std.specs.Prelude.{◌≡◌, ◌++◌, IfOk, codes};
-ghost use Rattle.sok_entry.specs.Entries.{bare, bound_of, members_of, reason_of, entry_of};
-ghost use Rattle.sok_entry.specs.Reading.{Tells, IsClaimLine, IsEntryLine};
+ghost use Rattle.sok_entry.specs.Entries.{bare, bound_of, counts_of, members_of, reason_of};
+ghost use Rattle.sok_entry.specs.Entries.{entry_of, head_of};
+ghost use Rattle.sok_entry.specs.Text.{entry_alike, header, reason_alike};
+ghost use Rattle.sok_entry.specs.Reading.{Begins, Tells, IsClaimLine, IsEntryLine, IsHeadLine};
+ghost use Rattle.sok_entry.specs.Reading.{IsInnerLine};
 
 use crate::claim::Claim;
-use crate::entry::{Entry, Numbers, Reason};
+use crate::entry::{Entry, Inner, InnerReason, Numbers, Reason};
+use crate::head::{Head, Opening};
 use crate::number::{number_of, numbers_of};
+use crate::version::Version;
 use std::alloc::{AllocError, Global};
 
-/// The first line.
-pub(crate) const HEADER: &[u8] = b"sokoban-certificate 1";
+const HEADER_ONE: &[u8] = b"sokoban-certificate 1";
+
+const HEADER_TWO: &[u8] = b"sokoban-certificate 2";
 
 /// The last line.
 pub(crate) const END: &[u8] = b"end";
@@ -18,6 +24,19 @@ pub(crate) const END: &[u8] = b"end";
 const UNSOLVABLE: &[u8] = b"unsolvable";
 
 const PUSHES: &[u8] = b"pushes ";
+
+/// The version that a line names, if it is a first line.
+pub(crate) fn version_of_line(line: &[u8]) -> Option<Version>
+    ensures { Tells (λ version. line.now ≡ header version) result }
+{
+    if line == HEADER_ONE {
+        return Some(Version::One);
+    }
+    if line == HEADER_TWO {
+        return Some(Version::Two);
+    }
+    None
+}
 
 /// The claim of a line, if it is one.
 pub(crate) fn claim_of_line(line: &[u8]) -> Option<Claim>
@@ -41,8 +60,81 @@ fn pushes_of(word: &[u8]) -> Option<Claim>
     }
 }
 
-/// The entry of a line, if it is one.
-pub(crate) fn entry_of_line(alloc: Global, line: &[u8]) -> Result<Option<Entry>, AllocError>
+/// What a line begins in this version, if it is the first line of an entry.
+pub(crate) fn opening_of_line(
+    alloc: Global,
+    version: Version,
+    line: &[u8],
+) -> Result<Option<Opening>, AllocError>
+    ensures { IfOk result (Tells (Begins version line.now)) }
+{
+    match entry_of_line(alloc, line)? {
+        Some(entry) => Ok(Some(Opening::Whole(entry))),
+        None => match version {
+            Version::One => Ok(None),
+            Version::Two => match head_of_line(alloc, line)? {
+                Some(head) => Ok(Some(Opening::Begun(head))),
+                None => Ok(None),
+            },
+        },
+    }
+}
+
+/// The inner position of a line, if it is one.
+pub(crate) fn inner_of_line(alloc: Global, line: &[u8]) -> Result<Option<Inner>, AllocError>
+    ensures { IfOk result (Tells (IsInnerLine line.now)) }
+{
+    match entry_of_line(alloc, line)? {
+        Some(entry) => Ok(inner_of(entry)),
+        None => Ok(None),
+    }
+}
+
+/// The inner position of the form of an entry, if there is one.
+fn inner_of(entry: Entry) -> Option<Inner>
+    ensures { Tells (λ inner. entry ≡ entry_alike inner) result }
+{
+    let reason = inner_reason_of(entry.reason)?;
+    Some(Inner {
+        depth: entry.depth,
+        player: entry.player,
+        boxes: entry.boxes,
+        reason,
+    })
+}
+
+fn inner_reason_of(reason: Reason) -> Option<InnerReason>
+    ensures { Tells (λ inner. reason ≡ reason_alike inner) result }
+{
+    match reason {
+        Reason::Expanded => Some(InnerReason::Expanded),
+        Reason::Crowd { members } => Some(InnerReason::Crowd { members }),
+        Reason::Frozen { members } => Some(InnerReason::Frozen { members }),
+        Reason::Spent | Reason::Bound { .. } | Reason::Pattern { .. } => None,
+    }
+}
+
+/// The first line of a pattern, if a line is one.
+fn head_of_line(alloc: Global, line: &[u8]) -> Result<Option<Head>, AllocError>
+    ensures { IfOk result (Tells (IsHeadLine line.now)) }
+{
+    if line.len() < 2 {
+        return Ok(None);
+    }
+    if line[0] != b'p' {
+        return Ok(None);
+    }
+    if line[1] != b' ' {
+        return Ok(None);
+    }
+    match numbers_of(alloc, &line[2..])? {
+        Some(numbers) => head_of(alloc, numbers.as_slice()),
+        None => Ok(None),
+    }
+}
+
+/// The entry of a line, if it is one and no pattern.
+fn entry_of_line(alloc: Global, line: &[u8]) -> Result<Option<Entry>, AllocError>
     ensures { IfOk result (Tells (IsEntryLine line.now)) }
 {
     if line.len() < 2 {
@@ -132,4 +224,44 @@ fn members_of(alloc: Global, numbers: &[u32]) -> Result<Option<Numbers>, AllocEr
         return Ok(None);
     }
     Ok(Some(Numbers::copied(alloc, members)?))
+}
+
+/// The first line of a pattern that numbers make.
+#[tactic(auto, unfolding(crate::specs::Entries::head_of))]
+fn head_of(alloc: Global, numbers: &[u32]) -> Result<Option<Head>, AllocError>
+    ensures { IfOk result (λ head. head ≡ head_of numbers.now) }
+{
+    let [depth, player, count, more @ ..] = numbers else {
+        return Ok(None);
+    };
+    let count = *count as usize;
+    if more.len() < count {
+        return Ok(None);
+    }
+    let (boxes, more) = more.split_at(count);
+    let Some((members, count)) = counts_of(alloc, more)? else {
+        return Ok(None);
+    };
+    Ok(Some(Head {
+        depth: *depth,
+        player: *player,
+        boxes: Numbers::copied(alloc, boxes)?,
+        members,
+        count,
+    }))
+}
+
+/// The numbers behind their count, and the one number behind them, if there are as many.
+#[tactic(auto, unfolding(crate::specs::Entries::counts_of))]
+fn counts_of(alloc: Global, numbers: &[u32]) -> Result<Option<(Numbers, u32)>, AllocError>
+    ensures { IfOk result (λ counts. counts ≡ counts_of numbers.now) }
+{
+    let [count, more @ ..] = numbers else {
+        return Ok(None);
+    };
+    let count = *count as usize;
+    if more.len() != count + 1 {
+        return Ok(None);
+    }
+    Ok(Some((Numbers::copied(alloc, &more[..count])?, more[count])))
 }

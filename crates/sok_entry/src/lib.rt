@@ -6,11 +6,13 @@
 //! | `entry` | the positions of a certificate, each with the reason why it may stand |
 //! | `fault` | why a text is no certificate, and why a certificate is refused |
 //! | `grammar` | the lines of a certificate, read (private) |
+//! | `head` | entries of which the first line was read |
 //! | `law` | what is written is read again, and each text has one reading |
 //! | `limits` | which certificates have a text |
 //! | `number` | numbers of a text (private) |
 //! | `reading` | certificates, read from their text |
 //! | `stage` | how far a certificate is read, line by line |
+//! | `version` | the versions of the text |
 //! | `writing` | the text of a certificate, whole or line by line |
 #![tactic(auto)]
 
@@ -18,9 +20,11 @@ pub mod claim;
 pub mod entry;
 pub mod fault;
 mod grammar;
+pub mod head;
 pub mod law;
 pub mod limits;
 mod number;
 pub mod reading;
 pub mod stage;
+pub mod version;
 pub mod writing;

@@ -1,17 +1,17 @@
 //! Which certificates have a text: those whose numbers are within the limits.
 
-ghost use Rattle.std.specs.Prelude.{◌≡◌, ◌↔◌, ◌∷◌, ◌++◌, All, IsTrue, length};
-ghost use Rattle.sok_entry.specs.Text.{IsSmall, FitsClaim, FitsEntry, Fits, FitsReason};
-ghost use Rattle.sok_entry.specs.Text.{numbers_of_position};
+ghost use Rattle.std.specs.Prelude.{◌≡◌, ◌↔◌, ◌∷◌, ◌++◌, [], All, IsTrue, length};
+ghost use Rattle.sok_entry.specs.Text.{IsSmall, FitsClaim, FitsEntry, FitsInner, Fits, FitsReason};
+ghost use Rattle.sok_entry.specs.Text.{numbers_of_reason, reason_alike};
 
 use crate::claim::Claim;
-use crate::entry::{Cert, Entry, Reason};
+use crate::entry::{Cert, Entry, Inner, InnerReason, Reason};
 
 /// The greatest number of a certificate.
 pub const LIMIT: u32 = 1_000_000;
 
 /// Whether a certificate has a text: each number and the length of each list is at most 1,000,000,
-/// and each bound has as many prices of boxes as its entry has boxes.
+/// those of patterns too, and each bound has as many prices of boxes as its entry has boxes.
 pub fn fits(claim: &Claim, cert: &Cert) -> bool
     ensures { IsTrue result ↔ Fits claim.now cert.now.entries.items }
 {
@@ -30,14 +30,16 @@ fn claim_fits(claim: &Claim) -> bool
 fn entry_fits(entry: &Entry) -> bool
     ensures { IsTrue result ↔ FitsEntry entry.now }
 {
-    position_fits(entry) && reason_fits(&entry.reason, entry.boxes.as_slice().len())
+    position_fits(entry.depth, entry.player, entry.boxes.as_slice())
+        && reason_fits(&entry.reason, entry.boxes.as_slice().len())
 }
 
-/// Whether the numbers in front of the reason are within the limits.
-fn position_fits(entry: &Entry) -> bool
-    ensures { IsTrue result ↔ All IsSmall (numbers_of_position entry.now) }
+/// Whether the numbers in front of a reason are within the limits.
+fn position_fits(depth: u32, player: u32, boxes: &[u32]) -> bool
+    ensures { IsTrue result
+        ↔ All IsSmall (depth ∷ player ∷ length boxes.now ∷ boxes.now) }
 {
-    are_small(&[entry.depth, entry.player]) && counted_fits(entry.boxes.as_slice())
+    are_small(&[depth, player]) && counted_fits(boxes)
 }
 
 /// Whether the numbers of a reason are within the limits, at an entry with this many boxes.
@@ -48,6 +50,40 @@ fn reason_fits(reason: &Reason, boxes: usize) -> bool
         Reason::Expanded | Reason::Spent => true,
         Reason::Bound { u, v } => bound_fits(u.as_slice(), v.as_slice(), boxes),
         Reason::Crowd { members } | Reason::Frozen { members } => counted_fits(members.as_slice()),
+        Reason::Pattern { members, inner } => { pattern_fits(members.as_slice(), inner.as_slice()) }
+    }
+}
+
+fn pattern_fits(members: &[u32], inner: &[Inner]) -> bool
+    ensures { IsTrue result
+        ↔ (All IsSmall (length members.now ∷ members.now ++ length inner.now ∷ [])
+        × All FitsInner inner.now) }
+{
+    counted_fits(members) && inner_fit(inner)
+}
+
+/// Whether inner positions are within the limits, and how many there are.
+fn inner_fit(inner: &[Inner]) -> bool
+    ensures { IsTrue result ↔ (IsSmall (length inner.now) × All FitsInner inner.now) }
+{
+    inner.len() <= LIMIT as usize && inner.iter().all(|position| inner_fits(position))
+}
+
+fn inner_fits(inner: &Inner) -> bool
+    ensures { IsTrue result ↔ FitsInner inner.now }
+{
+    position_fits(inner.depth, inner.player, inner.boxes.as_slice())
+        && inner_reason_fits(&inner.reason)
+}
+
+fn inner_reason_fits(reason: &InnerReason) -> bool
+    ensures { IsTrue result ↔ All IsSmall (numbers_of_reason (reason_alike reason.now)) }
+{
+    match reason {
+        InnerReason::Expanded => true,
+        InnerReason::Crowd { members } | InnerReason::Frozen { members } => {
+            counted_fits(members.as_slice())
+        }
     }
 }
 

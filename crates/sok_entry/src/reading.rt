@@ -1,6 +1,6 @@
 //! Certificates, read from their text.
 
-ghost use Rattle.std.specs.Prelude.{ℕ, ◌≡◌, ◌⊎◌, ◌++◌, ◌∷◌, [], List, IfErr, IfOk, MatchResult};
+ghost use Rattle.std.specs.Prelude.{ℕ, ◌≡◌, ◌<◌, ◌^◌, ◌⊎◌, ◌++◌, ◌∷◌, [], List, IfErr, IfOk, MatchResult, length};
 ghost use Rattle.sok_entry.specs.Text.{Spells};
 ghost use Rattle.sok_entry.specs.Reading.{GoesWrong};
 ghost use Rattle.sok_entry.specs.Stages.{AreWrong, IsStage};
@@ -19,7 +19,8 @@ use std::alloc::Global;
 /// The fault of another text is the one that comes first in it: `Header` where the first line or
 /// the second is missing or has another form; then, line by line, `Truncated` where no line is left
 /// before `end`, or a line that is not `end` has no end; `Line` where a line that has its end is
-/// neither an entry nor `end`, or stands behind `end`.
+/// neither an entry nor `end`, or stands behind `end`. Where an inner position of a pattern belongs,
+/// any other line that has its end is a `Line`, and `end` without one is `Truncated` too.
 pub fn read(alloc: Global, text: &[u8]) -> Result<(Claim, Cert), CertFault>
     // What is read is spelled so.
     ensures found { IfOk result (λ found. Spells text.now found.0 found.1.entries.items) }
@@ -38,31 +39,35 @@ fn certificate_of(alloc: Global, text: &[u8]) -> Result<(Claim, Cert), CertFault
         (λ fault. (fault ≡ cert.Memory) ⊎ GoesWrong text.now fault) }
 {
     let mut stage = Stage::AtHeader;
+    let mut lines = 0;
     let mut entries = Vec::new(alloc);
     let mut rest = text;
     while let Some((line, behind)) = cut_at_end(rest) {
-        stage = read_line(alloc, stage, without_return(line), &mut entries)?;
+        stage = read_line(alloc, stage, without_return(line), lines, &mut entries)?;
+        lines += 1;
         rest = behind;
     }
-    let claim = stage.ended(rest, entries.len())?;
+    let claim = stage.ended(rest, lines)?;
     Ok((claim, Cert { entries }))
 }
 
-/// Reads one more line, to the entries if it is one.
+/// Reads one more line, behind so many. An entry that it ends goes to the entries.
 fn read_line(
     alloc: Global,
     stage: Stage,
     line: &[u8],
+    lines: usize,
     entries: &mut Vec<Entry>,
 ) -> Result<Stage, CertFault>
-    ensures { (ls : List (List ℕ)) → IsStage ls entries.old.items stage
+    requires { lines < 2 ^ 63 }
+    ensures { (ls : List (List ℕ)) → length ls ≡ lines → IsStage ls entries.old.items stage
         → MatchResult result (IsStage (ls ++ line.now ∷ []) entries.new.items)
         (λ fault. (fault ≡ cert.Memory) ⊎ AreWrong (ls ++ line.now ∷ []) fault) }
 {
-    match stage.line(alloc, line, entries.len())? {
-        LineRead::Listed(_, entry) => {
+    match stage.line(alloc, line, lines)? {
+        LineRead::Listed(_, entry, next) => {
             entries.push(entry)?;
-            Ok(stage)
+            Ok(next)
         }
         LineRead::Passed(next) => Ok(next),
         LineRead::Wrong(fault) => Err(fault),

@@ -1,29 +1,36 @@
 //! How far a certificate is read, line by line.
 
-ghost use Rattle.std.specs.Prelude.{ℕ, ◌≡◌, ◌<◌, ◌^◌, ◌++◌, ◌∷◌, [], List, IfOk, MatchResult, length};
-ghost use Rattle.sok_entry.specs.Reading.{GoesWrong};
-ghost use Rattle.sok_entry.specs.Stages.{IsRead, IsSplit, IsStage, MayClaim};
-ghost use Rattle.sok_entry.specs.Text.{Spells};
+ghost use Rattle.std.specs.Prelude.{ℕ, ◌≡◌, ◌<◌, ◌≤◌, ◌^◌, ◌++◌, ◌∷◌, [], List, All, IfOk, MatchResult, length};
+ghost use Rattle.sok_entry.specs.Reading.{FitsHead, GoesWrong, unfinished_lines};
+ghost use Rattle.sok_entry.specs.Stages.{AreRead, IsRead, IsSplit, IsStage, MayClaim};
+ghost use Rattle.sok_entry.specs.Text.{FitsInner, Spells};
 ghost use Rattle.sok_entry.specs.declared.entry.Entry.{Entry};
+ghost use Rattle.sok_entry.specs.declared.stage.Stage.TheVariants as at;
+ghost use Rattle.sok_entry.specs.declared.version.Version.TheVariants as versions;
 
 use crate::claim::Claim;
-use crate::entry::Entry;
+use crate::entry::{Entry, Inner};
 use crate::fault::CertFault;
-use crate::grammar::{END, HEADER, claim_of_line, entry_of_line};
+use crate::grammar::{END, claim_of_line, inner_of_line, opening_of_line, version_of_line};
+use crate::head::{Head, Opening};
+use crate::version::Version;
 use std::alloc::{AllocError, Global};
 
-/// The line of the first entry.
-const FIRST: usize = 3;
-
 /// What comes next in a certificate of which some lines were read.
-#[derive(Clone, Copy, Debug)]
+#[derive(Debug, Drop)]
 pub enum Stage {
     /// The header.
     AtHeader,
-    /// The claim.
-    AtClaim,
+    /// The claim, in this version.
+    AtClaim(Version),
     /// Entries of a certificate with this claim, or `end`.
-    AtEntries(Claim),
+    AtEntries(Version, Claim),
+    /// An inner position of the pattern that is read, behind these.
+    AtInner {
+        claim: Claim,
+        head: Head,
+        inner: Vec<Inner>,
+    },
     /// Nothing: the certificate with this claim is whole.
     AtEnd(Claim),
 }
@@ -31,8 +38,8 @@ pub enum Stage {
 /// What a line is, behind those that were read.
 #[derive(Debug, Drop)]
 pub enum LineRead {
-    /// An entry of a certificate with this claim. The stage stays.
-    Listed(Claim, Entry),
+    /// The last line of an entry of a certificate with this claim, and what comes next.
+    Listed(Claim, Entry, Stage),
     /// Another line that belongs there, and what comes next.
     Passed(Stage),
     /// A line with which the text goes wrong, whatever stands behind it.
@@ -40,65 +47,137 @@ pub enum LineRead {
 }
 
 impl Stage {
-    /// Reads one more line, without its end, behind so many entries. It refuses only for want of
-    /// memory.
-    pub fn line(&self, alloc: Global, line: &[u8], entries: usize) -> Result<LineRead, AllocError>
-        requires { entries < 2 ^ 63 }
+    /// Reads one more line, without its end, behind so many lines. It refuses only for want of
+    /// memory, and then the stage is gone.
+    pub fn line(self, alloc: Global, line: &[u8], lines: usize) -> Result<LineRead, AllocError>
+        requires { lines < 2 ^ 63 }
         ensures { (ls : List (List ℕ)) (es : List Entry)
-            → length es ≡ entries → IsStage ls es self.now
-            → IfOk result (IsRead (ls ++ line.now ∷ []) es self.now) }
+            → length ls ≡ lines → IsStage ls es self
+            → IfOk result (IsRead (ls ++ line.now ∷ []) es self) }
     {
         match self {
-            Stage::AtHeader => {
-                if line == HEADER {
-                    return Ok(LineRead::Passed(Stage::AtClaim));
-                }
-                Ok(LineRead::Wrong(CertFault::Header))
+            Stage::AtHeader => Ok(at_header(line)),
+            Stage::AtClaim(version) => Ok(at_claim(version, line)),
+            Stage::AtEntries(version, claim) => at_entries(alloc, version, claim, line, lines),
+            Stage::AtInner { claim, head, inner } => {
+                at_inner(alloc, claim, head, inner, line, lines)
             }
-            Stage::AtClaim => match claim_of_line(line) {
-                Some(claim) => Ok(LineRead::Passed(Stage::AtEntries(claim))),
-                None => Ok(LineRead::Wrong(CertFault::Header)),
-            },
-            Stage::AtEntries(claim) => {
-                if line == END {
-                    return Ok(LineRead::Passed(Stage::AtEnd(*claim)));
-                }
-                match entry_of_line(alloc, line)? {
-                    Some(entry) => Ok(LineRead::Listed(*claim, entry)),
-                    None => Ok(LineRead::Wrong(CertFault::Line(FIRST + entries))),
-                }
-            }
-            Stage::AtEnd(_) => Ok(LineRead::Wrong(CertFault::Line(FIRST + 1 + entries))),
+            Stage::AtEnd(_) => Ok(LineRead::Wrong(CertFault::Line(lines + 1))),
         }
     }
 
-    /// What a text claims that ends here, behind so many entries and with bytes in which no line
-    /// ends; or why it is no certificate. It takes no memory.
-    pub fn ended(&self, rest: &[u8], entries: usize) -> Result<Claim, CertFault>
-        requires { entries < 2 ^ 63 }
+    /// What a text claims that ends here, behind so many lines and with bytes in which no line ends;
+    /// or why it is no certificate. It takes no memory.
+    pub fn ended(&self, rest: &[u8], lines: usize) -> Result<Claim, CertFault>
+        requires { lines < 2 ^ 63 }
         ensures { (text : List ℕ) (ls : List (List ℕ)) (es : List Entry)
-            → length es ≡ entries → IsSplit text ls rest.now → IsStage ls es self.now
+            → length ls ≡ lines → IsSplit text ls rest.now → IsStage ls es self.now
             → MatchResult result (λ claim. Spells text claim es × MayClaim self.now claim)
             (GoesWrong text) }
     {
         match self {
             Stage::AtHeader => Err(CertFault::Header),
-            Stage::AtClaim => match claim_of_line(rest) {
+            Stage::AtClaim(_) => match claim_of_line(rest) {
                 Some(_) => Err(CertFault::Truncated),
                 None => Err(CertFault::Header),
             },
-            Stage::AtEntries(claim) => {
+            Stage::AtEntries(_, claim) => {
                 if rest == END {
                     return Ok(*claim);
                 }
                 Err(CertFault::Truncated)
             }
+            Stage::AtInner { .. } => Err(CertFault::Truncated),
             Stage::AtEnd(claim) => {
                 if rest.is_empty() {
                     return Ok(*claim);
                 }
-                Err(CertFault::Line(FIRST + 1 + entries))
+                Err(CertFault::Line(lines + 1))
             }
         }
     }
+}
+
+fn at_header(line: &[u8]) -> LineRead
+    ensures { (ls : List (List ℕ)) (es : List Entry) → IsStage ls es at.AtHeader
+        → IsRead (ls ++ line.now ∷ []) es at.AtHeader result }
+{
+    match version_of_line(line) {
+        Some(version) => LineRead::Passed(Stage::AtClaim(version)),
+        None => LineRead::Wrong(CertFault::Header),
+    }
+}
+
+fn at_claim(version: Version, line: &[u8]) -> LineRead
+    ensures { (ls : List (List ℕ)) (es : List Entry) → IsStage ls es (at.AtClaim version)
+        → IsRead (ls ++ line.now ∷ []) es (at.AtClaim version) result }
+{
+    match claim_of_line(line) {
+        Some(claim) => LineRead::Passed(Stage::AtEntries(version, claim)),
+        None => LineRead::Wrong(CertFault::Header),
+    }
+}
+
+fn at_entries(
+    alloc: Global,
+    version: Version,
+    claim: Claim,
+    line: &[u8],
+    lines: usize,
+) -> Result<LineRead, AllocError>
+    requires { lines < 2 ^ 63 }
+    ensures { (ls : List (List ℕ)) (es : List Entry)
+        → length ls ≡ lines → IsStage ls es (at.AtEntries version claim)
+        → IfOk result (IsRead (ls ++ line.now ∷ []) es (at.AtEntries version claim)) }
+{
+    if line == END {
+        return Ok(LineRead::Passed(Stage::AtEnd(claim)));
+    }
+    match opening_of_line(alloc, version, line)? {
+        Some(Opening::Whole(entry)) => {
+            Ok(LineRead::Listed(claim, entry, Stage::AtEntries(version, claim)))
+        }
+        Some(Opening::Begun(head)) => Ok(inside(claim, head, Vec::new(alloc))),
+        None => Ok(LineRead::Wrong(CertFault::Line(lines + 1))),
+    }
+}
+
+fn at_inner(
+    alloc: Global,
+    claim: Claim,
+    head: Head,
+    inner: Vec<Inner>,
+    line: &[u8],
+    lines: usize,
+) -> Result<LineRead, AllocError>
+    requires { lines < 2 ^ 63 }
+    ensures { (ls : List (List ℕ)) (es : List Entry)
+        → length ls ≡ lines → IsStage ls es (at.AtInner claim head inner)
+        → IfOk result (IsRead (ls ++ line.now ∷ []) es (at.AtInner claim head inner)) }
+{
+    let mut inner = inner;
+    match inner_of_line(alloc, line)? {
+        Some(position) => {
+            inner.push(position)?;
+            Ok(inside(claim, head, inner))
+        }
+        None => Ok(LineRead::Wrong(CertFault::Line(lines + 1))),
+    }
+}
+
+/// What the last line is that was read of a pattern.
+fn inside(claim: Claim, head: Head, inner: Vec<Inner>) -> LineRead
+    ensures { (ls : List (List ℕ)) (es : List Entry)
+        → FitsHead head → All FitsInner inner.items → length inner.items ≤ head.count
+        → AreRead ls versions.Two claim es (unfinished_lines head inner.items)
+        → IsRead ls es (at.AtEntries versions.Two claim) result }
+{
+    if inner.len() < head.count as usize {
+        return LineRead::Passed(Stage::AtInner { claim, head, inner });
+    }
+    LineRead::Listed(
+        claim,
+        head.with(inner),
+        Stage::AtEntries(Version::Two, claim),
+    )
 }

@@ -1,27 +1,30 @@
 //! The text of a certificate, whole or line by line. Where memory is refused in a line, the text stays
 //! as it was.
 
-ghost use Rattle.std.specs.Prelude.{◌≡◌, ◌+◌, ◌<◌, ◌≤◌, ◌++◌, ◌∷◌, [], IfOk, OnErr, OnOk, length};
+ghost use Rattle.std.specs.Prelude.{◌≡◌, ◌+◌, ◌<◌, ◌≤◌, ◌++◌, ◌∷◌, [], IfOk, OnErr, OnOk, length, map};
 ghost use Rattle.std.specs.Prelude.{vec_capacity, vec_len, decimal};
-ghost use Rattle.sok_entry.specs.Text.{header, claim_line, entry_line, last_line};
+ghost use Rattle.std.specs.List.{flat_map, list_any};
+ghost use Rattle.sok_entry.specs.Text.{header, claim_line, entry_line, entry_text, last_line};
 ghost use Rattle.sok_entry.specs.Text.{letter_of, numbers_of_reason, spaced, ended};
-ghost use Rattle.sok_entry.specs.Text.{text_of, Fits, Grows, Spells};
+ghost use Rattle.sok_entry.specs.Text.{inner_line, inner_of, is_pattern, reason_alike};
+ghost use Rattle.sok_entry.specs.Text.{text_of, version_of, Fits, Grows, Spells};
 
 use crate::claim::Claim;
-use crate::entry::{Cert, Entry, Reason};
+use crate::entry::{Cert, Entry, Inner, InnerReason, Reason};
+use crate::version::Version;
 use itoa::Buffer;
 use sok_rules::fault::Memory;
 use std::alloc::{AllocError, Global};
 
-/// The text of a certificate: the header, the claim, a line for each entry, and `end`. Each line
-/// ends with LF.
+/// The text of a certificate: the header, the claim, the lines of each entry, and `end`. Each line
+/// ends with LF. The version is 1 where no entry is a pattern, else 2.
 pub fn write(alloc: Global, claim: &Claim, cert: &Cert) -> Result<Vec<u8>, Memory>
     requires { Fits claim.now cert.now.entries.items }
     ensures exact { IfOk result (λ text. text.items ≡ text_of claim.now cert.now.entries.items) }
     ensures spells { IfOk result (λ text. Spells text.items claim.now cert.now.entries.items) }
 {
     let mut text = Vec::new(alloc);
-    push_front(&mut text, claim)?;
+    push_front(&mut text, version_of(&cert.entries), claim)?;
     for entry in &cert.entries {
         push_entry(&mut text, entry)?;
     }
@@ -29,22 +32,56 @@ pub fn write(alloc: Global, claim: &Claim, cert: &Cert) -> Result<Vec<u8>, Memor
     Ok(text)
 }
 
+/// The version that is written where these are the entries.
+pub fn version_of(entries: &[Entry]) -> Version
+    ensures { result ≡ version_of entries.now }
+{
+    if has_pattern(entries) {
+        Version::Two
+    } else {
+        Version::One
+    }
+}
+
+fn has_pattern(entries: &[Entry]) -> bool
+    ensures { result ≡ list_any (λ entry. is_pattern entry.reason) entries.now }
+{
+    entries.iter().any(|entry| is_pattern(&entry.reason))
+}
+
+fn is_pattern(reason: &Reason) -> bool
+    ensures { result ≡ is_pattern reason.now }
+{
+    matches!(reason, Reason::Pattern { .. })
+}
+
 /// So many bytes are in front of the entries, at the most: 22 of the header, and 18 of the claim.
 const FRONT: usize = 40;
 
 /// Appends the lines in front of the entries: the header and the claim. It asks for their room
 /// first, so that a refusal leaves the text as it was.
-#[tactic(auto, unfolding(crate::specs::Text::header))]
-pub fn push_front(text: &mut Vec<u8>, claim: &Claim) -> Result<(), AllocError>
+pub fn push_front(text: &mut Vec<u8>, version: Version, claim: &Claim) -> Result<(), AllocError>
     ensures lines { OnOk result (text.new.items
-        ≡ text.old.items ++ (ended header ++ ended (claim_line claim.now))) }
+        ≡ text.old.items ++ (ended (header version) ++ ended (claim_line claim.now))) }
     ensures capacity { vec_capacity text.old ≤ vec_capacity text.new }
     ensures refused { OnErr result (text.new.items ≡ text.old.items) }
 {
     text.reserve(FRONT)?;
-    text.extend_from_slice(b"sokoban-certificate 1\n").unwrap();
+    text.extend_from_slice(header_of(version)).unwrap();
     push_claim(text, claim).unwrap();
     Ok(())
+}
+
+/// The first line with its end, 22 bytes.
+#[tactic(auto, unfolding(crate::specs::Text::header))]
+fn header_of(version: Version) -> &'static [u8]
+    ensures line { result.now ≡ ended (header version) }
+    ensures bytes { length result.now ≡ 22 }
+{
+    match version {
+        Version::One => b"sokoban-certificate 1\n",
+        Version::Two => b"sokoban-certificate 2\n",
+    }
 }
 
 /// Appends the line of the claim, 18 bytes at the most.
@@ -64,24 +101,104 @@ fn push_claim(text: &mut Vec<u8>, claim: &Claim) -> Result<(), AllocError>
     }
 }
 
-/// Appends the line of an entry. It succeeds where there is room for the line. A refusal leaves the
-/// text as it was: the front of the line that is appended by then is taken back.
+/// Appends the lines of an entry. It succeeds where there is room for them. A refusal leaves the text
+/// as it was: the front of the lines that is appended by then is taken back.
 pub fn push_entry(text: &mut Vec<u8>, entry: &Entry) -> Result<(), AllocError>
-    ensures line { OnOk result (text.new.items ≡ text.old.items ++ ended (entry_line entry.now)) }
+    ensures lines { OnOk result (text.new.items ≡ text.old.items ++ entry_text entry.now) }
     ensures capacity { vec_capacity text.old ≤ vec_capacity text.new }
     ensures full { OnErr result
-        (vec_capacity text.old < vec_len text.old + length (ended (entry_line entry.now))) }
+        (vec_capacity text.old < vec_len text.old + length (entry_text entry.now)) }
     ensures refused { OnErr result (text.new.items ≡ text.old.items) }
 {
     let kept = text.len();
-    let pushed = push_line(text, entry);
+    let pushed = push_lines(text, entry);
     if pushed.is_err() {
         text.truncate(kept);
     }
     pushed
 }
 
-/// Appends the line of an entry, or a front of it where memory is refused.
+/// Appends the lines of an entry, or a front of them where memory is refused.
+fn push_lines(text: &mut Vec<u8>, entry: &Entry) -> Result<(), AllocError>
+    ensures lines { OnOk result (text.new.items ≡ text.old.items ++ entry_text entry.now) }
+    ensures capacity { vec_capacity text.old ≤ vec_capacity text.new }
+    ensures full { OnErr result
+        (vec_capacity text.old < vec_len text.old + length (entry_text entry.now)) }
+    ensures front { OnErr result (Grows text.old.items text.new.items) }
+{
+    push_line(text, entry)?;
+    push_inner(text, inner_of(&entry.reason))
+}
+
+/// The inner positions of a pattern.
+fn inner_of(reason: &Reason) -> &[Inner]
+    ensures { result.now ≡ inner_of reason.now }
+{
+    match reason {
+        Reason::Pattern { inner, .. } => inner.as_slice(),
+        _ => &[],
+    }
+}
+
+/// Appends the lines of inner positions.
+fn push_inner(text: &mut Vec<u8>, inner: &[Inner]) -> Result<(), AllocError>
+    ensures lines { OnOk result
+        (text.new.items ≡ text.old.items ++ flat_map ended (map inner_line inner.now)) }
+    ensures capacity { vec_capacity text.old ≤ vec_capacity text.new }
+    ensures full { OnErr result (vec_capacity text.old
+        < vec_len text.old + length (flat_map ended (map inner_line inner.now))) }
+    ensures front { OnErr result (Grows text.old.items text.new.items) }
+{
+    for position in inner {
+        push_inner_line(text, position)?;
+    }
+    Ok(())
+}
+
+/// Appends the line of an inner position.
+#[tactic(auto, unfolding(crate::specs::Text::entry_line))]
+fn push_inner_line(text: &mut Vec<u8>, inner: &Inner) -> Result<(), AllocError>
+    ensures line { OnOk result (text.new.items ≡ text.old.items ++ ended (inner_line inner.now)) }
+    ensures capacity { vec_capacity text.old ≤ vec_capacity text.new }
+    ensures full { OnErr result
+        (vec_capacity text.old < vec_len text.old + length (ended (inner_line inner.now))) }
+    ensures front { OnErr result (Grows text.old.items text.new.items) }
+{
+    text.push(letter_of_inner(&inner.reason))?;
+    push_number(text, inner.depth as usize)?;
+    push_number(text, inner.player as usize)?;
+    push_counted(text, inner.boxes.as_slice())?;
+    push_inner_reason(text, &inner.reason)?;
+    push_line_feed(text)
+}
+
+fn letter_of_inner(reason: &InnerReason) -> u8
+    ensures { result ≡ letter_of (reason_alike reason.now) }
+{
+    match reason {
+        InnerReason::Expanded => b'x',
+        InnerReason::Crowd { .. } => b'c',
+        InnerReason::Frozen { .. } => b'f',
+    }
+}
+
+fn push_inner_reason(text: &mut Vec<u8>, reason: &InnerReason) -> Result<(), AllocError>
+    ensures numbers { OnOk result (text.new.items
+        ≡ text.old.items ++ spaced (numbers_of_reason (reason_alike reason.now))) }
+    ensures capacity { vec_capacity text.old ≤ vec_capacity text.new }
+    ensures full { OnErr result (vec_capacity text.old
+        < vec_len text.old + length (spaced (numbers_of_reason (reason_alike reason.now)))) }
+    ensures front { OnErr result (Grows text.old.items text.new.items) }
+{
+    match reason {
+        InnerReason::Expanded => Ok(()),
+        InnerReason::Crowd { members } | InnerReason::Frozen { members } => {
+            push_counted(text, members.as_slice())
+        }
+    }
+}
+
+/// Appends the first line of an entry, or a front of it where memory is refused.
 #[tactic(auto, unfolding(crate::specs::Text::entry_line))]
 fn push_line(text: &mut Vec<u8>, entry: &Entry) -> Result<(), AllocError>
     ensures line { OnOk result (text.new.items ≡ text.old.items ++ ended (entry_line entry.now)) }
@@ -120,6 +237,7 @@ fn letter_of(reason: &Reason) -> u8
         Reason::Bound { .. } => b'b',
         Reason::Crowd { .. } => b'c',
         Reason::Frozen { .. } => b'f',
+        Reason::Pattern { .. } => b'p',
     }
 }
 
@@ -139,6 +257,10 @@ fn push_reason(text: &mut Vec<u8>, reason: &Reason) -> Result<(), AllocError>
         }
         Reason::Crowd { members } | Reason::Frozen { members } => {
             push_counted(text, members.as_slice())
+        }
+        Reason::Pattern { members, inner } => {
+            push_counted(text, members.as_slice())?;
+            push_number(text, inner.as_slice().len())
         }
     }
 }

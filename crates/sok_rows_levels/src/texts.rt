@@ -1,7 +1,7 @@
 //! Which texts are certificates, and writing them again.
 
 use sok_cert::claim::Claim;
-use sok_cert::entry::{Entry, Reason};
+use sok_cert::entry::{Entry, Inner, InnerReason, Reason};
 use sok_cert::fault::CertFault;
 use sok_cert::limits::fits;
 use sok_cert::reading::read;
@@ -31,6 +31,7 @@ fn parts(reason: &Reason) -> (char, &[u32], &[u32]) {
         Reason::Bound { u, v } => ('b', u.as_slice(), v.as_slice()),
         Reason::Crowd { members } => ('c', members.as_slice(), &[]),
         Reason::Frozen { members } => ('f', members.as_slice(), &[]),
+        Reason::Pattern { members, .. } => ('p', members.as_slice(), &[]),
     }
 }
 
@@ -63,6 +64,64 @@ fn each_form_of_entry(rt: HostRuntime) -> Result<(), Fail> {
     Ok(())
 }
 
+/// A pattern with positions of each form, one with none, and an entry that is no pattern.
+const PATTERNS: &str = "\
+sokoban-certificate 2
+pushes 9
+p 0 9 3 7 10 12 2 1 2 3
+x 0 9 2 10 12
+f 1 10 2 11 12 2 0 1
+c 0 9 2 10 12 1 1
+p 1 4 1 5 1 0 0
+s 9 4 1 5
+end
+";
+
+/// The letter of an inner position, and its members.
+fn inner_parts(reason: &InnerReason) -> (char, &[u32]) {
+    match reason {
+        InnerReason::Expanded => ('x', &[]),
+        InnerReason::Crowd { members } => ('c', members.as_slice()),
+        InnerReason::Frozen { members } => ('f', members.as_slice()),
+    }
+}
+
+/// An inner position's depth, player, boxes and reason.
+type ToldInside<'a> = (u32, u32, &'a [u32], (char, &'a [u32]));
+
+#[test]
+fn patterns_are_read(rt: HostRuntime) -> Result<(), Fail> {
+    let (claim, cert) = read(rt.alloc(), PATTERNS.as_bytes())?;
+    assert_eq!(rt; claim, Claim::Pushes(9));
+    assert_eq!(rt; cert.entries.len(), 3);
+    let inside: [ToldInside<'_>; 3] = [
+        (0, 9, &[10, 12], ('x', &[])),
+        (1, 10, &[11, 12], ('f', &[0, 1])),
+        (0, 9, &[10, 12], ('c', &[1])),
+    ];
+    let Reason::Pattern { members, inner } = &cert.entries[0].reason else {
+        return Err(Fail::from("no pattern"));
+    };
+    assert_eq!(rt; members.as_slice(), [1, 2].as_slice());
+    assert_eq!(rt; inner.as_slice().len(), inside.len());
+    for (position, told) in inner.as_slice().iter().zip(&inside) {
+        let Inner {
+            depth,
+            player,
+            boxes,
+            reason,
+        } = position;
+        let found = (*depth, *player, boxes.as_slice(), inner_parts(reason));
+        assert!(rt; found == *told, "{position:?}");
+    }
+    let Reason::Pattern { members, inner } = &cert.entries[1].reason else {
+        return Err(Fail::from("no pattern without positions"));
+    };
+    assert_eq!(rt; members.as_slice(), [0].as_slice());
+    assert!(rt; inner.as_slice().is_empty());
+    Ok(())
+}
+
 /// The bytes that are written of a certificate that is read.
 fn written(rt: &impl Abort, alloc: Global, text: &[u8]) -> Result<Vec<u8>, Fail> {
     let (claim, cert) = read(alloc, text)?;
@@ -78,6 +137,11 @@ fn texts_are_written_again(rt: HostRuntime) -> Result<(), Fail> {
     for (text, again) in [
         (six_pushes, six_pushes),
         (ALL_FORMS, ALL_FORMS),
+        (PATTERNS, PATTERNS),
+        (
+            "sokoban-certificate 2\npushes 0\ns 0 1 1 2\nend\n",
+            spent,
+        ),
         (
             "sokoban-certificate 1\r\npushes 0\r\ns 0 1 1 2\r\nend\r\n",
             spent,
@@ -91,13 +155,14 @@ fn texts_are_written_again(rt: HostRuntime) -> Result<(), Fail> {
 }
 
 /// Texts whose first two lines are not those of a certificate.
-const NO_HEADERS: [&str; 19] = [
+const NO_HEADERS: [&str; 20] = [
     "",
     "\n",
     "sokoban-certificate 1",
     "sokoban-certificate 1\n",
     "sokoban-certificate 1 \npushes 1\nend\n",
-    "sokoban-certificate 2\npushes 1\nend\n",
+    "sokoban-certificate 3\npushes 1\nend\n",
+    "sokoban-certificate 2\n\npushes 1\nend\n",
     " sokoban-certificate 1\npushes 1\nend\n",
     "pushes 1\nsokoban-certificate 1\nend\n",
     "sokoban-certificate 1\n\npushes 1\nend\n",
@@ -158,6 +223,31 @@ const NO_END: [&str; 7] = [
     "b 0 0 1 1 1 0\nend ",
 ];
 
+/// Lines behind a pattern that has two inner positions, of which one is read.
+const NO_POSITIONS: [&str; 8] = [
+    "end\n",
+    "\n",
+    "s 1 10 2 11 12\n",
+    "b 1 10 2 11 12 1 1 0\n",
+    "p 1 10 2 11 12 2 0 1 0\n",
+    "x 1 10 2 11 12 0\n",
+    "c 1 10 2 11 12 2 0\n",
+    "x 1 10 2 11 012\nend\n",
+];
+
+/// What of a pattern that has two inner positions may be cut off behind the first.
+const NO_PATTERN_END: [&str; 4] = ["", "end", "x 1 10 2 11 12", "p"];
+
+/// Third lines that begin no pattern.
+const NO_PATTERNS: [&str; 6] = [
+    "p 0 9 3 7 10 12 2 1 2\nend\n",
+    "p 0 9 3 7 10 12 2 1 2 1000001\n",
+    "p 0 9 3 7 10 12 2 1 2 0 0\n",
+    "p 0 9 3 7 10 12 3 1 2 0\n",
+    "p 0 9 3 7 10\n",
+    "P 0 9 3 7 10 12 2 1 2 0\n",
+];
+
 #[test]
 fn first_fault_of_a_text(rt: HostRuntime) -> Result<(), Fail> {
     let front = "sokoban-certificate 1\npushes 1\n";
@@ -167,8 +257,18 @@ fn first_fault_of_a_text(rt: HostRuntime) -> Result<(), Fail> {
         "b 0 0 1 1 1 0\nend\r\n\r\n",
         "b 0 0 1 1 1 0\nend\n ",
     ];
-    let cases: [(&str, &[&str], CertFault); 5] = [
+    let second = "sokoban-certificate 2\npushes 1\n";
+    let inside = "sokoban-certificate 2\npushes 1\np 0 9 3 7 10 12 2 1 2 2\nx 0 9 2 10 12\n";
+    let behind_pattern: &[&str] = &["x 1 10 2 11 12\nx 0 9 2 10 12 9\n"];
+    let in_version_1: &[&str] = &["p 0 9 3 7 10 12 2 1 2 0\nend\n"];
+    let cases: [(&str, &[&str], CertFault); 11] = [
         ("", &NO_HEADERS, CertFault::Header),
+        (second, &NO_ENTRIES, CertFault::Line(3)),
+        (second, &NO_PATTERNS, CertFault::Line(3)),
+        (front, in_version_1, CertFault::Line(3)),
+        (inside, &NO_POSITIONS, CertFault::Line(5)),
+        (inside, &NO_PATTERN_END, CertFault::Truncated),
+        (inside, behind_pattern, CertFault::Line(6)),
         (front, &NO_ENTRIES, CertFault::Line(3)),
         (front, &NO_END, CertFault::Truncated),
         (front, ends_twice, CertFault::Line(4)),

@@ -235,7 +235,7 @@ fn judged_in_pieces(
 }
 
 /// Judges a text, whole and in pieces of several sizes.
-fn judge_text(
+pub(crate) fn judge_text(
     rt: &impl Abort,
     alloc: Global,
     board: &Board,

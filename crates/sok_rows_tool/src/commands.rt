@@ -4,7 +4,7 @@ use crate::answering::{Command, Row, answer, book_in, first_other};
 use sok_book::fault::BookFault;
 use sok_engine::fault::ToolFault;
 use sok_rules::fault::PlayFault;
-use sok_sketch::sketch::{BOX_BEYOND_THE_GOAL, ROOM_OF_TWO_ROWS, SOLVED};
+use sok_sketch::sketch::{BOX_BEYOND_THE_GOAL, PAIR_THAT_IS_LOST, ROOM_OF_TWO_ROWS, SOLVED};
 use sok_text::lurd::LurdFault;
 use sqlite::Connection;
 use std::test::Fail;
@@ -15,6 +15,16 @@ pub(crate) const TWO_PUSHES: &str = "sokoban-certificate 1\npushes 2\nb 0 6 1 5 
 const NO_PUSHES: &str = "sokoban-certificate 1\npushes 0\ns 0 0 1 2\nend\n";
 
 const NO_SOLUTION: &str = "sokoban-certificate 1\nunsolvable\nc 0 0 1 2 1 0\nend\n";
+
+/// Two of the three boxes are lost, taken alone.
+const LOST_PAIR: &str = "\
+sokoban-certificate 2
+unsolvable
+p 0 9 3 7 10 12 2 1 2 2
+x 0 9 2 10 12
+f 1 10 2 11 12 2 0 1
+end
+";
 
 /// A room is added, solved and proved.
 const ROOM: [Row; 14] = [
@@ -69,7 +79,7 @@ fn a_room_is_added_solved_and_proved(rt: HostRuntime) -> Result<(), Fail> {
 }
 
 #[test]
-fn levels_without_a_push_are_proved(rt: HostRuntime) -> Result<(), Fail> {
+fn levels_without_a_push_and_a_lost_pair_are_proved(rt: HostRuntime) -> Result<(), Fail> {
     let rows = [
         (Command::Add(SOLVED), "1 id 1\n", Ok(0)),
         (Command::Add(BOX_BEYOND_THE_GOAL), "1 id 2\n", Ok(0)),
@@ -97,6 +107,8 @@ fn levels_without_a_push_are_proved(rt: HostRuntime) -> Result<(), Fail> {
             "#####\n#@.$#\n#####\nbest none\nverdict unsolvable\n",
             Ok(0),
         ),
+        (Command::Add(PAIR_THAT_IS_LOST), "1 id 3\n", Ok(0)),
+        (Command::Prove(3, LOST_PAIR), "proved unsolvable\n", Ok(0)),
     ];
     assert_eq!(rt; first_other(rt.alloc(), &rows)?, None);
     Ok(())

@@ -76,23 +76,42 @@ fn copy_of(alloc: Global, files: &Stopping, log: u64, db: u64) -> Result<Stoppin
     })
 }
 
+/// A database in files that stop.
+type Connected = Connection<FileStore<Fuse<Memory>>>;
+
+/// What is left of the files of a database.
+fn closed(connection: Connected) -> Stopping {
+    connection.into_store().close()
+}
+
+/// What a command writes, if it answers.
+fn written(
+    alloc: Global,
+    book: &mut Book<FileStore<Fuse<Memory>>>,
+    command: Command<'_>,
+) -> Option<Vec<u8>> {
+    let mut out = Vec::new(alloc);
+    match answer(alloc, book, command, &mut out) {
+        Ok(_) => Some(out),
+        Err(_) => None,
+    }
+}
+
 /// Works on the book in a database: what is left of the files, and what was written, if it
 /// answered.
 fn worked_in(
     alloc: Global,
-    connection: Connection<FileStore<Fuse<Memory>>>,
+    connection: Connected,
     command: Command<'_>,
-) -> Result<(Stopping, Option<Vec<u8>>), Fail> {
+) -> (Stopping, Option<Vec<u8>>) {
     if !connection.is_autocommit() {
-        return Err("a transaction is open".into());
+        return (closed(connection), None);
     }
     match Book::open(alloc, connection) {
-        Err(refused) => Ok((refused.connection.into_store().close(), None)),
+        Err(refused) => (closed(refused.connection), None),
         Ok(mut book) => {
-            let mut out = Vec::new(alloc);
-            let told = answer(alloc, &mut book, command, &mut out);
-            let files = book.into_connection().into_store().close();
-            Ok((files, told.ok().map(|_| out)))
+            let told = written(alloc, &mut book, command);
+            (closed(book.into_connection()), told)
         }
     }
 }
@@ -108,7 +127,7 @@ fn worked(
     }
     match Connection::open_files(alloc, files, Options::new(1)) {
         Err((_, left)) => Ok((left.into_files(), None)),
-        Ok(connection) => worked_in(alloc, connection, command),
+        Ok(connection) => Ok(worked_in(alloc, connection, command)),
     }
 }
 

@@ -1,6 +1,6 @@
 -- Fewer boxes: the letters of a list stay legal where some of the boxes are gone, and what is left comes to where it came. A push of a box that is
 -- gone is a walk.
-use Rattle.std.proofs.Common.{◌≡◌, refl, sym, ap, ◌∙◌, inl, inr, subst, List, [], ◌∷◌, Bool, true, false, true≢false, Some, IsSomeAnd}
+use Rattle.std.proofs.Common.{◌≡◌, refl, sym, ap, ◌∙◌, inl, inr, subst, List, [], ◌∷◌, true, false, true≢false, Some, IsSomeAnd}
 use Rattle.std.specs.Option.{option_and_then}
 use Rattle.std.proofs.lemmas.Bool.{cases_Bool}
 use Rattle.sok_rules.specs.declared.cell.Dir.{Dir}
@@ -53,15 +53,15 @@ thinner-step rows d y x a thin steps = elim (step_cases rows d x a steps) [
     | inl there ↦ (
       record { position = record { man = push.from; boxes = moved y.boxes push.from push.to }; pushed = true },
       step-box rows d y push.from push.to false (ap (next d) thin.man ∙ push.ahead) push.from_open there push.beyond push.to_open
-      (thinner-free y x push.to thin push.to_free),
+          (thinner-free y x push.to thin push.to_free),
       subst (λ (z : After). IsThinner (record { man = push.from; boxes = moved y.boxes push.from push.to }) z.position) (sym push.leads)
-      (record { man = refl; among = moved-among y x push.from push.to thin }),
+          (record { man = refl; among = moved-among y x push.from push.to thin }),
     )
     | inr gone ↦ (
       record { position = record y { man = push.from }; pushed = false },
       step-walk rows d y push.from (ap (next d) thin.man ∙ push.ahead) push.from_open gone,
       subst (λ (z : After). IsThinner (record y { man = push.from }) z.position) (sym push.leads)
-      (record { man = refl; among = gone-among y x push.from push.to thin gone }),
+          (record { man = refl; among = gone-among y x push.from push.to thin gone }),
     )
   ]
 ]

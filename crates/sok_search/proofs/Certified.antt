@@ -74,6 +74,7 @@ entry-fits b accepted limit p i key depth note e search small state depth_is pla
     record {
       small = All-append IsSmall (numbers_of_position e) (numbers_of_reason e.reason) position reason.1;
       priced = reason.0;
+      inner = reason.2;
     }
 
 pub entry-at : (b : Numbered) (claim : Claim) (p : Progress) (i : ℕ) (key : Key) (depth : ℕ) (note : Note) (e : Entry)

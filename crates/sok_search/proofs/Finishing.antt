@@ -101,19 +101,20 @@ looking-made b accepted limit claim p entries search are = record {
 
 -- what is expanded bars nothing
 barred : (b : Numbered) (boxes : List ℕ) (claim : Claim) (depth : ℕ) (why : Reason) → is_expanded why ≡ true → ReasonBars b boxes why (rest_of claim depth) → ⊥
-barred b boxes claim depth reason.Expanded is bars = bars
+barred b boxes claim depth reason.Expanded is bars = bars 0
 barred b boxes claim depth reason.Spent is bars = true≢false (sym is)
 barred b boxes claim depth (reason.Bound u v) is bars = true≢false (sym is)
 barred b boxes claim depth (reason.Crowd members) is bars = true≢false (sym is)
 barred b boxes claim depth (reason.Frozen members) is bars = true≢false (sym is)
+barred b boxes claim depth (reason.Pattern members inner) is bars = true≢false (sym is)
 
 abbrev reasoned_as : Numbered → Claim → Entry → Bool → Type 0
-reasoned_as b claim e t = MatchBool t (AllOnGoals b.rows (entry_position b e) → ⊥) (ReasonBars b e.boxes e.reason (rest_of claim e.depth))
+reasoned_as b claim e t = MatchBool t (AllOnGoals b.rows (entry_position b e) → ⊥) (IsBarredBy b claim e)
 
 reasoned-bars : (b : Numbered) (claim : Claim) (e : Entry) → ReasonBars b e.boxes e.reason (rest_of claim e.depth) → IsReasoned b claim e
 reasoned-bars b claim e bars = elim (cases_Bool (is_expanded e.reason)) [
   | inl expanded ↦ absurd (barred b e.boxes claim e.depth e.reason expanded bars)
-  | inr other ↦ subst (reasoned_as b claim e) (sym other) bars
+  | inr other ↦ subst (reasoned_as b claim e) (sym other) (bars e.player)
 ]
 
 -- the reason is of the entry's own boxes and depth

@@ -48,16 +48,16 @@ IsKnown b p depth x = IsKnownAt b p depth x ⊎ NeverFrom b.rows x
 module _ (b : Numbered) (accepted : IsAccepted b) (claim : Claim) (key : Key) (depth deep : ℕ) (x : Position) (placed : IsPlaced b key.boxes key.least)
     (same : Same b.rows (key_position b key) x) (near : deep ≤ depth) where
   agree-dead : IsDead b key.boxes → AllAgree b.rows claim depth x
-  agree-dead (why, bars) w solves =
+  agree-dead (why, of_boxes, bars) w solves =
       let rest = rest_of claim deep in
-      let barred = reasons-bar b accepted key.least key.boxes why rest placed (bars rest) in
+      let barred = reasons-bar b accepted key.least key.boxes why rest placed (bars key.least rest) in
       Agrees-deeper claim deep depth _ near (Agrees-barred b claim deep key.least key.boxes barred x same w solves)
 
 agree-open : (b : Numbered) → IsAccepted b → (claim : Claim) (key : Key) (depth deep : ℕ) (x : Position) → IsPlaced b key.boxes key.least
     → Same b.rows (key_position b key) x → deep ≤ depth → CostsEnough b claim key.boxes deep → AllAgree b.rows claim depth x
 agree-open b accepted Unsolvable key depth deep x placed same near (n, bounded, none) w solves = absurd none
 agree-open b accepted (Pushes k) key depth deep x placed same near (n, (u, v, bars), enough) w solves =
-    let more = (reasons-bar b accepted key.least key.boxes (Barring.bound u v) (AtLeast n) placed bars).each x same w solves in
+    let more = (reasons-bar b accepted key.least key.boxes (Barring.bound u v) (AtLeast n) placed (bars key.least)).each x same w solves in
     omega (arith, more, enough, near)
 
 module _ (b : Numbered) (accepted : IsAccepted b) (limit : ℕ) (p : Progress) (search : IsSearch b limit p) (none : p.queue ≡ []) where

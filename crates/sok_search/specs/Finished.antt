@@ -23,9 +23,9 @@ abbrev pub claim_of : Option ℕ → Claim
 claim_of None = Unsolvable
 claim_of (Some k) = Pushes k
 
--- what a reason says of a position with these boxes; an expanded one gives none
+-- what a reason says of a position with these boxes, wherever the player stands; an expanded one gives none
 abbrev pub ReasonBars : Numbered → List ℕ → Reason → Rest → Type 0
-ReasonBars b boxes why rest = IsSomeAnd (barring why) (λ reason. Bars b boxes reason rest)
+ReasonBars b boxes why rest = (player : ℕ) → IsSomeAnd (barring why) (λ reason. Bars b player boxes reason rest)
 
 -- an expanded state is expanded in the list, and each other one is barred
 abbrev pub IsReasonOf : Numbered → Claim → List ℕ → ℕ → Standing → Reason → Type 0

@@ -5,7 +5,7 @@ use Rattle.sok_rules.specs.Play.{Position, AllOnGoals, NeverFrom, start}
 use Rattle.sok_board.specs.Area.{Numbered, position_of, boxes_of}
 use Rattle.sok_bar.specs.declared.rest.Rest.{Rest}
 use Rattle.sok_bar.specs.declared.rest.Rest.TheVariants.{AtLeast}
-use Rattle.sok_bar.specs.Bars.{Barring, Bars}
+use Rattle.sok_bar.specs.Bars.{Barring, Bars, IsOfBoxes}
 use Rattle.sok_state.specs.declared.key.Key.{Key}
 use Rattle.sok_state.specs.declared.push.Push.{Push}
 use Rattle.sok_state.specs.Keys.{IsKey, IsKeyOf}
@@ -56,13 +56,13 @@ IsCome b p key depth (Some origin) = IsFrom b p key depth origin
 abbrev pub IsSolved : Numbered → Key → Type 0
 IsSolved b key = AllOnGoals b.rows (position_of b key.least key.boxes)
 
--- prices bound the pushes from boxes by at least so many
+-- prices bound the pushes from boxes by at least so many, wherever the player stands
 abbrev pub HasBound : Numbered → List ℕ → ℕ → Type 0
-HasBound b boxes n = (u : List ℕ) × (v : List ℕ) × Bars b boxes (Barring.bound u v) (AtLeast n)
+HasBound b boxes n = (u : List ℕ) × (v : List ℕ) × ((player : ℕ) → Bars b player boxes (Barring.bound u v) (AtLeast n))
 
--- a reason bars boxes, whatever is to be shown
+-- a reason bars boxes, wherever the player stands and whatever is to be shown
 abbrev pub IsDead : Numbered → List ℕ → Type 0
-IsDead b boxes = (why : Barring) × ((rest : Rest) → Bars b boxes why rest)
+IsDead b boxes = (why : Barring) × IsOfBoxes why × ((player : ℕ) (rest : Rest) → Bars b player boxes why rest)
 
 -- a solution with no more pushes is known
 abbrev pub IsBeaten : Option ℕ → ℕ → Type 0

@@ -66,6 +66,16 @@ pub const CORRIDOR_WITH_THE_BOX_ON_6: &str = "\
 ########
 ";
 
+/// The box on square 10 shuts the player out of the corridor in which the one on 12 stands. The boxes
+/// are on 7, 10 and 12, the goals 13, 14 and 16.
+pub const PAIR_THAT_IS_LOST: &str = "\
+#######
+#     ######
+#  $ @$ $..#
+# .   ######
+#######
+";
+
 /// Both boxes lie at the upper wall, where one goal alone is.
 pub const TWO_BOXES_FOR_ONE_GOAL: &str = "\
 #######

@@ -1,16 +1,16 @@
 -- The text of a certificate, as it is written a block of lines at a time.
-use Rattle.std.proofs.Common.{ℕ, ◌≡◌, ◌∙◌, ◌<◌, ◌≤◌, ◌+◌, List, [], ◌∷◌, ◌++◌, Option, length, get_or, map, take, drop, ap, arith, subst, sym}
+use Rattle.std.proofs.Common.{ℕ, ◌≡◌, ◌∙◌, ◌<◌, ◌≤◌, ◌+◌, List, [], ◌∷◌, ◌++◌, Option, length, get_or, take, drop, ap, arith, subst, sym}
 use Rattle.std.proofs.lemmas.Grind.{flat_map-append}
 use Rattle.std.proofs.Math.Seq.{take-append-add}
-use Rattle.std.proofs.lemmas.List.{append_assoc, append-nil, length-append, map-append, take-append-drop, take-append-le, take_all, take_more}
+use Rattle.std.proofs.lemmas.List.{append_assoc, append-nil, length-append, take-append-drop, take-append-le, take_all, take_more}
 use Rattle.std.proofs.lemmas.List.Elements.{All-more}
 use Rattle.std.specs.List.{flat_map}
 use Rattle.std.specs.Io.KnownBytes.{Appends}
 use Rattle.std.proofs.KnownBytes.{Appends-trans}
 use Rattle.sok_engine.specs.Written.{AppendsFront}
 use Rattle.sok_cert.specs.Entry.{Entry}
-use Rattle.sok_cert.specs.Text.{ended, entry_line, last_line}
-use Rattle.sok_solve.specs.Blocks.{HasRoom, Waits, entry_lines, lines_behind}
+use Rattle.sok_cert.specs.Text.{ended, entry_lines, entry_text, last_line}
+use Rattle.sok_solve.specs.Blocks.{HasRoom, Waits, text_of_entries, lines_behind}
 
 -- as much room behind fewer bytes, or more room
 pub HasRoom-wider : (w v low high : ℕ) (entries : List Entry) → HasRoom w low entries → v + low ≤ w + high → HasRoom v high entries
@@ -21,41 +21,41 @@ HasRoom-wider w v low high entries room wider = record {
 
 -- there is room for one more entry
 pub HasRoom-next : (low high : ℕ) (entries : List Entry) (i : ℕ) (e : Entry) → i < length entries → e ≡ get_or entries i e
-    → HasRoom 0 low (take i entries) → low ≤ high → length (ended (entry_line e)) ≤ high → HasRoom 0 high (take (i + 1) entries)
+    → HasRoom 0 low (take i entries) → low ≤ high → length (entry_text e) ≤ high → HasRoom 0 high (take (i + 1) entries)
 HasRoom-next low high entries i e within is room wider short =
     let before = HasRoom-wider 0 0 low high (take i entries) room (omega arith) in
-    let fits : Entry → Type 0 = λ x. 0 + length (ended (entry_line x)) ≤ high in
+    let fits : Entry → Type 0 = λ x. 0 + length (entry_text x) ≤ high in
     record { of_entries = All-more fits entries i e within before.of_entries (subst fits is (omega arith)); of_end = before.of_end }
 
-entry_lines-append : (before behind : List Entry) → entry_lines (before ++ behind) ≡ entry_lines before ++ entry_lines behind
-entry_lines-append before behind =
-    ap (flat_map ended) (map-append entry_line before behind) ∙ flat_map-append ended (map entry_line before) (map entry_line behind)
+text_of_entries-append : (before behind : List Entry) → text_of_entries (before ++ behind) ≡ text_of_entries before ++ text_of_entries behind
+text_of_entries-append before behind =
+    ap (flat_map ended) (flat_map-append entry_lines before behind) ∙ flat_map-append ended (flat_map entry_lines before) (flat_map entry_lines behind)
 
 -- one more entry
-pub entry_lines-next : (front : List ℕ) (entries : List Entry) (i : ℕ) (e : Entry) → i < length entries → e ≡ get_or entries i e
-    → (front ++ entry_lines (take i entries)) ++ ended (entry_line e) ≡ front ++ entry_lines (take (i + 1) entries)
-entry_lines-next front entries i e within is =
-    let lines = entry_lines (take i entries) in
-    let last : entry_lines (take (i + 1) entries) ≡ lines ++ ended (entry_line e) =
-    ap entry_lines (take_more entries i e within) ∙ entry_lines-append (take i entries) (get_or entries i e ∷ [])
-    ∙ ap (λ line. lines ++ line) (append-nil (ended (entry_line (get_or entries i e)))) ∙ ap (λ x. lines ++ ended (entry_line x)) (sym is) in
-    append_assoc front lines (ended (entry_line e)) ∙ ap (λ behind. front ++ behind) (sym last)
+pub text_of_entries-next : (front : List ℕ) (entries : List Entry) (i : ℕ) (e : Entry) → i < length entries → e ≡ get_or entries i e
+    → (front ++ text_of_entries (take i entries)) ++ entry_text e ≡ front ++ text_of_entries (take (i + 1) entries)
+text_of_entries-next front entries i e within is =
+    let lines = text_of_entries (take i entries) in
+    let last : text_of_entries (take (i + 1) entries) ≡ lines ++ entry_text e =
+    ap text_of_entries (take_more entries i e within) ∙ text_of_entries-append (take i entries) (get_or entries i e ∷ [])
+    ∙ ap (λ ls. lines ++ flat_map ended ls) (append-nil (entry_lines (get_or entries i e))) ∙ ap (λ x. lines ++ entry_text x) (sym is) in
+    append_assoc front lines (entry_text e) ∙ ap (λ behind. front ++ behind) (sym last)
 
 -- what is behind some entries
 pub lines_behind-parts : (front : List ℕ) (entries : List Entry) (i : ℕ)
-    → front ++ lines_behind entries ≡ (front ++ entry_lines (take i entries)) ++ lines_behind (drop i entries)
+    → front ++ lines_behind entries ≡ (front ++ text_of_entries (take i entries)) ++ lines_behind (drop i entries)
 lines_behind-parts front entries i =
-    let lines = entry_lines (take i entries) in
+    let lines = text_of_entries (take i entries) in
     let behind : lines_behind entries ≡ lines ++ lines_behind (drop i entries) =
-    ap lines_behind (sym (take-append-drop i entries)) ∙ ap (λ all. all ++ ended last_line) (entry_lines-append (take i entries) (drop i entries))
-    ∙ append_assoc lines (entry_lines (drop i entries)) (ended last_line) in
+    ap lines_behind (sym (take-append-drop i entries)) ∙ ap (λ all. all ++ ended last_line) (text_of_entries-append (take i entries) (drop i entries))
+    ∙ append_assoc lines (text_of_entries (drop i entries)) (ended last_line) in
     ap (λ rest. front ++ rest) behind ∙ sym (append_assoc front lines (lines_behind (drop i entries)))
 
 -- all entries and the end
 pub lines_behind-all : (front : List ℕ) (entries : List Entry) (i : ℕ) → length entries ≤ i
-    → front ++ lines_behind entries ≡ (front ++ entry_lines (take i entries)) ++ ended last_line
+    → front ++ lines_behind entries ≡ (front ++ text_of_entries (take i entries)) ++ ended last_line
 lines_behind-all front entries i all =
-    ap (λ es. front ++ lines_behind es) (sym (take_all i entries all)) ∙ sym (append_assoc front (entry_lines (take i entries)) (ended last_line))
+    ap (λ es. front ++ lines_behind es) (sym (take_all i entries all)) ∙ sym (append_assoc front (text_of_entries (take i entries)) (ended last_line))
 
 -- more waits behind the rest
 pub Waits-more : (a b : Option (List ℕ)) (text waits more : List ℕ) → Waits a b text waits → Waits a b (text ++ more) (waits ++ more)
@@ -91,7 +91,7 @@ Waits-failed a b c text waits more w (n, short, written) =
 
 -- the write of lines failed, and others stand behind them
 pub lines-failed : (a b c : Option (List ℕ)) (front : List ℕ) (entries : List Entry) (i : ℕ) (waits text : List ℕ) → front ++ lines_behind entries ≡ text
-    → Waits a b (front ++ entry_lines (take i entries)) waits → AppendsFront b c waits → AppendsFront a c text
+    → Waits a b (front ++ text_of_entries (take i entries)) waits → AppendsFront b c waits → AppendsFront a c text
 lines-failed a b c front entries i waits text whole w failed =
     subst (AppendsFront a c) (sym (lines_behind-parts front entries i) ∙ whole)
-    (Waits-failed a b c (front ++ entry_lines (take i entries)) waits (lines_behind (drop i entries)) w failed)
+    (Waits-failed a b c (front ++ text_of_entries (take i entries)) waits (lines_behind (drop i entries)) w failed)

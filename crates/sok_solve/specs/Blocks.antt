@@ -1,25 +1,25 @@
 -- The text of a certificate as it is written, a block of lines at a time.
-use Rattle.std.specs.Prelude.{ℕ, ◌≡◌, ◌≤◌, ◌+◌, List, ◌++◌, All, Option, length, map}
+use Rattle.std.specs.Prelude.{ℕ, ◌≡◌, ◌≤◌, ◌+◌, List, ◌++◌, All, Option, length}
 use Rattle.std.specs.Io.KnownBytes.{Appends}
 use Rattle.std.specs.List.{flat_map}
 use Rattle.sok_cert.specs.Entry.{Entry}
-use Rattle.sok_cert.specs.Text.{ended, entry_line, last_line}
+use Rattle.sok_cert.specs.Text.{ended, entry_lines, entry_text, last_line}
 
 -- how many bytes are written at once, at the least, but for the last
 abbrev pub block : ℕ
 block = 8192
 
 -- the lines of entries
-abbrev pub entry_lines : List Entry → List ℕ
-entry_lines entries = flat_map ended (map entry_line entries)
+abbrev pub text_of_entries : List Entry → List ℕ
+text_of_entries entries = flat_map ended (flat_map entry_lines entries)
 
 -- the lines behind the claim
 abbrev pub lines_behind : List Entry → List ℕ
-lines_behind entries = entry_lines entries ++ ended last_line
+lines_behind entries = text_of_entries entries ++ ended last_line
 
--- behind so many bytes there is room for any line of these
+-- behind so many bytes there is room for the lines of any of these
 pub record HasRoom (waiting capacity : ℕ) (entries : List Entry) : Type 0 where
-  pub of_entries : All (λ e. waiting + length (ended (entry_line e)) ≤ capacity) entries
+  pub of_entries : All (λ e. waiting + length (entry_text e) ≤ capacity) entries
   pub of_end : waiting + length (ended last_line) ≤ capacity
 
 -- a front of a text was written, and the rest of it waits

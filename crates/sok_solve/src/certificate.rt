@@ -8,7 +8,7 @@ ghost use Rattle.sok_solve.specs.Blocks.{HasRoom, Waits, block, lines_behind};
 
 use sok_cert::claim::Claim;
 use sok_cert::entry::Cert;
-use sok_cert::writing::{push_end, push_entry, push_front};
+use sok_cert::writing::{push_end, push_entry, push_front, version_of};
 use sok_engine::output::{WriteFailed, write_whole};
 use std::alloc::{AllocError, Global};
 use std::io::Write;
@@ -41,12 +41,12 @@ impl ReadyCert {
         ensures { IfOk result (λ ready. ready ≡ text_of claim.now cert.entries.items) }
     {
         let mut lines = room_for(alloc, &cert)?;
-        push_front(&mut lines, claim)?;
+        push_front(&mut lines, version_of(&cert.entries), claim)?;
         Ok(ReadyCert { cert, lines })
     }
 
     /// Writes the text. Where a write fails, a front of it is written. Less than a block waits
-    /// where a line is pushed, so there is room for it.
+    /// where the lines of an entry are pushed, so there is room for them.
     pub(crate) fn write<W: Write>(self, out: &mut W) -> Result<(), WriteFailed>
         ensures ok { OnOk result (Appends (W.contents out.old) (W.contents out.new) self) }
         ensures err { OnErr result (AppendsFront (W.contents out.old) (W.contents out.new) self) }
@@ -62,7 +62,7 @@ impl ReadyCert {
     }
 }
 
-/// No lines, with room for a block and any line of the certificate behind it.
+/// No lines, with room for a block and the lines of any entry behind it.
 fn room_for(alloc: Global, cert: &Cert) -> Result<Vec<u8>, AllocError>
     ensures empty { IfOk result (λ lines. lines.items ≡ []) }
     ensures room { IfOk result
@@ -76,7 +76,7 @@ fn room_for(alloc: Global, cert: &Cert) -> Result<Vec<u8>, AllocError>
     Ok(lines)
 }
 
-/// Spells each line by itself, and so makes room for the longest.
+/// Spells the lines of each entry by themselves, and so makes room for the longest.
 fn spell_each(line: &mut Vec<u8>, cert: &Cert) -> Result<(), AllocError>
     ensures { OnOk result (HasRoom 0 (vec_capacity line.new) cert.now.entries.items) }
 {

@@ -1,8 +1,10 @@
-use Rattle.std.proofs.Common.{◌∙◌, ◌++◌, ◌∷◌, [], ap, subst, MatchOption}
+use Rattle.std.proofs.Common.{◌∙◌, ◌++◌, ◌∷◌, [], ap, subst, length, MatchOption}
+use Rattle.sok_board.specs.Area.{boxes_of}
 use Rattle.sok_closed.proofs.Entered.{missing, present}
-use Rattle.sok_cert.specs.Closed.{IsPosition}
+use Rattle.sok_closed.proofs.Fine.{IsOfBoard-more}
+use Rattle.sok_cert.specs.Closed.{IsPosition, node_of}
 use Rattle.sok_cert.specs.Judging.{IsFinding, IsLocated}
-use Rattle.sok_cert.proofs.Entered.{tells-misplaced, tells-repeated, tells-solved, tells-unreasoned, tells-fine, IsOfBoard-more}
+use Rattle.sok_cert.proofs.Entered.{tells-misplaced, tells-repeated, tells-solved, tells-unreasoned, tells-fine}
 use Rattle.sok_cert.proofs.entering.enter.Goals as goal
 use Rattle.sok_cert.proofs.entering.enter.Goals.{After-has}
 
@@ -43,5 +45,6 @@ returns-clause-tells c = λ entries known.
 
 pub returns-clause-of_board : goal.returns-clause-of_board
 returns-clause-of_board c =
-    IsOfBoard-more c.args.board.now c.requires.accepted c.args.roll.now c.enter.new.self c.args.entry.now c.in-Some.field-0
-    (located (goal.at.returns-clause-of_board c).After-has) c.requires.of_board c.in_ok-enter.ensures.entered c.in_ok-enter.ensures.room
+    let b = c.args.board.now in
+    IsOfBoard-more b c.requires.accepted (length (boxes_of b)) c.requires.accepted.few_boxes c.args.roll.now c.enter.new.self (node_of c.args.entry.now)
+    c.in-Some.field-0 (located (goal.at.returns-clause-of_board c).After-has) c.requires.of_board c.in_ok-enter.ensures.entered c.in_ok-enter.ensures.room

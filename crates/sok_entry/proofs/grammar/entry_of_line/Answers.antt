@@ -4,11 +4,11 @@ use Rattle.std.proofs.lemmas.List.{take_rest}
 use Rattle.sok_entry.specs.Text.{numbers_of}
 use Rattle.sok_entry.specs.Entries.{entry_of}
 use Rattle.sok_entry.specs.Reading.{IsEntryLine, Tells}
-use Rattle.sok_entry.proofs.EntryLines.{two_bytes, long-IsEntryLine, IsEntryLine-reads, Tells-entry_of}
+use Rattle.sok_entry.proofs.EntryLines.{two_bytes, long-entry_line, IsEntryLine-reads, Tells-entry_of}
 use Rattle.sok_entry.proofs.grammar.entry_of_line.Goals as goal
 
 pub returns-then-line-lt2 : goal.returns-then-line-lt2
-returns-then-line-lt2 c = λ e is. omega (arith, long-IsEntryLine c.args.line.now e is)
+returns-then-line-lt2 c = λ e is. omega (arith, long-entry_line c.args.line.now e is.1)
 
 pub returns-then-line-ne32 : goal.returns-then-line-ne32
 returns-then-line-ne32 c =

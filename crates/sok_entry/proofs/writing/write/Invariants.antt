@@ -1,8 +1,8 @@
-use Rattle.std.proofs.Common.{◌≡◌, ◌++◌, take, map}
+use Rattle.std.proofs.Common.{◌≡◌, ◌++◌, take}
 use Rattle.std.specs.List.{flat_map}
-use Rattle.sok_entry.specs.Text.{header, claim_line, entry_line, ended}
+use Rattle.sok_entry.specs.Text.{header, claim_line, ended, entry_lines, version_of}
 use Rattle.sok_entry.proofs.writing.write.Given as goal
 
 abbrev pub invariant-loop-entry : goal.invariant-loop-entry
-invariant-loop-entry l = l.text.items ≡ (ended header ++ ended (claim_line l.claim)) ++ flat_map ended
-    (map entry_line (take l.entry-index l.cert.entries.items))
+invariant-loop-entry l = l.text.items ≡ (ended (header (version_of l.cert.entries.items)) ++ ended (claim_line l.claim)) ++ flat_map ended
+    (flat_map entry_lines (take l.entry-index l.cert.entries.items))

@@ -2,7 +2,7 @@ use Rattle.std.proofs.Common.{sym, subst, All, length, List, ℕ, ◌∷◌}
 use Rattle.sok_cert.specs.Text.{IsSmall}
 use Rattle.sok_price.specs.declared.assign.Match.TheVariants.{Crowd, Prices}
 use Rattle.sok_price.specs.Matches.{ArePrices, IsMatch}
-use Rattle.sok_search.proofs.Reasons.{members-fit, prices-fit}
+use Rattle.sok_search.proofs.Reasons.{members-fit, none-inside, prices-fit}
 use Rattle.sok_search.proofs.barring.assigned_reason.Goals as goal
 
 prices : (c : goal.After-drop-branch)
@@ -28,4 +28,4 @@ returns-clause-assigned c = rw c.from-members.ensures (crowd c)
 pub returns-clause-fits : goal.returns-clause-fits
 returns-clause-fits c =
     let few = members-fit c.args.boxes.now c.in-Crowd.members.items c.list-list.ensures.few (crowd c).listed in
-    (tt, subst (λ (members : List ℕ). All IsSmall (length members ∷ members)) (sym c.from-members.ensures) few)
+    (tt, subst (λ (members : List ℕ). All IsSmall (length members ∷ members)) (sym c.from-members.ensures) few, none-inside)

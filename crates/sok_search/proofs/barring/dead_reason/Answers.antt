@@ -4,7 +4,7 @@ use Rattle.std.proofs.lemmas.Result.{IfOk-weaker}
 use Rattle.sok_cert.specs.Text.{IsSmall}
 use Rattle.sok_cert.specs.Reason.{Reason}
 use Rattle.sok_bar.specs.Jam.{IsJam}
-use Rattle.sok_search.proofs.Reasons.{crowd-again, members-fit}
+use Rattle.sok_search.proofs.Reasons.{crowd-again, members-fit, none-inside}
 use Rattle.sok_search.proofs.barring.dead_reason.Goals as goal
 
 pub returns-in-Some-clause-fits : goal.returns-in-Some-clause-fits
@@ -13,7 +13,7 @@ returns-in-Some-clause-fits c =
     let jam : IsJam c.args.board.now boxes c.in-Some.members.items = subst
     (λ (found : Option (Vec ℕ Global)). IfSome found (λ members. IsJam c.args.board.now boxes members.items)) c.in-Some.is c.in_ok-members.ensures.jam in
     let few = members-fit boxes c.in-Some.members.items c.list-list.ensures.few jam.listed in
-    (tt, subst (λ (members : List ℕ). All IsSmall (length members ∷ members)) (sym c.from-members.ensures) few)
+    (tt, subst (λ (members : List ℕ). All IsSmall (length members ∷ members)) (sym c.from-members.ensures) few, none-inside)
 
 pub returns-in-None-clause-bars : goal.returns-in-None-clause-bars
 returns-in-None-clause-bars c =

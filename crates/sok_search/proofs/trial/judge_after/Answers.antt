@@ -16,7 +16,7 @@ pub returns-then-is_jammed-clause-judged : goal.returns-then-is_jammed-clause-ju
 returns-then-is_jammed-clause-judged c =
     let after = put_in_order c.args.from c.args.to c.args.before.now in
     let (members, jam, with_box) = (c.if-is_jammed.ensures.jammed c.args.before.now after c.requires.moved c.requires.laid).0 refl in
-    (Barring.frozen members, λ rest. jam)
+    (Barring.frozen members, tt, λ player rest. jam)
 
 pub returns-in-Some-clause-laid : goal.returns-in-Some-clause-laid
 returns-in-Some-clause-laid c = subst (IsLaidOut c.args.board.now c.args.before.now) (sym c.bound_after.ensures.layout)
@@ -30,4 +30,4 @@ pub returns-in-None-clause-judged : goal.returns-in-None-clause-judged
 returns-in-None-clause-judged c =
     let after = put_in_order c.args.from c.args.to c.args.before.now in
     let (members, crowd) = subst (TellsLeast c.args.board.now after) c.in-None.is c.in_ok-bound.ensures.least in
-    (Barring.crowd members, λ rest. crowd)
+    (Barring.crowd members, tt, λ player rest. crowd)

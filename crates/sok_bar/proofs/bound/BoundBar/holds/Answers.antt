@@ -16,7 +16,7 @@ returns-then-not-are_fair-clause-exact c = (
       let b = c.args.board.now in
       let u = c.args.self.now.u.now in
       let v = c.args.self.now.v.now in
-      let priced : Priced b c.args.boxes.now u v c.in-AtLeast.pushes = subst (Bars b c.args.boxes.now (Barring.bound u v)) c.in-AtLeast.is bars in
+      let priced : Priced b c.args.boxes.now u v c.in-AtLeast.pushes = subst (Bars b c.args.player c.args.boxes.now (Barring.bound u v)) c.in-AtLeast.is bars in
       let fair = AreFair-Priced b c.args.boxes.now u v c.in-AtLeast.pushes priced in
       let listed = subst (λ (bs : List ℕ). AreFair b bs u v) (sym c.list-boxes.ensures.list) fair in
       let told = subst (λ (other : Numbered). AreFair other c.list-boxes.result.now u v) (sym c.requires.tables) listed in
@@ -43,7 +43,7 @@ a_price_a_box c =
     omega (arith, same, listed)
 
 priced : (c : After-from) → nat_le c.from.result c.in-Some.left ≡ true
-    → Bars c.args.board.now c.args.boxes.now (Barring.bound c.args.self.now.u.now c.args.self.now.v.now) c.args.rest
+    → Bars c.args.board.now c.args.player c.args.boxes.now (Barring.bound c.args.self.now.u.now c.args.self.now.v.now) c.args.rest
 priced c leaves =
     let b = c.args.board.now in
     let u = c.args.self.now.u.now in
@@ -56,7 +56,7 @@ priced c leaves =
     let of_goals = c.total-2.ensures in
     let asked = c.from.ensures in
     let least = leb-true c.from.result c.in-Some.left leaves in
-    subst (Bars b c.args.boxes.now (Barring.bound u v)) (sym c.in-AtLeast.is)
+    subst (Bars b c.args.player c.args.boxes.now (Barring.bound u v)) (sym c.in-AtLeast.is)
     (Priced-fair b c.args.boxes.now u v c.in-AtLeast.pushes (a_price_a_box c) (a_price_a_goal c) fair
     (omega (arith, within, left, of_boxes, of_goals, asked, least)))
 
@@ -71,7 +71,7 @@ returns-in-Some-clause-exact c = (
   priced c,
   λ bars.
       let is_priced : Priced c.args.board.now c.args.boxes.now c.args.self.now.u.now c.args.self.now.v.now c.in-AtLeast.pushes =
-      subst (Bars c.args.board.now c.args.boxes.now (Barring.bound c.args.self.now.u.now c.args.self.now.v.now)) c.in-AtLeast.is bars in
+      subst (Bars c.args.board.now c.args.player c.args.boxes.now (Barring.bound c.args.self.now.u.now c.args.self.now.v.now)) c.in-AtLeast.is bars in
       let enough = is_priced.enough in
       let (within, left) = c.in-Some.ensures in
       let of_boxes = c.total.ensures in

@@ -18,7 +18,7 @@ returns-in_err-claim-clause-ends c = λ text stands.
     let err = err_from_is_err_and c.from_residual.result c.from_residual.ensures.1 in
     let here = subst (λ (s : Streamed). StandsFor s.board text s.progress) (sym c.self.view_is) stands in
     let so : IsReadSo b text p = subst (StandsBy b text p) c.in_default.is here in
-    let count : length so.entries ≡ c.len.result = sym (c.len.ensures ∙ so.judged.count) in
+    let count : length so.passed ≡ c.len.result = so.count ∙ sym c.len.ensures in
     rw (err.1, err.2)
     (c.in_err-claim.ensures text so.passed so.entries count (subst (IsSplit text so.passed) (sym c.as_slice.ensures.value) so.split) so.judged.at)
 
@@ -29,7 +29,7 @@ invariant_of-result c =
     let known = c.self.invariant in
     let text = known.3.0 in
     let so : IsReadSo b text p = subst (StandsBy b text p) c.in_default.is known.3.1 in
-    let count : length so.entries ≡ c.len.result = sym (c.len.ensures ∙ so.judged.count) in
+    let count : length so.passed ≡ c.len.result = so.count ∙ sym c.len.ensures in
     let told = c.in_ok-claim.ensures text so.passed so.entries count (subst (IsSplit text so.passed) (sym c.as_slice.ensures.value) so.split) so.judged.at in
     (known.0, known.2, (so.entries, so.judged.tells c.in_ok-claim.claim told.1))
 
@@ -39,6 +39,6 @@ returns-clause-ends c = λ text stands.
     let p = progressed_of c.self.inside.progress in
     let here = subst (λ (s : Streamed). StandsFor s.board text s.progress) (sym c.self.view_is) stands in
     let so : IsReadSo b text p = subst (StandsBy b text p) c.in_default.is here in
-    let count : length so.entries ≡ c.len.result = sym (c.len.ensures ∙ so.judged.count) in
+    let count : length so.passed ≡ c.len.result = so.count ∙ sym c.len.ensures in
     let told = c.in_ok-claim.ensures text so.passed so.entries count (subst (IsSplit text so.passed) (sym c.as_slice.ensures.value) so.split) so.judged.at in
     record { entries = so.entries; spelled = told.0; tells = so.judged.tells c.in_ok-claim.claim told.1 }

@@ -2,10 +2,10 @@ use Rattle.std.proofs.Common.{◌≡◌, ◌∙◌, [], ◌++◌, ap, arith, rul
 use Rattle.std.proofs.lemmas.Grind.{common_steps}
 use Rattle.std.proofs.lemmas.List.{append-nil}
 use Rattle.std.proofs.lemmas.Result.{on_err_weaker, on_ok_weaker}
-use Rattle.sok_cert.specs.Text.{ended, entry_line, last_line}
+use Rattle.sok_cert.specs.Text.{ended, entry_text, last_line}
 use Rattle.sok_engine.specs.Written.{AppendsFront}
-use Rattle.sok_solve.specs.Blocks.{Waits, block, entry_lines, lines_behind}
-use Rattle.sok_solve.proofs.Blocks.{HasRoom-wider, Waits-failed, Waits-more, Waits-trans, Waits-written, entry_lines-next, lines-failed, lines_behind-all}
+use Rattle.sok_solve.specs.Blocks.{Waits, block, text_of_entries, lines_behind}
+use Rattle.sok_solve.proofs.Blocks.{HasRoom-wider, Waits-failed, Waits-more, Waits-trans, Waits-written, text_of_entries-next, lines-failed, lines_behind-all}
 use Rattle.sok_solve.proofs.certificate.ReadyCert.write.Given as given
 use Rattle.sok_solve.proofs.certificate.ReadyCert.write.Goals as goal
 
@@ -16,13 +16,13 @@ loop-entry-preserved g c =
     let i = c.loop-entry.entry-index in
     let entries = c.deref-entry-items.result.now in
     let e = c.entry-item.result in
-    let before = c.self.inside.lines.items ++ entry_lines (take i entries) in
-    let line : c.push_entry.new.text.items ≡ c.write_block.new.lines.items ++ ended (entry_line e) = grind (arith, common_steps) in
-    let next = entry_lines-next c.self.inside.lines.items entries i e (omega arith) c.entry-item.is in
-    let waits = Waits-more a b before c.write_block.new.lines.items (ended (entry_line e))
+    let before = c.self.inside.lines.items ++ text_of_entries (take i entries) in
+    let line : c.push_entry.new.text.items ≡ c.write_block.new.lines.items ++ entry_text e = grind (arith, common_steps) in
+    let next = text_of_entries-next c.self.inside.lines.items entries i e (omega arith) c.entry-item.is in
+    let waits = Waits-more a b before c.write_block.new.lines.items (entry_text e)
     (Waits-trans a _ b before _ _ c.loop-entry.invariant.waits c.in_ok-write_block.ensures.ok) in
     record {
-      waits = subst (λ text. Waits a b text c.push_entry.new.text.items) next (subst (Waits a b (before ++ ended (entry_line e))) (sym line) waits);
+      waits = subst (λ text. Waits a b text c.push_entry.new.text.items) next (subst (Waits a b (before ++ entry_text e)) (sym line) waits);
       room = HasRoom-wider block block _ _ entries c.loop-entry.invariant.room (omega arith);
     }
 
@@ -51,7 +51,7 @@ last g c =
     let i = c.loop-entry.entry-index in
     let front = c.self.inside.lines.items in
     let entries = c.deref-entry-items.result.now in
-    let before = front ++ entry_lines (take i entries) in
+    let before = front ++ text_of_entries (take i entries) in
     let text = ap (λ es. front ++ lines_behind es) c.deref-entry-items.ensures.value ∙ c.self.view_is in
     let line : c.deref.result.now ≡ c.write_block-2.new.lines.items ++ ended last_line = grind (arith, common_steps) in
     let waits = Waits-more a b before c.write_block-2.new.lines.items (ended last_line)

@@ -1,0 +1,67 @@
+-- What a finished search shows of the position from which it starts.
+use Rattle.std.proofs.Common.{ℕ, ◌≡◌, ◌≤◌, ◌∙◌, inl, inr, refl, ap, sym, subst, List, None, length}
+use Rattle.std.proofs.lemmas.List.{length-map}
+use Rattle.std.proofs.lemmas.List.Elements.{All-weaker}
+use Rattle.sok_rules.specs.declared.cell.Dir.{Dir}
+use Rattle.sok_rules.specs.Squares.{Rows}
+use Rattle.sok_rules.specs.Play.{AllOnGoals, Position, SolvesFrom, run}
+use Rattle.sok_rules.specs.States.{Same}
+use Rattle.sok_rules.proofs.Runs.{run-append}
+use Rattle.std.proofs.Common.{IsSomeAnd, ◌++◌}
+use Rattle.std.specs.Option.{option_and_then}
+use Rattle.sok_board.specs.Area.{Numbered, IsAccepted, position_of}
+use Rattle.sok_board.specs.Limits.{box_limit}
+use Rattle.sok_region.specs.Regions.{IsPlaced}
+use Rattle.sok_state.specs.declared.key.Key.{Key}
+use Rattle.sok_state.specs.Keys.{IsKeyOf}
+use Rattle.sok_state.proofs.Placed.{IsStanding-placed}
+use Rattle.sok_closed.specs.Lookup.{AreFollowed}
+use Rattle.sok_closed.specs.Rolls.{IsClosed}
+use Rattle.sok_closed.proofs.Fine.{IsLooking-fine, missed-closed}
+use Rattle.sok_closed.proofs.Starting.{one-starts}
+use Rattle.sok_entry.specs.declared.entry.Inner.{Inner}
+use Rattle.sok_bar.specs.Patterns.{AreClosedAlone, IsBarredAlone, inner_node, is_expanded}
+use Rattle.sok_alone.specs.declared.known.Known.{Known}
+use Rattle.sok_alone.specs.Known.{roll_of}
+use Rattle.sok_alone.specs.Meeting.{IsFinished}
+use Rattle.sok_alone.specs.Reaching.{IsGivenUp, MoreStatesFrom, ReachedFrom}
+use Rattle.sok_alone.proofs.Knowing.{zero-at}
+use Rattle.sok_alone.proofs.Reaching.{reached-on}
+
+-- what is given up from a position is given up from where a walk leads to it
+more-walked : (rows : Rows) (x y : Position) (limit : ℕ) → Same rows x y → MoreStatesFrom rows y limit → MoreStatesFrom rows x limit
+more-walked rows x y limit walk more = record {
+  positions = more.positions;
+  many = more.many;
+  reached = All-weaker (ReachedFrom rows y) (ReachedFrom rows x) (λ z. reached-on rows x y z (walk.0, walk.1)) more.positions more.reached;
+  apart = more.apart;
+}
+
+solves-walked : (rows : Rows) (x y : Position) → Same rows x y → (w : List Dir) → SolvesFrom rows y w → (v : List Dir) × SolvesFrom rows x v
+solves-walked rows x y (v, leads, quiet) w solves = (
+  v ++ w,
+  subst (λ o. IsSomeAnd o (AllOnGoals rows)) (sym (run-append rows v w x ∙ ap (option_and_then (λ z. run rows z w)) leads)) solves,
+)
+
+pub given-up-walked : (rows : Rows) (x y : Position) (limit : ℕ) → Same rows x y → IsGivenUp rows y limit → IsGivenUp rows x limit
+given-up-walked rows x y limit walk (inl (w, solves)) = inl (solves-walked rows x y walk w solves)
+given-up-walked rows x y limit walk (inr more) = inr (more-walked rows x y limit walk more)
+
+-- the known states are a closed list
+pub closed-finished : (b : Numbered) → IsAccepted b → (player : ℕ) (boxes : List ℕ) (key : Key) (limit : ℕ) (known : Known) → IsPlaced b boxes player
+    → key.boxes ≡ boxes → length key.boxes ≤ box_limit → IsKeyOf b (position_of b player boxes) key → IsFinished b key limit key known
+    → AreClosedAlone b player boxes known.inner.items
+closed-finished b accepted player boxes key limit known placed boxes_are few key_is finished =
+    let from = position_of b player boxes in
+    let count = length key.boxes in
+    let inner = known.inner.items in
+    let entries = known.table.entries in
+    let roll = roll_of known in
+    let entered = finished.known.entered in
+    let looking = IsLooking-fine inner_node b count (IsBarredAlone b) inner roll accepted few entered in
+    let starter = one-starts inner_node b count inner entries looking from (IsStanding-placed b accepted.numbered accepted.proper player boxes placed) key key_is
+    finished.place 0 finished.there (zero-at b key limit known finished.known finished.place key finished.there) refl in
+    let marks = length-map inner (λ (one : Inner). is_expanded one.reason) in
+    let followed : AreFollowed b roll (length roll.marks) = subst (AreFollowed b roll) (sym marks) finished.followed in
+    subst (λ n. IsClosed inner_node b n from (IsBarredAlone b) inner) (ap length boxes_are)
+    ((missed-closed inner_node b count (IsBarredAlone b) from inner roll accepted few entered starter None followed).0 refl)

@@ -1,0 +1,11 @@
+use Rattle.std.proofs.Common.{arith}
+use Rattle.sok_alone.proofs.Growing.{Grows-refl}
+use Rattle.sok_alone.proofs.expanding.expand_all.Goals as goal
+
+pub loop-index-init : goal.loop-index-init
+loop-index-init g c = record {
+  known = c.requires.1;
+  grows = Grows-refl c.args.known.now;
+  followed = λ i key depth below marked. absurd (omega (arith, below));
+  within = omega arith;
+}

@@ -1,0 +1,9 @@
+-- The places of two boxes in a list of boxes.
+use Rattle.std.specs.Prelude.{ℕ, ◌≡◌, List, [], ◌∷◌, Some, slice_get}
+
+pub record ArePlaces (boxes : List ℕ) (first second : ℕ) (places : List ℕ) : Type 0 where
+  pub first_place : ℕ
+  pub second_place : ℕ
+  pub first_is : slice_get boxes first_place ≡ Some first
+  pub second_is : slice_get boxes second_place ≡ Some second
+  pub are : places ≡ first_place ∷ second_place ∷ []

@@ -1,0 +1,53 @@
+-- What is known of the states of some boxes alone.
+use Rattle.std.specs.Prelude.{ℕ, ◌≡◌, ◌≤◌, All, length, map}
+use Rattle.sok_board.specs.Area.{Numbered, IsAccepted, position_of}
+use Rattle.sok_board.specs.Limits.{box_limit}
+use Rattle.sok_push.specs.Distances.{Distances}
+use Rattle.sok_rules.specs.Play.{Position}
+use Rattle.sok_state.specs.declared.key.Key.{Key}
+use Rattle.sok_state.specs.Keys.{IsKey}
+use Rattle.sok_closed.specs.Fine.{AreEntered, IsOfBoard}
+use Rattle.sok_closed.specs.Lookup.{Rolled}
+use Rattle.sok_closed.specs.Rolls.{node_position}
+use Rattle.sok_entry.specs.declared.entry.Inner.{Inner}
+use Rattle.sok_entry.specs.declared.entry.InnerReason.{InnerReason}
+use Rattle.sok_entry.specs.Text.{FitsInner}
+use Rattle.sok_bar.specs.Patterns.{IsBarredAlone, inner_node, is_expanded}
+use Rattle.sok_alone.specs.declared.known.Known.{Known}
+use Rattle.sok_alone.specs.Reaching.{ReachedFrom}
+
+abbrev pub key_position : Numbered → Key → Position
+key_position b key = position_of b key.least key.boxes
+
+-- an accepted board with its tables, and a state of few boxes from which a search starts
+pub record IsAsked (b : Numbered) (t : Distances) (start : Key) : Type 0 where
+  pub accepted : IsAccepted b
+  pub tables : t.board ≡ b
+  pub few_boxes : length start.boxes ≤ box_limit
+
+-- the position of a state's least square, with a reason
+abbrev pub inner_at : Key → InnerReason → Inner
+inner_at key reason = record { depth = 0; player = key.least; boxes = key.boxes; reason = reason }
+
+-- the known states as a roll
+abbrev pub roll_of : Known → Rolled
+roll_of known = record { entries = known.table.entries; room = known.table.room; marks = map (λ one. is_expanded one.reason) known.inner.items }
+
+-- a state of as many boxes, which is reached with them alone
+pub record IsReached (b : Numbered) (start : Key) (key : Key) : Type 0 where
+  pub state : IsKey b key
+  pub as_many : length key.boxes ≡ length start.boxes
+  pub reached : ReachedFrom b.rows (key_position b start) (key_position b key)
+
+-- a position at depth 0 that is reached, with numbers that are small enough
+pub record IsCome (b : Numbered) (start : Key) (one : Inner) : Type 0 where
+  pub first : one.depth ≡ 0
+  pub reached : ReachedFrom b.rows (key_position b start) (node_position b (inner_node one))
+  pub fits : FitsInner one
+
+-- all that is known
+pub record IsKnown (b : Numbered) (start : Key) (limit : ℕ) (known : Known) : Type 0 where
+  pub entered : AreEntered inner_node b (length start.boxes) (IsBarredAlone b) known.inner.items (roll_of known)
+  pub of_board : IsOfBoard b (roll_of known)
+  pub come : All (IsCome b start) known.inner.items
+  pub few : length known.inner.items ≤ limit

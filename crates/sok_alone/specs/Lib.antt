@@ -1,0 +1,7 @@
+-- words of public contracts
+pub mod Finding
+pub mod Reaching
+-- words of the crate's own contracts
+pub mod Judging
+pub mod Known
+pub mod Meeting

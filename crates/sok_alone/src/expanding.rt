@@ -1,0 +1,153 @@
+//! The pushes of a state are followed.
+
+ghost use Rattle.std.specs.Prelude.{◌≡◌, ◌<◌, ◌≤◌, All, IfOk, length};
+ghost use Rattle.sok_closed.specs.Lookup.{AreFollowed};
+ghost use Rattle.sok_state.specs.Pushes.{IsLegal};
+ghost use Rattle.sok_alone.specs.Known.{IsAsked, IsKnown, IsReached, roll_of};
+ghost use Rattle.sok_state.specs.declared.key.Key.{Key};
+ghost use Rattle.sok_bar.specs.Patterns.{is_expanded};
+ghost use Rattle.sok_alone.specs.Meeting.{TellsAll, TellsExpanded, TellsFollowed, TellsRun};
+
+use crate::known::Known;
+use crate::meeting::{Met, meet};
+use sok_board::area::Sq;
+use sok_board::board::Board;
+use sok_entry::entry::InnerReason;
+use sok_push::tables::Tables;
+use sok_region::region::Region;
+use sok_rules::fault::Memory;
+use sok_state::key::Key;
+use sok_state::legal::{follow, list_pushes};
+use sok_state::push::Push;
+use std::alloc::Global;
+
+/// Follows some legal pushes of a known state. The region is a place for those of the states that
+/// they lead to.
+fn follow_all(
+    alloc: Global,
+    board: &Board,
+    tables: &Tables,
+    limit: u32,
+    known: &mut Known,
+    key: &Key,
+    pushes: &[Push],
+    region: &mut Region,
+) -> Result<Met, Memory>
+    ghost start: { Key }
+    requires asked { IsAsked board.now tables.now start }
+    requires known { IsKnown board.now start limit known.old }
+    requires reached { IsReached board.now start key.now }
+    requires legal { All (IsLegal board.now key.now) pushes.now }
+    ensures { IfOk result
+        (TellsFollowed board.now start limit known.old key.now pushes.now known.new) }
+{
+    for push in pushes {
+        let next = follow(alloc, board, key, *push, region)?;
+        match meet(alloc, board, tables, limit, known, &next)? {
+            Met::On => {}
+            Met::Ended => return Ok(Met::Ended),
+        }
+    }
+    Ok(Met::On)
+}
+
+/// Follows each legal push of a known state, if it is to be expanded. The lists are places for its
+/// boxes and pushes.
+fn expand(
+    alloc: Global,
+    board: &Board,
+    tables: &Tables,
+    limit: u32,
+    known: &mut Known,
+    index: usize,
+    squares: &mut Vec<Sq>,
+    pushes: &mut Vec<Push>,
+) -> Result<Met, Memory>
+    ghost start: { Key }
+    requires asked { IsAsked board.now tables.now start }
+    requires known { IsKnown board.now start limit known.old }
+    requires exists { index < length known.old.inner.items }
+    requires followed { AreFollowed board.now (roll_of known.old) index }
+    ensures { IfOk result (TellsExpanded board.now start limit known.old index known.new) }
+{
+    if !is_expanded(&known.inner[index].reason) {
+        return Ok(Met::On);
+    }
+    let key = known.table.key(alloc, squares, index)?;
+    let mut region = Region::of(alloc, board, &key.boxes, key.least)?;
+    list_pushes(board, &key, &region, pushes)?;
+    follow_all(
+        alloc,
+        board,
+        tables,
+        limit,
+        known,
+        &key,
+        pushes,
+        &mut region,
+    )
+}
+
+/// Whether a reason is that every push leads to another state.
+fn is_expanded(reason: &InnerReason) -> bool
+    ensures { result ≡ is_expanded reason.now }
+{
+    matches!(reason, InnerReason::Expanded)
+}
+
+/// Expands one known state after another, until none is left or the search has ended.
+fn expand_all(
+    alloc: Global,
+    board: &Board,
+    tables: &Tables,
+    limit: u32,
+    known: &mut Known,
+) -> Result<Met, Memory>
+    ghost start: { Key }
+    requires asked { IsAsked board.now tables.now start }
+    requires known { IsKnown board.now start limit known.old }
+    ensures { IfOk result (TellsAll board.now start limit known.old known.new) }
+{
+    let mut squares = Vec::new(alloc);
+    let mut pushes = Vec::new(alloc);
+    let mut index = 0;
+    while index < known.inner.len() {
+        match expand(
+            alloc,
+            board,
+            tables,
+            limit,
+            known,
+            index,
+            &mut squares,
+            &mut pushes,
+        )? {
+            Met::On => {}
+            Met::Ended => return Ok(Met::Ended),
+        }
+        index += 1;
+    }
+    Ok(Met::On)
+}
+
+/// Comes to a first state, and expands one known state after another, until none is left or the
+/// search has ended.
+pub(crate) fn run(
+    alloc: Global,
+    board: &Board,
+    tables: &Tables,
+    limit: u32,
+    known: &mut Known,
+    first: &Key,
+) -> Result<Met, Memory>
+    ghost start: { Key }
+    requires asked { IsAsked board.now tables.now start }
+    requires known { IsKnown board.now start limit known.old }
+    requires reached { IsReached board.now start first.now }
+    ensures { IfOk result (TellsRun board.now start limit first.now known.new) }
+{
+    match meet(alloc, board, tables, limit, known, first)? {
+        Met::On => expand_all(alloc, board, tables, limit, known),
+        Met::Ended => Ok(Met::Ended),
+    }
+}

@@ -1,0 +1,75 @@
+//! Two boxes of a position that are never solved, taken alone.
+
+ghost use Rattle.std.specs.Prelude.{◌≡◌, ◌<◌, ◌≤◌, ◌∷◌, [], All, Contains, IfOk, IfNone, IfSome, Some, length, slice_get};
+ghost use Rattle.std.specs.List.Sorted.{IsStrictlyIncreasing};
+ghost use Rattle.sok_board.specs.Area.{position_of};
+ghost use Rattle.sok_board.specs.Limits.{box_limit};
+ghost use Rattle.sok_entry.specs.Text.{FitsInner};
+ghost use Rattle.sok_bar.specs.Patterns.{IsPattern};
+ghost use Rattle.sok_alone.specs.Finding.{ArePlaces};
+ghost use Rattle.sok_alone.specs.Reaching.{IsGivenUp};
+
+use crate::closing::close_alone;
+use crate::found::FoundPattern;
+use sok_board::area::Sq;
+use sok_board::board::Board;
+use sok_board::box_set::BoxSet;
+use sok_entry::entry::Numbers;
+use sok_push::tables::Tables;
+use sok_rules::fault::Memory;
+use std::alloc::Global;
+
+/// The pattern of two boxes of a position, if they are never solved from where the player stands,
+/// were they alone on the board (a deadlock of two boxes; Sokoban Wiki, "Deadlocks"). It has at most
+/// `limit` positions. None where they are solved, or where more than `limit` of their states are
+/// come to. It refuses only for want of memory.
+pub fn find_pattern(
+    alloc: Global,
+    board: &Board,
+    tables: &Tables,
+    boxes: &BoxSet,
+    player: Sq,
+    first: Sq,
+    second: Sq,
+    limit: u32,
+) -> Result<Option<FoundPattern>, Memory>
+    requires tables { tables.now.board ≡ board.now }
+    requires boxes_exist { All (λ square. square < length board.now.area) boxes.now }
+    requires player_exists { player < length board.now.area }
+    requires player_free { Contains boxes.now player → ⊥ }
+    requires ordered { first < second }
+    requires first_box { Contains boxes.now first }
+    requires second_box { Contains boxes.now second }
+    requires positive { 0 < limit }
+    ensures holds { IfOk result (λ found. IfSome found
+        (λ pattern. IsPattern board.now player boxes.now pattern.members pattern.inner)) }
+    ensures members { IfOk result (λ found. IfSome found
+        (λ pattern. ArePlaces boxes.now first second pattern.members)) }
+    ensures few { IfOk result (λ found. IfSome found
+        (λ pattern. length pattern.inner ≤ limit)) }
+    ensures fit { IfOk result (λ found. IfSome found (λ pattern. All FitsInner pattern.inner)) }
+    ensures none { IfOk result (λ found. IfNone found (IsGivenUp board.now.rows
+        (position_of board.now player (first ∷ second ∷ [])) limit)) }
+{
+    let first_place = place_of(boxes.list(), first);
+    let second_place = place_of(boxes.list(), second);
+    let pair = BoxSet::of(alloc, &[first, second])?;
+    let Some(inner) = close_alone(alloc, board, tables, &pair, player, limit)? else {
+        return Ok(None);
+    };
+    let members = Numbers::copied(alloc, &[first_place, second_place])?;
+    Ok(Some(FoundPattern { members, inner }))
+}
+
+/// The place of a box in a list of boxes.
+fn place_of(boxes: &[Sq], square: Sq) -> u32
+    requires rising { IsStrictlyIncreasing boxes.now }
+    requires few { length boxes.now ≤ box_limit }
+    requires among { Contains boxes.now square }
+    ensures { slice_get boxes.now result ≡ Some square }
+{
+    match boxes.binary_search(&square) {
+        Ok(place) => place as u32,
+        Err(_) => unreachable!(),
+    }
+}

@@ -1,0 +1,75 @@
+//! The states of some boxes alone that are known.
+
+ghost use Rattle.std.specs.Prelude.{ℕ, ◌≡◌, ◌<◌, ◌≤◌, ◌++◌, ◌∷◌, [], All, Contains, IfOk, OnOk, length};
+ghost use Rattle.std.specs.Map.{keys_of};
+ghost use Rattle.sok_board.specs.Limits.{square_limit};
+ghost use Rattle.sok_alone.specs.Known.{inner_at};
+
+use sok_board::area::Sq;
+use sok_entry::entry::{Inner, InnerReason, Numbers};
+use sok_rules::fault::Memory;
+use sok_state::key::Key;
+use sok_state::table::Table;
+use std::alloc::Global;
+
+/// The states of some boxes alone that are known, in the order in which they were come to: their
+/// keys, and beside each a position of it with the reason why it may stand.
+#[derive(Drop)]
+pub(crate) struct Known {
+    pub(crate) table: Table,
+    pub(crate) inner: Vec<Inner>,
+}
+
+impl Known {
+    /// No states, with room for so many squares.
+    pub(crate) fn new(alloc: Global, squares: usize) -> Known
+        requires { squares ≤ square_limit }
+        ensures none { result.table.entries ≡ [] }
+        ensures no_inner { result.inner.items ≡ [] }
+        ensures wide { squares ≤ result.table.room }
+    {
+        Known {
+            table: Table::new(alloc, squares),
+            inner: Vec::new(alloc),
+        }
+    }
+}
+
+/// Adds a state that is new, behind the others. All states are written at depth 0.
+pub(crate) fn add(
+    alloc: Global,
+    known: &mut Known,
+    key: &Key,
+    reason: InnerReason,
+) -> Result<(), Memory>
+    requires squares { All (λ square. square < known.old.table.room) key.now.boxes }
+    requires absent { Contains (keys_of known.old.table.entries) key.now → ⊥ }
+    ensures entered { OnOk result
+        (known.new.table.entries ≡ known.old.table.entries ++ (key.now, 0) ∷ []) }
+    ensures listed { OnOk result
+        (known.new.inner.items ≡ known.old.inner.items ++ inner_at key.now reason ∷ []) }
+    ensures room { known.new.table.room ≡ known.old.table.room }
+{
+    let boxes = numbers_of(alloc, key.boxes.list())?;
+    let player = u32::from(key.least);
+    let depth = 0;
+    let (_index, _is_new) = known.table.insert(key, depth)?;
+    known.inner.push(Inner {
+        depth,
+        player,
+        boxes,
+        reason,
+    })?;
+    Ok(())
+}
+
+/// Squares, as numbers of a list.
+fn numbers_of(alloc: Global, squares: &[Sq]) -> Result<Numbers, Memory>
+    ensures { IfOk result (λ numbers. numbers ≡ squares.now) }
+{
+    let mut numbers = Vec::with_capacity(alloc, squares.len())?;
+    for square in squares {
+        numbers.push(u32::from(*square))?;
+    }
+    Ok(Numbers::from(numbers))
+}

@@ -1,0 +1,20 @@
+//! Boxes that are never solved, taken alone: how they are found.
+//!
+//! | Module | What it holds |
+//! |---|---|
+//! | `closing` | the list of positions of some boxes alone that is closed under pushes |
+//! | `expanding` | the pushes of a state are followed (private) |
+//! | `finding` | two boxes of a position that are never solved |
+//! | `found` | what was found |
+//! | `judging` | how a new state stands (private) |
+//! | `known` | the states that are known (private) |
+//! | `meeting` | a state is come to (private) |
+#![tactic(auto)]
+
+pub mod closing;
+mod expanding;
+pub mod finding;
+pub mod found;
+mod judging;
+mod known;
+mod meeting;

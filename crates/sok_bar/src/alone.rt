@@ -1,0 +1,182 @@
+//! Positions of some boxes alone, judged: whether they are closed under pushes.
+
+ghost use Rattle.std.specs.Prelude.{ℕ, List, [], ◌∷◌, ◌++◌, ◌≡◌, ◌≤◌, ◌↔◌, IsTrue, IfOk, IsOkAnd, MatchBool, MatchOption, length};
+ghost use Rattle.sok_board.specs.Area.{IsAccepted};
+ghost use Rattle.sok_board.specs.Limits.{box_limit};
+ghost use Rattle.sok_closed.specs.Fine.{AreEntered, AreFine, IsFine, IsOfBoard, IsReasoned};
+ghost use Rattle.sok_region.specs.Regions.{IsPlaced};
+ghost use Rattle.sok_bar.specs.Patterns.{AreClosedAlone, IsBarredAlone, inner_node, is_expanded};
+ghost use Rattle.sok_entry.specs.declared.entry.Inner.{Inner};
+
+use crate::bar::Bar;
+use crate::crowd::Crowd;
+use crate::frozen::Frozen;
+use crate::rest::Rest;
+use sok_board::area::Sq;
+use sok_board::board::Board;
+use sok_board::box_set::BoxSet;
+use sok_closed::placing::{Located, locate};
+use sok_closed::roll::Roll;
+use sok_closed::solved::is_solved;
+use sok_entry::entry::{Inner, InnerReason};
+use sok_push::tables::Tables;
+use sok_rules::fault::Memory;
+use sok_state::key::Key;
+use std::alloc::Global;
+
+/// Whether positions of some boxes alone are closed under pushes, that of a player among them at
+/// depth 0. It refuses only for want of memory.
+pub(crate) fn are_closed_alone(
+    alloc: Global,
+    board: &Board,
+    tables: &Tables,
+    boxes: &BoxSet,
+    player: Sq,
+    inner: &[Inner],
+) -> Result<bool, Memory>
+    requires accepted { IsAccepted board.now }
+    requires tables { tables.now.board ≡ board.now }
+    requires placed { IsPlaced board.now boxes.now player }
+    ensures { IfOk result
+        (λ closed. IsTrue closed ↔ AreClosedAlone board.now player boxes.now inner.now) }
+{
+    let count = boxes.list().len();
+    match rolled_alone(alloc, board, tables, count, inner)? {
+        Some(roll) => leads_on(alloc, board, boxes, player, &roll),
+        None => Ok(false),
+    }
+}
+
+/// The roll of the positions' states, in order, with their depths and with marks where they are
+/// expanded; None where one has a fault of its own. It refuses only for want of memory.
+fn rolled_alone(
+    alloc: Global,
+    board: &Board,
+    tables: &Tables,
+    count: usize,
+    inner: &[Inner],
+) -> Result<Option<Roll>, Memory>
+    requires accepted { IsAccepted board.now }
+    requires tables { tables.now.board ≡ board.now }
+    requires few { count ≤ box_limit }
+    ensures entered { IfOk result (λ found. MatchOption found
+        (AreFine inner_node board.now count (IsBarredAlone board.now) inner.now
+        (length inner.now) → ⊥)
+        (AreEntered inner_node board.now count (IsBarredAlone board.now) inner.now)) }
+    ensures of_board { IfOk result
+        (λ found. MatchOption found (Unit {0}) (IsOfBoard board.now)) }
+{
+    let mut roll = Roll::new(alloc, board.squares());
+    for one in inner {
+        if !enter_alone(alloc, board, tables, count, one, &mut roll)? {
+            return Ok(None);
+        }
+    }
+    Ok(Some(roll))
+}
+
+/// Enters the state of a position into the roll of those before it, if it has no fault of its own,
+/// and tells whether it has none. It refuses only for want of memory.
+fn enter_alone(
+    alloc: Global,
+    board: &Board,
+    tables: &Tables,
+    count: usize,
+    one: &Inner,
+    roll: &mut Roll,
+) -> Result<bool, Memory>
+    requires accepted { IsAccepted board.now }
+    requires tables { tables.now.board ≡ board.now }
+    requires few { count ≤ box_limit }
+    requires of_board { IsOfBoard board.now roll.old }
+    ensures tells { (before : List Inner)
+        → AreEntered inner_node board.now count (IsBarredAlone board.now) before roll.old
+        → IfOk result (λ fine. MatchBool fine
+        (AreEntered inner_node board.now count (IsBarredAlone board.now)
+        (before ++ one.now ∷ []) roll.new)
+        (IsFine inner_node board.now count (IsBarredAlone board.now) before (length before)
+        one.now → ⊥)) }
+    ensures of_board { IsOfBoard board.now roll.new }
+{
+    let Some(Located { boxes, key }) = locate(
+        alloc,
+        board,
+        count,
+        one.player,
+        one.boxes.as_slice(),
+    )?
+    else {
+        return Ok(false);
+    };
+    if roll.has(&key) {
+        return Ok(false);
+    }
+    if !may_stand(alloc, board, tables, one, &boxes)? {
+        return Ok(false);
+    }
+    roll.enter(&key, one.depth, is_expanded(&one.reason))?;
+    Ok(true)
+}
+
+/// Whether a position may stand in a pattern, given with its boxes: it is expanded, with a box off
+/// a goal, or its reason bars. It takes no memory.
+fn may_stand(
+    alloc: Global,
+    board: &Board,
+    tables: &Tables,
+    one: &Inner,
+    boxes: &BoxSet,
+) -> Result<bool, Memory>
+    requires accepted { IsAccepted board.now }
+    requires tables { tables.now.board ≡ board.now }
+    requires placed { IsPlaced board.now one.now.boxes one.now.player }
+    requires boxes { boxes.now ≡ one.now.boxes }
+    ensures { IsOkAnd result (λ stands. IsTrue stands
+        ↔ IsReasoned inner_node board.now (IsBarredAlone board.now) one.now) }
+{
+    let player = one.player as Sq;
+    match &one.reason {
+        InnerReason::Expanded => Ok(!is_solved(board, boxes)),
+        InnerReason::Crowd { members } => {
+            let members = members.as_slice();
+            Crowd { members }.holds(alloc, board, tables, boxes, player, Rest::Never)
+        }
+        InnerReason::Frozen { members } => {
+            let members = members.as_slice();
+            Frozen { members }.holds(alloc, board, tables, boxes, player, Rest::Never)
+        }
+    }
+}
+
+/// Whether a reason is that every push leads to another position of the pattern.
+fn is_expanded(reason: &InnerReason) -> bool
+    ensures { result ≡ is_expanded reason.now }
+{
+    matches!(reason, InnerReason::Expanded)
+}
+
+/// Whether the state of a player and some boxes stands in a roll at depth 0, and each push from an
+/// expanded state leads to another that is at most one deeper. It refuses only for want of memory.
+fn leads_on(
+    alloc: Global,
+    board: &Board,
+    boxes: &BoxSet,
+    player: Sq,
+    roll: &Roll,
+) -> Result<bool, Memory>
+    requires accepted { IsAccepted board.now }
+    requires placed { IsPlaced board.now boxes.now player }
+    requires few { length boxes.now ≤ box_limit }
+    requires of_board { IsOfBoard board.now roll.now }
+    ensures { (inner : List Inner)
+        → AreEntered inner_node board.now (length boxes.now) (IsBarredAlone board.now) inner roll.now
+        → IfOk result
+        (λ closed. IsTrue closed ↔ AreClosedAlone board.now player boxes.now inner) }
+{
+    let key = Key::of(alloc, board, boxes, player)?;
+    if !roll.starts(&key) {
+        return Ok(false);
+    }
+    let missed = roll.first_missed(alloc, board)?;
+    Ok(missed.is_none())
+}

@@ -1,0 +1,78 @@
+//! Boxes that are never solved, taken alone.
+
+ghost use Rattle.std.specs.Prelude.{◌≡◌, ◌<◌, ◌≤◌, ◌↔◌, IsTrue, IfOk, All, Contains, length};
+ghost use Rattle.std.specs.List.Sorted.{IsStrictlyIncreasing};
+ghost use Rattle.sok_board.specs.Limits.{box_limit};
+ghost use Rattle.sok_price.specs.Prices.{AreMembers};
+ghost use Rattle.sok_bar.specs.Bars.{Barring, Bars};
+ghost use Rattle.sok_bar.specs.Patterns.{squares_at};
+ghost use Rattle.sok_bar.specs.Rests.{IsBarred};
+
+use crate::alone::are_closed_alone;
+use crate::bar::Bar;
+use crate::members::are_members;
+use crate::rest::Rest;
+use sok_board::area::Sq;
+use sok_board::board::Board;
+use sok_board::box_set::BoxSet;
+use sok_entry::entry::Inner;
+use sok_push::tables::Tables;
+use sok_rules::fault::Memory;
+use std::alloc::Global;
+
+/// Boxes that are never solved from where the player stands, were they alone on the board: members
+/// of a position's boxes, by their indices from 0, and positions of them that are closed under
+/// pushes.
+#[derive(Clone, Copy, Debug)]
+pub struct Pattern<'a> {
+    pub members: &'a [u32],
+    pub inner: &'a [Inner],
+}
+
+impl Bar for Pattern<'_> {
+    /// True where the members are rising indices of boxes, and the positions are closed under
+    /// pushes, that of the player and of these boxes among them at depth 0, whatever is to be
+    /// shown. It refuses only for want of memory.
+    fn holds(
+        &self,
+        alloc: Global,
+        board: &Board,
+        tables: &Tables,
+        boxes: &BoxSet,
+        player: Sq,
+        rest: Rest,
+    ) -> Result<bool, Memory>
+        requires tables { tables.now.board ≡ board.now }
+        requires boxes_exist { All (λ square. square < length board.now.area) boxes.now }
+        requires player_exists { player < length board.now.area }
+        requires player_free { Contains boxes.now player → ⊥ }
+        ensures law { IfOk result
+            (λ holds. IsTrue holds → IsBarred board.now player boxes.now rest) }
+        ensures exact { IfOk result (λ holds. IsTrue holds
+            ↔ Bars board.now player boxes.now
+            (Barring.pattern self.now.members.now self.now.inner.now) rest) }
+    {
+        // A board is of an accepted level, of which the law speaks.
+        let _squares = board.squares();
+        let boxes = boxes.list();
+        if !are_members(boxes, self.members) {
+            return Ok(false);
+        }
+        let alone = members_alone(alloc, boxes, self.members)?;
+        are_closed_alone(alloc, board, tables, &alone, player, self.inner)
+    }
+}
+
+/// The boxes that are members, as a set of their own. It refuses only for want of memory.
+fn members_alone(alloc: Global, boxes: &[Sq], members: &[u32]) -> Result<BoxSet, Memory>
+    requires rising { IsStrictlyIncreasing boxes.now }
+    requires few { length boxes.now ≤ box_limit }
+    requires listed { AreMembers boxes.now members.now }
+    ensures { IfOk result (λ alone. alone ≡ squares_at boxes.now members.now) }
+{
+    let mut squares = Vec::with_capacity(alloc, members.len())?;
+    for member in members {
+        squares.push(boxes[*member as usize])?;
+    }
+    BoxSet::of(alloc, &squares)
+}

@@ -1,0 +1,91 @@
+//! Which numbers make a position, and of which state it is.
+
+ghost use Rattle.std.specs.Prelude.{◌≡◌, ◌<◌, ◌≤◌, ◌↔◌, IsTrue, IfOk, MatchOption, All, length};
+ghost use Rattle.std.specs.List.Sorted.{IsStrictlyIncreasing};
+ghost use Rattle.sok_board.specs.Area.{IsAccepted};
+ghost use Rattle.sok_board.specs.Limits.{box_limit, square_limit};
+ghost use Rattle.sok_closed.specs.Placing.{IsLocated};
+ghost use Rattle.sok_closed.specs.Rolls.{IsPosition, Node};
+ghost use Rattle.sok_region.specs.Regions.{IsPlaced};
+
+use sok_board::area::Sq;
+use sok_board::board::Board;
+use sok_board::box_set::BoxSet;
+use sok_rules::fault::Memory;
+use sok_state::key::Key;
+use std::alloc::Global;
+
+/// The boxes and the state of a position.
+#[derive(Debug, Drop)]
+pub struct Located {
+    pub boxes: BoxSet,
+    pub key: Key,
+}
+
+/// The boxes and the state of the position that a player and so many boxes make, by numbers of
+/// squares; None where they make none. It refuses only for want of memory.
+pub fn locate(
+    alloc: Global,
+    board: &Board,
+    count: usize,
+    player: u32,
+    boxes: &[u32],
+) -> Result<Option<Located>, Memory>
+    requires accepted { IsAccepted board.now }
+    requires few { count ≤ box_limit }
+    ensures { (n : Node) → n.player ≡ player → n.boxes ≡ boxes.now
+        → IfOk result (λ found. MatchOption found (IsPosition board.now count n → ⊥)
+        (IsLocated board.now count n)) }
+{
+    if !is_position(board, count, player, boxes) {
+        return Ok(None);
+    }
+    let squares = squares_of(alloc, boxes)?;
+    let boxes = BoxSet::of(alloc, &squares)?;
+    let key = Key::of(alloc, board, &boxes, player as Sq)?;
+    Ok(Some(Located { boxes, key }))
+}
+
+/// Whether a player and so many boxes make a position.
+fn is_position(board: &Board, count: usize, player: u32, boxes: &[u32]) -> bool
+    ensures { IsTrue result
+        ↔ (IsPlaced board.now boxes.now player × (length boxes.now ≡ count)) }
+{
+    let squares = board.squares();
+    boxes.len() == count
+        && (player as usize) < squares
+        && are_below(boxes, squares)
+        && rises(boxes)
+        && !boxes.contains(&player)
+}
+
+/// Whether all numbers are below a limit.
+fn are_below(numbers: &[u32], limit: usize) -> bool
+    ensures { IsTrue result ↔ All (λ number. number < limit) numbers.now }
+{
+    numbers.iter().all(|number| (*number as usize) < limit)
+}
+
+/// Whether each number is above the one before.
+pub fn rises(numbers: &[u32]) -> bool
+    ensures { IsTrue result ↔ IsStrictlyIncreasing numbers.now }
+{
+    for i in 1..numbers.len() {
+        if numbers[i - 1] >= numbers[i] {
+            return false;
+        }
+    }
+    true
+}
+
+/// Numbers of squares, as squares.
+fn squares_of(alloc: Global, numbers: &[u32]) -> Result<Vec<Sq>, Memory>
+    requires { All (λ number. number < square_limit) numbers.now }
+    ensures { IfOk result (λ squares. squares.items ≡ numbers.now) }
+{
+    let mut squares = Vec::with_capacity(alloc, numbers.len())?;
+    for number in numbers {
+        squares.push(*number as Sq)?;
+    }
+    Ok(squares)
+}

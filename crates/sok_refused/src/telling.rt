@@ -1,0 +1,40 @@
+//! What comes of a run.
+
+use std::fmt;
+
+/// What comes of a run, or of a call in it.
+#[derive(Clone, Copy, Debug, PartialEq, Eq)]
+pub(crate) enum Told {
+    /// It answered what it should, and left what it should.
+    Same,
+    /// Memory was refused to it, what was lent to it stayed, and once more it did what it should.
+    Refused,
+    /// It did something else, at this place.
+    Other(usize),
+}
+
+impl Told {
+    /// This where a call did what it should, and else that it did something else at its place.
+    pub(crate) fn checked(self, holds: bool, place: usize) -> Told {
+        if holds { self } else { Told::Other(place) }
+    }
+
+    /// What comes of this and then of another call.
+    pub(crate) fn then(self, next: Told) -> Told {
+        match (self, next) {
+            (Told::Other(place), _) => Told::Other(place),
+            (Told::Refused, Told::Same) => Told::Refused,
+            _ => next,
+        }
+    }
+}
+
+impl fmt::Display for Told {
+    fn fmt<W: fmt::Write>(&self, f: &mut fmt::Formatter<W>) -> fmt::Result {
+        match self {
+            Told::Same => write!(f, "same"),
+            Told::Refused => write!(f, "memory"),
+            Told::Other(place) => write!(f, "other {place}"),
+        }
+    }
+}
