@@ -11,6 +11,7 @@
 //! | `layouts` | a layout after pushes and back, and jams over it |
 //! | `matching` | a matching that is kept, beside one found from nothing |
 //! | `mazes` | regions of spirals, combs and wide rooms |
+//! | `pairs` | pairs of boxes that are never solved, taken alone |
 //! | `positions` | positions, and whether a reason holds of one (no test) |
 //! | `prices` | which goal each box could go to at the least cost, and crowds |
 //! | `pushes` | the pushes of a state whose region is at hand, and the state behind one |
@@ -38,6 +39,8 @@ mod layouts;
 mod matching;
 #[cfg(test)]
 mod mazes;
+#[cfg(test)]
+mod pairs;
 #[cfg(test)]
 mod positions;
 #[cfg(test)]
