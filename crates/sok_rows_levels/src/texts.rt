@@ -138,10 +138,7 @@ fn texts_are_written_again(rt: HostRuntime) -> Result<(), Fail> {
         (six_pushes, six_pushes),
         (ALL_FORMS, ALL_FORMS),
         (PATTERNS, PATTERNS),
-        (
-            "sokoban-certificate 2\npushes 0\ns 0 1 1 2\nend\n",
-            spent,
-        ),
+        ("sokoban-certificate 2\npushes 0\ns 0 1 1 2\nend\n", spent),
         (
             "sokoban-certificate 1\r\npushes 0\r\ns 0 1 1 2\r\nend\r\n",
             spent,
