@@ -7,6 +7,7 @@ use Rattle.sok_board.specs.Area.{Numbered, IsAccepted}
 use Rattle.sok_board.specs.Limits.{box_limit}
 use Rattle.sok_board.proofs.Lists.{slice_get-push}
 use Rattle.sok_state.specs.declared.key.Key.{Key}
+use Rattle.sok_state.proofs.States.{key-of-itself}
 use Rattle.sok_closed.specs.declared.placing.Located.{Located}
 use Rattle.sok_closed.specs.Fine.{AreEntered}
 use Rattle.sok_closed.specs.Placing.{IsLocated}
@@ -18,7 +19,6 @@ use Rattle.sok_alone.specs.declared.known.Known.{Known}
 use Rattle.sok_alone.specs.Judging.{MayStand}
 use Rattle.sok_alone.specs.Known.{IsCome, IsKnown, IsReached, inner_at, roll_of}
 use Rattle.sok_alone.specs.Meeting.{IsMet}
-use Rattle.sok_alone.proofs.Knowing.{key-of-itself}
 
 -- a state as it would be located
 located-at : (b : Numbered) → IsAccepted b → (start key : Key) (reason : InnerReason) → IsReached b start key

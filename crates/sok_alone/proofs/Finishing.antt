@@ -2,13 +2,10 @@
 use Rattle.std.proofs.Common.{ℕ, ◌≡◌, ◌≤◌, ◌∙◌, inl, inr, refl, ap, sym, subst, List, None, length}
 use Rattle.std.proofs.lemmas.List.{length-map}
 use Rattle.std.proofs.lemmas.List.Elements.{All-weaker}
-use Rattle.sok_rules.specs.declared.cell.Dir.{Dir}
 use Rattle.sok_rules.specs.Squares.{Rows}
-use Rattle.sok_rules.specs.Play.{AllOnGoals, Position, SolvesFrom, run}
-use Rattle.sok_rules.specs.States.{Same}
-use Rattle.sok_rules.proofs.Runs.{run-append}
-use Rattle.std.proofs.Common.{IsSomeAnd, ◌++◌}
-use Rattle.std.specs.Option.{option_and_then}
+use Rattle.sok_rules.specs.Play.{Position}
+use Rattle.sok_rules.specs.States.{MoreStatesFrom, ReachedFrom, Same}
+use Rattle.sok_rules.proofs.Reaching.{reached-on, reached-solves}
 use Rattle.sok_board.specs.Area.{Numbered, IsAccepted, position_of}
 use Rattle.sok_board.specs.Limits.{box_limit}
 use Rattle.sok_region.specs.Regions.{IsPlaced}
@@ -24,9 +21,8 @@ use Rattle.sok_bar.specs.Patterns.{AreClosedAlone, IsBarredAlone, inner_node, is
 use Rattle.sok_alone.specs.declared.known.Known.{Known}
 use Rattle.sok_alone.specs.Known.{roll_of}
 use Rattle.sok_alone.specs.Meeting.{IsFinished}
-use Rattle.sok_alone.specs.Reaching.{IsGivenUp, MoreStatesFrom, ReachedFrom}
+use Rattle.sok_alone.specs.GivenUp.{IsGivenUp}
 use Rattle.sok_alone.proofs.Knowing.{zero-at}
-use Rattle.sok_alone.proofs.Reaching.{reached-on}
 
 -- what is given up from a position is given up from where a walk leads to it
 more-walked : (rows : Rows) (x y : Position) (limit : ℕ) → Same rows x y → MoreStatesFrom rows y limit → MoreStatesFrom rows x limit
@@ -37,14 +33,8 @@ more-walked rows x y limit walk more = record {
   apart = more.apart;
 }
 
-solves-walked : (rows : Rows) (x y : Position) → Same rows x y → (w : List Dir) → SolvesFrom rows y w → (v : List Dir) × SolvesFrom rows x v
-solves-walked rows x y (v, leads, quiet) w solves = (
-  v ++ w,
-  subst (λ o. IsSomeAnd o (AllOnGoals rows)) (sym (run-append rows v w x ∙ ap (option_and_then (λ z. run rows z w)) leads)) solves,
-)
-
 pub given-up-walked : (rows : Rows) (x y : Position) (limit : ℕ) → Same rows x y → IsGivenUp rows y limit → IsGivenUp rows x limit
-given-up-walked rows x y limit walk (inl (w, solves)) = inl (solves-walked rows x y walk w solves)
+given-up-walked rows x y limit walk (inl (w, solves)) = inl (reached-solves rows x y (walk.0, walk.1) w solves)
 given-up-walked rows x y limit walk (inr more) = inr (more-walked rows x y limit walk more)
 
 -- the known states are a closed list

@@ -12,7 +12,8 @@ use Rattle.sok_state.specs.declared.key.Key.{Key}
 use Rattle.sok_bar.specs.Patterns.{BarsAlone}
 use Rattle.sok_bar.proofs.Rising.{few-rising}
 use Rattle.sok_alone.specs.Judging.{IsBarring, MayStand}
-use Rattle.sok_alone.specs.Known.{inner_at, key_position}
+use Rattle.sok_state.specs.Keys.{key_position}
+use Rattle.sok_alone.specs.Known.{inner_at}
 
 module _ (b : Numbered) (accepted : IsAccepted b) (key : Key) (placed : IsPlaced b key.boxes key.least) where
   -- there are no more boxes than squares

@@ -4,31 +4,24 @@ use Rattle.std.specs.Map.{keys_of, values_of}
 use Rattle.std.proofs.lemmas.List.{length-map}
 use Rattle.std.proofs.lemmas.List.Elements.{All-contains}
 use Rattle.std.proofs.lemmas.Option.{slice_get_within}
+use Rattle.sok_rules.proofs.Reaching.{reached-step, reached-walk}
 use Rattle.sok_rules.proofs.Walking.{boxes-Same}
 use Rattle.sok_board.specs.Area.{Numbered, IsAccepted, position_of}
 use Rattle.sok_board.proofs.Lists.{Contains-at}
 use Rattle.sok_state.specs.declared.key.Key.{Key}
 use Rattle.sok_state.specs.declared.push.Push.{Push}
-use Rattle.sok_state.specs.Keys.{IsKey, IsKeyOf}
+use Rattle.sok_state.specs.Keys.{IsKey, IsKeyOf, key_position}
 use Rattle.sok_state.specs.Pushes.{IsLegal, LeadsTo}
 use Rattle.sok_rules.specs.Play.{Position}
 use Rattle.sok_state.specs.Tables.{IsAt}
-use Rattle.sok_state.proofs.Placed.{IsStanding-placed, same_boxes}
-use Rattle.sok_state.proofs.States.{IsKeyOf-Same}
+use Rattle.sok_state.proofs.Placed.{same_boxes}
 use Rattle.sok_closed.specs.Lookup.{IsEntered}
 use Rattle.sok_closed.specs.Rolls.{node_position}
 use Rattle.sok_closed.proofs.Looking.{entered-key, entry_at}
 use Rattle.sok_entry.specs.declared.entry.Inner.{Inner}
 use Rattle.sok_bar.specs.Patterns.{inner_node}
 use Rattle.sok_alone.specs.declared.known.Known.{Known}
-use Rattle.sok_alone.specs.Known.{IsCome, IsKnown, IsReached, key_position}
-use Rattle.sok_alone.proofs.Reaching.{reached-step, reached-walk}
-
--- a key that some position has is that of the position that it stands for
-pub key-of-itself : (b : Numbered) → IsAccepted b → (key : Key) → IsKey b key → IsKeyOf b (key_position b key) key
-key-of-itself b accepted key state =
-    IsKeyOf-Same b (position_of b state.player state.boxes) (key_position b key) key
-    (IsStanding-placed b accepted.numbered accepted.proper state.player state.boxes state.placed) state.is.same state.is
+use Rattle.sok_alone.specs.Known.{IsCome, IsKnown, IsReached}
 
 -- the state that a push leads to is reached
 pub reached-next : (b : Numbered) (start key next : Key) (push : Push) → IsReached b start key → IsLegal b key push

@@ -6,4 +6,3 @@ pub mod Following
 pub mod Growing
 pub mod Knowing
 pub mod Pairs
-pub mod Reaching

@@ -9,7 +9,8 @@ use Rattle.sok_state.specs.declared.key.Key.{Key}
 use Rattle.sok_bar.specs.Patterns.{BarsAlone, IsBarredAlone, inner_node, is_expanded}
 use Rattle.sok_alone.specs.declared.judging.Judged.{Judged}
 use Rattle.sok_alone.specs.declared.judging.Judged.TheVariants.{Solved, Stands}
-use Rattle.sok_alone.specs.Known.{inner_at, key_position}
+use Rattle.sok_state.specs.Keys.{key_position}
+use Rattle.sok_alone.specs.Known.{inner_at}
 
 -- a reason that bars boxes that are alone on the board
 pub record IsBarring (b : Numbered) (boxes : List ℕ) (reason : InnerReason) : Type 0 where

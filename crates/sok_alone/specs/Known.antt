@@ -1,11 +1,11 @@
 -- What is known of the states of some boxes alone.
 use Rattle.std.specs.Prelude.{ℕ, ◌≡◌, ◌≤◌, All, length, map}
-use Rattle.sok_board.specs.Area.{Numbered, IsAccepted, position_of}
+use Rattle.sok_board.specs.Area.{Numbered, IsAccepted}
 use Rattle.sok_board.specs.Limits.{box_limit}
 use Rattle.sok_push.specs.Distances.{Distances}
-use Rattle.sok_rules.specs.Play.{Position}
+use Rattle.sok_rules.specs.States.{ReachedFrom}
 use Rattle.sok_state.specs.declared.key.Key.{Key}
-use Rattle.sok_state.specs.Keys.{IsKey}
+use Rattle.sok_state.specs.Keys.{IsKey, key_position}
 use Rattle.sok_closed.specs.Fine.{AreEntered, IsOfBoard}
 use Rattle.sok_closed.specs.Lookup.{Rolled}
 use Rattle.sok_closed.specs.Rolls.{node_position}
@@ -14,10 +14,6 @@ use Rattle.sok_entry.specs.declared.entry.InnerReason.{InnerReason}
 use Rattle.sok_entry.specs.Text.{FitsInner}
 use Rattle.sok_bar.specs.Patterns.{IsBarredAlone, inner_node, is_expanded}
 use Rattle.sok_alone.specs.declared.known.Known.{Known}
-use Rattle.sok_alone.specs.Reaching.{ReachedFrom}
-
-abbrev pub key_position : Numbered → Key → Position
-key_position b key = position_of b key.least key.boxes
 
 -- an accepted board with its tables, and a state of few boxes from which a search starts
 pub record IsAsked (b : Numbered) (t : Distances) (start : Key) : Type 0 where

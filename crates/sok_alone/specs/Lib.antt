@@ -1,6 +1,6 @@
 -- words of public contracts
 pub mod Finding
-pub mod Reaching
+pub mod GivenUp
 -- words of the crate's own contracts
 pub mod Judging
 pub mod Known

@@ -9,8 +9,9 @@ use Rattle.sok_entry.specs.declared.entry.Inner.{Inner}
 use Rattle.sok_alone.specs.declared.known.Known.{Known}
 use Rattle.sok_alone.specs.declared.meeting.Met.{Met}
 use Rattle.sok_alone.specs.declared.meeting.Met.TheVariants.{On, Ended}
-use Rattle.sok_alone.specs.Known.{IsKnown, key_position, roll_of}
-use Rattle.sok_alone.specs.Reaching.{IsGivenUp}
+use Rattle.sok_state.specs.Keys.{key_position}
+use Rattle.sok_alone.specs.Known.{IsKnown, roll_of}
+use Rattle.sok_alone.specs.GivenUp.{IsGivenUp}
 
 -- states that were known stay as they are, and others come behind them
 pub record Grows (old new : Known) : Type 0 where

@@ -5,7 +5,7 @@ ghost use Rattle.sok_board.specs.Area.{position_of};
 ghost use Rattle.sok_entry.specs.Text.{FitsInner};
 ghost use Rattle.sok_region.specs.Regions.{IsPlaced};
 ghost use Rattle.sok_bar.specs.Patterns.{AreClosedAlone};
-ghost use Rattle.sok_alone.specs.Reaching.{IsGivenUp};
+ghost use Rattle.sok_alone.specs.GivenUp.{IsGivenUp};
 
 use crate::expanding::run;
 use crate::known::Known;

@@ -7,7 +7,7 @@ ghost use Rattle.sok_board.specs.Limits.{box_limit};
 ghost use Rattle.sok_entry.specs.Text.{FitsInner};
 ghost use Rattle.sok_bar.specs.Patterns.{IsPattern};
 ghost use Rattle.sok_alone.specs.Finding.{ArePlaces};
-ghost use Rattle.sok_alone.specs.Reaching.{IsGivenUp};
+ghost use Rattle.sok_alone.specs.GivenUp.{IsGivenUp};
 
 use crate::closing::close_alone;
 use crate::found::FoundPattern;

@@ -1,4 +1,5 @@
 pub mod AllOnGoals
+pub mod Counting
 pub mod Entered
 pub mod Fine
 pub mod Followed

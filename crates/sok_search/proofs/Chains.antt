@@ -11,10 +11,9 @@ use Rattle.sok_rules.proofs.Walking.{Same-trans}
 use Rattle.sok_board.specs.Area.{Numbered}
 use Rattle.sok_state.specs.declared.key.Key.{Key}
 use Rattle.sok_state.specs.declared.push.Push.{Push}
-use Rattle.sok_state.specs.Keys.{IsKeyOf}
+use Rattle.sok_state.specs.Keys.{IsKeyOf, key_position}
 use Rattle.sok_state.specs.Pushes.{LeadsTo}
 use Rattle.sok_state.specs.Tables.{IsAt}
-use Rattle.sok_state.proofs.States.{key_position}
 use Rattle.sok_search.specs.declared.note.Origin.{Origin}
 use Rattle.sok_search.specs.Searches.{Progress, IsCome, IsSearch}
 use Rattle.sok_search.proofs.Knowing.{noted-at}

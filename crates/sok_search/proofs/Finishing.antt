@@ -15,9 +15,9 @@ use Rattle.sok_cert.specs.Reason.{Reason}
 use Rattle.sok_cert.specs.Reason.TheVariants as reason
 use Rattle.sok_state.specs.declared.key.Key.{Key}
 use Rattle.sok_state.specs.declared.push.Push.{Push}
-use Rattle.sok_state.specs.Keys.{IsKeyOf}
+use Rattle.sok_state.specs.Keys.{IsKeyOf, key_position}
 use Rattle.sok_state.specs.Tables.{HasDistinctKeys, IsAt}
-use Rattle.sok_state.proofs.States.{keys_equal, key_position}
+use Rattle.sok_state.proofs.States.{keys_equal, key-of-itself}
 use Rattle.sok_cert.specs.Closed.{IsBarredBy, IsClosed, IsPosition, IsReasoned, is_expanded, node_of, entry_position, rest_of}
 use Rattle.sok_cert.proofs.Closing.{reason-is}
 use Rattle.sok_closed.specs.Rolls.{IsClosedAt, IsFollowed}
@@ -30,7 +30,7 @@ use Rattle.sok_search.specs.declared.note.Standing.{Standing}
 use Rattle.sok_search.specs.declared.note.Standing.TheVariants as standing
 use Rattle.sok_search.specs.Searches.{Progress, IsMet, IsState, IsSearch, IsNoted, Stands}
 use Rattle.sok_search.specs.Finished.{AreFirstEntries, IsEntryOf, IsReasonOf, ReasonBars}
-use Rattle.sok_search.proofs.Knowing.{known-at, key-of-itself}
+use Rattle.sok_search.proofs.Knowing.{known-at}
 
 -- an entry and the state of which it is made
 record Made (b : Numbered) (claim : Claim) (p : Progress) (i : ℕ) (e : Entry) : Type 0 where

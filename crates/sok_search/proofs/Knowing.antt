@@ -3,19 +3,13 @@ use Rattle.std.proofs.Common.{ℕ, ◌≡◌, ◌<◌, ◌≤◌, refl, List, []
 use Rattle.std.specs.Map.{keys_of, values_of}
 use Rattle.std.proofs.lemmas.Option.{slice_get_within}
 use Rattle.std.proofs.lemmas.List.{length-map}
-use Rattle.sok_board.specs.Area.{Numbered, IsAccepted, position_of}
+use Rattle.sok_board.specs.Area.{Numbered, IsAccepted}
 use Rattle.sok_state.specs.declared.key.Key.{Key}
-use Rattle.sok_state.specs.Keys.{IsKey, IsKeyOf}
+use Rattle.sok_state.specs.Keys.{IsKey}
 use Rattle.sok_state.specs.Tables.{IsAt}
-use Rattle.sok_state.proofs.Placed.{IsStanding-placed}
-use Rattle.sok_state.proofs.States.{IsKeyOf-Same, key_position}
+use Rattle.sok_closed.proofs.Looking.{entry_at}
 use Rattle.sok_search.specs.declared.note.Note.{Note}
 use Rattle.sok_search.specs.Searches.{Progress, IsNoted, IsSearch, IsState}
-
-pub some-at : {X : Type 0} (xs : List X) (i : ℕ) → i < length xs → (x : X) × (slice_get xs i ≡ Some x)
-some-at [] i within = absurd (omega (arith, within))
-some-at (x ∷ xs) zero within = (x, refl)
-some-at (x ∷ xs) (suc i) within = some-at xs i (omega (arith, within))
 
 -- an index at which a key stands
 pub key-within : (p : Progress) (i : ℕ) (key : Key) → IsAt p.table key i → i < length p.table
@@ -38,14 +32,14 @@ module _ (b : Numbered) (limit : ℕ) (p : Progress) (search : IsSearch b limit 
   noted-at key depth there depth_is =
       let within = key-within p i key there in
       let notes = search.a_note_each in
-      let (note, note_is) = some-at p.notes i (omega (arith, within, notes)) in
+      let (note, note_is) = entry_at p.notes i (omega (arith, within, notes)) in
       (note, note_is, search.noted i key depth note (record { there = there; depth_is = depth_is; note_is = note_is }))
 
   pub known-key : (key : Key) → IsAt p.table key i → HasNote b p i key
   known-key key there =
       let within = key-within p i key there in
       let depths = length-map p.table (λ (entry : Key × ℕ). entry.1) in
-      let (depth, depth_is) = some-at (values_of p.table) i (omega (arith, within, depths)) in
+      let (depth, depth_is) = entry_at (values_of p.table) i (omega (arith, within, depths)) in
       let (note, note_is, noted) = noted-at key depth there depth_is in
       record { depth = depth; note = note; state = record { there = there; depth_is = depth_is; note_is = note_is }; noted = noted }
 
@@ -53,7 +47,7 @@ module _ (b : Numbered) (limit : ℕ) (p : Progress) (search : IsSearch b limit 
   pub known-at : i < length p.table → (key : Key) × HasNote b p i key
   known-at within =
       let keys = length-map p.table (λ (entry : Key × ℕ). entry.0) in
-      let (key, there) = some-at (keys_of p.table) i (omega (arith, within, keys)) in
+      let (key, there) = entry_at (keys_of p.table) i (omega (arith, within, keys)) in
       (key, known-key key there)
 
   -- the key is one of the board
@@ -66,9 +60,3 @@ module _ (b : Numbered) (limit : ℕ) (p : Progress) (search : IsSearch b limit 
       let as_many = (known-key key there).noted.as_many in
       let few = accepted.few_boxes in
       omega (arith, as_many, few)
-
--- a key that some position has is that of the position that it stands for
-pub key-of-itself : (b : Numbered) → IsAccepted b → (key : Key) → IsKey b key → IsKeyOf b (key_position b key) key
-key-of-itself b accepted key state =
-    IsKeyOf-Same b (position_of b state.player state.boxes) (key_position b key) key
-    (IsStanding-placed b accepted.numbered accepted.proper state.player state.boxes state.placed) state.is.same state.is

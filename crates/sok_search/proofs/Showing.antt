@@ -23,7 +23,7 @@ use Rattle.sok_state.specs.declared.key.Key.{Key}
 use Rattle.sok_state.specs.declared.push.Push.{Push}
 use Rattle.sok_state.specs.Pushes.{IsLegal, LeadsTo}
 use Rattle.sok_state.specs.Tables.{IsAt}
-use Rattle.sok_state.proofs.States.{key_position}
+use Rattle.sok_state.specs.Keys.{key_position}
 use Rattle.sok_search.specs.declared.note.Standing.{Standing}
 use Rattle.sok_search.specs.declared.note.Standing.TheVariants.{Open, Expanded, Dead}
 use Rattle.sok_search.specs.Finished.{CostsEnough, claim_of}

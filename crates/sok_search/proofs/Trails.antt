@@ -20,10 +20,10 @@ use Rattle.sok_board.proofs.Positions.{listed_box, no_box}
 use Rattle.sok_region.specs.Regions.{IsRegion, IsWalkBetween}
 use Rattle.sok_state.specs.declared.key.Key.{Key}
 use Rattle.sok_state.specs.declared.push.Push.{Push}
-use Rattle.sok_state.specs.Keys.{IsKey, IsKeyOf}
+use Rattle.sok_state.specs.Keys.{IsKey, IsKeyOf, key_position}
 use Rattle.sok_state.specs.Pushes.{IsLegal, LeadsTo}
 use Rattle.sok_state.proofs.LegalPushes.{IsFree, beside-next, clear-legal, free-legal, next_behind}
-use Rattle.sok_state.proofs.States.{keys_equal, key_position}
+use Rattle.sok_state.proofs.States.{keys_equal}
 use Rattle.sok_closed.proofs.Looking.{standing-after}
 use Rattle.sok_search.specs.declared.trail.Trail.{Trail}
 use Rattle.sok_search.specs.Searches.{IsSolved}

@@ -21,11 +21,10 @@ use Rattle.sok_board.specs.BoxSets.{IsMoved}
 use Rattle.sok_region.specs.Regions.{IsPlaced, IsRegion}
 use Rattle.sok_state.specs.declared.key.Key.{Key}
 use Rattle.sok_state.specs.declared.push.Push.{Push}
-use Rattle.sok_state.specs.Keys.{IsKeyOf}
+use Rattle.sok_state.specs.Keys.{IsKeyOf, key_position}
 use Rattle.sok_state.specs.Listing.{IsClear}
 use Rattle.sok_state.specs.Pushes.{LeadsTo, IsLegal}
 use Rattle.sok_state.proofs.Moves.{boxes_moved, IsPlaced-moved}
-use Rattle.sok_state.proofs.States.{key_position}
 
 -- the square beside a numbered one
 pub beside-next : (b : Numbered) (d : Dir) (n m : ℕ) → beside b n d ≡ Some m → next d (spot_of b n) ≡ Some (spot_of b m)

@@ -5,16 +5,12 @@ use Rattle.sok_rules.specs.Play.{Position}
 use Rattle.sok_rules.specs.States.{Same}
 use Rattle.sok_rules.proofs.Steps.{IsStanding}
 use Rattle.sok_rules.proofs.Walking.{Same-trans, Same-sym, boxes-Same}
-use Rattle.sok_board.specs.Area.{Numbered, IsArea, position_of}
+use Rattle.sok_board.specs.Area.{Numbered, IsAccepted, IsArea, position_of}
 use Rattle.sok_region.specs.Regions.{IsRegion}
 use Rattle.sok_state.specs.declared.key.Key.{Key}
-use Rattle.sok_state.specs.Keys.{IsKeyOf, TellsStates}
+use Rattle.sok_state.specs.Keys.{IsKey, IsKeyOf, TellsStates, key_position}
 use Rattle.sok_region.proofs.Regions.{IsRegion-again}
 use Rattle.sok_state.proofs.Placed.{IsStanding-placed, same_boxes}
-
--- the position that a key stands for
-abbrev pub key_position : Numbered → Key → Position
-key_position b key = position_of b key.least key.boxes
 
 -- positions with equal keys are the same state
 pub Same-keys : (b : Numbered) (x y : Position) (key : Key) → IsStanding b.rows y → IsKeyOf b x key → IsKeyOf b y key → Same b.rows x y
@@ -44,6 +40,12 @@ IsKeyOf-Same b x y key standing same of_x =
       same = Same-trans b.rows y x (key_position b key) back of_x.same;
       least = λ s within there. of_x.least s within (Same-trans b.rows x y (position_of b s key.boxes) same there);
     }
+
+-- a key that some position has is that of the position that it stands for
+pub key-of-itself : (b : Numbered) → IsAccepted b → (key : Key) → IsKey b key → IsKeyOf b (key_position b key) key
+key-of-itself b accepted key state =
+    IsKeyOf-Same b (position_of b state.player state.boxes) (key_position b key) key
+    (IsStanding-placed b accepted.numbered accepted.proper state.player state.boxes state.placed) state.is.same state.is
 
 pub tells-states : (b : Numbered) → IsArea b.rows b.area → IsProper b.rows → TellsStates b
 tells-states b area proper player boxes key placed of_key other_player other_boxes other other_placed of_other = (

@@ -6,10 +6,14 @@ use Rattle.sok_board.specs.Area.{Numbered, position_of}
 use Rattle.sok_region.specs.Regions.{IsPlaced}
 use Rattle.sok_state.specs.declared.key.Key.{Key}
 
+-- the position that a key stands for
+abbrev pub key_position : Numbered → Key → Position
+key_position b key = position_of b key.least key.boxes
+
 -- the boxes of the key are those of the position, and its square is the least to which the man can walk
 pub record IsKeyOf (b : Numbered) (x : Position) (key : Key) : Type 0 where
   pub placed : IsPlaced b key.boxes key.least
-  pub same : Same b.rows x (position_of b key.least key.boxes)
+  pub same : Same b.rows x (key_position b key)
   pub least : (s : ℕ) → s < length b.area → Same b.rows x (position_of b s key.boxes) → key.least ≤ s
 
 -- the key of some position for which numbers of squares stand

@@ -1,7 +1,7 @@
 use Rattle.std.proofs.Common.{ap, sym, subst, arith, length}
 use Rattle.sok_board.specs.Area.{position_of}
 use Rattle.sok_bar.specs.Patterns.{AreClosedAlone}
-use Rattle.sok_alone.specs.Known.{key_position}
+use Rattle.sok_state.specs.Keys.{key_position}
 use Rattle.sok_alone.specs.Meeting.{TellsRun}
 use Rattle.sok_alone.proofs.Finishing.{closed-finished, given-up-walked}
 use Rattle.sok_alone.proofs.closing.close_alone.Goals as goal

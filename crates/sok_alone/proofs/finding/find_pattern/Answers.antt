@@ -1,7 +1,7 @@
 use Rattle.std.proofs.Common.{◌≡◌, sym, subst, Some, IfNone, IfSome, List, ℕ, slice_get}
 use Rattle.sok_board.specs.Area.{position_of}
 use Rattle.sok_bar.specs.Patterns.{AreClosedAlone, IsPattern}
-use Rattle.sok_alone.specs.Reaching.{IsGivenUp}
+use Rattle.sok_alone.specs.GivenUp.{IsGivenUp}
 use Rattle.sok_alone.proofs.Pairs.{pattern-of-pair}
 use Rattle.sok_alone.proofs.finding.find_pattern.Goals as goal
 

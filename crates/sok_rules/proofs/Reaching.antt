@@ -4,9 +4,8 @@ use Rattle.std.specs.Option.{option_and_then}
 use Rattle.sok_rules.specs.declared.cell.Dir.{Dir}
 use Rattle.sok_rules.specs.Squares.{Rows}
 use Rattle.sok_rules.specs.Play.{After, AllOnGoals, Position, SolvesFrom, run, step}
-use Rattle.sok_rules.specs.States.{Same}
+use Rattle.sok_rules.specs.States.{ReachedFrom, Same}
 use Rattle.sok_rules.proofs.Runs.{run-append}
-use Rattle.sok_alone.specs.Reaching.{ReachedFrom}
 
 -- what is reached on from a position that is reached
 pub reached-on : (rows : Rows) (from x y : Position) → ReachedFrom rows from x → ReachedFrom rows x y → ReachedFrom rows from y
@@ -22,6 +21,9 @@ pub reached-step : (rows : Rows) (from x : Position) (d : Dir) (after : After) �
 reached-step rows from x d after reached steps =
     reached-on rows from x after.position reached (d ∷ [], ap (option_and_then (λ (a : After). Some a.position)) steps)
 
--- boxes on goals that are reached
-pub reached-solves : (rows : Rows) (from x : Position) → ReachedFrom rows from x → AllOnGoals rows x → (w : List Dir) × SolvesFrom rows from w
-reached-solves rows from x (w, leads) solved = (w, subst (λ o. IsSomeAnd o (AllOnGoals rows)) (sym leads) solved)
+-- what is solved on from a position that is reached
+pub reached-solves : (rows : Rows) (from x : Position) → ReachedFrom rows from x → (w : List Dir) → SolvesFrom rows x w → (v : List Dir) × SolvesFrom rows from v
+reached-solves rows from x (v, leads) w solves = (
+  v ++ w,
+  subst (λ o. IsSomeAnd o (AllOnGoals rows)) (sym (run-append rows v w from ∙ ap (option_and_then (λ z. run rows z w)) leads)) solves,
+)
