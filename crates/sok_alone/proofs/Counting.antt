@@ -1,5 +1,5 @@
 -- More states than a search may have.
-use Rattle.std.proofs.Common.{ℕ, ◌≡◌, ◌≤◌, Contains, arith, length}
+use Rattle.std.proofs.Common.{ℕ, ◌≤◌, Contains, arith, length}
 use Rattle.std.specs.Map.{keys_of}
 use Rattle.sok_rules.specs.States.{MoreStatesFrom}
 use Rattle.sok_board.specs.Area.{Numbered, IsAccepted}

@@ -1,7 +1,8 @@
 -- What a finished search shows of the position from which it starts.
-use Rattle.std.proofs.Common.{ℕ, ◌≡◌, ◌≤◌, ◌∙◌, inl, inr, refl, ap, sym, subst, List, None, length}
+use Rattle.std.proofs.Common.{ℕ, ◌≡◌, ◌≤◌, inl, inr, refl, ap, sym, subst, List, [], Option, None, Some, Ok, Err, Result, IfNone, IfOk, length}
 use Rattle.std.proofs.lemmas.List.{length-map}
 use Rattle.std.proofs.lemmas.List.Elements.{All-weaker}
+use Rattle.sok_rules.specs.declared.fault.Memory.{Memory}
 use Rattle.sok_rules.specs.Squares.{Rows}
 use Rattle.sok_rules.specs.Play.{Position}
 use Rattle.sok_rules.specs.States.{MoreStatesFrom, ReachedFrom, Same}
@@ -11,6 +12,7 @@ use Rattle.sok_board.specs.Limits.{box_limit}
 use Rattle.sok_region.specs.Regions.{IsPlaced}
 use Rattle.sok_state.specs.declared.key.Key.{Key}
 use Rattle.sok_state.specs.Keys.{IsKeyOf}
+use Rattle.sok_state.specs.Tables.{Tabled}
 use Rattle.sok_state.proofs.Placed.{IsStanding-placed}
 use Rattle.sok_closed.specs.Lookup.{AreFollowed}
 use Rattle.sok_closed.specs.Rolls.{IsClosed}
@@ -36,6 +38,13 @@ more-walked rows x y limit walk more = record {
 pub given-up-walked : (rows : Rows) (x y : Position) (limit : ℕ) → Same rows x y → IsGivenUp rows y limit → IsGivenUp rows x limit
 given-up-walked rows x y limit walk (inl (w, solves)) = inl (reached-solves rows x y (walk.0, walk.1) w solves)
 given-up-walked rows x y limit walk (inr more) = inr (more-walked rows x y limit walk more)
+
+-- what ends a search that stops at no state
+pub none-ended : (r : Result (Option (List Inner)) Memory) (P : Type 0) (lives : Tabled) → lives.entries ≡ []
+    → IfOk r (λ found. IfNone found (lives.entries ≡ [] → P)) → IfOk r (λ found. IfNone found P)
+none-ended (Ok None) P lives none told = told none
+none-ended (Ok (Some inner)) P lives none told = told
+none-ended (Err fault) P lives none told = told
 
 -- the known states are a closed list
 pub closed-finished : (b : Numbered) → IsAccepted b → (player : ℕ) (boxes : List ℕ) (key : Key) (limit : ℕ) (known : Known) → IsPlaced b boxes player

@@ -9,7 +9,7 @@ use Rattle.sok_state.specs.declared.key.Key.{Key}
 use Rattle.sok_state.specs.declared.push.Push.{Push}
 use Rattle.sok_state.specs.Keys.{IsKeyOf}
 use Rattle.sok_state.specs.Pushes.{IsLegal, LeadsTo}
-use Rattle.sok_state.specs.Tables.{IsAt}
+use Rattle.sok_state.specs.Tables.{IsAt, Tabled}
 use Rattle.sok_closed.specs.Lookup.{AreFollowed, IsFound}
 use Rattle.sok_closed.proofs.Missed.{followed-more}
 use Rattle.sok_entry.specs.declared.entry.Inner.{Inner}
@@ -67,11 +67,11 @@ module _ (b : Numbered) (start : Key) (limit : ℕ) (old : Known) (known : IsKno
             (followed-grows old new all.grows b index (omega (arith, within, count)) (omega (arith, within)) before);
       }
 
-  pub tells-expanded : (new : Known) (r : Result Met Memory) → IfOk r (TellsFollowed b start limit old key pushes new)
-      → IfOk r (TellsExpanded b start limit old index new)
-  tells-expanded new (Ok On) all = expanded-all new all
-  tells-expanded new (Ok Ended) ended = ended
-  tells-expanded new (Err fault) told = told
+  pub tells-expanded : (lives : Tabled) (new : Known) (r : Result Met Memory) → IfOk r (TellsFollowed b lives start limit old key pushes new)
+      → IfOk r (TellsExpanded b lives start limit old index new)
+  tells-expanded lives new (Ok On) all = expanded-all new all
+  tells-expanded lives new (Ok Ended) ended = ended
+  tells-expanded lives new (Err fault) told = told
 
 -- a first state was met, and then all were expanded
 module _ (b : Numbered) (start : Key) (limit : ℕ) (old known : Known) (first : Key) (met : IsMet b start limit old first known) where
@@ -83,7 +83,8 @@ module _ (b : Numbered) (start : Key) (limit : ℕ) (old known : Known) (first :
     there = at-grows known new all.grows first met.place met.there;
   }
 
-  pub tells-run : (new : Known) (r : Result Met Memory) → IfOk r (TellsAll b start limit known new) → IfOk r (TellsRun b start limit first new)
-  tells-run new (Ok On) all = finished new all
-  tells-run new (Ok Ended) ended = ended
-  tells-run new (Err fault) told = told
+  pub tells-run : (lives : Tabled) (new : Known) (r : Result Met Memory) → IfOk r (TellsAll b lives start limit known new)
+      → IfOk r (TellsRun b lives start limit first new)
+  tells-run lives new (Ok On) all = finished new all
+  tells-run lives new (Ok Ended) ended = ended
+  tells-run lives new (Err fault) told = told

@@ -6,7 +6,7 @@ use Rattle.std.proofs.lemmas.List.Elements.{All-contains}
 use Rattle.std.proofs.lemmas.Option.{slice_get_within}
 use Rattle.sok_rules.proofs.Reaching.{reached-step, reached-walk}
 use Rattle.sok_rules.proofs.Walking.{boxes-Same}
-use Rattle.sok_board.specs.Area.{Numbered, IsAccepted, position_of}
+use Rattle.sok_board.specs.Area.{Numbered, IsAccepted}
 use Rattle.sok_board.proofs.Lists.{Contains-at}
 use Rattle.sok_state.specs.declared.key.Key.{Key}
 use Rattle.sok_state.specs.declared.push.Push.{Push}

@@ -5,4 +5,5 @@ pub mod Fitting
 pub mod Following
 pub mod Growing
 pub mod Knowing
+pub mod Losing
 pub mod Pairs

@@ -10,7 +10,7 @@ use Rattle.sok_price.specs.Prices.{AreMembers}
 use Rattle.sok_bar.specs.Patterns.{AreClosedAlone, IsPattern, squares_at}
 use Rattle.sok_bar.proofs.Rising.{below_later}
 
-rising-pair : (i j : ℕ) → i < j → IsStrictlyIncreasing (i ∷ j ∷ [])
+pub rising-pair : (i j : ℕ) → i < j → IsStrictlyIncreasing (i ∷ j ∷ [])
 rising-pair i j less zero within = less
 rising-pair i j less (suc k) within = absurd (omega (arith, within))
 

@@ -6,6 +6,7 @@ use Rattle.sok_push.specs.Distances.{Distances}
 use Rattle.sok_rules.specs.States.{ReachedFrom}
 use Rattle.sok_state.specs.declared.key.Key.{Key}
 use Rattle.sok_state.specs.Keys.{IsKey, key_position}
+use Rattle.sok_state.specs.Tables.{Tabled}
 use Rattle.sok_closed.specs.Fine.{AreEntered, IsOfBoard}
 use Rattle.sok_closed.specs.Lookup.{Rolled}
 use Rattle.sok_closed.specs.Rolls.{node_position}
@@ -15,10 +16,11 @@ use Rattle.sok_entry.specs.Text.{FitsInner}
 use Rattle.sok_bar.specs.Patterns.{IsBarredAlone, inner_node, is_expanded}
 use Rattle.sok_alone.specs.declared.known.Known.{Known}
 
--- an accepted board with its tables, and a state of few boxes from which a search starts
-pub record IsAsked (b : Numbered) (t : Distances) (start : Key) : Type 0 where
+-- an accepted board with its tables, a table of states at which a search stops, with room for them, and a state of few boxes from which it starts
+pub record IsAsked (b : Numbered) (t : Distances) (lives : Tabled) (start : Key) : Type 0 where
   pub accepted : IsAccepted b
   pub tables : t.board ≡ b
+  pub room : length b.area ≤ lives.room
   pub few_boxes : length start.boxes ≤ box_limit
 
 -- the position of a state's least square, with a reason

@@ -1,6 +1,7 @@
 -- words of public contracts
 pub mod Finding
 pub mod GivenUp
+pub mod Losses
 -- words of the crate's own contracts
 pub mod Judging
 pub mod Known

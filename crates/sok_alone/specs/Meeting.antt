@@ -3,7 +3,7 @@ use Rattle.std.specs.Prelude.{ℕ, ◌≡◌, ◌+◌, ◌++◌, List, Contains,
 use Rattle.sok_board.specs.Area.{Numbered}
 use Rattle.sok_state.specs.declared.key.Key.{Key}
 use Rattle.sok_state.specs.declared.push.Push.{Push}
-use Rattle.sok_state.specs.Tables.{Entries, IsAt}
+use Rattle.sok_state.specs.Tables.{Entries, IsAt, Tabled}
 use Rattle.sok_closed.specs.Lookup.{AreFollowed, IsFound}
 use Rattle.sok_entry.specs.declared.entry.Inner.{Inner}
 use Rattle.sok_alone.specs.declared.known.Known.{Known}
@@ -11,7 +11,7 @@ use Rattle.sok_alone.specs.declared.meeting.Met.{Met}
 use Rattle.sok_alone.specs.declared.meeting.Met.TheVariants.{On, Ended}
 use Rattle.sok_state.specs.Keys.{key_position}
 use Rattle.sok_alone.specs.Known.{IsKnown, roll_of}
-use Rattle.sok_alone.specs.GivenUp.{IsGivenUp}
+use Rattle.sok_alone.specs.GivenUp.{HasEnded}
 
 -- states that were known stay as they are, and others come behind them
 pub record Grows (old new : Known) : Type 0 where
@@ -27,9 +27,9 @@ pub record IsMet (b : Numbered) (start : Key) (limit : ℕ) (old : Known) (key :
   pub place : ℕ
   pub there : IsAt new.table.entries key place
 
-abbrev pub TellsMet : Numbered → Key → ℕ → Known → Key → Known → Met → Type 0
-TellsMet b start limit old key new On = IsMet b start limit old key new
-TellsMet b start limit old key new Ended = IsGivenUp b.rows (key_position b start) limit
+abbrev pub TellsMet : Numbered → Tabled → Key → ℕ → Known → Key → Known → Met → Type 0
+TellsMet b lives start limit old key new On = IsMet b start limit old key new
+TellsMet b lives start limit old key new Ended = HasEnded lives b.rows (key_position b start) limit
 
 -- the states that pushes lead to are known now
 pub record HasFollowed (b : Numbered) (start : Key) (limit : ℕ) (old : Known) (key : Key) (pushes : List Push) (new : Known) : Type 0 where
@@ -37,9 +37,9 @@ pub record HasFollowed (b : Numbered) (start : Key) (limit : ℕ) (old : Known) 
   pub grows : Grows old new
   pub found : (push : Push) → Contains pushes push → IsFound b new.table.entries key 0 push
 
-abbrev pub TellsFollowed : Numbered → Key → ℕ → Known → Key → List Push → Known → Met → Type 0
-TellsFollowed b start limit old key pushes new On = HasFollowed b start limit old key pushes new
-TellsFollowed b start limit old key pushes new Ended = IsGivenUp b.rows (key_position b start) limit
+abbrev pub TellsFollowed : Numbered → Tabled → Key → ℕ → Known → Key → List Push → Known → Met → Type 0
+TellsFollowed b lives start limit old key pushes new On = HasFollowed b start limit old key pushes new
+TellsFollowed b lives start limit old key pushes new Ended = HasEnded lives b.rows (key_position b start) limit
 
 -- all that is known holds, and the states before a place are followed
 pub record HasRun (b : Numbered) (start : Key) (limit : ℕ) (old : Known) (place : ℕ) (new : Known) : Type 0 where
@@ -47,14 +47,14 @@ pub record HasRun (b : Numbered) (start : Key) (limit : ℕ) (old : Known) (plac
   pub grows : Grows old new
   pub followed : AreFollowed b (roll_of new) place
 
-abbrev pub TellsExpanded : Numbered → Key → ℕ → Known → ℕ → Known → Met → Type 0
-TellsExpanded b start limit old index new On = HasRun b start limit old (index + 1) new
-TellsExpanded b start limit old index new Ended = IsGivenUp b.rows (key_position b start) limit
+abbrev pub TellsExpanded : Numbered → Tabled → Key → ℕ → Known → ℕ → Known → Met → Type 0
+TellsExpanded b lives start limit old index new On = HasRun b start limit old (index + 1) new
+TellsExpanded b lives start limit old index new Ended = HasEnded lives b.rows (key_position b start) limit
 
 -- so are all known states
-abbrev pub TellsAll : Numbered → Key → ℕ → Known → Known → Met → Type 0
-TellsAll b start limit old new On = HasRun b start limit old (length new.inner.items) new
-TellsAll b start limit old new Ended = IsGivenUp b.rows (key_position b start) limit
+abbrev pub TellsAll : Numbered → Tabled → Key → ℕ → Known → Known → Met → Type 0
+TellsAll b lives start limit old new On = HasRun b start limit old (length new.inner.items) new
+TellsAll b lives start limit old new Ended = HasEnded lives b.rows (key_position b start) limit
 
 -- in the end: they are, and a state is among them
 pub record IsFinished (b : Numbered) (start : Key) (limit : ℕ) (first : Key) (new : Known) : Type 0 where
@@ -63,6 +63,6 @@ pub record IsFinished (b : Numbered) (start : Key) (limit : ℕ) (first : Key) (
   pub place : ℕ
   pub there : IsAt new.table.entries first place
 
-abbrev pub TellsRun : Numbered → Key → ℕ → Key → Known → Met → Type 0
-TellsRun b start limit first new On = IsFinished b start limit first new
-TellsRun b start limit first new Ended = IsGivenUp b.rows (key_position b start) limit
+abbrev pub TellsRun : Numbered → Tabled → Key → ℕ → Key → Known → Met → Type 0
+TellsRun b lives start limit first new On = IsFinished b start limit first new
+TellsRun b lives start limit first new Ended = HasEnded lives b.rows (key_position b start) limit

@@ -19,6 +19,7 @@ use sok_rules::fault::Memory;
 use sok_state::key::Key;
 use sok_state::legal::{follow, list_pushes};
 use sok_state::push::Push;
+use sok_state::table::Table;
 use std::alloc::Global;
 
 /// Follows some legal pushes of a known state. The region is a place for those of the states that
@@ -27,6 +28,7 @@ fn follow_all(
     alloc: Global,
     board: &Board,
     tables: &Tables,
+    lives: &Table,
     limit: u32,
     known: &mut Known,
     key: &Key,
@@ -34,16 +36,16 @@ fn follow_all(
     region: &mut Region,
 ) -> Result<Met, Memory>
     ghost start: { Key }
-    requires asked { IsAsked board.now tables.now start }
+    requires asked { IsAsked board.now tables.now lives.now start }
     requires known { IsKnown board.now start limit known.old }
     requires reached { IsReached board.now start key.now }
     requires legal { All (IsLegal board.now key.now) pushes.now }
     ensures { IfOk result
-        (TellsFollowed board.now start limit known.old key.now pushes.now known.new) }
+        (TellsFollowed board.now lives.now start limit known.old key.now pushes.now known.new) }
 {
     for push in pushes {
         let next = follow(alloc, board, key, *push, region)?;
-        match meet(alloc, board, tables, limit, known, &next)? {
+        match meet(alloc, board, tables, lives, limit, known, &next)? {
             Met::On => {}
             Met::Ended => return Ok(Met::Ended),
         }
@@ -57,6 +59,7 @@ fn expand(
     alloc: Global,
     board: &Board,
     tables: &Tables,
+    lives: &Table,
     limit: u32,
     known: &mut Known,
     index: usize,
@@ -64,11 +67,11 @@ fn expand(
     pushes: &mut Vec<Push>,
 ) -> Result<Met, Memory>
     ghost start: { Key }
-    requires asked { IsAsked board.now tables.now start }
+    requires asked { IsAsked board.now tables.now lives.now start }
     requires known { IsKnown board.now start limit known.old }
     requires exists { index < length known.old.inner.items }
     requires followed { AreFollowed board.now (roll_of known.old) index }
-    ensures { IfOk result (TellsExpanded board.now start limit known.old index known.new) }
+    ensures { IfOk result (TellsExpanded board.now lives.now start limit known.old index known.new) }
 {
     if !is_expanded(&known.inner[index].reason) {
         return Ok(Met::On);
@@ -80,6 +83,7 @@ fn expand(
         alloc,
         board,
         tables,
+        lives,
         limit,
         known,
         &key,
@@ -100,13 +104,14 @@ fn expand_all(
     alloc: Global,
     board: &Board,
     tables: &Tables,
+    lives: &Table,
     limit: u32,
     known: &mut Known,
 ) -> Result<Met, Memory>
     ghost start: { Key }
-    requires asked { IsAsked board.now tables.now start }
+    requires asked { IsAsked board.now tables.now lives.now start }
     requires known { IsKnown board.now start limit known.old }
-    ensures { IfOk result (TellsAll board.now start limit known.old known.new) }
+    ensures { IfOk result (TellsAll board.now lives.now start limit known.old known.new) }
 {
     let mut squares = Vec::new(alloc);
     let mut pushes = Vec::new(alloc);
@@ -116,6 +121,7 @@ fn expand_all(
             alloc,
             board,
             tables,
+            lives,
             limit,
             known,
             index,
@@ -136,18 +142,19 @@ pub(crate) fn run(
     alloc: Global,
     board: &Board,
     tables: &Tables,
+    lives: &Table,
     limit: u32,
     known: &mut Known,
     first: &Key,
 ) -> Result<Met, Memory>
     ghost start: { Key }
-    requires asked { IsAsked board.now tables.now start }
+    requires asked { IsAsked board.now tables.now lives.now start }
     requires known { IsKnown board.now start limit known.old }
     requires reached { IsReached board.now start first.now }
-    ensures { IfOk result (TellsRun board.now start limit first.now known.new) }
+    ensures { IfOk result (TellsRun board.now lives.now start limit first.now known.new) }
 {
-    match meet(alloc, board, tables, limit, known, first)? {
-        Met::On => expand_all(alloc, board, tables, limit, known),
+    match meet(alloc, board, tables, lives, limit, known, first)? {
+        Met::On => expand_all(alloc, board, tables, lives, limit, known),
         Met::Ended => Ok(Met::Ended),
     }
 }

@@ -8,6 +8,7 @@
 //! | `found` | what was found |
 //! | `judging` | how a new state stands (private) |
 //! | `known` | the states that are known (private) |
+//! | `losses` | pairs that are found to be never solved, kept for a whole search |
 //! | `meeting` | a state is come to (private) |
 #![tactic(auto)]
 
@@ -17,4 +18,5 @@ pub mod finding;
 pub mod found;
 mod judging;
 mod known;
+pub mod losses;
 mod meeting;

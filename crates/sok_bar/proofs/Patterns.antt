@@ -1,15 +1,14 @@
 -- Boxes that are never solved alone are never solved among others; and the squares of members.
-use Rattle.std.proofs.Common.{ℕ, ◌≡◌, ◌<◌, ◌+◌, ◌∙◌, ◌||◌, ◌++◌, inl, inr, refl, sym, ap, subst, List, Bool, true, false, Contains}
-use Rattle.std.proofs.Common.{IsSomeAnd, arith, length, get_or, map, slice_index}
+use Rattle.std.proofs.Common.{ℕ, ◌≡◌, ◌<◌, ◌+◌, ◌∙◌, ◌||◌, inl, inr, refl, sym, ap, List, Bool, true, false, Contains}
+use Rattle.std.proofs.Common.{arith, length, get_or, map, slice_index}
 use Rattle.std.specs.List.Sorted.{IsStrictlyIncreasing}
-use Rattle.std.specs.Option.{option_and_then}
 use Rattle.std.proofs.lemmas.Bool.{cases_Bool}
 use Rattle.std.proofs.lemmas.List.{length-map, get_or-map, get_or_default}
 use Rattle.std.proofs.lemmas.List.Folds.{Any-from_list_any}
 use Rattle.sok_rules.specs.Squares.{Rows, same_spot}
-use Rattle.sok_rules.specs.Play.{AllOnGoals, NeverFrom, Position, run}
+use Rattle.sok_rules.specs.Play.{NeverFrom, Position}
 use Rattle.sok_rules.specs.States.{Same}
-use Rattle.sok_rules.proofs.Runs.{run-append}
+use Rattle.sok_rules.proofs.Reaching.{reached-solves}
 use Rattle.sok_rules.proofs.Spots.{same_spot-is}
 use Rattle.sok_rules.proofs.Thinner.{IsThinner}
 use Rattle.sok_board.specs.Area.{Numbered, is_among, is_decoration, position_of, spot_of}
@@ -69,20 +68,19 @@ or-true : (p : Bool) → (p || true) ≡ true
 or-true true = refl
 or-true false = refl
 
--- a position has the boxes that are members, and more
-pub thinner-alone : (b : Numbered) (player : ℕ) (boxes members : List ℕ) → AreMembers boxes members
-    → IsThinner (position_of b player (squares_at boxes members)) (position_of b player boxes)
-thinner-alone b player boxes members listed = record {
+-- a position has boxes that are among those of another
+pub thinner-among : (b : Numbered) (player : ℕ) (squares boxes : List ℕ) → ((n : ℕ) → Contains squares n → Contains boxes n)
+    → IsThinner (position_of b player squares) (position_of b player boxes)
+thinner-among b player squares boxes are_among = record {
   man = refl;
   among = λ s there.
-      let squares = squares_at boxes members in
       elim (cases_Bool (is_among (map (spot_of b) squares) s)) [
         | inl among ↦
             let (k, x, within, is, same) = Any-from_list_any (same_spot s) (map (spot_of b) squares) among in
             let inside : k < length squares = let long = length-map squares (spot_of b) in omega (arith, within, long) in
             let n = get_or squares k 0 in
             let spot_is : s ≡ spot_of b n = same_spot-is s x same ∙ sym is ∙ get_or-map (spot_of b) squares k 0 x inside in
-            let listed_n = among-boxes boxes members n listed (k, inside, get_or_default squares k n 0 inside) in
+            let listed_n = are_among n (k, inside, get_or_default squares k n 0 inside) in
             ap (λ p. p || is_decoration b s) (ap (is_among (map (spot_of b) boxes)) spot_is ∙ among_numbers b boxes n listed_n)
         | inr apart ↦
             let decoration : is_decoration b s ≡ true = ap (λ p. p || is_decoration b s) (sym apart) ∙ there in
@@ -93,4 +91,5 @@ thinner-alone b player boxes members listed = record {
 -- what is never solved from a position is never solved from another of its state
 pub NeverFrom-Same : (rows : Rows) (y x : Position) → Same rows y x → NeverFrom rows y → NeverFrom rows x
 NeverFrom-Same rows y x (v, leads, quiet) never w solves =
-    never (v ++ w) (subst (λ o. IsSomeAnd o (AllOnGoals rows)) (sym (run-append rows v w y ∙ ap (option_and_then (λ z. run rows z w)) leads)) solves)
+    let (u, on) = reached-solves rows y x (v, leads) w solves in
+    never u on

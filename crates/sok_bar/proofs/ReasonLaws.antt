@@ -22,7 +22,7 @@ use Rattle.sok_bar.specs.Bars.{Barring, ReasonsBar}
 use Rattle.sok_bar.specs.Patterns.{AreClosedAlone, BarsAlone, IsBarredAlone, IsPattern, inner_node, is_expanded, squares_at}
 use Rattle.sok_bar.specs.Rests.{IsBarred}
 use Rattle.sok_bar.proofs.Jams.{IsBarred-never, jams-bar}
-use Rattle.sok_bar.proofs.Patterns.{IsPlaced-alone, NeverFrom-Same, thinner-alone}
+use Rattle.sok_bar.proofs.Patterns.{IsPlaced-alone, NeverFrom-Same, among-boxes, thinner-among}
 
 ArePlaced-placed : (b : Numbered) (boxes : List ℕ) (player : ℕ) → IsPlaced b boxes player → ArePlaced b player boxes
 ArePlaced-placed b boxes player placed = record { player_exists = placed.player_exists; boxes_exist = placed.boxes_exist; rising = placed.rising }
@@ -48,7 +48,7 @@ alone-bars b accepted player boxes (Crowd members) placed other crowd =
 alone-bars b accepted player boxes (Frozen members) placed other jam = jams-bar b accepted player boxes members Never placed jam
 
 -- positions of them that are closed under pushes
-NeverFrom-alone : (b : Numbered) → IsAccepted b → (player : ℕ) (boxes : List ℕ) (inner : List Inner) → IsPlaced b boxes player
+pub NeverFrom-alone : (b : Numbered) → IsAccepted b → (player : ℕ) (boxes : List ℕ) (inner : List Inner) → IsPlaced b boxes player
     → AreClosedAlone b player boxes inner → NeverFrom b.rows (position_of b player boxes)
 NeverFrom-alone b accepted player boxes inner placed closed =
     roll-agrees inner_node b (length boxes) (position_of b player boxes) inner closed.rolled (λ _ _. ⊥) (λ depth next more n near agrees. agrees)
@@ -65,7 +65,7 @@ patterns-bar : (b : Numbered) → IsAccepted b → (player : ℕ) (boxes members
 patterns-bar b accepted player boxes members inner rest placed pattern = IsBarred-never b player boxes (λ x same.
     NeverFrom-Same b.rows (position_of b player boxes) x same
     (NeverFrom-thinner b.rows (position_of b player (squares_at boxes members)) (position_of b player boxes)
-    (thinner-alone b player boxes members pattern.listed)
+    (thinner-among b player (squares_at boxes members) boxes (λ n. among-boxes boxes members n pattern.listed))
     (NeverFrom-alone b accepted player (squares_at boxes members) inner (IsPlaced-alone b player boxes members placed pattern.listed) pattern.closed))) rest
 
 -- a case for each reason

@@ -1,12 +1,15 @@
 //! Pairs of boxes that are never solved, taken alone.
 
-ghost use Rattle.std.specs.Prelude.{◌≡◌};
+ghost use Rattle.std.specs.Prelude.{◌≡◌, OnOk};
+ghost use Rattle.sok_alone.specs.Losses.{KeepsLosses};
 
 use crate::setting::placed;
 use sok_alone::finding::find_pattern;
+use sok_alone::losses::Losses;
 use sok_board::area::Sq;
 use sok_board::board::Board;
 use sok_push::tables::Tables;
+use sok_rules::cell::Dir;
 use sok_sketch::sets::board;
 use sok_sketch::sketch::PAIR_THAT_IS_LOST;
 use std::alloc::Global;
@@ -57,4 +60,62 @@ fn two_boxes_alone(rt: HostRuntime) -> Result<(), Fail> {
         assert_eq!(&rt; found, answer, "{first} and {second} within {limit}");
     }
     Ok(())
+}
+
+/// Boxes, one of them, a direction in which it is pushed, the square to which it comes, and whether
+/// it and another box are never solved from there, were they alone.
+type PushCase = ([Sq; 3], Sq, Dir, Sq, bool);
+
+const PUSHES: [PushCase; 6] = [
+    // two boxes that follow one another into the corridor
+    ([7, 9, 12], 9, Dir::Right, 10, true),
+    ([7, 10, 12], 10, Dir::Right, 11, true),
+    // the player has gone round them
+    ([7, 11, 12], 11, Dir::Left, 10, false),
+    ([6, 7, 12], 7, Dir::Right, 8, false),
+    // the two that are lost are not those of which one is pushed
+    ([7, 10, 12], 7, Dir::Left, 6, false),
+    ([7, 9, 12], 7, Dir::Left, 6, false),
+];
+
+/// Whether nothing solves after a push, by the box that is pushed and one other.
+fn is_lost(
+    rt: &impl Abort,
+    alloc: Global,
+    board: &Board,
+    tables: &Tables,
+    losses: &mut Losses,
+    case: &PushCase,
+) -> Result<bool, Fail>
+    requires tables { tables.now.board ≡ board.now }
+    requires losses { KeepsLosses board.now losses.old }
+    ensures { OnOk result (KeepsLosses board.now losses.new) }
+{
+    let (squares, from, dir, to, _lost) = case;
+    let boxes = placed(rt, alloc, board, squares, 15)?;
+    assert!(rt; boxes.has(*from) && !boxes.has(*to));
+    assert!(rt; (*to as usize) < board.squares());
+    Ok(losses.are_lost(alloc, board, tables, &boxes, *from, *dir, *to)?)
+}
+
+/// Asks each push twice of the same losses.
+fn ask_twice(rt: &impl Abort, alloc: Global, board: &Board, tables: &Tables) -> Result<(), Fail>
+    requires { tables.now.board ≡ board.now }
+{
+    let mut losses = Losses::new(alloc, board)?;
+    for _round in 0..2 {
+        for case in &PUSHES {
+            let lost = is_lost(rt, alloc, board, tables, &mut losses, case)?;
+            assert_eq!(rt; lost, case.4, "{} to {}", case.1, case.3);
+        }
+    }
+    Ok(())
+}
+
+#[test]
+fn a_pair_is_lost_however_often_it_is_asked(rt: HostRuntime) -> Result<(), Fail> {
+    let alloc = rt.alloc();
+    let board = board(alloc, PAIR_THAT_IS_LOST)?;
+    let tables = Tables::new(alloc, &board)?;
+    ask_twice(&rt, alloc, &board, &tables)
 }

@@ -1,5 +1,5 @@
 -- A full table that lacks a state that is reached: there are more states than it may have.
-use Rattle.std.proofs.Common.{ℕ, ◌≡◌, ◌≤◌, ◌+◌, refl, Contains, arith, length}
+use Rattle.std.proofs.Common.{ℕ, ◌≤◌, ◌+◌, Contains, arith, length}
 use Rattle.std.specs.Map.{keys_of}
 use Rattle.sok_rules.specs.Play.{Position, start}
 use Rattle.sok_rules.specs.States.{MoreStatesThan}

@@ -1,6 +1,6 @@
--- A push that brings a box to where it reaches no goal: nothing solves after it, so it may be left out.
+-- A push that brings a box to where it reaches no goal, or is lost with another one: nothing solves after it, so it may be left out.
 use Rattle.std.proofs.Common.{ℕ, ◌≡◌, ◌∙◌, inl, inr, refl, sym, ap, subst, true, Some, arith}
-use Rattle.sok_rules.specs.Play.{Position}
+use Rattle.sok_rules.specs.Play.{NeverFrom, Position}
 use Rattle.sok_board.specs.Area.{Numbered, InArea, IsAccepted, beside, position_of, spot_of}
 use Rattle.sok_board.proofs.AreaLaws.{InArea-spot_of}
 use Rattle.sok_board.proofs.Beside.{beside-within}
@@ -30,6 +30,14 @@ leads-nowhere b accepted key state push legal to ahead stuck after leads w =
     ap (λ (x : Position). x.boxes (spot_of b to)) (sym is) ∙ listed_box b push.from boxes to ((moves to).1 (inl refl)) in
     never_stuck b area w after to (subst (InArea b.rows) (sym leads.man) (InArea-spot_of b area push.from leads.exists))
     (beside-within b push.dir push.from to ahead) there stuck
+
+-- nor where nothing solves the boxes that it leaves
+pub lost-nowhere : (b : Numbered) → IsAccepted b → (key : Key) → IsKey b key → (push : Push) → (to : ℕ) → beside b push.from push.dir ≡ Some to
+    → NeverFrom b.rows (position_of b push.from (put_in_order push.from to key.boxes)) → LeadsNowhere b key push
+lost-nowhere b accepted key state push to ahead never after leads =
+    subst (NeverFrom b.rows)
+    (LeadsTo-position b accepted.numbered key push to (put_in_order push.from to key.boxes) after state.is.placed ahead (IsMoved-put push.from to key.boxes) leads)
+    never
 
 -- so it may be left out
 pub pushed-left_out : (b : Numbered) (limit index : ℕ) (p : Progress) → IsSearch b limit (holding index p) → (key : Key) (depth : ℕ) (push : Push)

@@ -14,8 +14,8 @@ use sok_state::table::Table;
 /// which a solved state was taken.
 #[derive(Drop)]
 pub(crate) struct Search {
-    /// Whether each state is kept that is come to. Else those are left out of which a box was just
-    /// pushed to a square from which it reaches no goal.
+    /// Whether each state is kept that is come to. Else those are left out from which nothing solves,
+    /// by the box alone that was just pushed, or by it and another one.
     pub(crate) whole: bool,
     pub(crate) table: Table,
     pub(crate) notes: Vec<Note>,

@@ -23,6 +23,7 @@ use crate::running::run;
 use crate::search::Search;
 use crate::tracing::{find_solved, trace};
 use crate::trail::letters;
+use sok_alone::losses::Losses;
 use sok_board::board::Board;
 use sok_cert::claim::Claim;
 use sok_push::tables::Tables;
@@ -51,8 +52,9 @@ pub fn solve(alloc: Global, level: &Level, limit: u32) -> Result<Outcome, SolveF
 }
 
 /// What `solve` answers, without a certificate, which takes time and most of the memory. States in
-/// which a box was pushed to where it reaches no goal are not kept, so there may be an answer where
-/// `solve` tells that there are more states than the limit.
+/// which a box was pushed to where it reaches no goal, or where it and another box are never solved,
+/// were they alone on the board, are not kept. So there may be an answer where `solve` tells that
+/// there are more states than the limit.
 pub fn find(alloc: Global, level: &Level, limit: u32) -> Result<Found, SolveFault>
     ensures found { IfOk result (IsFound level.now limit) }
     ensures bad_limit { (result ≡ Err fault.BadLimit) ↔ IsBadLimit limit }
@@ -146,7 +148,16 @@ fn finish(
         (TellsFinished board.now limit (progress_of search.old) (progress_of search.new)) }
 {
     let mut scratch = Scratch::new(alloc, board, tables)?;
-    let reached = run(alloc, board, tables, limit, search, &mut scratch);
+    let mut losses = Losses::new(alloc, board)?;
+    let reached = run(
+        alloc,
+        board,
+        tables,
+        limit,
+        search,
+        &mut scratch,
+        &mut losses,
+    );
     // As one value: field by field takes five times as long to prove.
     drop(scratch);
     reached

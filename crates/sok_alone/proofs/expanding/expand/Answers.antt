@@ -46,6 +46,6 @@ returns g c =
     let key = c.in_ok-key.key in
     let pushes = c.list_pushes.new.pushes.items in
     tells-expanded b g.start c.args.limit c.args.known.now c.requires.1.0 c.args.index key c.in_ok-key.ensures c.requires.1.1.1 pushes
-    c.in_ok-list_pushes.ensures.whole c.follow_all.new.known c.follow_all.result
-    (subst (λ all. IfOk c.follow_all.result (TellsFollowed b g.start c.args.limit c.args.known.now key all c.follow_all.new.known)) c.deref.ensures.value
+    c.in_ok-list_pushes.ensures.whole c.args.lives.now c.follow_all.new.known c.follow_all.result
+    (subst (λ all. IfOk c.follow_all.result (TellsFollowed b c.args.lives.now g.start c.args.limit c.args.known.now key all c.follow_all.new.known)) c.deref.ensures.value
     c.follow_all.ensures)

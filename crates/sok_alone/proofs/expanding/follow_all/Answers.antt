@@ -39,7 +39,7 @@ loop-push-preserved g c =
     let before = c.loop-push.known in
     let new = c.meet.new.known in
     let met : IsMet b g.start c.args.limit before c.in_ok-next.next new =
-    subst (TellsMet b g.start c.args.limit before c.in_ok-next.next new) c.in-On.is c.in_ok-meet.ensures in
+    subst (TellsMet b c.args.lives.now g.start c.args.limit before c.in_ok-next.next new) c.in-On.is c.in_ok-meet.ensures in
     record {
       known = met.known;
       grows = Grows-trans c.args.known.now before new c.loop-push.invariant.grows met.grows;

@@ -24,7 +24,7 @@ returns-then-len-limit g c =
     let told = found-or-not (Contains (keys_of entries) key → ⊥) (IsAt entries key) c.get.result c.is_some.result c.get.ensures c.is_some.ensures in
     let full = c.if-len-limit.true in
     let count = c.len.ensures in
-    inr (full-more c.args.board.now c.requires.0.accepted g.start c.args.limit c.args.known.now c.requires.1.0 (omega (arith, full, count)) key
+    λ _. inr (full-more c.args.board.now c.requires.0.accepted g.start c.args.limit c.args.known.now c.requires.1.0 (omega (arith, full, count)) key
     c.requires.1.1 (missing _ _ c.is_some.result told c.if-is_some.false))
 
 pub returns-in_ok-add-in-Stands : goal.returns-in_ok-add-in-Stands

@@ -1,7 +1,5 @@
 use Rattle.std.proofs.Common.{◌≡◌, ◌+◌, ap, subst, refl, arith, length}
-use Rattle.sok_board.specs.Area.{Numbered}
 use Rattle.sok_board.proofs.Beside.{beside-within}
-use Rattle.sok_push.specs.Pushing.{IsStuck}
 use Rattle.sok_closed.proofs.Starting.{at-within}
 use Rattle.sok_state.specs.declared.key.Key.{Key}
 use Rattle.sok_state.specs.Tables.{Entries, Enters, GoesLast, Stays, Tabled}
@@ -13,7 +11,7 @@ use Rattle.sok_search.specs.Views.{progress_of}
 use Rattle.sok_search.proofs.Adding.{added-made, note-within, taken, taken-deep, taken-key, taken-pushable}
 use Rattle.sok_search.proofs.Filling.{full-more}
 use Rattle.sok_search.proofs.Moving.{moved-next}
-use Rattle.sok_search.proofs.LeavingOut.{leads-nowhere, pushed-left_out}
+use Rattle.sok_search.proofs.LeavingOut.{pushed-left_out}
 use Rattle.sok_search.proofs.Pushing.{pushed-added, pushed-known}
 use Rattle.sok_search.proofs.Stepped.{ComesNext, comes-next, next_of}
 use Rattle.sok_search.proofs.reaching.reach.Goals as goal
@@ -27,17 +25,14 @@ square_ahead-to-requires-clause-legal c = (
   c.requires.legal,
 )
 
-pub returns-then-stuck-clause-tells : goal.returns-then-stuck-clause-tells
-returns-then-stuck-clause-tells c =
-    let b = c.args.board.now in
-    let p = progress_of c.args.search.now in
-    let state = taken-key b c.args.limit c.args.index p c.args.key.now c.args.depth c.requires.state.running.search c.requires.state.there c.requires.state.depth_is in
-    let stuck = subst (λ (board : Numbered). IsStuck board c.square_ahead-to.result) c.requires.state.running.tables (c.stuck.ensures.0 c.if-stuck.true) in
-    pushed-left_out b c.args.limit c.args.index p c.requires.state.running.search c.args.key.now c.args.depth c.args.push (record {
-      part = c.if-not-search.true;
-      nowhere = leads-nowhere b c.requires.state.running.accepted c.args.key.now state c.args.push c.requires.legal c.square_ahead-to.result
-          c.square_ahead-to.ensures stuck;
-    })
+pub leads_nowhere-requires-clause-state : goal.leads_nowhere-requires-clause-state
+leads_nowhere-requires-clause-state c = taken-key c.args.board.now c.args.limit c.args.index (progress_of c.args.search.now) c.args.key.now c.args.depth
+    c.requires.state.running.search c.requires.state.there c.requires.state.depth_is
+
+pub returns-then-branch-clause-tells : goal.returns-then-branch-clause-tells
+returns-then-branch-clause-tells c =
+    pushed-left_out c.args.board.now c.args.limit c.args.index (progress_of c.args.search.now) c.requires.state.running.search c.args.key.now c.args.depth c.args.push
+    (record { part = c.if-not-search.true; nowhere = c.in_ok-leads_nowhere.ensures.nowhere c.if-branch.true })
 
 pub step-least-requires-clause-pushable : goal.step-least-requires-clause-pushable
 step-least-requires-clause-pushable c =
