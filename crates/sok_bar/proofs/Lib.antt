@@ -1,6 +1,7 @@
 pub mod Counting
 pub mod Jams
 pub mod Kept
+pub mod Memos
 pub mod Narrowing
 pub mod Patterns
 pub mod Prices

@@ -1,6 +1,7 @@
 -- words of public contracts
 pub mod Bars
 pub mod Jam
+pub mod Memos
 pub mod Patterns
 pub mod Rests
 -- words of the crate's own contracts

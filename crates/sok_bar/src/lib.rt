@@ -8,9 +8,11 @@
 //! | `crowd` | boxes that share too few goals |
 //! | `frozen` | boxes that hold each other for ever |
 //! | `held` | which boxes are held along both axes |
+//! | `inners` | lists of positions of some boxes alone: compared, and copied |
 //! | `layout_jam` | whether the boxes of a layout have a jam |
 //! | `law` | what a reason says of a position bars it |
 //! | `members` | lists of members of a box list (private) |
+//! | `memo` | lists of positions that were found closed, kept while more are judged |
 //! | `pattern` | boxes that are never solved, taken alone |
 //! | `reason` | whether the reason of an entry holds |
 //! | `rest` | what is still to be shown of a position |
@@ -23,9 +25,11 @@ pub mod bound;
 pub mod crowd;
 pub mod frozen;
 mod held;
+pub mod inners;
 pub mod law;
 pub mod layout_jam;
 mod members;
+pub mod memo;
 pub mod pattern;
 pub mod reason;
 pub mod rest;

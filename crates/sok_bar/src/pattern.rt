@@ -5,12 +5,13 @@ ghost use Rattle.std.specs.List.Sorted.{IsStrictlyIncreasing};
 ghost use Rattle.sok_board.specs.Limits.{box_limit};
 ghost use Rattle.sok_price.specs.Prices.{AreMembers};
 ghost use Rattle.sok_bar.specs.Bars.{Barring, Bars};
-ghost use Rattle.sok_bar.specs.Patterns.{squares_at};
+ghost use Rattle.sok_bar.specs.Memos.{KeepsClosed};
+ghost use Rattle.sok_bar.specs.Patterns.{IsPattern, squares_at};
 ghost use Rattle.sok_bar.specs.Rests.{IsBarred};
 
-use crate::alone::are_closed_alone;
 use crate::bar::Bar;
 use crate::members::are_members;
+use crate::memo::Memo;
 use crate::rest::Rest;
 use sok_board::area::Sq;
 use sok_board::board::Board;
@@ -52,14 +53,43 @@ impl Bar for Pattern<'_> {
             ↔ Bars board.now player boxes.now
             (Barring.pattern self.now.members.now self.now.inner.now) rest) }
     {
-        // A board is of an accepted level, of which the law speaks.
+        // A board is of an accepted level and boxes rise, and of such the law speaks.
+        let _squares = board.squares();
+        let _boxes = boxes.list();
+        let mut memo = Memo::new(alloc);
+        self.holds_by(alloc, board, tables, boxes, player, &mut memo)
+    }
+}
+
+impl Pattern<'_> {
+    /// True where the reason holds, whatever is to be shown. Positions that the memo keeps are not
+    /// judged again, and it keeps those that are judged. It refuses only for want of memory.
+    pub(crate) fn holds_by(
+        &self,
+        alloc: Global,
+        board: &Board,
+        tables: &Tables,
+        boxes: &BoxSet,
+        player: Sq,
+        memo: &mut Memo,
+    ) -> Result<bool, Memory>
+        requires tables { tables.now.board ≡ board.now }
+        requires boxes_exist { All (λ square. square < length board.now.area) boxes.now }
+        requires player_exists { player < length board.now.area }
+        requires player_free { Contains boxes.now player → ⊥ }
+        requires memo { KeepsClosed board.now memo.old }
+        ensures exact { IfOk result (λ holds. IsTrue holds
+            ↔ IsPattern board.now player boxes.now self.now.members.now self.now.inner.now) }
+        ensures memo { KeepsClosed board.now memo.new }
+    {
+        // A board is of an accepted level.
         let _squares = board.squares();
         let boxes = boxes.list();
         if !are_members(boxes, self.members) {
             return Ok(false);
         }
         let alone = members_alone(alloc, boxes, self.members)?;
-        are_closed_alone(alloc, board, tables, &alone, player, self.inner)
+        memo.are_closed_alone(alloc, board, tables, &alone, player, self.inner)
     }
 }
 

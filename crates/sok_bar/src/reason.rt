@@ -4,11 +4,13 @@ ghost use Rattle.std.specs.Prelude.{◌≡◌, ◌<◌, ◌↔◌, IsTrue, IfOk,
 ghost use Rattle.std.specs.Prelude.{OnErr, length};
 ghost use Rattle.sok_entry.specs.Text.{is_pattern};
 ghost use Rattle.sok_bar.specs.Bars.{Bars, barring};
+ghost use Rattle.sok_bar.specs.Memos.{KeepsClosed};
 
 use crate::bar::Bar;
 use crate::bound::Bound;
 use crate::crowd::Crowd;
 use crate::frozen::Frozen;
+use crate::memo::Memo;
 use crate::pattern::Pattern;
 use crate::rest::Rest;
 use crate::spent::Spent;
@@ -20,8 +22,9 @@ use sok_push::tables::Tables;
 use sok_rules::fault::Memory;
 use std::alloc::Global;
 
-/// Whether the reason that is named holds, with its numbers; never for an expanded entry. It refuses
-/// only for want of memory, and only where the reason is a pattern.
+/// Whether the reason that is named holds, with its numbers; never for an expanded entry. The memo of
+/// the board keeps positions of patterns that hold, and does not judge them again. It refuses only
+/// for want of memory, and only where the reason is a pattern.
 pub fn reason_holds(
     alloc: Global,
     reason: &Reason,
@@ -30,14 +33,17 @@ pub fn reason_holds(
     boxes: &BoxSet,
     player: Sq,
     rest: Rest,
+    memo: &mut Memo,
 ) -> Result<bool, Memory>
     requires tables { tables.now.board ≡ board.now }
     requires boxes_exist { All (λ square. square < length board.now.area) boxes.now }
     requires player_exists { player < length board.now.area }
     requires player_free { Contains boxes.now player → ⊥ }
+    requires memo { KeepsClosed board.now memo.old }
     ensures exact { IfOk result (λ holds. IsTrue holds
         ↔ IsSomeAnd (barring reason.now) (λ one. Bars board.now player boxes.now one rest)) }
     ensures refused { OnErr result (IsTrue (is_pattern reason.now)) }
+    ensures memo { KeepsClosed board.now memo.new }
 {
     match reason {
         Reason::Expanded => Ok(false),
@@ -58,7 +64,7 @@ pub fn reason_holds(
         Reason::Pattern { members, inner } => {
             let members = members.as_slice();
             let inner = inner.as_slice();
-            Pattern { members, inner }.holds(alloc, board, tables, boxes, player, rest)
+            Pattern { members, inner }.holds_by(alloc, board, tables, boxes, player, memo)
         }
     }
 }

@@ -1,12 +1,19 @@
--- What the parts of a stream are seen as.
+-- What the parts of a stream are seen as, and what they keep to.
 use Rattle.std.specs.Prelude.{vec_len}
+use Rattle.sok_board.specs.Area.{Numbered}
+use Rattle.sok_bar.specs.Memos.{KeepsClosed}
 use Rattle.sok_cert.specs.declared.progress.Progress.{Progress}
 use Rattle.sok_cert.specs.declared.roster.Roster.{Roster}
-use Rattle.sok_cert.specs.Rosters.{Rostered}
+use Rattle.sok_cert.specs.Rosters.{IsOfBoard, Rostered}
 use Rattle.sok_cert.specs.Streams.{Progressed}
 
 abbrev pub rostered_of : Roster → Rostered
 rostered_of r = record { roll = r.roll; fault = r.fault }
+
+-- states of a board, and positions of patterns that are closed on it
+pub record IsRosterOf (b : Numbered) (r : Roster) : Type 0 where
+  pub roll : IsOfBoard b r.roll
+  pub memo : KeepsClosed b r.memo
 
 abbrev pub progressed_of : Progress → Progressed
 progressed_of p = record { stage = p.stage; lines = vec_len p.ended; line = p.line.items; wrong = p.wrong; roster = rostered_of p.roster }

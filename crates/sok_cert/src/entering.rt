@@ -2,6 +2,7 @@
 
 ghost use Rattle.std.specs.Prelude.{◌≡◌, ◌++◌, ◌∷◌, [], IfOk, IfErr, List, MatchOption, length};
 ghost use Rattle.sok_board.specs.Area.{IsAccepted};
+ghost use Rattle.sok_bar.specs.Memos.{KeepsClosed};
 ghost use Rattle.sok_cert.specs.Closed.{IsPosition};
 ghost use Rattle.sok_cert.specs.Judging.{IsLocated};
 ghost use Rattle.sok_cert.specs.Refusals.{IsRefused};
@@ -10,6 +11,7 @@ ghost use Rattle.sok_entry.specs.declared.entry.Entry.{Entry};
 
 use crate::judging::{Finding, judge};
 use crate::reason::is_expanded;
+use sok_bar::memo::Memo;
 use sok_board::board::Board;
 use sok_closed::placing::{Located, locate};
 use sok_closed::roll::Roll;
@@ -36,8 +38,9 @@ pub(crate) fn states(
     ensures refused { IfErr result (IsRefused board.now claim entries.now) }
 {
     let mut roll = Roll::new(alloc, board.squares());
+    let mut memo = Memo::new(alloc);
     for entry in entries {
-        if let Some(fault) = enter(alloc, board, tables, claim, entry, &mut roll)? {
+        if let Some(fault) = enter(alloc, board, tables, claim, entry, &mut roll, &mut memo)? {
             return Err(fault);
         }
     }
@@ -45,7 +48,7 @@ pub(crate) fn states(
 }
 
 /// Enters the state of an entry into the roll of those before it. If the entry has a fault of its
-/// own, it is told, and the roll stays.
+/// own, it is told, and the roll stays. The memo keeps the positions of patterns.
 pub(crate) fn enter(
     alloc: Global,
     board: &Board,
@@ -53,13 +56,16 @@ pub(crate) fn enter(
     claim: Claim,
     entry: &Entry,
     roll: &mut Roll,
+    memo: &mut Memo,
 ) -> Result<Option<CertFault>, Memory>
     requires accepted { IsAccepted board.now }
     requires tables { tables.now.board ≡ board.now }
     requires of_board { IsOfBoard board.now roll.old }
+    requires memo { KeepsClosed board.now memo.old }
     ensures tells { (entries : List Entry) → AreEntered board.now claim entries roll.old
         → IfOk result (TellsEntries board.now claim (entries ++ entry.now ∷ []) roll.new) }
     ensures of_board { IsOfBoard board.now roll.new }
+    ensures memo { KeepsClosed board.now memo.new }
 {
     let index = roll.len();
     let Some(Located { boxes, key }) = locate_entry(alloc, board, entry)? else {
@@ -68,7 +74,7 @@ pub(crate) fn enter(
     if roll.has(&key) {
         return Ok(Some(CertFault::Duplicate(index)));
     }
-    match judge(alloc, board, tables, claim, entry, &boxes)? {
+    match judge(alloc, board, tables, claim, entry, &boxes, memo)? {
         Finding::Fine => {}
         Finding::Solved => return Ok(Some(CertFault::SolvedEntry(index))),
         Finding::Unreasoned => return Ok(Some(CertFault::BadReason(index))),

@@ -2,10 +2,12 @@
 
 ghost use Rattle.std.specs.Prelude.{◌≡◌, IfOk};
 ghost use Rattle.sok_board.specs.Area.{IsAccepted};
+ghost use Rattle.sok_bar.specs.Memos.{KeepsClosed};
 ghost use Rattle.sok_cert.specs.Closed.{IsPosition};
 ghost use Rattle.sok_cert.specs.Judging.{IsFinding};
 
 use crate::reason::{is_expanded, rest_of};
+use sok_bar::memo::Memo;
 use sok_bar::reason::reason_holds;
 use sok_board::area::Sq;
 use sok_board::board::Board;
@@ -36,12 +38,15 @@ pub(crate) fn judge(
     claim: Claim,
     entry: &Entry,
     boxes: &BoxSet,
+    memo: &mut Memo,
 ) -> Result<Finding, Memory>
     requires accepted { IsAccepted board.now }
     requires tables { tables.now.board ≡ board.now }
     requires position { IsPosition board.now entry.now }
     requires boxes { boxes.now ≡ entry.now.boxes }
-    ensures { IfOk result (IsFinding board.now claim entry.now) }
+    requires memo { KeepsClosed board.now memo.old }
+    ensures found { IfOk result (IsFinding board.now claim entry.now) }
+    ensures memo { KeepsClosed board.now memo.new }
 {
     if is_expanded(&entry.reason) {
         if is_solved(board, boxes) {
@@ -49,9 +54,10 @@ pub(crate) fn judge(
         }
         return Ok(Finding::Fine);
     }
+    let reason = &entry.reason;
     let player = entry.player as Sq;
     let rest = rest_of(claim, entry.depth);
-    if reason_holds(alloc, &entry.reason, board, tables, boxes, player, rest)? {
+    if reason_holds(alloc, reason, board, tables, boxes, player, rest, memo)? {
         return Ok(Finding::Fine);
     }
     Ok(Finding::Unreasoned)

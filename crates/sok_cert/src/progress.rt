@@ -8,8 +8,7 @@ ghost use Rattle.sok_entry.specs.Reading.{GoesWrong};
 ghost use Rattle.sok_entry.specs.Stages.{AreWrong, IsSplit, IsStage};
 ghost use Rattle.sok_entry.specs.declared.fault.CertFault.TheVariants as cert;
 ghost use Rattle.sok_entry.specs.declared.entry.Entry.{Entry};
-ghost use Rattle.sok_cert.specs.Parts.{progressed_of, rostered_of};
-ghost use Rattle.sok_cert.specs.Rosters.{IsOfBoard};
+ghost use Rattle.sok_cert.specs.Parts.{IsRosterOf, progressed_of, rostered_of};
 ghost use Rattle.sok_cert.specs.Streams.{AreJudged, StandsFor};
 
 use crate::roster::Roster;
@@ -39,7 +38,7 @@ impl Progress {
     /// Nothing is read.
     pub(crate) fn new(alloc: Global, board: &Board) -> Progress
         ensures nothing { StandsFor board.now [] (progressed_of result) }
-        ensures of_board { IsOfBoard board.now result.roster.roll }
+        ensures of_board { IsRosterOf board.now result.roster }
     {
         Progress {
             stage: Stage::AtHeader,
@@ -60,11 +59,11 @@ impl Progress {
     ) -> Result<(), Memory>
         requires accepted { IsAccepted board.now }
         requires tables { tables.now.board ≡ board.now }
-        requires of_board { IsOfBoard board.now self.old.roster.roll }
+        requires of_board { IsRosterOf board.now self.old.roster }
         ensures stands { (text : List ℕ) → StandsFor board.now text (progressed_of self.old)
             → OnOk result
             (StandsFor board.now (text ++ piece.now) (progressed_of self.new)) }
-        ensures of_board { IsOfBoard board.now self.new.roster.roll }
+        ensures of_board { IsRosterOf board.now self.new.roster }
     {
         let mut rest = piece;
         while let Some((part, behind)) = cut_at_end(rest) {
@@ -84,12 +83,12 @@ impl Progress {
     ) -> Result<(), Memory>
         requires accepted { IsAccepted board.now }
         requires tables { tables.now.board ≡ board.now }
-        requires of_board { IsOfBoard board.now self.old.roster.roll }
+        requires of_board { IsRosterOf board.now self.old.roster }
         requires unended { IsUnended part.now }
         ensures stands { (text : List ℕ) → StandsFor board.now text (progressed_of self.old)
             → OnOk result
             (StandsFor board.now (text ++ part.now ++ 10 ∷ []) (progressed_of self.new)) }
-        ensures of_board { IsOfBoard board.now self.new.roster.roll }
+        ensures of_board { IsRosterOf board.now self.new.roster }
     {
         if self.wrong.is_some() {
             return Ok(());
@@ -164,13 +163,13 @@ fn judge_line(
     requires few { lines < 2 ^ 63 }
     requires accepted { IsAccepted board.now }
     requires tables { tables.now.board ≡ board.now }
-    requires of_board { IsOfBoard board.now roster.old.roll }
+    requires of_board { IsRosterOf board.now roster.old }
     ensures judged { (ls : List (List ℕ)) (entries : List Entry) → length ls ≡ lines
         → AreJudged board.now stage.old (rostered_of roster.old) ls entries
         → IfOk result (λ wrong. MatchOption wrong ((es : List Entry)
         × AreJudged board.now stage.new (rostered_of roster.new) (ls ++ line.now ∷ []) es)
         (AreWrong (ls ++ line.now ∷ []))) }
-    ensures of_board { IsOfBoard board.now roster.new.roll }
+    ensures of_board { IsRosterOf board.now roster.new }
 {
     let now = mem::replace(stage, Stage::AtHeader);
     match now.line(alloc, line, lines)? {

@@ -4,13 +4,14 @@ ghost use Rattle.std.specs.Prelude.{◌≡◌, ◌+◌, ◌++◌, ◌∷◌, [],
 ghost use Rattle.sok_board.specs.Area.{IsAccepted};
 ghost use Rattle.sok_cert.specs.Closed.{IsClosed};
 ghost use Rattle.sok_cert.specs.Refusals.{IsRefused};
-ghost use Rattle.sok_cert.specs.Parts.{rostered_of};
+ghost use Rattle.sok_cert.specs.Parts.{IsRosterOf, rostered_of};
 ghost use Rattle.sok_cert.specs.Rosters.{IsOfBoard, TellsEntries};
 ghost use Rattle.sok_entry.specs.declared.claim.Claim.{Claim};
 ghost use Rattle.sok_entry.specs.declared.entry.Entry.{Entry};
 
 use crate::close::close;
 use crate::entering::enter;
+use sok_bar::memo::Memo;
 use sok_board::board::Board;
 use sok_closed::roll::Roll;
 use sok_entry::claim::Claim;
@@ -21,10 +22,12 @@ use sok_rules::fault::Memory;
 use std::alloc::Global;
 
 /// Entries that are judged one by one. Of each the state is kept, with its depth and whether it is
-/// expanded, up to the first that has a fault of its own; then that fault.
+/// expanded, up to the first that has a fault of its own; then that fault. A memo keeps positions of
+/// patterns that were judged.
 #[derive(Drop)]
 pub(crate) struct Roster {
     pub(crate) roll: Roll,
+    pub(crate) memo: Memo,
     pub(crate) fault: Option<CertFault>,
 }
 
@@ -33,10 +36,11 @@ impl Roster {
     pub(crate) fn new(alloc: Global, board: &Board) -> Roster
         ensures none { (claim : Claim)
             → TellsEntries board.now claim [] result.roll result.fault }
-        ensures of_board { IsOfBoard board.now result.roll }
+        ensures of_board { IsRosterOf board.now result }
     {
         Roster {
             roll: Roll::new(alloc, board.squares()),
+            memo: Memo::new(alloc),
             fault: None,
         }
     }
@@ -52,17 +56,25 @@ impl Roster {
     ) -> Result<(), Memory>
         requires accepted { IsAccepted board.now }
         requires tables { tables.now.board ≡ board.now }
-        requires of_board { IsOfBoard board.now self.old.roll }
+        requires of_board { IsRosterOf board.now self.old }
         ensures tells { (entries : List Entry)
             → TellsEntries board.now claim entries self.old.roll self.old.fault
             → OnOk result (TellsEntries board.now claim (entries ++ entry.now ∷ [])
             self.new.roll self.new.fault) }
-        ensures of_board { IsOfBoard board.now self.new.roll }
+        ensures of_board { IsRosterOf board.now self.new }
     {
         if self.fault.is_some() {
             return Ok(());
         }
-        self.fault = enter(alloc, board, tables, claim, entry, &mut self.roll)?;
+        self.fault = enter(
+            alloc,
+            board,
+            tables,
+            claim,
+            entry,
+            &mut self.roll,
+            &mut self.memo,
+        )?;
         Ok(())
     }
 

@@ -33,8 +33,7 @@ pub struct Stream<'a> {
 impl<'a> Model for Stream<'a> {
     ghost use Rattle.std.specs.Prelude.{ℕ, ◌≡◌, List};
     ghost use Rattle.sok_board.specs.Area.{IsAccepted};
-    ghost use Rattle.sok_cert.specs.Parts.{progressed_of};
-    ghost use Rattle.sok_cert.specs.Rosters.{IsOfBoard};
+    ghost use Rattle.sok_cert.specs.Parts.{IsRosterOf, progressed_of};
     ghost use Rattle.sok_cert.specs.Streams.{StandsFor, Streamed};
 
     ghost Value = { Streamed };
@@ -46,7 +45,7 @@ impl<'a> Model for Stream<'a> {
 
     ghost invariant = { λ stream. IsAccepted stream.board.now
         × (stream.tables.board ≡ stream.board.now)
-        × IsOfBoard stream.board.now stream.progress.roster.roll
+        × IsRosterOf stream.board.now stream.progress.roster
         × ((text : List ℕ) × StandsFor stream.board.now text (progressed_of stream.progress)) };
 }
 

@@ -28,19 +28,19 @@ pub returns-in-Solved-clause-tells : goal.returns-in-Solved-clause-tells
 returns-in-Solved-clause-tells c = λ entries known.
     tells-solved c.args.board.now c.args.claim entries c.args.roll.now c.requires.accepted known c.args.entry.now c.in-Some.field-0
     (located (goal.at.returns-in-Solved-clause-tells c).After-has) (missing _ _ c.has.result c.has.ensures c.if-has.false) c.args.roll.now c.len-index.result
-    c.len-index.ensures (subst (IsFinding c.args.board.now c.args.claim c.args.entry.now) c.in-Solved.is c.in_ok-judge.ensures)
+    c.len-index.ensures (subst (IsFinding c.args.board.now c.args.claim c.args.entry.now) c.in-Solved.is c.in_ok-judge.ensures.found)
 
 pub returns-in-Unreasoned-clause-tells : goal.returns-in-Unreasoned-clause-tells
 returns-in-Unreasoned-clause-tells c = λ entries known.
     tells-unreasoned c.args.board.now c.args.claim entries c.args.roll.now c.requires.accepted known c.args.entry.now c.in-Some.field-0
     (located (goal.at.returns-in-Unreasoned-clause-tells c).After-has) (missing _ _ c.has.result c.has.ensures c.if-has.false) c.args.roll.now
-    c.len-index.result c.len-index.ensures (subst (IsFinding c.args.board.now c.args.claim c.args.entry.now) c.in-Unreasoned.is c.in_ok-judge.ensures)
+    c.len-index.result c.len-index.ensures (subst (IsFinding c.args.board.now c.args.claim c.args.entry.now) c.in-Unreasoned.is c.in_ok-judge.ensures.found)
 
 pub returns-clause-tells : goal.returns-clause-tells
 returns-clause-tells c = λ entries known.
     tells-fine c.args.board.now c.args.claim entries c.args.roll.now c.requires.accepted known c.args.entry.now c.in-Some.field-0
     (located (goal.at.returns-clause-tells c).After-has) (missing _ _ c.has.result c.has.ensures c.if-has.false) c.enter.new.self
-    (subst (IsFinding c.args.board.now c.args.claim c.args.entry.now) c.in-Fine.is c.in_ok-judge.ensures) c.in_ok-enter.ensures.entered
+    (subst (IsFinding c.args.board.now c.args.claim c.args.entry.now) c.in-Fine.is c.in_ok-judge.ensures.found) c.in_ok-enter.ensures.entered
     (c.in_ok-enter.ensures.marked ∙ ap (λ mark. c.args.roll.now.marks ++ mark ∷ []) c.is_expanded.ensures)
 
 pub returns-clause-of_board : goal.returns-clause-of_board

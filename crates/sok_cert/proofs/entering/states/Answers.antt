@@ -1,9 +1,12 @@
-use Rattle.std.proofs.Common.{◌≡◌, ◌+◌, ◌∙◌, ◌++◌, ◌∷◌, [], Some, ap, sym, subst, take}
+use Rattle.std.proofs.Common.{rules, ◌≡◌, ◌+◌, ◌∙◌, ◌++◌, ◌∷◌, [], Some, ap, sym, subst, take}
 use Rattle.std.proofs.lemmas.List.{take_more}
 use Rattle.sok_cert.specs.Refusals.{IsRefused}
 use Rattle.sok_cert.specs.Rosters.{IsOwn, TellsEntries}
 use Rattle.sok_cert.proofs.Entered.{refused-whole}
 use Rattle.sok_cert.proofs.entering.states.Goals as goal
+
+pub loop-entry-init : goal.loop-entry-init
+loop-entry-init c = record { entered = search rules; of_board = search rules; memo = c.new-memo.ensures c.args.board.now }
 
 pub returns-in-Some-clause-refused : goal.returns-in-Some-clause-refused
 returns-in-Some-clause-refused c =

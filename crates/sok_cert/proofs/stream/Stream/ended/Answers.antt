@@ -31,7 +31,7 @@ invariant_of-result c =
     let so : IsReadSo b text p = subst (StandsBy b text p) c.in_default.is known.3.1 in
     let count : length so.passed ≡ c.len.result = so.count ∙ sym c.len.ensures in
     let told = c.in_ok-claim.ensures text so.passed so.entries count (subst (IsSplit text so.passed) (sym c.as_slice.ensures.value) so.split) so.judged.at in
-    (known.0, known.2, (so.entries, so.judged.tells c.in_ok-claim.claim told.1))
+    (known.0, known.2.roll, (so.entries, so.judged.tells c.in_ok-claim.claim told.1))
 
 pub returns-clause-ends : goal.returns-clause-ends
 returns-clause-ends c = λ text stands.

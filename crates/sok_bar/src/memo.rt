@@ -1,0 +1,122 @@
+//! Lists of positions that were found closed, kept while more are judged.
+
+ghost use Rattle.std.specs.Prelude.{◌≡◌, ◌↔◌, Contains, IfOk, IsTrue};
+ghost use Rattle.sok_board.specs.Area.{IsAccepted, Numbered};
+ghost use Rattle.sok_region.specs.Regions.{IsPlaced};
+ghost use Rattle.sok_bar.specs.Memos.{IsClosedKept, KeepsClosed};
+ghost use Rattle.sok_bar.specs.Patterns.{AreClosedAlone};
+
+use crate::alone::are_closed_alone;
+use crate::inners::{are_same, copy_of};
+use sok_board::area::Sq;
+use sok_board::board::Board;
+use sok_board::box_set::BoxSet;
+use sok_entry::entry::{Inner, Inners};
+use sok_push::tables::Tables;
+use sok_rules::fault::Memory;
+use sok_state::key::Key;
+use std::alloc::Global;
+
+/// The most lists that are kept. All of them are looked through, so they are few.
+const LISTS: usize = 256;
+
+/// The most positions that are kept, those of all lists together.
+const POSITIONS: usize = 65_536;
+
+/// A state of some boxes alone, and positions that are closed under pushes from there.
+#[derive(Drop)]
+struct Kept {
+    key: Key,
+    inner: Inners,
+}
+
+impl Kept {
+    /// Whether it is this list, kept for this state.
+    fn is(&self, key: &Key, inner: &[Inner]) -> bool
+        ensures { IsTrue result ↔ (self.now ≡ record { key = key.now; inner = inner.now }) }
+    {
+        self.key == *key && are_same(self.inner.as_slice(), inner)
+    }
+}
+
+/// Lists of positions of boxes alone that were judged and found closed. The patterns of a
+/// certificate mostly have few, which come again and again: one that is kept is not judged again.
+#[derive(Drop)]
+pub struct Memo {
+    lists: Vec<Kept>,
+    /// How many more positions may be kept.
+    room: usize,
+}
+
+impl Memo {
+    /// No list is kept. It keeps the allocator for those that come.
+    pub fn new(alloc: Global) -> Memo
+        ensures { (b : Numbered) → KeepsClosed b result }
+    {
+        Memo {
+            lists: Vec::new(alloc),
+            room: POSITIONS,
+        }
+    }
+
+    /// Whether positions of some boxes alone are closed under pushes, that of a player among them at
+    /// depth 0. Those that are not kept for this state are judged, and kept if they are closed. It
+    /// refuses only for want of memory.
+    pub(crate) fn are_closed_alone(
+        &mut self,
+        alloc: Global,
+        board: &Board,
+        tables: &Tables,
+        boxes: &BoxSet,
+        player: Sq,
+        inner: &[Inner],
+    ) -> Result<bool, Memory>
+        requires accepted { IsAccepted board.now }
+        requires tables { tables.now.board ≡ board.now }
+        requires placed { IsPlaced board.now boxes.now player }
+        requires memo { KeepsClosed board.now self.old }
+        ensures exact { IfOk result
+            (λ closed. IsTrue closed ↔ AreClosedAlone board.now player boxes.now inner.now) }
+        ensures memo { KeepsClosed board.now self.new }
+    {
+        let key = Key::of(alloc, board, boxes, player)?;
+        if self.has(&key, inner) {
+            return Ok(true);
+        }
+        if !are_closed_alone(alloc, board, tables, boxes, player, inner)? {
+            return Ok(false);
+        }
+        self.keep(alloc, key, inner)?;
+        Ok(true)
+    }
+
+    /// Whether a list is kept for a state.
+    fn has(&self, key: &Key, inner: &[Inner]) -> bool
+        ensures { IsTrue result
+            ↔ Contains self.now.lists.items (record { key = key.now; inner = inner.now }) }
+    {
+        for kept in &self.lists {
+            if kept.is(key, inner) {
+                return true;
+            }
+        }
+        false
+    }
+
+    /// Keeps a list for a state, while there is room.
+    fn keep(&mut self, alloc: Global, key: Key, inner: &[Inner]) -> Result<(), Memory>
+        ensures { (b : Numbered) → IsClosedKept b (record { key = key; inner = inner.now })
+            → KeepsClosed b self.old → KeepsClosed b self.new }
+    {
+        let Some(room) = self.room.checked_sub(inner.len()) else {
+            return Ok(());
+        };
+        if self.lists.len() >= LISTS {
+            return Ok(());
+        }
+        let inner = copy_of(alloc, inner)?;
+        self.lists.push(Kept { key, inner })?;
+        self.room = room;
+        Ok(())
+    }
+}
