@@ -164,10 +164,14 @@ fn push_inner_line(text: &mut Vec<u8>, inner: &Inner) -> Result<(), AllocError>
         (vec_capacity text.old < vec_len text.old + length (ended (inner_line inner.now))) }
     ensures front { OnErr result (Grows text.old.items text.new.items) }
 {
-    text.push(letter_of_inner(&inner.reason))?;
-    push_number(text, inner.depth as usize)?;
-    push_number(text, inner.player as usize)?;
-    push_counted(text, inner.boxes.as_slice())?;
+    let letter = letter_of_inner(&inner.reason);
+    push_position(
+        text,
+        letter,
+        inner.depth,
+        inner.player,
+        inner.boxes.as_slice(),
+    )?;
     push_inner_reason(text, &inner.reason)?;
     push_line_feed(text)
 }
@@ -207,12 +211,37 @@ fn push_line(text: &mut Vec<u8>, entry: &Entry) -> Result<(), AllocError>
         (vec_capacity text.old < vec_len text.old + length (ended (entry_line entry.now))) }
     ensures front { OnErr result (Grows text.old.items text.new.items) }
 {
-    text.push(letter_of(&entry.reason))?;
-    push_number(text, entry.depth as usize)?;
-    push_number(text, entry.player as usize)?;
-    push_counted(text, entry.boxes.as_slice())?;
+    let letter = letter_of(&entry.reason);
+    push_position(
+        text,
+        letter,
+        entry.depth,
+        entry.player,
+        entry.boxes.as_slice(),
+    )?;
     push_reason(text, &entry.reason)?;
     push_line_feed(text)
+}
+
+/// Appends the letter of a reason and the numbers of a position.
+fn push_position(
+    text: &mut Vec<u8>,
+    letter: u8,
+    depth: u32,
+    player: u32,
+    boxes: &[u32],
+) -> Result<(), AllocError>
+    ensures position { OnOk result (text.new.items ≡ text.old.items
+        ++ letter ∷ spaced (depth ∷ player ∷ length boxes.now ∷ boxes.now)) }
+    ensures capacity { vec_capacity text.old ≤ vec_capacity text.new }
+    ensures full { OnErr result (vec_capacity text.old < vec_len text.old
+        + length (letter ∷ spaced (depth ∷ player ∷ length boxes.now ∷ boxes.now))) }
+    ensures front { OnErr result (Grows text.old.items text.new.items) }
+{
+    text.push(letter)?;
+    push_number(text, depth as usize)?;
+    push_number(text, player as usize)?;
+    push_counted(text, boxes)
 }
 
 /// Appends the line behind the entries. It succeeds where there is room for it, and a refusal leaves

@@ -3,12 +3,33 @@ use Rattle.sok_price.proofs.Words.{ℕ, ◌≡◌, ◌≢◌, ◌<◌, ◌≤◌
 use Rattle.sok_price.proofs.Words.{AllPairs, Contains, arith, filter, length, get_or, map, min, sum, zero, suc, cases_eq, cases_lt, same_Some, get_or_default}
 use Rattle.sok_price.proofs.Words.{get_or-map, length-map, All-from_get_or, sum_by-cons, sum-map, Numbered, goals_of, Costs, cost_in, cost_of, TellCosts}
 use Rattle.sok_price.proofs.Words.{TellsCost, AreKept, IsBounded, IsCost, TellsLeast, Costing, Growth, IsReady, branch_at, is_met, IsWhole, Search, growth_of}
-use Rattle.sok_price.proofs.Words.{Bool, Tells, false, get_or-range_with_len, length-range_with_len, AreOfBoxes, IsShaped, CanMove}
+use Rattle.sok_price.proofs.Words.{AreSet, Bool, Tells, true, false, get_or-range_with_len, length-range_with_len, AreOfBoxes, IsShaped, CanMove}
 use Rattle.sok_price.proofs.Words.{IsCopied, KeptMatching, IsCrowd, AreTabled, IsChange, AreMoved, AreRows, Holds, IsMoved, IsStrictlyIncreasing}
+use Rattle.sok_price.specs.Kept.{IsSettled}
+use Rattle.sok_price.specs.Matched.{IsSound}
 use Rattle.sok_price.proofs.{Answering.HasSums, Answering.HasSums-ready, Answering.IsAssignment-told, Answering.Priced-told, Answering.IsCrowd-closed}
 use Rattle.sok_price.proofs.{Answering.none-free, Branching.member-within, Exchanging.rows-apart, Exchanging.AreExactly-moved}
 use Rattle.sok_price.proofs.{Exchanging.AreRows-moved, Places.all_below, Places.apart_from, Places.apart_rising, Places.places_apart, Places.places_in}
 use Rattle.sok_price.proofs.{Places.same_place, Places.prices_of-all}
+
+-- a matching is sound with other rows, whether they are settled or not, and as many marks
+pub IsSound-set : {squares : ℕ} {costs : Costs} {rows others : List ℕ} {search new : Search} {matched settled : Bool} {trial : Search}
+    {trial_rows boxes : List ℕ} {marks other_marks : List Bool} → IsSound squares costs rows search matched trial trial_rows marks
+    → AreSet squares costs rows others → IsShaped (length others) costs.goals new → (settled ≡ true → IsSettled squares boxes costs others new)
+    → length other_marks ≡ length marks → IsSound squares costs others new settled trial trial_rows other_marks
+IsSound-set {costs = costs} {trial = trial} sound set shaped settles as_many = record {
+  shaped = set.shaped;
+  square = set.whole ∙ sound.square;
+  are_rows = set.are_rows;
+  small = sound.small;
+  entries = sound.entries;
+  search_shaped = shaped;
+  trial_shaped = subst (λ n. IsShaped n costs.goals trial) (sym set.whole) sound.trial_shaped;
+  as_many = sound.as_many ∙ sym set.whole;
+  a_mark_a_square = as_many ∙ sound.a_mark_a_square;
+  whole = λ is. (settles is).whole;
+  low = λ is. (settles is).low;
+}
 
 -- where each goal has a row, what the rows cost less what the goals cost is the sum of the costs
 pub sums-whole : {cost : Costing} {members goals : ℕ} {g : Growth} → IsReady cost members goals g → members ≡ goals → length g.goal_of ≡ members

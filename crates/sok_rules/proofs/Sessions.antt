@@ -1,6 +1,6 @@
 -- Sessions: letters played one by one, taken back and played again.
 use Rattle.std.proofs.Common.{ℕ, ◌≡◌, ◌≢◌, ◌<◌, ◌≤◌, ◌+◌, ◌-◌, refl, sym, ap, ◌∙◌, subst, List, [], ◌∷◌, ◌++◌, length, take, drop}
-use Rattle.std.proofs.Common.{get_or, Bool, false, Option, Some, None, IsSome, IsNone, IsSomeAnd, MatchOption, arith}
+use Rattle.std.proofs.Common.{add-one, drop-cons, get_or, suc, Bool, false, Option, Some, None, IsSome, IsNone, IsSomeAnd, MatchOption, arith}
 use Rattle.std.proofs.lemmas.List.{length-append, length-take-le, take_all, take_more, drop_all}
 use Rattle.std.proofs.lemmas.Option.{same_Some, option_and_then_some}
 use Rattle.std.specs.Option.{option_and_then, option_map_or}
@@ -9,7 +9,7 @@ use Rattle.sok_rules.specs.Squares.{Rows}
 use Rattle.sok_rules.specs.Play.{After, Position, one_if, pushes, run, start, step}
 use Rattle.sok_rules.specs.Kept.{IsSession}
 use Rattle.sok_rules.specs.Replay.{push_marks}
-use Rattle.sok_rules.specs.Session.{Letters, StaysAt, StepsOn, position_of, with_letter}
+use Rattle.sok_rules.specs.Session.{Letters, Redoes, StaysAt, StepsOn, position_of, with_letter}
 use Rattle.sok_rules.specs.declared.fault.PlayFault.TheVariants.{Memory}
 use Rattle.sok_rules.specs.Scene.{CameBy, SameGround, Steps}
 use Rattle.sok_rules.proofs.Man.{IsStanding-start}
@@ -147,6 +147,16 @@ few_pushes rows scene letters pushed played count session =
 -- what is seen of a session
 abbrev pub viewed : Rows → List Dir → ℕ → Letters
 viewed rows letters played = record { rows = rows; played = take played letters; undone = drop played letters }
+
+-- the first letter undone is played again
+pub Redoes-viewed : (rows : Rows) (letters : List Dir) (played : ℕ) (d : Dir) → played < length letters → d ≡ get_or letters played d
+    → Redoes (viewed rows letters played) (viewed rows letters (played + 1))
+Redoes-viewed rows letters played d within is = record {
+  rows = refl;
+  d = d;
+  undone = rw (add-one, drop-cons letters played d) (ap (λ e. e ∷ drop (suc played) letters) (sym is));
+  played = take_more letters played d within ∙ ap (λ e. take played letters ++ e ∷ []) (sym is);
+}
 
 -- want of memory changes nothing, and comes where no letter is undone
 pub StaysAt-memory : (rows : Rows) (letters same : List Dir) (played : ℕ) (d : Dir) → same ≡ letters → played ≡ length letters → played < 1000000

@@ -1,6 +1,17 @@
 use Rattle.sok_price.proofs.Words.{All, AreExactly, AreRows, Serves, length, subst, sym, ◌<◌, ◌∙◌, List, ap, arith, range_with_len, ℕ}
-use Rattle.sok_price.proofs.{Answering.HasWorth-sums, Sparing.IsCrowd-many, Sparing.TellsLeast-whole, Sparing.sums-whole}
+use Rattle.sok_price.proofs.Words.{common_steps}
+use Rattle.sok_price.proofs.{Answering.HasWorth-sums, Sparing.IsCrowd-many, Sparing.IsSound-set, Sparing.TellsLeast-whole, Sparing.sums-whole}
 use Rattle.sok_price.proofs.matching.Matching.set.Goals as goal
+
+pub invariant_of-self : goal.invariant_of-self
+invariant_of-self c =
+    let found = c.match_boxes-self-inside.ensures in
+    IsSound-set c.self.invariant found.kept found.shaped found.settled (grind (arith, common_steps))
+
+pub invariant_of-self-2 : goal.invariant_of-self-2
+invariant_of-self-2 c =
+    let found = c.match_boxes-self-inside.ensures in
+    IsSound-set c.self.invariant found.kept found.shaped found.settled (grind (arith, common_steps))
 
 pub worth-requires : goal.worth-requires
 worth-requires c =

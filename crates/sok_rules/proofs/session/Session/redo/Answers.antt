@@ -2,8 +2,9 @@ use Rattle.std.proofs.Common.{◌+◌, ◌∙◌, sym, ap, subst, arith, refl}
 use Rattle.std.proofs.lemmas.Option.{MatchOption-at_some, none-some}
 use Rattle.sok_rules.specs.Play.{one_if, start, step}
 use Rattle.sok_rules.specs.Scene.{Steps}
+use Rattle.sok_rules.specs.Session.{Redoes}
 use Rattle.sok_rules.proofs.Replays.{one_if-is}
-use Rattle.sok_rules.proofs.Sessions.{IsSession-redone, IsSession-same, few_pushes, legal_redo, some_step}
+use Rattle.sok_rules.proofs.Sessions.{IsSession-redone, IsSession-same, Redoes-viewed, few_pushes, legal_redo, some_step, viewed}
 use Rattle.sok_rules.proofs.session.Session.redo.Goals as goal
 
 pub unwrap-pushed-requires : goal.unwrap-pushed-requires
@@ -26,3 +27,10 @@ invariant_of-self c =
     (IsSession-redone s.level s.scene c.step.new.self s.letters.items s.pushed.items s.played s.pushes c.index.result.now p c.self.invariant
     (omega (arith, c.self.invariant.mark, c.len.ensures, s.letters.ok.0, c.if-self-len.false))
     (subst (λ d. Steps s.scene d p c.step.new.self) c.index.ensures steps))
+
+pub returns : goal.returns
+returns c =
+    let s = c.self.inside in
+    subst (λ old. Redoes old (viewed s.level s.letters.items (s.played + 1))) c.self.view_is
+    (Redoes-viewed s.level s.letters.items s.played c.index.result.now
+    (omega (arith, c.self.invariant.mark, c.len.ensures, s.letters.ok.0, c.if-self-len.false)) c.index.ensures)
