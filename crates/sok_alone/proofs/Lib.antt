@@ -6,4 +6,5 @@ pub mod Following
 pub mod Growing
 pub mod Knowing
 pub mod Losing
+pub mod Members
 pub mod Pairs

@@ -1,13 +1,18 @@
 -- What losses show: nothing solves where two boxes are lost alone.
-use Rattle.std.proofs.Common.{ℕ, ◌≡◌, ◌<◌, ◌⊎◌, ◌&&◌, ◌==◌, true, inl, inr, refl, sym, subst, List, [], ◌∷◌, zero, suc, All, Contains, IfSome, Option, None, Some, arith, length}
+use Rattle.std.proofs.Common.{ℕ, ◌≡◌, ◌<◌, ◌⊎◌, ◌∙◌, ◌&&◌, ◌==◌, false, true, true≢false, inl, inr, refl, sym, ap, subst, List, [], ◌∷◌, zero, suc, All, Contains, IfSome, Option, None, Some, arith, get_or, length}
+use Rattle.std.proofs.lemmas.Bool.{cases_Bool}
 use Rattle.std.proofs.lemmas.Bool.Decides.{nat_tests}
-use Rattle.std.proofs.lemmas.List.Elements.{All-cons, All-nil}
-use Rattle.std.proofs.lemmas.Option.{get_or_from_slice_get, slice_get_within}
-use Rattle.sok_rules.specs.Play.{NeverFrom}
+use Rattle.std.proofs.lemmas.List.{get_or_default}
+use Rattle.std.proofs.lemmas.List.Elements.{All-cons, All-contains, All-nil}
+use Rattle.std.proofs.lemmas.Option.{get_or_from_slice_get, same_Some, slice_get_within}
+use Rattle.sok_rules.specs.declared.cell.Dir.{Dir}
+use Rattle.sok_rules.specs.declared.cell.Spot.{Spot}
+use Rattle.sok_rules.specs.Squares.{Rows, next}
+use Rattle.sok_rules.specs.Play.{After, NeverFrom, Position, pushes, run, step}
 use Rattle.sok_rules.specs.States.{Same}
-use Rattle.sok_rules.proofs.Thinner.{NeverFrom-thinner}
-use Rattle.sok_rules.proofs.Steps.{both}
-use Rattle.sok_rules.proofs.Walking.{Same-sym}
+use Rattle.sok_rules.proofs.Thinner.{IsThinner, NeverFrom-thinner}
+use Rattle.sok_rules.proofs.Steps.{both, step-walk, walk_step}
+use Rattle.sok_rules.proofs.Walking.{Same-refl, Same-step, Same-sym, Same-trans, quiet_step}
 use lib.Pointwise.{pointwise, pointwise_decides}
 use Rattle.sok_board.specs.Area.{Numbered, IsAccepted, position_of}
 use Rattle.sok_board.specs.BoxSets.{put_in_order}
@@ -16,25 +21,148 @@ use Rattle.sok_region.specs.Regions.{IsPlaced}
 use Rattle.sok_state.specs.declared.key.Key.{Key}
 use Rattle.sok_state.specs.Keys.{IsKeyOf, key_position}
 use Rattle.sok_state.proofs.Placed.{IsStanding-placed}
-use Rattle.sok_bar.proofs.Patterns.{NeverFrom-Same, thinner-among}
+use Rattle.sok_closed.specs.Rolls.{node_position}
+use Rattle.sok_entry.specs.declared.entry.Inner.{Inner}
+use Rattle.sok_bar.specs.Patterns.{AreClosedAlone, inner_node}
+use Rattle.sok_bar.proofs.Patterns.{thinner-among}
 use Rattle.sok_bar.proofs.ReasonLaws.{NeverFrom-alone}
 use Rattle.sok_alone.specs.declared.losses.Loss.{Loss}
-use Rattle.sok_alone.specs.Losses.{AreInOrder, HasKeyAt, IsLoss, IsLossAt}
+use Rattle.sok_alone.specs.Losses.{AreInOrder, HasKeyAt, IsLoss, IsLostBy, KeepsPlaces}
 use Rattle.sok_alone.proofs.Pairs.{rising-pair}
 
--- nothing solves the boxes of a loss, from where the player stands
-pub never-lost : (b : Numbered) → IsAccepted b → (player : ℕ) (boxes : List ℕ) (losses : List Loss) (place : ℕ) → IsPlaced b boxes player
-    → All (IsLoss b) losses → IsLossAt b player boxes losses place → NeverFrom b.rows (position_of b player boxes)
-never-lost b accepted player boxes losses place placed each at =
-    let loss = at.found.loss in
-    let there = at.found.there in
-    let is : IsLoss b loss = subst (IsLoss b) (get_or_from_slice_get losses place loss loss there) (each place loss (slice_get_within losses place loss there)) in
-    let x = position_of b player boxes in
-    let y = key_position b loss.key in
-    let standing = IsStanding-placed b accepted.numbered accepted.proper player boxes placed in
-    let walk = subst (λ key. Same b.rows x (key_position b key)) (sym at.found.same) at.is.same in
-    NeverFrom-Same b.rows y x (Same-sym b.rows x y standing walk)
-    (NeverFrom-alone b accepted loss.key.least loss.key.boxes loss.inner is.state.is.placed is.closed)
+-- ---- closed lists
+
+-- what is closed from one player of a state is closed from another
+closed-from : (b : Numbered) (player least : ℕ) (boxes : List ℕ) (inner : List Inner) → Same b.rows (position_of b player boxes) (position_of b least boxes)
+    → AreClosedAlone b least boxes inner → AreClosedAlone b player boxes inner
+closed-from b player least boxes inner same closed =
+    let (first, starts) = closed.rolled.starter in
+    record {
+      rolled = record {
+        positions = closed.rolled.positions;
+        apart = closed.rolled.apart;
+        unsolved = closed.rolled.unsolved;
+        starter = (
+          first,
+          record {
+            listed = starts.listed;
+            first = starts.first;
+            same = Same-trans b.rows (position_of b player boxes) (position_of b least boxes) (node_position b (inner_node first)) same starts.same;
+          },
+        );
+        followed = closed.rolled.followed;
+      };
+      barred = closed.barred;
+    }
+
+-- the loss of a state's key is closed from each player of the state
+lost-at : (b : Numbered) (player : ℕ) (boxes : List ℕ) (key : Key) → IsKeyOf b (position_of b player boxes) key → key.boxes ≡ boxes → (losses : List Loss)
+    → All (IsLoss b) losses → (place : ℕ) → HasKeyAt losses place key → IsLostBy b player boxes losses place
+lost-at b player boxes key is boxes_are losses each place at =
+    let loss = at.loss in
+    let one : IsLoss b loss = subst (IsLoss b) (get_or_from_slice_get losses place loss loss at.there)
+    (each place loss (slice_get_within losses place loss at.there)) in
+    let squares_are : loss.key.boxes ≡ boxes = ap (λ (k : Key). k.boxes) at.same ∙ boxes_are in
+    let same : Same b.rows (position_of b player boxes) (key_position b loss.key) = subst (λ k. Same b.rows (position_of b player boxes) (key_position b k))
+    (sym at.same) is.same in record {
+      loss = loss;
+      there = at.there;
+      rising = one.state.is.placed.rising;
+      among = λ square there. subst (λ squares. Contains squares square) squares_are there;
+      closed = closed-from b player loss.key.least loss.key.boxes loss.inner
+          (subst (λ squares. Same b.rows (position_of b player squares) (key_position b loss.key)) (sym squares_are) same) one.closed;
+      few = one.few;
+      fit = one.fit;
+    }
+
+pub lost-found : (b : Numbered) (player : ℕ) (boxes : List ℕ) (key : Key) → IsKeyOf b (position_of b player boxes) key → key.boxes ≡ boxes
+    → (losses : List Loss) → All (IsLoss b) losses → (found : Option ℕ) → IfSome found (λ place. HasKeyAt losses place key)
+    → IfSome found (IsLostBy b player boxes losses)
+lost-found b player boxes key is boxes_are losses each None told = told
+lost-found b player boxes key is boxes_are losses each (Some place) at = lost-at b player boxes key is boxes_are losses each place at
+
+module _ (b : Numbered) (player : ℕ) (boxes : List ℕ) (losses : List Loss) (place : ℕ) (lost : IsLostBy b player boxes losses place) where
+  -- where there are more boxes
+  lost-more : (more : List ℕ) → ((square : ℕ) → Contains boxes square → Contains more square) → IsLostBy b player more losses place
+  lost-more more among = record {
+    loss = lost.loss;
+    there = lost.there;
+    rising = lost.rising;
+    among = λ square there. among square (lost.among square there);
+    closed = lost.closed;
+    few = lost.few;
+    fit = lost.fit;
+  }
+
+  -- where more losses are known
+  pub lost-kept : (new : List Loss) → KeepsPlaces losses new → IsLostBy b player boxes new place
+  lost-kept new kept = record {
+    loss = lost.loss;
+    there = kept place lost.loss lost.there;
+    rising = lost.rising;
+    among = lost.among;
+    closed = lost.closed;
+    few = lost.few;
+    fit = lost.fit;
+  }
+
+  -- the boxes that are lost make a position with the player
+  placed-lost : IsPlaced b boxes player → IsPlaced b lost.loss.key.boxes player
+  placed-lost placed =
+      let squares = lost.loss.key.boxes in
+      record {
+        rising = lost.rising;
+        boxes_exist = λ k d within. All-contains (λ square. square < length b.area) boxes (get_or squares k d) placed.boxes_exist
+            (lost.among (get_or squares k d) (k, within, get_or_default squares k (get_or squares k d) d within));
+        player_exists = placed.player_exists;
+        free = λ there. placed.free (lost.among player there);
+      }
+
+  -- nothing solves
+  pub lost-never : IsAccepted b → IsPlaced b boxes player → NeverFrom b.rows (position_of b player boxes)
+  lost-never accepted placed =
+      let squares = lost.loss.key.boxes in
+      NeverFrom-thinner b.rows (position_of b player squares) (position_of b player boxes) (thinner-among b player squares boxes lost.among)
+      (NeverFrom-alone b accepted player squares lost.loss.inner (placed-lost placed) lost.closed)
+
+-- ---- walks
+
+thinner-free : (y x : Position) (s : Spot) → IsThinner y x → x.boxes s ≡ false → y.boxes s ≡ false
+thinner-free y x s thin free = elim (cases_Bool (y.boxes s)) [
+  | inl there ↦ absurd (true≢false (sym (thin.among s there) ∙ free))
+  | inr gone ↦ gone
+]
+
+-- a walk stays one where some of the boxes are gone
+walk-thinner : (rows : Rows) (w : List Dir) (y x z : Position) → IsThinner y x → run rows x w ≡ Some z → pushes rows x w ≡ 0 → Same rows y (record y { man = z.man })
+walk-thinner rows [] y x z thin e quiet = subst (λ man. Same rows y (record y { man = man })) (thin.man ∙ ap (λ (p : Position). p.man) (same_Some x z e))
+    (Same-refl rows y)
+walk-thinner rows (d ∷ w) y x z thin e quiet = quiet_step rows d w x z e quiet (λ a steps unpushed runs none.
+    let walk = walk_step rows d x a steps unpushed in
+    let c : After = record { position = record y { man = walk.to }; pushed = false } in
+    let so : step rows d y ≡ Some c = step-walk rows d y walk.to (ap (next d) thin.man ∙ walk.ahead) walk.to_open (thinner-free y x walk.to thin walk.to_free) in
+    let thin_on : IsThinner c.position a.position = subst (λ (after : After). IsThinner c.position after.position) (sym walk.leads)
+    (record { man = refl; among = thin.among }) in
+    Same-trans rows y c.position (record y { man = z.man }) (Same-step rows d y c so refl) (walk-thinner rows w c.position a.position z thin_on runs none))
+
+-- what is lost from one player of a state is lost from another
+pub lost-walked : (b : Numbered) → IsAccepted b → (player other : ℕ) (boxes : List ℕ) (losses : List Loss) (place : ℕ) → IsPlaced b boxes player
+    → Same b.rows (position_of b player boxes) (position_of b other boxes) → IsLostBy b player boxes losses place → IsLostBy b other boxes losses place
+lost-walked b accepted player other boxes losses place placed same lost =
+    let squares = lost.loss.key.boxes in
+    let back = Same-sym b.rows (position_of b player boxes) (position_of b other boxes)
+    (IsStanding-placed b accepted.numbered accepted.proper player boxes placed) same in
+    record {
+      loss = lost.loss;
+      there = lost.there;
+      rising = lost.rising;
+      among = lost.among;
+      closed = closed-from b other player squares lost.loss.inner
+          (walk-thinner b.rows back.0 (position_of b other squares) (position_of b other boxes) (position_of b player boxes)
+          (thinner-among b other squares boxes lost.among) back.1 back.2) lost.closed;
+      few = lost.few;
+      fit = lost.fit;
+    }
 
 -- ---- two boxes
 
@@ -72,12 +200,19 @@ pair-among : (x y : ℕ) (pair boxes : List ℕ) → AreInOrder x y pair → Con
 pair-among x y pair boxes (inl (less, is)) one two n there = both-among x y boxes one two n (subst (λ squares. Contains squares n) is there)
 pair-among x y pair boxes (inr (less, is)) one two n there = both-among y x boxes two one n (subst (λ squares. Contains squares n) is there)
 
--- what is never solved of them alone is never solved with more boxes
-pub never-among : (b : Numbered) (x y player : ℕ) (pair : List ℕ) → AreInOrder x y pair → NeverFrom b.rows (position_of b player pair) → (boxes : List ℕ)
-    → Contains boxes x → Contains boxes y → NeverFrom b.rows (position_of b player boxes)
-never-among b x y player pair order never boxes one two =
-    NeverFrom-thinner b.rows (position_of b player pair) (position_of b player boxes)
-    (thinner-among b player pair boxes (pair-among x y pair boxes order one two)) never
+-- the loss of two boxes, wherever they are among others
+pub lost-among : (b : Numbered) (x y player : ℕ) (pair : List ℕ) → AreInOrder x y pair → (losses : List Loss) (found : Option ℕ)
+    → IfSome found (IsLostBy b player pair losses)
+    → IfSome found (λ place. (boxes : List ℕ) → Contains boxes x → Contains boxes y → IsLostBy b player boxes losses place)
+lost-among b x y player pair order losses None told = told
+lost-among b x y player pair order losses (Some place) lost =
+    λ boxes one two. lost-more b player pair losses place lost boxes (pair-among x y pair boxes order one two)
+
+pub lost-of : (b : Numbered) (x y player : ℕ) (losses : List Loss) (found : Option ℕ)
+    → IfSome found (λ place. (boxes : List ℕ) → Contains boxes x → Contains boxes y → IsLostBy b player boxes losses place) → (boxes : List ℕ)
+    → Contains boxes x → Contains boxes y → IfSome found (IsLostBy b player boxes losses)
+lost-of b x y player losses None told boxes one two = told
+lost-of b x y player losses (Some place) lost boxes one two = lost boxes one two
 
 -- both are boxes after a push of the first
 pub both-after : (from to other : ℕ) (boxes : List ℕ) → Contains boxes other → (other ≡ from → ⊥)
@@ -85,12 +220,6 @@ pub both-after : (from to other : ℕ) (boxes : List ℕ) → Contains boxes oth
 both-after from to other boxes there apart =
     let moves = IsMoved-put from to boxes in
     ((moves to).1 (inl refl), (moves other).1 (inr (there, apart)))
-
--- the loss of a key is one of the boxes of which it is the key
-pub at-state : (b : Numbered) (player : ℕ) (boxes : List ℕ) (key : Key) → IsKeyOf b (position_of b player boxes) key → key.boxes ≡ boxes → (losses : List Loss)
-    (found : Option ℕ) → IfSome found (λ place. HasKeyAt losses place key) → IfSome found (IsLossAt b player boxes losses)
-at-state b player boxes key is boxes_are losses None told = told
-at-state b player boxes key is boxes_are losses (Some place) told = record { key = key; is = is; boxes_are = boxes_are; found = told }
 
 -- the test by which keys are compared
 pub same-key : (a b : Key) → ((a.least == b.least) && pointwise ◌==◌ a.boxes b.boxes) ≡ true → a ≡ b

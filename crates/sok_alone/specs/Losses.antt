@@ -1,17 +1,23 @@
 -- Pairs of boxes that are found to be never solved, kept for a whole search.
 use Rattle.std.specs.Prelude.{ℕ, ◌≡◌, ◌<◌, ◌≤◌, ◌⊎◌, List, [], ◌∷◌, Some, All, Contains, length, slice_get}
-use Rattle.sok_board.specs.Area.{Numbered, position_of}
+use Rattle.std.specs.List.Sorted.{IsStrictlyIncreasing}
+use Rattle.sok_board.specs.Area.{Numbered}
 use Rattle.sok_entry.specs.Text.{FitsInner}
 use Rattle.sok_state.specs.declared.key.Key.{Key}
-use Rattle.sok_state.specs.Keys.{IsKey, IsKeyOf}
+use Rattle.sok_state.specs.Keys.{IsKey}
 use Rattle.sok_bar.specs.Patterns.{AreClosedAlone}
 use Rattle.sok_alone.specs.declared.losses.Loss.{Loss}
 use Rattle.sok_alone.specs.declared.losses.Losses.{Losses}
+
+-- the most positions of a loss
+abbrev pub loss_limit : ℕ
+loss_limit = 200
 
 -- a state of some boxes alone, with positions of them that are closed under pushes
 pub record IsLoss (b : Numbered) (loss : Loss) : Type 0 where
   pub state : IsKey b loss.key
   pub closed : AreClosedAlone b loss.key.least loss.key.boxes loss.inner
+  pub few : length loss.inner ≤ loss_limit
   pub fit : All FitsInner loss.inner
 
 -- losses of a board, and room for all its squares
@@ -25,12 +31,22 @@ pub record HasKeyAt (losses : List Loss) (place : ℕ) (key : Key) : Type 0 wher
   pub there : slice_get losses place ≡ Some loss
   pub same : loss.key ≡ key
 
--- the loss at a place is one of the state of these boxes alone
-pub record IsLossAt (b : Numbered) (player : ℕ) (boxes : List ℕ) (losses : List Loss) (place : ℕ) : Type 0 where
-  pub key : Key
-  pub is : IsKeyOf b (position_of b player boxes) key
-  pub boxes_are : key.boxes ≡ boxes
-  pub found : HasKeyAt losses place key
+-- the loss at a place is of boxes among these, and is closed from where the player stands
+pub record IsLostBy (b : Numbered) (player : ℕ) (boxes : List ℕ) (losses : List Loss) (place : ℕ) : Type 0 where
+  pub loss : Loss
+  pub there : slice_get losses place ≡ Some loss
+  pub rising : IsStrictlyIncreasing loss.key.boxes
+  pub among : (square : ℕ) → Contains loss.key.boxes square → Contains boxes square
+  pub closed : AreClosedAlone b player loss.key.boxes loss.inner
+  pub few : length loss.inner ≤ loss_limit
+  pub fit : All FitsInner loss.inner
+
+-- each loss stays at its place
+abbrev pub KeepsPlaces : List Loss → List Loss → Type 0
+KeepsPlaces old new = (place : ℕ) (loss : Loss) → slice_get old place ≡ Some loss → slice_get new place ≡ Some loss
+
+abbrev pub losses_of : Losses → List Loss
+losses_of kept = kept.losses.items
 
 -- two squares as a rising list
 abbrev pub AreInOrder : ℕ → ℕ → List ℕ → Type 0

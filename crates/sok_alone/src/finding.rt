@@ -6,7 +6,7 @@ ghost use Rattle.sok_board.specs.Area.{position_of};
 ghost use Rattle.sok_board.specs.Limits.{box_limit};
 ghost use Rattle.sok_entry.specs.Text.{FitsInner};
 ghost use Rattle.sok_bar.specs.Patterns.{IsPattern};
-ghost use Rattle.sok_alone.specs.Finding.{ArePlaces};
+ghost use Rattle.sok_alone.specs.Finding.{AreMembersAt, ArePlaces};
 ghost use Rattle.sok_alone.specs.GivenUp.{IsGivenUp};
 
 use crate::closing::close_alone;
@@ -59,6 +59,21 @@ pub fn find_pattern(
     };
     let members = Numbers::copied(alloc, &[first_place, second_place])?;
     Ok(Some(FoundPattern { members, inner }))
+}
+
+/// The places of some boxes in a list of boxes. It refuses only for want of memory.
+pub(crate) fn members_of(alloc: Global, boxes: &[Sq], squares: &[Sq]) -> Result<Numbers, Memory>
+    requires rising { IsStrictlyIncreasing boxes.now }
+    requires few { length boxes.now ≤ box_limit }
+    requires in_order { IsStrictlyIncreasing squares.now }
+    requires among { All (Contains boxes.now) squares.now }
+    ensures { IfOk result (AreMembersAt boxes.now squares.now) }
+{
+    let mut members = Vec::with_capacity(alloc, squares.len())?;
+    for square in squares {
+        members.push(place_of(boxes, *square))?;
+    }
+    Ok(Numbers::from(members))
 }
 
 /// The place of a box in a list of boxes.

@@ -1,15 +1,20 @@
 //! Pairs of boxes that are found to be never solved, kept for a whole search.
 
-ghost use Rattle.std.specs.Prelude.{ℕ, List, ◌≡◌, ◌<◌, ◌≤◌, Contains, IfOk, IfSome, IsTrue, OnOk};
-ghost use Rattle.std.specs.Prelude.{length};
-ghost use Rattle.sok_board.specs.Area.{IsAccepted, position_of};
+ghost use Rattle.std.specs.Prelude.{ℕ, List, ◌≡◌, ◌<◌, ◌≤◌, All, Contains, IfOk, IfSome, OnOk, Some};
+ghost use Rattle.std.specs.Prelude.{length, slice_get};
+ghost use Rattle.sok_bar.specs.Patterns.{IsPattern};
+ghost use Rattle.sok_board.specs.Area.{Numbered};
 ghost use Rattle.sok_board.specs.BoxSets.{put_in_order};
+ghost use Rattle.sok_entry.specs.Text.{FitsInner};
 ghost use Rattle.sok_region.specs.Regions.{IsPlaced};
-ghost use Rattle.sok_rules.specs.Play.{NeverFrom};
 ghost use Rattle.sok_state.specs.Keys.{IsKey};
-ghost use Rattle.sok_alone.specs.Losses.{AreInOrder, ArePushed, HasKeyAt, IsLossAt, KeepsLosses};
+ghost use Rattle.sok_alone.specs.Losses.{AreInOrder, ArePushed, HasKeyAt, IsLostBy, KeepsLosses};
+ghost use Rattle.sok_alone.specs.Losses.{KeepsPlaces, loss_limit, losses_of};
 
 use crate::closing::close_unless;
+use crate::finding::members_of;
+use crate::found::FoundPattern;
+use sok_bar::inners::copy_of;
 use sok_board::area::Sq;
 use sok_board::board::Board;
 use sok_board::box_set::BoxSet;
@@ -23,6 +28,10 @@ use std::alloc::Global;
 
 /// The most states of two boxes that are looked at from one of them.
 const STATES: u32 = 200;
+
+/// How many searches there may be beyond one for each known state: so that with many boxes on a
+/// large board pairs take no longer than the states themselves.
+const SEARCHES: usize = 4_096;
 
 /// The most losses that are kept.
 const LOSSES: usize = 65_536;
@@ -64,48 +73,112 @@ impl Losses {
         })
     }
 
-    /// Whether nothing solves after a push of one of the boxes, since that box and another one are
-    /// never solved from there, were they alone on the board. What was found of two boxes is kept.
-    /// It refuses only for want of memory.
-    pub fn are_lost(
+    /// The place of a loss that shows that nothing solves after a push of one of the boxes: that box
+    /// and another one are never solved from there, were they alone on the board. What was found of
+    /// two boxes is kept. Two that were not asked yet are searched if that is worth it where so many
+    /// states are known. None promises nothing. It refuses only for want of memory.
+    pub fn loss_after(
+        &mut self,
+        alloc: Global,
+        board: &Board,
+        tables: &Tables,
+        known: usize,
+        boxes: &BoxSet,
+        from: Sq,
+        dir: Dir,
+        to: Sq,
+    ) -> Result<Option<u32>, Memory>
+        requires tables { tables.now.board ≡ board.now }
+        requires pushed { ArePushed board.now boxes.now from to }
+        requires losses { KeepsLosses board.now self.old }
+        ensures losses { OnOk result (KeepsLosses board.now self.new) }
+        ensures kept { OnOk result (KeepsPlaces (losses_of self.old) (losses_of self.new)) }
+        ensures lost { IfOk result (λ found. IfSome found (IsLostBy board.now from
+            (put_in_order from to boxes.now) (losses_of self.new))) }
+    {
+        for other in boxes.list() {
+            if *other == from {
+                continue;
+            }
+            let found = self.loss_beside(alloc, board, tables, known, from, dir, to, *other)?;
+            if found.is_some() {
+                return Ok(found);
+            }
+        }
+        Ok(None)
+    }
+
+    /// The place of a loss of two of the boxes, which are never solved from where the player stands,
+    /// were they alone on the board. None promises nothing. It refuses only for want of memory.
+    pub fn loss_among(
         &mut self,
         alloc: Global,
         board: &Board,
         tables: &Tables,
         boxes: &BoxSet,
-        from: Sq,
-        dir: Dir,
-        to: Sq,
-    ) -> Result<bool, Memory>
-        requires accepted { IsAccepted board.now }
+        player: Sq,
+    ) -> Result<Option<u32>, Memory>
         requires tables { tables.now.board ≡ board.now }
-        requires pushed { ArePushed board.now boxes.now from to }
+        requires placed { IsPlaced board.now boxes.now player }
         requires losses { KeepsLosses board.now self.old }
         ensures losses { OnOk result (KeepsLosses board.now self.new) }
-        ensures lost { IfOk result (λ lost. IsTrue lost → NeverFrom board.now.rows
-            (position_of board.now from (put_in_order from to boxes.now))) }
+        ensures kept { OnOk result (KeepsPlaces (losses_of self.old) (losses_of self.new)) }
+        ensures lost { IfOk result (λ found. IfSome found
+            (IsLostBy board.now player boxes.now (losses_of self.new))) }
     {
-        for other in boxes.list() {
-            if *other != from && self.is_lost(alloc, board, tables, from, dir, to, *other)? {
-                return Ok(true);
+        for one in boxes.list() {
+            let found = self.loss_with(alloc, board, tables, boxes, player, *one)?;
+            if found.is_some() {
+                return Ok(found);
             }
         }
-        Ok(false)
+        Ok(None)
     }
 
-    /// Whether two boxes are never solved alone, of which one was just pushed.
-    fn is_lost(
+    /// The place of a loss of one of the boxes and one behind it.
+    fn loss_with(
         &mut self,
         alloc: Global,
         board: &Board,
         tables: &Tables,
+        boxes: &BoxSet,
+        player: Sq,
+        one: Sq,
+    ) -> Result<Option<u32>, Memory>
+        requires tables { tables.now.board ≡ board.now }
+        requires placed { IsPlaced board.now boxes.now player }
+        requires among { Contains boxes.now one }
+        requires losses { KeepsLosses board.now self.old }
+        ensures losses { OnOk result (KeepsLosses board.now self.new) }
+        ensures kept { OnOk result (KeepsPlaces (losses_of self.old) (losses_of self.new)) }
+        ensures lost { IfOk result (λ found. IfSome found
+            (IsLostBy board.now player boxes.now (losses_of self.new))) }
+    {
+        for other in boxes.list() {
+            if *other <= one {
+                continue;
+            }
+            let found = self.loss_of_two(alloc, board, tables, player, one, *other)?;
+            if found.is_some() {
+                return Ok(found);
+            }
+        }
+        Ok(None)
+    }
+
+    /// The place of a loss of two boxes, of which one was just pushed.
+    fn loss_beside(
+        &mut self,
+        alloc: Global,
+        board: &Board,
+        tables: &Tables,
+        known: usize,
         from: Sq,
         dir: Dir,
         to: Sq,
         other: Sq,
-    ) -> Result<bool, Memory>
+    ) -> Result<Option<u32>, Memory>
         requires tables { tables.now.board ≡ board.now }
-        requires accepted { IsAccepted board.now }
         requires player { from < length board.now.area }
         requires pushed { to < length board.now.area }
         requires other { other < length board.now.area }
@@ -113,22 +186,73 @@ impl Losses {
         requires free { (from ≡ to → ⊥) × (from ≡ other → ⊥) }
         requires losses { KeepsLosses board.now self.old }
         ensures losses { OnOk result (KeepsLosses board.now self.new) }
-        ensures lost { IfOk result (λ lost. IsTrue lost → (boxes : List ℕ)
+        ensures kept { OnOk result (KeepsPlaces (losses_of self.old) (losses_of self.new)) }
+        ensures lost { IfOk result (λ found. IfSome found (λ place. (boxes : List ℕ)
             → Contains boxes to → Contains boxes other
-            → NeverFrom board.now.rows (position_of board.now from boxes)) }
+            → IsLostBy board.now from boxes (losses_of self.new) place)) }
     {
-        let place = hint_of(board, dir, to, other);
-        if self.lives_at(place) {
-            return Ok(false);
+        let hint = hint_of(board, dir, to, other);
+        if self.lives_at(hint) || !self.is_worth_it(known) {
+            return Ok(None);
         }
-        let pair = pair_of(alloc, to, other)?;
-        match self.recall(alloc, board, tables, &pair, from)? {
-            Some(_place) => Ok(true),
-            None => {
-                self.hint(place);
-                Ok(false)
-            }
+        let found = self.loss_of_two(alloc, board, tables, from, to, other)?;
+        if found.is_none() {
+            self.hint(hint);
         }
+        Ok(found)
+    }
+
+    /// The place of a loss of two boxes.
+    fn loss_of_two(
+        &mut self,
+        alloc: Global,
+        board: &Board,
+        tables: &Tables,
+        player: Sq,
+        one: Sq,
+        other: Sq,
+    ) -> Result<Option<u32>, Memory>
+        requires tables { tables.now.board ≡ board.now }
+        requires player { player < length board.now.area }
+        requires one { one < length board.now.area }
+        requires other { other < length board.now.area }
+        requires apart { one ≡ other → ⊥ }
+        requires free { (player ≡ one → ⊥) × (player ≡ other → ⊥) }
+        requires losses { KeepsLosses board.now self.old }
+        ensures losses { OnOk result (KeepsLosses board.now self.new) }
+        ensures kept { OnOk result (KeepsPlaces (losses_of self.old) (losses_of self.new)) }
+        ensures lost { IfOk result (λ found. IfSome found (λ place. (boxes : List ℕ)
+            → Contains boxes one → Contains boxes other
+            → IsLostBy board.now player boxes (losses_of self.new) place)) }
+    {
+        let pair = pair_of(alloc, one, other)?;
+        self.recall(alloc, board, tables, &pair, player)
+    }
+
+    /// The loss at a place, as a pattern of some boxes. It refuses only for want of memory.
+    pub fn pattern_at(
+        &self,
+        alloc: Global,
+        boxes: &BoxSet,
+        place: u32,
+    ) -> Result<FoundPattern, Memory>
+        requires lost { (b : Numbered) × (player : ℕ)
+            × IsLostBy b player boxes.now (losses_of self.now) place }
+        ensures holds { (b : Numbered) (player : ℕ)
+            → IsLostBy b player boxes.now (losses_of self.now) place → IfOk result
+            (λ pattern. IsPattern b player boxes.now pattern.members pattern.inner) }
+        ensures few { IfOk result (λ pattern. length pattern.inner ≤ loss_limit) }
+        ensures fit { IfOk result (λ pattern. All FitsInner pattern.inner) }
+    {
+        let loss = &self.losses[place as usize];
+        let members = members_of(alloc, boxes.list(), loss.key.boxes.list())?;
+        let inner = copy_of(alloc, loss.inner.as_slice())?;
+        Ok(FoundPattern { members, inner })
+    }
+
+    /// Whether two boxes more may be searched where so many states are known.
+    fn is_worth_it(&self, known: usize) -> bool {
+        self.asked.len().saturating_sub(SEARCHES) <= known
     }
 
     /// Whether no loss is known, by a hint.
@@ -155,13 +279,14 @@ impl Losses {
         tables: &Tables,
         boxes: &BoxSet,
         player: Sq,
-    ) -> Result<Option<usize>, Memory>
+    ) -> Result<Option<u32>, Memory>
         requires tables { tables.now.board ≡ board.now }
         requires placed { IsPlaced board.now boxes.now player }
         requires losses { KeepsLosses board.now self.old }
         ensures losses { OnOk result (KeepsLosses board.now self.new) }
+        ensures kept { OnOk result (KeepsPlaces (losses_of self.old) (losses_of self.new)) }
         ensures lost { IfOk result (λ found. IfSome found
-            (IsLossAt board.now player boxes.now self.new.losses.items)) }
+            (IsLostBy board.now player boxes.now (losses_of self.new))) }
     {
         let key = Key::of(alloc, board, boxes, player)?;
         if let Some(index) = self.asked.get(&key) {
@@ -185,6 +310,7 @@ impl Losses {
         requires state { IsKey board.now key.now }
         requires losses { KeepsLosses board.now self.old }
         ensures losses { OnOk result (KeepsLosses board.now self.new) }
+        ensures kept { OnOk result (KeepsPlaces (losses_of self.old) (losses_of self.new)) }
     {
         let number = self.find(alloc, board, tables, key)?;
         let (_index, _is_new) = self.asked.insert(key, number)?;
@@ -204,6 +330,7 @@ impl Losses {
         requires state { IsKey board.now key.now }
         requires losses { KeepsLosses board.now self.old }
         ensures losses { OnOk result (KeepsLosses board.now self.new) }
+        ensures kept { OnOk result (KeepsPlaces (losses_of self.old) (losses_of self.new)) }
         ensures room { self.new.asked ≡ self.old.asked }
     {
         if self.losses.len() >= LOSSES {
@@ -239,11 +366,11 @@ fn pair_of(alloc: Global, one: Sq, other: Sq) -> Result<BoxSet, Memory>
 }
 
 /// The place of the loss with a number, if it is one of a state.
-fn place_of(losses: &[Loss], number: u32, key: &Key) -> Option<usize>
+fn place_of(losses: &[Loss], number: u32, key: &Key) -> Option<u32>
     ensures { IfSome result (λ place. HasKeyAt losses.now place key.now) }
 {
-    let place = (number as usize).checked_sub(1)?;
-    let loss = losses.get(place)?;
+    let place = number.checked_sub(1)?;
+    let loss = losses.get(place as usize)?;
     if loss.key == *key { Some(place) } else { None }
 }
 

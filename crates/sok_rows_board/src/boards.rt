@@ -1,12 +1,14 @@
 //! Which levels a solver accepts, and their square numbers.
 
+use crate::setting::board;
 use sok_board::area::Sq;
 use sok_board::board::Board;
 use sok_board::fault::BoardFault;
 use sok_rules::cell::{Cell, Dir, Spot};
-use sok_sketch::sets::board;
-use sok_sketch::{rooms, sketch};
+use sok_sketch::rooms::{self, Room};
+use sok_sketch::sketch;
 use std::alloc::Global;
+use std::process::Abort;
 use std::test::Fail;
 
 /// Whether the square of a number lies at a row and a column.
@@ -155,18 +157,22 @@ fn refused_levels(rt: HostRuntime) -> Result<(), Fail> {
     Ok(())
 }
 
+/// Asserts how many squares the board of a room has, or why there is none.
+fn assert_told(rt: &impl Abort, alloc: Global, room: &Room, count: Told) -> Result<(), Fail> {
+    let text = room.text(alloc)?;
+    assert!(rt; told(alloc, text.as_str())? == count);
+    Ok(())
+}
+
 #[test]
 fn large_rooms(rt: HostRuntime) -> Result<(), Fail> {
-    for (room, count) in [
-        (rooms::ROOM_OF_1024, Ok(1024)),
-        (rooms::ROOM_OF_1025, Err((BoardFault::TooLarge, 9))),
-        (
-            rooms::ROOM_OF_129_BOXES,
-            Err((BoardFault::TooManyBoxes, 10)),
-        ),
-    ] {
-        let text = room.text(rt.alloc())?;
-        assert!(rt; told(rt.alloc(), text.as_str())? == count);
-    }
-    Ok(())
+    let too_many = Err((BoardFault::TooManyBoxes, 10));
+    assert_told(&rt, rt.alloc(), &rooms::ROOM_OF_1024, Ok(1024))?;
+    assert_told(
+        &rt,
+        rt.alloc(),
+        &rooms::ROOM_OF_1025,
+        Err((BoardFault::TooLarge, 9)),
+    )?;
+    assert_told(&rt, rt.alloc(), &rooms::ROOM_OF_129_BOXES, too_many)
 }

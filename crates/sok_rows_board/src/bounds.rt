@@ -59,6 +59,20 @@ const ON_TWO_AND_THREE_GOALS: [Case<'_>; 9] = [
 /// A price of the distance, and one above it.
 const ON_AFTER_A_PUSH: [Case<'_>; 2] = [(4, &[4], &[0], true), (4, &[5], &[0], false)];
 
+/// Asserts whether prices of a position show so many pushes.
+fn assert_bound(
+    rt: &impl Abort,
+    alloc: Global,
+    position: Position<'_>,
+    pushes: u32,
+    bound: &Bound<'_>,
+    answer: bool,
+) -> Result<(), Fail> {
+    let found = holds(rt, alloc, bound, position, Rest::AtLeast(pushes))?;
+    assert_eq!(rt; found, answer, "{pushes} by {bound:?}");
+    Ok(())
+}
+
 /// Asks of prices of a position whether they show so many pushes.
 fn ask(
     rt: &impl Abort,
@@ -67,9 +81,7 @@ fn ask(
     cases: &[Case<'_>],
 ) -> Result<(), Fail> {
     for (pushes, u, v, answer) in cases {
-        let bound = Bound { u, v };
-        let found = holds(rt, alloc, &bound, position, Rest::AtLeast(*pushes))?;
-        assert_eq!(rt; found, *answer, "{pushes} by {bound:?}");
+        assert_bound(rt, alloc, position, *pushes, &Bound { u, v }, *answer)?;
     }
     Ok(())
 }

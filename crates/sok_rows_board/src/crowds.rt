@@ -21,6 +21,20 @@ const FOR_ONE_GOAL: [Case<'_>; 6] = [
     (&[], false),
 ];
 
+/// Asserts whether members of a position are a crowd, where this is to be shown.
+fn assert_crowd(
+    rt: &impl Abort,
+    alloc: Global,
+    position: Position<'_>,
+    crowd: &Crowd<'_>,
+    rest: Rest,
+    answer: bool,
+) -> Result<(), Fail> {
+    let found = holds(rt, alloc, crowd, position, rest)?;
+    assert_eq!(rt; found, answer, "{crowd:?} for {rest:?}");
+    Ok(())
+}
+
 /// Asks of members of a position whether they are a crowd.
 fn ask(
     rt: &impl Abort,
@@ -30,10 +44,8 @@ fn ask(
 ) -> Result<(), Fail> {
     for (members, answer) in cases {
         let crowd = Crowd { members };
-        for rest in [Rest::Never, Rest::AtLeast(7)] {
-            let found = holds(rt, alloc, &crowd, position, rest)?;
-            assert_eq!(rt; found, *answer, "{crowd:?} for {rest:?}");
-        }
+        assert_crowd(rt, alloc, position, &crowd, Rest::Never, *answer)?;
+        assert_crowd(rt, alloc, position, &crowd, Rest::AtLeast(7), *answer)?;
     }
     Ok(())
 }

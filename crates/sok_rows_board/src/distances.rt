@@ -2,10 +2,10 @@
 
 ghost use Rattle.std.specs.Prelude.{◌≡◌};
 
+use crate::setting::{board, tables};
 use sok_board::area::Sq;
 use sok_board::board::Board;
 use sok_push::tables::Tables;
-use sok_sketch::sets::board;
 use sok_sketch::{rooms, sketch};
 use std::alloc::Global;
 use std::test::Fail;
@@ -29,7 +29,7 @@ fn tells_of(
     pushes: Option<u16>,
 ) -> Result<bool, Fail> {
     let board = board(alloc, text)?;
-    let tables = Tables::new(alloc, &board)?;
+    let tables = tables(alloc, &board)?;
     Ok(tells(&board, &tables, goal, square, pushes))
 }
 
@@ -71,7 +71,7 @@ fn are_stuck(board: &Board, tables: &Tables, stuck: &[Sq]) -> bool
 /// Whether they are so on the board of a text.
 fn are_stuck_on(alloc: Global, text: &str, stuck: &[Sq]) -> Result<bool, Fail> {
     let board = board(alloc, text)?;
-    let tables = Tables::new(alloc, &board)?;
+    let tables = tables(alloc, &board)?;
     Ok(are_stuck(&board, &tables, stuck))
 }
 
@@ -106,7 +106,7 @@ fn is_open(board: &Board, tables: &Tables) -> bool
 fn room_of_1024_squares_and_128_goals(rt: HostRuntime) -> Result<(), Fail> {
     let text = rooms::ROOM_OF_128_GOALS.text(rt.alloc())?;
     let board = board(rt.alloc(), text.as_str())?;
-    let tables = Tables::new(rt.alloc(), &board)?;
+    let tables = tables(rt.alloc(), &board)?;
     assert!(rt; board.goals().len() == 128 && board.squares() == 1024);
     assert!(rt; is_open(&board, &tables));
     Ok(())

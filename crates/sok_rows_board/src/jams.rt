@@ -3,12 +3,12 @@
 ghost use Rattle.std.specs.Prelude.{◌≡◌};
 
 use crate::positions::{IN_THE_ROOM, ON_THE_GOAL, Position, TWO_IN_A_ROW, boxes_on, holds};
+use crate::setting::{board, tables};
 use sok_bar::frozen::{Frozen, find_frozen};
 use sok_bar::rest::Rest;
 use sok_board::area::Sq;
 use sok_board::board::Board;
 use sok_push::tables::Tables;
-use sok_sketch::sets::board;
 use sok_sketch::sketch;
 use std::alloc::Global;
 use std::process::Abort;
@@ -27,6 +27,20 @@ const IN_A_ROW: [Case<'_>; 6] = [
     (&[], false),
 ];
 
+/// Asserts whether members of a position are frozen, where this is to be shown.
+fn assert_frozen(
+    rt: &impl Abort,
+    alloc: Global,
+    position: Position<'_>,
+    frozen: &Frozen<'_>,
+    rest: Rest,
+    answer: bool,
+) -> Result<(), Fail> {
+    let found = holds(rt, alloc, frozen, position, rest)?;
+    assert_eq!(rt; found, answer, "{frozen:?} for {rest:?}");
+    Ok(())
+}
+
 /// Asks of members of a position whether they are frozen.
 fn ask(
     rt: &impl Abort,
@@ -36,10 +50,8 @@ fn ask(
 ) -> Result<(), Fail> {
     for (members, answer) in cases {
         let frozen = Frozen { members };
-        for rest in [Rest::Never, Rest::AtLeast(3)] {
-            let found = holds(rt, alloc, &frozen, position, rest)?;
-            assert_eq!(rt; found, *answer, "{frozen:?} for {rest:?}");
-        }
+        assert_frozen(rt, alloc, position, &frozen, Rest::Never, *answer)?;
+        assert_frozen(rt, alloc, position, &frozen, Rest::AtLeast(3), *answer)?;
     }
     Ok(())
 }
@@ -60,7 +72,7 @@ fn found(
     square: Sq,
 ) -> Result<Option<Vec<u32>>, Fail> {
     let board = board(alloc, level)?;
-    let tables = Tables::new(alloc, &board)?;
+    let tables = tables(alloc, &board)?;
     found_on(rt, alloc, &board, &tables, squares, square)
 }
 

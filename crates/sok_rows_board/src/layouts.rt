@@ -2,14 +2,13 @@
 
 ghost use Rattle.std.specs.Prelude.{◌≡◌};
 
-use crate::setting::are_below;
+use crate::setting::{are_below, board, tables};
 use sok_bar::layout_jam::has_jam;
 use sok_board::area::Sq;
 use sok_board::board::Board;
 use sok_push::tables::Tables;
 use sok_region::layout::Layout;
 use sok_rules::cell::Spot;
-use sok_sketch::sets::board;
 use sok_sketch::sketch;
 use std::alloc::Global;
 use std::process::Abort;
@@ -24,7 +23,7 @@ fn jam(
     square: Sq,
 ) -> Result<bool, Fail> {
     let board = board(alloc, level)?;
-    let tables = Tables::new(alloc, &board)?;
+    let tables = tables(alloc, &board)?;
     jam_on(rt, alloc, &board, &tables, boxes, square)
 }
 

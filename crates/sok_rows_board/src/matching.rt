@@ -4,6 +4,7 @@ ghost use Rattle.std.specs.Prelude.{◌≡◌, ◌<◌, All, Contains, IfOk, IfS
 ghost use Rattle.sok_price.specs.Matched.{Serves};
 
 use crate::positions::boxes_on;
+use crate::setting::{board, tables};
 use sok_board::area::Sq;
 use sok_board::board::Board;
 use sok_board::box_set::BoxSet;
@@ -11,7 +12,6 @@ use sok_price::assign::{Match, assign};
 use sok_price::matching::Matching;
 use sok_push::tables::Tables;
 use sok_sketch::chance::next;
-use sok_sketch::sets::board;
 use sok_sketch::{rooms, sketch};
 use std::alloc::Global;
 use std::process::Abort;
@@ -95,9 +95,67 @@ fn moved(
     boxes_on(rt, alloc, board, after.list())
 }
 
-/// Moves the box at a place of the list to a square without one, and asserts that a matching tells
-/// of the move alone, and of the boxes after it, what is found from nothing. The boxes after it, or
-/// None where they are a crowd, or no box was moved.
+/// Asserts that a matching tells of a move alone what is found from nothing of the boxes after it.
+fn assert_bound(
+    rt: &impl Abort,
+    alloc: Global,
+    board: &Board,
+    tables: &Tables,
+    matching: &mut Matching,
+    boxes: &BoxSet,
+    from: Sq,
+    to: Sq,
+    after: &BoxSet,
+) -> Result<(), Fail>
+    requires tables { tables.now.board ≡ board.now }
+    requires boxes { All (λ square. square < length board.now.area) boxes.now }
+    requires serves { Serves board.now matching.old }
+    requires there { Contains boxes.now from }
+    requires free { Contains boxes.now to → ⊥ }
+    requires within { to < length board.now.area }
+    requires after { All (λ square. square < length board.now.area) after.now }
+    ensures { OnOk result (Serves board.now matching.new) }
+{
+    let total = least(alloc, tables, after)?;
+    if let Some(told) = moved_total(board, matching, boxes, from, to) {
+        assert_eq!(rt; told, total);
+    }
+    Ok(())
+}
+
+/// Moves a box to a square without one, and asserts that a matching tells of the move alone, and of
+/// the boxes after it, what is found from nothing. The boxes after it, or None where they are a
+/// crowd.
+fn step_to(
+    rt: &impl Abort,
+    alloc: Global,
+    board: &Board,
+    tables: &Tables,
+    matching: &mut Matching,
+    boxes: &BoxSet,
+    from: Sq,
+    to: Sq,
+) -> Result<Option<BoxSet>, Fail>
+    requires tables { tables.now.board ≡ board.now }
+    requires boxes { All (λ square. square < length board.now.area) boxes.now }
+    requires serves { Serves board.now matching.old }
+    requires there { Contains boxes.now from }
+    requires free { Contains boxes.now to → ⊥ }
+    requires within { to < length board.now.area }
+    ensures boxes { IfOk result (λ after. IfSome after
+        (All (λ square. square < length board.now.area))) }
+    ensures serves { OnOk result (Serves board.now matching.new) }
+{
+    let after = moved(rt, alloc, board, boxes, from, to)?;
+    assert_bound(rt, alloc, board, tables, matching, boxes, from, to, &after)?;
+    match set(rt, alloc, tables, matching, &after)? {
+        Some(_) => Ok(Some(after)),
+        None => Ok(None),
+    }
+}
+
+/// Moves the box at a place of the list, if there is one and none on the square that it comes to.
+/// The boxes after it, or None where they are a crowd, or no box was moved.
 fn step(
     rt: &impl Abort,
     alloc: Global,
@@ -121,15 +179,7 @@ fn step(
     if !boxes.has(from) || boxes.has(to) || to as usize >= board.squares() {
         return Ok(None);
     }
-    let after = moved(rt, alloc, board, boxes, from, to)?;
-    let total = least(alloc, tables, &after)?;
-    if let Some(told) = moved_total(board, matching, boxes, from, to) {
-        assert_eq!(rt; told, total);
-    }
-    match set(rt, alloc, tables, matching, &after)? {
-        Some(_) => Ok(Some(after)),
-        None => Ok(None),
-    }
+    step_to(rt, alloc, board, tables, matching, boxes, from, to)
 }
 
 /// Moves boxes of a board at random, so often.
@@ -157,15 +207,30 @@ fn walk_on(
     Ok(())
 }
 
+/// Sets a matching to the boxes of a board's start, and moves them at random, so often.
+fn walk_from(
+    rt: &impl Abort,
+    alloc: Global,
+    board: &Board,
+    tables: &Tables,
+    matching: &mut Matching,
+    moves: usize,
+) -> Result<(), Fail>
+    requires tables { tables.now.board ≡ board.now }
+    requires serves { Serves board.now matching.old }
+{
+    let (_, start) = board.start();
+    let boxes = boxes_on(rt, alloc, board, start)?;
+    set(rt, alloc, tables, matching, &boxes)?;
+    walk_on(rt, alloc, board, tables, matching, boxes, moves)
+}
+
 /// Moves boxes of a level at random, so often.
 fn walk(rt: &impl Abort, alloc: Global, text: &str, moves: usize) -> Result<(), Fail> {
     let board = board(alloc, text)?;
-    let tables = Tables::new(alloc, &board)?;
+    let tables = tables(alloc, &board)?;
     let mut matching = Matching::new(alloc, &board, &tables)?;
-    let (_, start) = board.start();
-    let boxes = boxes_on(rt, alloc, &board, start)?;
-    set(rt, alloc, &tables, &mut matching, &boxes)?;
-    walk_on(rt, alloc, &board, &tables, &mut matching, boxes, moves)
+    walk_from(rt, alloc, &board, &tables, &mut matching, moves)
 }
 
 /// Corridors and rooms: as many goals as boxes, more of them, and boxes that reach none.
@@ -206,6 +271,26 @@ const SETS: [Set<'_>; 10] = [
     (&[8, 10], Some(2)),
 ];
 
+/// Asserts what a matching tells once it is set to boxes on some squares.
+fn assert_set(
+    rt: &impl Abort,
+    alloc: Global,
+    board: &Board,
+    tables: &Tables,
+    matching: &mut Matching,
+    squares: &[Sq],
+    total: Option<u32>,
+) -> Result<(), Fail>
+    requires tables { tables.now.board ≡ board.now }
+    requires serves { Serves board.now matching.old }
+    ensures { OnOk result (Serves board.now matching.new) }
+{
+    let boxes = boxes_on(rt, alloc, board, squares)?;
+    let found = set(rt, alloc, tables, matching, &boxes)?;
+    assert_eq!(rt; found, total, "{squares:?}");
+    Ok(())
+}
+
 /// Sets a matching to one list of boxes after another.
 fn set_in_turn(
     rt: &impl Abort,
@@ -218,9 +303,7 @@ fn set_in_turn(
     requires serves { Serves board.now matching.old }
 {
     for (squares, total) in SETS {
-        let boxes = boxes_on(rt, alloc, board, squares)?;
-        let found = set(rt, alloc, tables, matching, &boxes)?;
-        assert_eq!(rt; found, total, "{squares:?}");
+        assert_set(rt, alloc, board, tables, matching, squares, total)?;
     }
     Ok(())
 }
@@ -230,7 +313,7 @@ fn set_in_turn(
 fn totals_of_one_set_after_another(rt: HostRuntime) -> Result<(), Fail> {
     let text = sketch::TWO_BOXES_AND_THREE_GOALS;
     let board = board(rt.alloc(), text)?;
-    let tables = Tables::new(rt.alloc(), &board)?;
+    let tables = tables(rt.alloc(), &board)?;
     let mut matching = Matching::new(rt.alloc(), &board, &tables)?;
     set_in_turn(&rt, rt.alloc(), &board, &tables, &mut matching)
 }

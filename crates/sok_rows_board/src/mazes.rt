@@ -1,12 +1,12 @@
 //! Regions of spirals, combs and wide rooms, against a flood that goes square by square.
 
 use crate::regions::region;
+use crate::setting::board;
 use sok_board::area::Sq;
 use sok_board::board::Board;
 use sok_region::region::Region;
 use sok_rules::cell::Dir;
 use sok_sketch::rooms::{self, Room};
-use sok_sketch::sets::board;
 use std::alloc::Global;
 use std::process::Abort;
 use std::test::Fail;

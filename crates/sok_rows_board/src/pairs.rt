@@ -3,14 +3,13 @@
 ghost use Rattle.std.specs.Prelude.{◌≡◌, OnOk};
 ghost use Rattle.sok_alone.specs.Losses.{KeepsLosses};
 
-use crate::setting::placed;
+use crate::setting::{board, placed, tables};
 use sok_alone::finding::find_pattern;
 use sok_alone::losses::Losses;
 use sok_board::area::Sq;
 use sok_board::board::Board;
 use sok_push::tables::Tables;
 use sok_rules::cell::Dir;
-use sok_sketch::sets::board;
 use sok_sketch::sketch::PAIR_THAT_IS_LOST;
 use std::alloc::Global;
 use std::process::Abort;
@@ -50,16 +49,23 @@ fn positions(
     }
 }
 
+/// Asserts of each two boxes how many positions of them alone are listed.
+fn ask_each(rt: &impl Abort, alloc: Global, board: &Board, tables: &Tables) -> Result<(), Fail>
+    requires { tables.now.board ≡ board.now }
+{
+    for (first, second, limit, answer) in CASES {
+        let found = positions(rt, alloc, board, tables, first, second, limit)?;
+        assert_eq!(rt; found, answer, "{first} and {second} within {limit}");
+    }
+    Ok(())
+}
+
 #[test]
 fn two_boxes_alone(rt: HostRuntime) -> Result<(), Fail> {
     let alloc = rt.alloc();
     let board = board(alloc, PAIR_THAT_IS_LOST)?;
-    let tables = Tables::new(alloc, &board)?;
-    for (first, second, limit, answer) in CASES {
-        let found = positions(&rt, alloc, &board, &tables, first, second, limit)?;
-        assert_eq!(&rt; found, answer, "{first} and {second} within {limit}");
-    }
-    Ok(())
+    let tables = tables(alloc, &board)?;
+    ask_each(&rt, alloc, &board, &tables)
 }
 
 /// Boxes, one of them, a direction in which it is pushed, the square to which it comes, and whether
@@ -95,17 +101,24 @@ fn is_lost(
     let boxes = placed(rt, alloc, board, squares, 15)?;
     assert!(rt; boxes.has(*from) && !boxes.has(*to));
     assert!(rt; (*to as usize) < board.squares());
-    Ok(losses.are_lost(alloc, board, tables, &boxes, *from, *dir, *to)?)
+    let place = losses.loss_after(alloc, board, tables, 1_000, &boxes, *from, *dir, *to)?;
+    Ok(place.is_some())
 }
 
 /// Asks each push twice of the same losses.
-fn ask_twice(rt: &impl Abort, alloc: Global, board: &Board, tables: &Tables) -> Result<(), Fail>
-    requires { tables.now.board ≡ board.now }
+fn ask_twice(
+    rt: &impl Abort,
+    alloc: Global,
+    board: &Board,
+    tables: &Tables,
+    losses: &mut Losses,
+) -> Result<(), Fail>
+    requires tables { tables.now.board ≡ board.now }
+    requires losses { KeepsLosses board.now losses.old }
 {
-    let mut losses = Losses::new(alloc, board)?;
     for _round in 0..2 {
         for case in &PUSHES {
-            let lost = is_lost(rt, alloc, board, tables, &mut losses, case)?;
+            let lost = is_lost(rt, alloc, board, tables, losses, case)?;
             assert_eq!(rt; lost, case.4, "{} to {}", case.1, case.3);
         }
     }
@@ -116,6 +129,7 @@ fn ask_twice(rt: &impl Abort, alloc: Global, board: &Board, tables: &Tables) -> 
 fn a_pair_is_lost_however_often_it_is_asked(rt: HostRuntime) -> Result<(), Fail> {
     let alloc = rt.alloc();
     let board = board(alloc, PAIR_THAT_IS_LOST)?;
-    let tables = Tables::new(alloc, &board)?;
-    ask_twice(&rt, alloc, &board, &tables)
+    let tables = tables(alloc, &board)?;
+    let mut losses = Losses::new(alloc, &board)?;
+    ask_twice(&rt, alloc, &board, &tables, &mut losses)
 }

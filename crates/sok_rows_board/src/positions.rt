@@ -2,14 +2,14 @@
 
 ghost use Rattle.std.specs.Prelude.{◌≡◌, ◌<◌, All, IfOk, length};
 
-use crate::setting::{are_below, placed};
+use crate::setting::{are_below, board, placed, tables};
 use sok_bar::bar::Bar;
 use sok_bar::rest::Rest;
 use sok_board::area::Sq;
 use sok_board::board::Board;
 use sok_board::box_set::BoxSet;
 use sok_push::tables::Tables;
-use sok_sketch::sets::{board, box_set};
+use sok_sketch::sets::box_set;
 use sok_sketch::sketch;
 use std::alloc::Global;
 use std::process::Abort;
@@ -59,7 +59,7 @@ pub(crate) fn holds<B: Bar>(
 ) -> Result<bool, Fail> {
     let (level, boxes, player) = position;
     let board = board(alloc, level)?;
-    let tables = Tables::new(alloc, &board)?;
+    let tables = tables(alloc, &board)?;
     holds_on(rt, alloc, reason, &board, &tables, boxes, player, rest)
 }
 

@@ -4,11 +4,11 @@ ghost use Rattle.std.specs.Prelude.{◌≤◌, ◌<◌, All, length};
 ghost use Rattle.std.specs.List.Sorted.{IsStrictlyIncreasing};
 ghost use Rattle.sok_board.specs.Limits.{box_limit};
 
+use crate::setting::{board, tables};
 use sok_board::area::Sq;
 use sok_board::box_set::BoxSet;
 use sok_price::assign::{Match, assign};
 use sok_push::tables::Tables;
-use sok_sketch::sets::board;
 use sok_sketch::{rooms, sketch};
 use std::alloc::Global;
 use std::test::Fail;
@@ -16,7 +16,7 @@ use std::test::Fail;
 /// What is found of the boxes of a level where they start.
 fn assigned(alloc: Global, text: &str) -> Result<Match, Fail> {
     let board = board(alloc, text)?;
-    let tables = Tables::new(alloc, &board)?;
+    let tables = tables(alloc, &board)?;
     let (_, boxes) = board.start();
     assigned_on(alloc, &tables, boxes)
 }

@@ -2,11 +2,11 @@
 
 ghost use Rattle.sok_state.specs.Keys.{IsKey};
 
+use crate::setting::board;
 use sok_board::area::Sq;
 use sok_board::board::Board;
 use sok_region::region::Region;
 use sok_rules::cell::Dir;
-use sok_sketch::sets::board;
 use sok_sketch::sketch;
 use sok_state::key::Key;
 use sok_state::legal::{follow, list_pushes};

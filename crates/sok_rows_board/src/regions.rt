@@ -3,12 +3,11 @@
 ghost use Rattle.std.specs.Prelude.{IfOk};
 ghost use Rattle.sok_region.specs.Regions.{IsRegionOf};
 
-use crate::setting::placed;
+use crate::setting::{board, placed};
 use sok_board::area::Sq;
 use sok_board::board::Board;
 use sok_region::region::Region;
 use sok_rules::cell::Dir;
-use sok_sketch::sets::board;
 use sok_sketch::sketch;
 use std::alloc::Global;
 use std::process::Abort;

@@ -1,12 +1,13 @@
 //! Rounds of squares, in rows of words.
 
+use crate::setting::board;
 use sok_field::drawing::free_squares;
 use sok_field::field::Field;
 use sok_field::spread::spread;
 use sok_rules::cell::Spot;
-use sok_sketch::sets::board;
 use sok_sketch::sketch;
 use std::alloc::Global;
+use std::process::Abort;
 use std::test::Fail;
 
 /// A row of squares, and none where there is no such row.
@@ -17,27 +18,42 @@ fn row(rows: &[u64], at: Option<usize>) -> u64 {
     }
 }
 
+/// So many rows, each of which is the one before with its squares turned.
+fn turned(alloc: Global, mut row: u64, by: u32, length: usize) -> Result<Vec<u64>, Fail> {
+    let mut rows = Vec::new(alloc);
+    for _ in 0..length {
+        rows.push(row)?;
+        row = row.rotate_left(by);
+    }
+    Ok(rows)
+}
+
+/// Asserts that a round finds the free squares on and beside those seen, in each row.
+fn assert_round(rt: &impl Abort, seen: &[u64], free: &[u64], out: &mut [u64]) {
+    assert!(rt; free.len() == seen.len());
+    assert!(rt; out.len() == seen.len());
+    spread(seen, free, out);
+    for (r, found) in out.iter().enumerate() {
+        let here = row(seen, Some(r));
+        let beside = row(seen, r.checked_sub(1)) | row(seen, r.checked_add(1));
+        let around = here | here << 1 | here >> 1 | beside;
+        assert_eq!(rt;
+            *found,
+            around & row(free, Some(r)),
+            "row {r} of {}",
+            seen.len()
+        );
+    }
+}
+
 /// Rows of each length, whether the rows go by fours or one by one.
 #[test]
 fn rounds_of_each_length(rt: HostRuntime) -> Result<(), Fail> {
     for length in 0..18 {
-        let mut seen = Vec::new(rt.alloc());
-        let mut free = Vec::new(rt.alloc());
-        let mut out = Vec::new(rt.alloc());
-        for r in 0..length {
-            seen.push(0x8000_0400_0020_0001_u64.rotate_left(r * 5))?;
-            free.push(0xb7fe_d3fb_6fdb_f6b5_u64.rotate_left(r * 7))?;
-            out.push(u64::MAX)?;
-        }
-        assert!(rt; free.len() == seen.len());
-        assert!(rt; out.len() == seen.len());
-        spread(&seen, &free, &mut out);
-        for (r, found) in out.iter().enumerate() {
-            let here = row(&seen, Some(r));
-            let beside = row(&seen, r.checked_sub(1)) | row(&seen, r.checked_add(1));
-            let around = here | here << 1 | here >> 1 | beside;
-            assert_eq!(rt; *found, around & row(&free, Some(r)), "row {r} of {length}");
-        }
+        let seen = turned(rt.alloc(), 0x8000_0400_0020_0001, 5, length)?;
+        let free = turned(rt.alloc(), 0xb7fe_d3fb_6fdb_f6b5, 7, length)?;
+        let mut out = vec![in rt.alloc(); u64::MAX; length]?;
+        assert_round(&rt, &seen, &free, &mut out);
     }
     Ok(())
 }

@@ -1,7 +1,8 @@
 //! Sets of boxes: a box of them is moved.
 
+use crate::setting::board;
 use sok_board::area::Sq;
-use sok_sketch::sets::{board, box_set};
+use sok_sketch::sets::box_set;
 use sok_sketch::{rooms, sketch};
 use std::alloc::Global;
 use std::process::Abort;

@@ -1,15 +1,29 @@
-//! Squares that are there, and boxes and a player on them.
+//! Squares that are there, boxes and a player on them, and boards with their tables.
 
-ghost use Rattle.std.specs.Prelude.{◌<◌, ◌↔◌, All, IfOk, IsTrue};
+ghost use Rattle.std.specs.Prelude.{◌≡◌, ◌<◌, ◌↔◌, All, IfOk, IsTrue};
 ghost use Rattle.sok_region.specs.Regions.{IsPlaced};
 
 use sok_board::area::Sq;
 use sok_board::board::Board;
 use sok_board::box_set::BoxSet;
-use sok_sketch::sets::box_set;
+use sok_push::tables::Tables;
+use sok_sketch::sets::{self, box_set};
 use std::alloc::Global;
 use std::process::Abort;
 use std::test::Fail;
+
+/// The board of a drawn level. It is boxed, since a test lets go of a box by one call, and of a board
+/// by one for each of its lists.
+pub(crate) fn board(alloc: Global, text: &str) -> Result<Box<Board>, Fail> {
+    Ok(Box::new(alloc, sets::board(alloc, text)?)?)
+}
+
+/// The tables of a board, boxed as the board is.
+pub(crate) fn tables(alloc: Global, board: &Board) -> Result<Box<Tables>, Fail>
+    ensures { IfOk result (λ tables. tables.value.board ≡ board.now) }
+{
+    Ok(Box::new(alloc, Tables::new(alloc, board)?)?)
+}
 
 /// Whether squares have numbers below the end.
 pub(crate) fn are_below(squares: &[Sq], end: usize) -> bool

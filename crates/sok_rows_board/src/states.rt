@@ -3,11 +3,10 @@
 ghost use Rattle.std.specs.Prelude.{IfOk};
 ghost use Rattle.sok_state.specs.Keys.{IsKey};
 
-use crate::setting::placed;
+use crate::setting::{board, placed};
 use sok_board::area::Sq;
 use sok_board::board::Board;
 use sok_rules::cell::Dir;
-use sok_sketch::sets::board;
 use sok_sketch::sketch;
 use sok_state::key::Key;
 use sok_state::legal::{after, pushes};

@@ -95,52 +95,88 @@ fn lowers(table: &mut Table, depth: u32, lowered: bool, kept: u32) -> bool {
     told == lowered && 0 < table.len() && table.depth(0) == kept
 }
 
-/// Whether a table tells keys apart by their least squares. A present key keeps its place and its
-/// depth.
-fn tells_apart(
+/// Asserts that a table tells two keys apart. A present key keeps its place and its depth.
+fn assert_apart(
+    rt: &impl Abort,
+    alloc: Global,
+    squares: usize,
+    table: &mut Table,
+    first: &Key,
+    second: &Key,
+) -> Result<(), Fail>
+    requires wide { squares ≤ table.old.room }
+    requires first { All (λ square. square < squares) first.now.boxes }
+    requires second { All (λ square. square < squares) second.now.boxes }
+    ensures { OnOk result (squares ≤ table.new.room) }
+{
+    assert!(rt; !has_key(alloc, squares, table, first, 0, 2)?);
+    assert!(rt; inserts(alloc, squares, table, first, 2, (0, true), 2)?);
+    assert!(rt; !has_key(alloc, squares, table, second, 0, 2)?);
+    assert!(rt; inserts(alloc, squares, table, second, 7, (1, true), 7)?);
+    assert!(rt; inserts(alloc, squares, table, first, 9, (0, false), 2)?);
+    assert!(rt; inserts(alloc, squares, table, second, 1, (1, false), 7)?);
+    Ok(())
+}
+
+/// Asserts that a table tells keys apart by their least squares.
+fn assert_apart_by_squares(
     rt: &impl Abort,
     alloc: Global,
     squares: usize,
     table: &mut Table,
     boxes: &[Sq],
-) -> Result<bool, Fail>
+) -> Result<(), Fail>
     requires { squares ≤ table.old.room }
     ensures { OnOk result (squares ≤ table.new.room) }
 {
     let first = key(rt, alloc, squares, boxes, 0)?;
     let second = key(rt, alloc, squares, boxes, 1)?;
-    Ok(
-        !has_key(alloc, squares, table, &first, 0, 2)?
-            && inserts(alloc, squares, table, &first, 2, (0, true), 2)?
-            && !has_key(alloc, squares, table, &second, 0, 2)?
-            && inserts(alloc, squares, table, &second, 7, (1, true), 7)?
-            && inserts(alloc, squares, table, &first, 9, (0, false), 2)?
-            && inserts(alloc, squares, table, &second, 1, (1, false), 7)?,
-    )
+    assert_apart(rt, alloc, squares, table, &first, &second)
 }
 
-/// Whether the key after a push from the first one is another one, which is found there again.
-fn pushes_on(
+/// Asserts that the key after a push from the first one is another one, which is found there again.
+fn assert_pushed(
     rt: &impl Abort,
     alloc: Global,
     squares: usize,
     table: &mut Table,
     push: (Sq, Sq),
-    boxes_after: &[Sq],
-) -> Result<bool, Fail>
-    requires { squares ≤ table.old.room }
+    after: &Key,
+) -> Result<(), Fail>
+    requires wide { squares ≤ table.old.room }
+    requires after { All (λ square. square < squares) after.now.boxes }
 {
-    let after = key(rt, alloc, squares, boxes_after, 0)?;
-    Ok(
-        !has_key(alloc, squares, table, &after, 2, 3)?
-            && inserts_next(rt, alloc, squares, table, push, &after, 3, (2, true), 3)?
-            && inserts_next(rt, alloc, squares, table, push, &after, 8, (2, false), 3)?
-            && inserts(alloc, squares, table, &after, 1, (2, false), 3)?,
-    )
+    assert!(rt; !has_key(alloc, squares, table, after, 2, 3)?);
+    assert!(rt; inserts_next(rt, alloc, squares, table, push, after, 3, (2, true), 3)?);
+    assert!(rt; inserts_next(rt, alloc, squares, table, push, after, 8, (2, false), 3)?);
+    assert!(rt; inserts(alloc, squares, table, after, 1, (2, false), 3)?);
+    Ok(())
 }
 
-/// A table for the squares of a board tells keys apart by their boxes and by their least squares.
-/// Depths are lowered and never raised.
+/// Asserts that an empty table tells keys apart by their boxes and by their least squares, and that
+/// depths are lowered and never raised.
+fn assert_keys(
+    rt: &impl Abort,
+    alloc: Global,
+    squares: usize,
+    table: &mut Table,
+    boxes: &[Sq],
+    push: (Sq, Sq),
+    boxes_after: &[Sq],
+) -> Result<(), Fail>
+    requires { squares ≤ table.old.room }
+{
+    assert_apart_by_squares(rt, alloc, squares, table, boxes)?;
+    let after = key(rt, alloc, squares, boxes_after, 0)?;
+    assert_pushed(rt, alloc, squares, table, push, &after)?;
+    assert!(rt; table.len() == 3);
+    for (depth, lowered, kept) in [(3, false, 2), (2, false, 2), (1, true, 1)] {
+        assert!(rt; lowers(table, depth, lowered, kept), "{depth}");
+    }
+    Ok(())
+}
+
+/// Asserts it of a table for so many squares.
 fn assert_table(
     rt: &impl Abort,
     alloc: Global,
@@ -151,13 +187,7 @@ fn assert_table(
 ) -> Result<(), Fail> {
     assert!(rt; squares <= SQUARE_LIMIT);
     let mut table = Table::new(alloc, squares);
-    assert!(rt; tells_apart(rt, alloc, squares, &mut table, boxes)?);
-    assert!(rt; pushes_on(rt, alloc, squares, &mut table, push, boxes_after)?);
-    assert!(rt; table.len() == 3);
-    for (depth, lowered, kept) in [(3, false, 2), (2, false, 2), (1, true, 1)] {
-        assert!(rt; lowers(&mut table, depth, lowered, kept), "{depth}");
-    }
-    Ok(())
+    assert_keys(rt, alloc, squares, &mut table, boxes, push, boxes_after)
 }
 
 /// Boards of as many squares as words have bits, and of one more: boxes on the first and the last

@@ -1,6 +1,7 @@
 //! Worked levels, the limits, and levels whose states were all searched.
 
 use crate::engines::{check_bytes, find_bytes, replay_bytes, solve_bytes};
+use sok_cert::reading::read;
 use sok_sketch::sketch;
 use sok_text::line::cut_line;
 use std::alloc::Global;
@@ -48,6 +49,12 @@ fn assert_found(
     Ok(())
 }
 
+/// How many entries a certificate has. The lines of a pattern are none by themselves.
+fn entries_of(alloc: Global, text: &[u8]) -> Result<usize, Fail> {
+    let (_claim, cert) = read(alloc, text)?;
+    Ok(cert.entries.len())
+}
+
 /// Asserts that a certificate has at most so many entries, and is accepted.
 fn assert_accepted(
     rt: &impl Abort,
@@ -57,8 +64,7 @@ fn assert_accepted(
     cert: &[u8],
     line: &str,
 ) -> Result<(), Fail> {
-    let ends = cert.iter().filter(|byte| **byte == b'\n').count();
-    assert!(rt; ends <= limit as usize + 3);
+    assert!(rt; entries_of(alloc, cert)? <= limit as usize);
     let mut out = Vec::new(alloc);
     let status = check_bytes(alloc, &mut board.as_bytes(), 1, &mut { cert }, &mut out)?;
     assert_eq!(rt; out.as_slice(), line.as_bytes());
@@ -90,7 +96,19 @@ fn assert_solved(
     pushes: u32,
 ) -> Result<(), Fail> {
     let reply = answered(alloc, board, limit)?;
-    assert_found(rt, alloc, board, limit, &reply)?;
+    assert_reply(rt, alloc, board, limit, pushes, &reply)
+}
+
+/// Asserts it of what solving the level left behind.
+fn assert_reply(
+    rt: &impl Abort,
+    alloc: Global,
+    board: &str,
+    limit: u32,
+    pushes: u32,
+    reply: &Reply,
+) -> Result<(), Fail> {
+    assert_found(rt, alloc, board, limit, reply)?;
     assert!(rt; reply.status == 0 && tells(alloc, board, &reply.out, pushes)?);
     let accepted = format!(in alloc; "accepted at least {pushes} pushes\n")?;
     assert_accepted(rt, alloc, board, limit, reply.cert.as_slice(), &accepted)
@@ -99,7 +117,18 @@ fn assert_solved(
 /// Asserts that none solves a level, and that its certificate says so.
 fn assert_unsolvable(rt: &impl Abort, alloc: Global, board: &str, limit: u32) -> Result<(), Fail> {
     let reply = answered(alloc, board, limit)?;
-    assert_found(rt, alloc, board, limit, &reply)?;
+    assert_no_solution(rt, alloc, board, limit, &reply)
+}
+
+/// Asserts it of what solving the level left behind.
+fn assert_no_solution(
+    rt: &impl Abort,
+    alloc: Global,
+    board: &str,
+    limit: u32,
+    reply: &Reply,
+) -> Result<(), Fail> {
+    assert_found(rt, alloc, board, limit, reply)?;
     assert_eq!(rt; reply.out.as_slice(), b"unsolvable\n".as_slice());
     assert_eq!(rt; reply.status, 0);
     let line = "accepted unsolvable\n";

@@ -7,6 +7,7 @@ use sok_sketch::sketch;
 use sok_text::collection::Collection;
 use sok_text::print::print_level;
 use std::alloc::{AllocError, Global};
+use std::process::Abort;
 use std::test::Fail;
 
 /// The text of a level's rows.
@@ -116,20 +117,24 @@ fn level_is_printed(rt: HostRuntime) -> Result<(), Fail> {
     Ok(())
 }
 
+/// How many levels a text has, and why the first is none.
+fn levels_and_fault(alloc: Global, text: &[u8]) -> Result<(usize, Option<LevelFault>), Fail> {
+    let collection = Collection::read(alloc, text)?;
+    let fault = collection.level(alloc, 1).err();
+    Ok((collection.len(), fault))
+}
+
 /// Of all texts of one byte a wall alone is a board, and it has no player.
 #[test]
 fn single_bytes(rt: HostRuntime) -> Result<(), Fail> {
     for byte in 0..=u8::MAX {
-        let text = [byte];
-        let collection = Collection::read(rt.alloc(), &text)?;
-        let fault = collection.level(rt.alloc(), 1).err();
-        let (levels, told) = if byte == b'#' {
-            (1, LevelFault::NoPlayer)
+        let told = if byte == b'#' {
+            (1, Some(LevelFault::NoPlayer))
         } else {
-            (0, LevelFault::NoSuchLevel)
+            (0, Some(LevelFault::NoSuchLevel))
         };
-        assert_eq!(rt; collection.len(), levels, "byte {byte}");
-        assert_eq!(rt; fault, Some(told), "byte {byte}");
+        let found = levels_and_fault(rt.alloc(), &[byte])?;
+        assert!(rt; found == told, "byte {byte}");
     }
     Ok(())
 }
@@ -193,6 +198,16 @@ Author: nobody in particular, and nothing else is known of it, nor of it
 
 ";
 
+/// Asserts that a collection has so many levels, the last of them of seven rows.
+fn assert_levels(rt: &impl Abort, alloc: Global, collection: &Collection<'_>, times: usize) {
+    assert_eq!(rt; collection.len(), times);
+    assert_eq!(rt; rows_of(alloc, collection, times), Ok(7));
+    assert_eq!(rt;
+        rows_of(alloc, collection, times.saturating_add(1)),
+        Err(LevelFault::NoSuchLevel)
+    );
+}
+
 /// Some 100,000 small levels in 16 MiB.
 #[test]
 fn sixteen_mebibytes_of_small_levels(rt: HostRuntime) -> Result<(), Fail> {
@@ -200,11 +215,6 @@ fn sixteen_mebibytes_of_small_levels(rt: HostRuntime) -> Result<(), Fail> {
     let times = 16 * 1024 * 1024 / small.len();
     let text = small.repeat(rt.alloc(), times)?;
     let collection = Collection::read(rt.alloc(), &text)?;
-    assert_eq!(rt; collection.len(), times);
-    assert_eq!(rt; rows_of(rt.alloc(), &collection, times), Ok(7));
-    assert_eq!(rt;
-        rows_of(rt.alloc(), &collection, times + 1),
-        Err(LevelFault::NoSuchLevel)
-    );
+    assert_levels(&rt, rt.alloc(), &collection, times);
     Ok(())
 }

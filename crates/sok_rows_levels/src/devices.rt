@@ -91,13 +91,25 @@ fn fail_each_read(rt: &impl Abort, alloc: Global, engine: Engine, text: &str, wo
     }
 }
 
+/// A text that is played, and the board behind it.
+fn played(alloc: Global) -> Result<String, Fail> {
+    let mut text = String::from_str(alloc, "ulldRR\n")?;
+    text.push_str(ROOM_OF_TWO_ROWS)?;
+    Ok(text)
+}
+
 #[test]
 fn reads_that_fail(rt: HostRuntime) -> Result<(), Fail> {
     let alloc = rt.alloc();
-    let mut played = String::from_str(alloc, "ulldRR\n")?;
-    played.push_str(ROOM_OF_TWO_ROWS)?;
+    let played = played(alloc)?;
+    fail_each_read(&rt, alloc, Engine::Play, played.as_str(), "solved 2 6\n");
+    fail_reads_of_engines(&rt, alloc);
+    Ok(())
+}
+
+/// Fails each read of the other engines.
+fn fail_reads_of_engines(rt: &impl Abort, alloc: Global) {
     for (engine, text, words) in [
-        (Engine::Play, played.as_str(), "solved 2 6\n"),
         (Engine::List, ROOM_OF_TWO_ROWS, "1 4 6 1 1\n"),
         (Engine::Replay, ROOM_OF_TWO_ROWS, "solved 2 6\n"),
         (Engine::Find, ROOM_OF_TWO_ROWS, "solved 2 6\n"),
@@ -111,7 +123,6 @@ fn reads_that_fail(rt: HostRuntime) -> Result<(), Fail> {
         (Engine::CheckCert, NO_CERT, "refused 20 Header\n"),
         (Engine::CheckCert, BAD_ENTRY, "refused 25 BadEntry 0\n"),
     ] {
-        fail_each_read(&rt, alloc, engine, text, words);
+        fail_each_read(rt, alloc, engine, text, words);
     }
-    Ok(())
 }

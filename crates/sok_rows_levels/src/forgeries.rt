@@ -137,8 +137,8 @@ fn claimed(alloc: Global, line: &str, state: &mut u64) -> Result<String, Fail> {
     }
 }
 
-/// The text of a certificate that is changed in one to three ways.
-fn forged(alloc: Global, lines: &[String], state: &mut u64) -> Result<String, Fail> {
+/// The lines of a certificate, perhaps with another claim.
+fn reclaimed(alloc: Global, lines: &[String], state: &mut u64) -> Result<Vec<String>, Fail> {
     let mut own = Vec::new(alloc);
     for (index, line) in lines.iter().enumerate() {
         if index == 1 {
@@ -147,17 +147,51 @@ fn forged(alloc: Global, lines: &[String], state: &mut u64) -> Result<String, Fa
             own.push(line.clone()?)?;
         }
     }
+    Ok(own)
+}
+
+/// Changes lines of a certificate in one to three ways.
+fn forge_on(alloc: Global, lines: &mut Vec<String>, state: &mut u64) -> Result<(), Fail> {
     for _ in 0..=next(state, 3) {
-        if !own.is_empty() {
-            forge(alloc, &mut own, state)?;
+        if !lines.is_empty() {
+            forge(alloc, lines, state)?;
         }
     }
+    Ok(())
+}
+
+/// The text of some lines.
+fn text_of(alloc: Global, lines: &[String]) -> Result<String, Fail> {
     let mut text = String::new(alloc);
-    for line in &own {
+    for line in lines {
         text.push_str(line)?;
         text.push('\n')?;
     }
     Ok(text)
+}
+
+/// The text of a certificate that is changed in one to three ways.
+fn forged(alloc: Global, lines: &[String], state: &mut u64) -> Result<String, Fail> {
+    let mut own = reclaimed(alloc, lines, state)?;
+    forge_on(alloc, &mut own, state)?;
+    text_of(alloc, &own)
+}
+
+/// Whether a forged certificate is accepted. Asserts that its claim is true then.
+fn is_accepted(
+    rt: &impl Abort,
+    alloc: Global,
+    board: &Board,
+    lines: &[String],
+    fewest: u32,
+    state: &mut u64,
+) -> Result<bool, Fail> {
+    let text = forged(alloc, lines, state)?;
+    if let Ok(claim) = judged(alloc, board, text.as_bytes()) {
+        assert!(rt; is_true(claim, fewest), "{text}");
+        return Ok(true);
+    }
+    Ok(false)
 }
 
 /// Asserts that of 5,000 forged certificates of a level some are accepted, and each with a claim
@@ -168,9 +202,7 @@ fn forge_for(rt: &impl Abort, alloc: Global, drawn: &str, fewest: u32) -> Result
     let mut state = 1;
     let mut accepted = false;
     for _ in 0..5_000 {
-        let text = forged(alloc, lines.as_slice(), &mut state)?;
-        if let Ok(claim) = judged(alloc, &board, text.as_bytes()) {
-            assert!(rt; is_true(claim, fewest), "{text}");
+        if is_accepted(rt, alloc, &board, &lines, fewest, &mut state)? {
             accepted = true;
         }
     }

@@ -4,6 +4,7 @@ use sok_cert::claim::Claim;
 use sok_cert::entry::{Cert, Entry, Numbers, Reason};
 use sok_cert::limits::fits;
 use std::alloc::{AllocError, Global};
+use std::process::Abort;
 use std::test::Fail;
 
 /// A reason, with its prices of boxes and of goals, or its members.
@@ -39,37 +40,59 @@ fn reason(alloc: Global, given: Given<'_>) -> Result<Reason, AllocError> {
 /// A claim of so many pushes, a depth, boxes and a reason, and whether they fit.
 type Case<'a> = (u32, u32, &'a [u32], Given<'a>, bool);
 
-#[test]
-fn numbers_past_the_limit_do_not_fit(rt: HostRuntime) -> Result<(), Fail> {
-    let alloc = rt.alloc();
-    let most = 1_000_000;
-    let more = 1_000_001;
-    let cases: [Case<'_>; 14] = [
-        (most, most, &[most], Given::Spent, true),
-        (more, 0, &[], Given::Spent, false),
-        (most, more, &[], Given::Expanded, false),
-        (most, 0, &[0, more], Given::Expanded, false),
-        (most, 0, &[3], Given::Bound(&[most], &[most, 0]), true),
-        (most, 0, &[3], Given::Bound(&[0], &[]), true),
-        (most, 0, &[3], Given::Bound(&[], &[0]), false),
-        (most, 0, &[3], Given::Bound(&[0, 0], &[]), false),
-        (most, 0, &[3], Given::Bound(&[more], &[]), false),
-        (most, 0, &[3], Given::Bound(&[0], &[more]), false),
-        (most, 0, &[3], Given::Crowd(&[most]), true),
-        (most, 0, &[3], Given::Crowd(&[more]), false),
-        (most, 0, &[3], Given::Frozen(&[most]), true),
-        (most, 0, &[3], Given::Frozen(&[more]), false),
-    ];
-    for (pushes, depth, boxes, given, fit) in cases {
-        let mut entries = Vec::new(alloc);
-        entries.push(Entry {
-            depth,
-            player: 0,
-            boxes: Numbers::copied(alloc, boxes)?,
-            reason: reason(alloc, given)?,
-        })?;
-        let found = fits(&Claim::Pushes(pushes), &Cert { entries });
+/// Whether a certificate of one entry fits.
+fn is_fit(alloc: Global, case: Case<'_>) -> Result<bool, AllocError> {
+    let (pushes, depth, boxes, given, _fit) = case;
+    let mut entries = Vec::new(alloc);
+    entries.push(Entry {
+        depth,
+        player: 0,
+        boxes: Numbers::copied(alloc, boxes)?,
+        reason: reason(alloc, given)?,
+    })?;
+    Ok(fits(&Claim::Pushes(pushes), &Cert { entries }))
+}
+
+const MOST: u32 = 1_000_000;
+
+const MORE: u32 = 1_000_001;
+
+const WITHOUT_NUMBERS: [Case<'_>; 4] = [
+    (MOST, MOST, &[MOST], Given::Spent, true),
+    (MORE, 0, &[], Given::Spent, false),
+    (MOST, MORE, &[], Given::Expanded, false),
+    (MOST, 0, &[0, MORE], Given::Expanded, false),
+];
+
+const WITH_PRICES: [Case<'_>; 6] = [
+    (MOST, 0, &[3], Given::Bound(&[MOST], &[MOST, 0]), true),
+    (MOST, 0, &[3], Given::Bound(&[0], &[]), true),
+    (MOST, 0, &[3], Given::Bound(&[], &[0]), false),
+    (MOST, 0, &[3], Given::Bound(&[0, 0], &[]), false),
+    (MOST, 0, &[3], Given::Bound(&[MORE], &[]), false),
+    (MOST, 0, &[3], Given::Bound(&[0], &[MORE]), false),
+];
+
+const WITH_MEMBERS: [Case<'_>; 4] = [
+    (MOST, 0, &[3], Given::Crowd(&[MOST]), true),
+    (MOST, 0, &[3], Given::Crowd(&[MORE]), false),
+    (MOST, 0, &[3], Given::Frozen(&[MOST]), true),
+    (MOST, 0, &[3], Given::Frozen(&[MORE]), false),
+];
+
+/// Asserts of each case whether it fits.
+fn assert_fit(rt: &impl Abort, alloc: Global, cases: &[Case<'_>]) -> Result<(), Fail> {
+    for case in cases {
+        let (pushes, depth, boxes, _given, fit) = *case;
+        let found = is_fit(alloc, *case)?;
         assert_eq!(rt; found, fit, "{pushes} pushes, {boxes:?} at {depth}");
     }
     Ok(())
+}
+
+#[test]
+fn numbers_past_the_limit_do_not_fit(rt: HostRuntime) -> Result<(), Fail> {
+    assert_fit(&rt, rt.alloc(), &WITHOUT_NUMBERS)?;
+    assert_fit(&rt, rt.alloc(), &WITH_PRICES)?;
+    assert_fit(&rt, rt.alloc(), &WITH_MEMBERS)
 }

@@ -8,28 +8,38 @@ use sok_sketch::sketch;
 use sok_text::lurd::read_lurd;
 use sok_text::xsb::cell_of;
 use std::alloc::Global;
+use std::process::Abort;
 use std::test::Fail;
 
-/// What a session tells after letters one by one, which at last are undone and played again.
-fn played(alloc: Global, board: &str, letters: &[Dir]) -> Result<Result<Tally, PlayFault>, Fail> {
-    let level = sketch::level(alloc, board)?;
-    let mut session = Session::new(alloc, &level)?;
+/// Plays letters one by one.
+fn step_each(session: &mut Session, letters: &[Dir]) -> Result<(), PlayFault> {
     for dir in letters {
-        if let Err(fault) = session.step(*dir) {
-            return Ok(Err(fault));
-        }
+        session.step(*dir)?;
     }
+    Ok(())
+}
+
+/// What a session tells after letters one by one, which at last are undone and played again.
+fn told_after(session: &mut Session, letters: &[Dir]) -> Result<Tally, PlayFault> {
+    step_each(session, letters)?;
     for _ in letters {
         let _undone = session.undo();
     }
     for _ in letters {
         let _redone = session.redo();
     }
-    Ok(Ok(Tally {
+    Ok(Tally {
         solved: session.solved(),
         pushes: session.pushes(),
         moves: session.moves(),
-    }))
+    })
+}
+
+/// The same of a session on a board.
+fn played(alloc: Global, board: &str, letters: &[Dir]) -> Result<Result<Tally, PlayFault>, Fail> {
+    let level = sketch::level(alloc, board)?;
+    let mut session = Session::new(alloc, &level)?;
+    Ok(told_after(&mut session, letters))
 }
 
 /// Whether this is told of a text on a board: whole, and letter by letter.
@@ -48,8 +58,27 @@ fn replayed(alloc: Global, board: &str, letters: &[Dir]) -> Result<Result<Tally,
     Ok(replay(alloc, &level, letters))
 }
 
-/// The solved, the pushes and the moves of a text on a board, or its first letter that is not
-/// legal.
+/// Asserts the solved, the pushes and the moves of a text on a board, or its first letter that is
+/// not legal.
+fn assert_told(
+    rt: &impl Abort,
+    alloc: Global,
+    board: &str,
+    text: &str,
+    told: Result<(bool, u64, u64), usize>,
+) -> Result<(), Fail> {
+    let told = match told {
+        Ok((solved, pushes, moves)) => Ok(Tally {
+            solved,
+            pushes,
+            moves,
+        }),
+        Err(at) => Err(PlayFault::Blocked(at)),
+    };
+    assert!(rt; tells(alloc, board, text, told)?, "{text} on {board}");
+    Ok(())
+}
+
 #[test]
 fn texts_on_boards(rt: HostRuntime) -> Result<(), Fail> {
     for (board, text, told) in [
@@ -92,15 +121,7 @@ fn texts_on_boards(rt: HostRuntime) -> Result<(), Fail> {
         (sketch::OPEN_AT_THE_SIDE, "RR", Err(1)),
         (sketch::NO_ROW_ABOVE, "u", Err(0)),
     ] {
-        let told = match told {
-            Ok((solved, pushes, moves)) => Ok(Tally {
-                solved,
-                pushes,
-                moves,
-            }),
-            Err(at) => Err(PlayFault::Blocked(at)),
-        };
-        assert!(rt; tells(rt.alloc(), board, text, told)?, "{text} on {board}");
+        assert_told(&rt, rt.alloc(), board, text, told)?;
     }
     Ok(())
 }
@@ -148,11 +169,23 @@ fn has_row(session: &Session, row: &str) -> bool {
     session.cell(Spot { row: 1, col }).is_none()
 }
 
+/// What is done in a session, what it answers, and the pushes, the moves and the middle row then.
+type Turn = (Act, Result<bool, PlayFault>, u64, u64, &'static str);
+
+/// Asserts what a session answers and shows, turn by turn.
+fn act_in_turn(rt: &impl Abort, session: &mut Session, turns: &[Turn]) {
+    for (act, told, pushes, moves, row) in turns {
+        assert_eq!(rt; answer(session, *act), *told, "before {row}");
+        let shown = shows(session, *pushes, *moves, row);
+        assert!(rt; shown, "{pushes} pushes, {moves} moves, {row}");
+    }
+}
+
 #[test]
 fn letters_are_taken_back_and_played_again(rt: HostRuntime) -> Result<(), Fail> {
     let level = sketch::level(rt.alloc(), sketch::ROOM_BEYOND_THE_GOAL)?;
     let mut session = Session::new(rt.alloc(), &level)?;
-    for (act, told, pushes, moves, row) in [
+    let first: [Turn; 8] = [
         (Act::Play(Dir::Right), Ok(true), 1, 1, "# @* #"),
         (Act::Undo, Ok(true), 0, 0, "#@$. #"),
         (Act::Redo, Ok(true), 1, 1, "# @* #"),
@@ -168,6 +201,9 @@ fn letters_are_taken_back_and_played_again(rt: HostRuntime) -> Result<(), Fail> 
         ),
         (Act::Redo, Ok(true), 1, 1, "# @* #"),
         (Act::Redo, Ok(false), 1, 1, "# @* #"),
+    ];
+    act_in_turn(&rt, &mut session, &first);
+    let then: [Turn; 7] = [
         (Act::Play(Dir::Left), Ok(false), 1, 2, "#@ * #"),
         (Act::Undo, Ok(true), 1, 1, "# @* #"),
         // a letter that is played drops those undone
@@ -176,10 +212,7 @@ fn letters_are_taken_back_and_played_again(rt: HostRuntime) -> Result<(), Fail> 
         (Act::Reset, Ok(true), 0, 0, "#@$. #"),
         (Act::Undo, Ok(false), 0, 0, "#@$. #"),
         (Act::Redo, Ok(false), 0, 0, "#@$. #"),
-    ] {
-        assert_eq!(rt; answer(&mut session, act), told, "before {row}");
-        let shown = shows(&session, pushes, moves, row);
-        assert!(rt; shown, "{pushes} pushes, {moves} moves, {row}");
-    }
+    ];
+    act_in_turn(&rt, &mut session, &then);
     Ok(())
 }

@@ -4,7 +4,7 @@ use sok_board::board::Board;
 use sok_board::fault::BoardFault;
 use sok_cert::check::check;
 use sok_cert::claim::Claim;
-use sok_cert::entry::Cert;
+use sok_cert::entry::{Cert, Entry, Reason};
 use sok_cert::limits::fits;
 use sok_rules::cell::{Dir, Spot};
 use sok_rules::level::Level;
@@ -41,18 +41,23 @@ fn solves(alloc: Global, level: &Level, letters: &[Dir], pushes: u32) -> Result<
     Ok(tally.solved && tally.pushes == u64::from(pushes))
 }
 
-/// The pushes of a level's solution, and None where there is none. Asserts that the letters solve
-/// with as many pushes, and that the certificate is accepted.
-fn pushes_of(rt: &impl Abort, alloc: Global, board: &str, limit: u32) -> Result<Option<u32>, Fail> {
-    let level = level(alloc, board)?;
-    match solve(alloc, &level, limit)? {
+/// The pushes that an outcome tells, and None where there is no solution. Asserts that the letters
+/// solve with as many pushes, and that the certificate is accepted.
+fn pushes_in(
+    rt: &impl Abort,
+    alloc: Global,
+    level: &Level,
+    limit: u32,
+    outcome: &Outcome,
+) -> Result<Option<u32>, Fail> {
+    match outcome {
         Outcome::Solved { dirs, pushes, cert } => {
-            assert!(rt; solves(alloc, &level, &dirs, pushes)?);
-            assert_certified(rt, alloc, &level, limit, &Claim::Pushes(pushes), &cert)?;
-            Ok(Some(pushes))
+            assert!(rt; solves(alloc, level, dirs, *pushes)?);
+            assert_certified(rt, alloc, level, limit, &Claim::Pushes(*pushes), cert)?;
+            Ok(Some(*pushes))
         }
         Outcome::Unsolvable { cert } => {
-            assert_certified(rt, alloc, &level, limit, &Claim::Unsolvable, &cert)?;
+            assert_certified(rt, alloc, level, limit, &Claim::Unsolvable, cert)?;
             Ok(None)
         }
         Outcome::Limit { states: _ } => {
@@ -60,6 +65,13 @@ fn pushes_of(rt: &impl Abort, alloc: Global, board: &str, limit: u32) -> Result<
             Ok(None)
         }
     }
+}
+
+/// The pushes of a level's solution, and None where there is none.
+fn pushes_of(rt: &impl Abort, alloc: Global, board: &str, limit: u32) -> Result<Option<u32>, Fail> {
+    let level = level(alloc, board)?;
+    let outcome = solve(alloc, &level, limit)?;
+    pushes_in(rt, alloc, &level, limit, &outcome)
 }
 
 /// The pushes of a level's solution that is found without a certificate, and None where none is.
@@ -120,6 +132,8 @@ fn fewest_pushes(rt: HostRuntime) -> Result<(), Fail> {
         (sketch::SOLVED, 10, Some(0)),
         (sketch::BOX_BEYOND_THE_GOAL, 10, None),
         (sketch::TWO_IN_A_ROW, 10, None),
+        // two of its boxes are never solved, were they alone
+        (sketch::PAIR_THAT_IS_LOST, 1, None),
         (sketch::ROOM_OF_TWO_ROWS, 100, Some(2)),
         (sketch::TWO_BOXES_FOR_ONE_GOAL, 1_000, None),
         (sketch::DECORATED, 10, Some(1)),
@@ -192,6 +206,27 @@ fn limits(rt: HostRuntime) -> Result<(), Fail> {
     }
     let pushes = pushes_of(&rt, rt.alloc(), sketch::CORRIDOR_OF_SIX_PUSHES, least)?;
     assert_eq!(rt; pushes, Some(6));
+    Ok(())
+}
+
+/// A start that two of its boxes lose is one entry, a pattern of these two.
+#[test]
+fn a_lost_pair_is_one_entry(rt: HostRuntime) -> Result<(), Fail> {
+    let level = sketch::level(rt.alloc(), sketch::PAIR_THAT_IS_LOST)?;
+    let Outcome::Unsolvable { cert } = solve(rt.alloc(), &level, 1)? else {
+        panic!(rt; "a lost pair is unsolvable");
+    };
+    let Some(
+        Entry {
+            reason: Reason::Pattern { members, .. },
+            ..
+        },
+    ) = cert.entries.first()
+    else {
+        panic!(rt; "its reason is a pattern");
+    };
+    assert_eq!(rt; members.as_slice().len(), 2);
+    assert_eq!(rt; cert.entries.len(), 1);
     Ok(())
 }
 

@@ -38,6 +38,21 @@ fn parts(reason: &Reason) -> (char, &[u32], &[u32]) {
 /// An entry's depth, player, boxes and reason.
 type Told<'a> = (u32, u32, &'a [u32], (char, &'a [u32], &'a [u32]));
 
+/// Asserts what entries tell.
+fn assert_entries(rt: &impl Abort, entries: &[Entry], told: &[Told<'_>]) {
+    assert_eq!(rt; entries.len(), told.len());
+    for (entry, told) in entries.iter().zip(told) {
+        let Entry {
+            depth,
+            player,
+            boxes,
+            reason,
+        } = entry;
+        let found = (*depth, *player, boxes.as_slice(), parts(reason));
+        assert!(rt; found == *told, "{entry:?}");
+    }
+}
+
 #[test]
 fn each_form_of_entry(rt: HostRuntime) -> Result<(), Fail> {
     let (claim, cert) = read(rt.alloc(), ALL_FORMS.as_bytes())?;
@@ -50,17 +65,7 @@ fn each_form_of_entry(rt: HostRuntime) -> Result<(), Fail> {
         (0, 12, &[1, 3], ('c', &[0, 1], &[])),
         (1_000_000, 0, &[0, 4, 1_000_000], ('f', &[], &[])),
     ];
-    assert_eq!(rt; cert.entries.len(), entries.len());
-    for (entry, told) in cert.entries.iter().zip(&entries) {
-        let Entry {
-            depth,
-            player,
-            boxes,
-            reason,
-        } = entry;
-        let found = (*depth, *player, boxes.as_slice(), parts(reason));
-        assert!(rt; found == *told, "{entry:?}");
-    }
+    assert_entries(&rt, &cert.entries, &entries);
     Ok(())
 }
 
@@ -89,6 +94,36 @@ fn inner_parts(reason: &InnerReason) -> (char, &[u32]) {
 /// An inner position's depth, player, boxes and reason.
 type ToldInside<'a> = (u32, u32, &'a [u32], (char, &'a [u32]));
 
+/// Asserts what inner positions tell.
+fn assert_inside(rt: &impl Abort, inner: &[Inner], told: &[ToldInside<'_>]) {
+    assert_eq!(rt; inner.len(), told.len());
+    for (position, told) in inner.iter().zip(told) {
+        let Inner {
+            depth,
+            player,
+            boxes,
+            reason,
+        } = position;
+        let found = (*depth, *player, boxes.as_slice(), inner_parts(reason));
+        assert!(rt; found == *told, "{position:?}");
+    }
+}
+
+/// Asserts that an entry is a pattern of these members, with these positions.
+fn assert_pattern(
+    rt: &impl Abort,
+    entry: &Entry,
+    told: &[u32],
+    inside: &[ToldInside<'_>],
+) -> Result<(), Fail> {
+    let Reason::Pattern { members, inner } = &entry.reason else {
+        return Err(Fail::from("no pattern"));
+    };
+    assert_eq!(rt; members.as_slice(), told);
+    assert_inside(rt, inner.as_slice(), inside);
+    Ok(())
+}
+
 #[test]
 fn patterns_are_read(rt: HostRuntime) -> Result<(), Fail> {
     let (claim, cert) = read(rt.alloc(), PATTERNS.as_bytes())?;
@@ -99,27 +134,8 @@ fn patterns_are_read(rt: HostRuntime) -> Result<(), Fail> {
         (1, 10, &[11, 12], ('f', &[0, 1])),
         (0, 9, &[10, 12], ('c', &[1])),
     ];
-    let Reason::Pattern { members, inner } = &cert.entries[0].reason else {
-        return Err(Fail::from("no pattern"));
-    };
-    assert_eq!(rt; members.as_slice(), [1, 2].as_slice());
-    assert_eq!(rt; inner.as_slice().len(), inside.len());
-    for (position, told) in inner.as_slice().iter().zip(&inside) {
-        let Inner {
-            depth,
-            player,
-            boxes,
-            reason,
-        } = position;
-        let found = (*depth, *player, boxes.as_slice(), inner_parts(reason));
-        assert!(rt; found == *told, "{position:?}");
-    }
-    let Reason::Pattern { members, inner } = &cert.entries[1].reason else {
-        return Err(Fail::from("no pattern without positions"));
-    };
-    assert_eq!(rt; members.as_slice(), [0].as_slice());
-    assert!(rt; inner.as_slice().is_empty());
-    Ok(())
+    assert_pattern(&rt, &cert.entries[0], &[1, 2], &inside)?;
+    assert_pattern(&rt, &cert.entries[1], &[0], &[])
 }
 
 /// The bytes that are written of a certificate that is read.
@@ -245,6 +261,21 @@ const NO_PATTERNS: [&str; 6] = [
     "P 0 9 3 7 10 12 2 1 2 0\n",
 ];
 
+/// Asserts the fault of a text that is a front and what stands behind it.
+fn assert_fault(
+    rt: &impl Abort,
+    alloc: Global,
+    front: &str,
+    behind: &str,
+    fault: CertFault,
+) -> Result<(), Fail> {
+    let mut text = String::from_str(alloc, front)?;
+    text.push_str(behind)?;
+    let found = read(alloc, text.as_bytes()).err();
+    assert_eq!(rt; found, Some(fault), "in {text:?}");
+    Ok(())
+}
+
 #[test]
 fn first_fault_of_a_text(rt: HostRuntime) -> Result<(), Fail> {
     let front = "sokoban-certificate 1\npushes 1\n";
@@ -273,10 +304,7 @@ fn first_fault_of_a_text(rt: HostRuntime) -> Result<(), Fail> {
     ];
     for (front, texts, fault) in cases {
         for behind in texts {
-            let mut text = String::from_str(rt.alloc(), front)?;
-            text.push_str(behind)?;
-            let found = read(rt.alloc(), text.as_bytes()).err();
-            assert_eq!(rt; found, Some(fault), "in {text:?}");
+            assert_fault(&rt, rt.alloc(), front, behind, fault)?;
         }
     }
     Ok(())

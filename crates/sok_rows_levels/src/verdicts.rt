@@ -253,58 +253,84 @@ pub(crate) fn judge_text(
     }
 }
 
+/// Judges the certificate of these lines behind the first.
+fn judge_lines(
+    rt: &impl Abort,
+    alloc: Global,
+    board: &Board,
+    lines: &str,
+    told: Result<Claim, CertFault>,
+) -> Result<(), Fail> {
+    let mut text = String::from_str(alloc, "sokoban-certificate 1\n")?;
+    text.push_str(lines)?;
+    judge_text(rt, alloc, board, text.as_bytes(), told);
+    Ok(())
+}
+
 /// Judges each case of a board.
 fn judge(rt: &impl Abort, alloc: Global, rows: &str, cases: &[Case]) -> Result<(), Fail> {
     let board = sets::board(alloc, rows)?;
     for (lines, told) in cases {
-        let mut text = String::from_str(alloc, "sokoban-certificate 1\n")?;
-        text.push_str(lines)?;
-        judge_text(rt, alloc, &board, text.as_bytes(), *told);
+        judge_lines(rt, alloc, &board, lines, *told)?;
     }
     Ok(())
 }
 
+/// Levels of one push, and levels that are solved as they stand.
+fn judge_corridors(rt: &impl Abort, alloc: Global) -> Result<(), Fail> {
+    judge(rt, alloc, sketch::ONE_PUSH, &ONE_PUSH)?;
+    judge(rt, alloc, sketch::SOLVED, &SOLVED)?;
+    judge(rt, alloc, sketch::NO_BOX_INSIDE, &NO_BOX_INSIDE)?;
+    judge(rt, alloc, sketch::ONE_PUSH_LEFT, &ONE_PUSH_LEFT)?;
+    judge(rt, alloc, sketch::ONE_PUSH_UP, &ONE_PUSH_UP)?;
+    judge(rt, alloc, sketch::ONE_PUSH_DOWN, &ONE_PUSH_DOWN)
+}
+
+/// Levels that no letters solve.
+fn judge_unsolvable(rt: &impl Abort, alloc: Global) -> Result<(), Fail> {
+    judge(rt, alloc, sketch::TWO_IN_A_ROW, &TWO_IN_A_ROW)?;
+    judge(rt, alloc, sketch::BOX_BEYOND_THE_GOAL, &BOX_BEYOND_THE_GOAL)?;
+    let crowd = &TWO_BOXES_FOR_ONE_GOAL;
+    judge(rt, alloc, sketch::TWO_BOXES_FOR_ONE_GOAL, crowd)
+}
+
+/// Rooms.
+fn judge_rooms(rt: &impl Abort, alloc: Global) -> Result<(), Fail> {
+    judge(rt, alloc, sketch::ROOM_OF_TWO_ROWS, &ROOM_OF_TWO_ROWS)?;
+    let two_boxes = &TWO_BOXES_AND_THREE_GOALS;
+    judge(rt, alloc, sketch::TWO_BOXES_AND_THREE_GOALS, two_boxes)
+}
+
+fn judge_six_pushes(rt: &impl Abort, alloc: Global) -> Result<(), Fail> {
+    let cases = &CORRIDOR_OF_SIX_PUSHES;
+    judge(rt, alloc, sketch::CORRIDOR_OF_SIX_PUSHES, cases)
+}
+
+fn judge_other_pushes(rt: &impl Abort, alloc: Global) -> Result<(), Fail> {
+    let cases = &CORRIDOR_OF_OTHER_PUSHES;
+    judge(rt, alloc, sketch::CORRIDOR_OF_SIX_PUSHES, cases)
+}
+
 #[test]
 fn certificates_of_levels(rt: HostRuntime) -> Result<(), Fail> {
-    let alloc = rt.alloc();
-    judge(&rt, alloc, sketch::ONE_PUSH, &ONE_PUSH)?;
-    judge(&rt, alloc, sketch::SOLVED, &SOLVED)?;
-    judge(&rt, alloc, sketch::ROOM_OF_TWO_ROWS, &ROOM_OF_TWO_ROWS)?;
-    judge(
-        &rt,
-        alloc,
-        sketch::TWO_BOXES_AND_THREE_GOALS,
-        &TWO_BOXES_AND_THREE_GOALS,
-    )?;
-    judge(&rt, alloc, sketch::TWO_IN_A_ROW, &TWO_IN_A_ROW)?;
-    judge(
-        &rt,
-        alloc,
-        sketch::CORRIDOR_OF_SIX_PUSHES,
-        &CORRIDOR_OF_SIX_PUSHES,
-    )?;
-    judge(
-        &rt,
-        alloc,
-        sketch::CORRIDOR_OF_SIX_PUSHES,
-        &CORRIDOR_OF_OTHER_PUSHES,
-    )?;
-    judge(&rt, alloc, sketch::NO_BOX_INSIDE, &NO_BOX_INSIDE)?;
-    judge(
-        &rt,
-        alloc,
-        sketch::BOX_BEYOND_THE_GOAL,
-        &BOX_BEYOND_THE_GOAL,
-    )?;
-    judge(
-        &rt,
-        alloc,
-        sketch::TWO_BOXES_FOR_ONE_GOAL,
-        &TWO_BOXES_FOR_ONE_GOAL,
-    )?;
-    judge(&rt, alloc, sketch::ONE_PUSH_LEFT, &ONE_PUSH_LEFT)?;
-    judge(&rt, alloc, sketch::ONE_PUSH_UP, &ONE_PUSH_UP)?;
-    judge(&rt, alloc, sketch::ONE_PUSH_DOWN, &ONE_PUSH_DOWN)
+    judge_corridors(&rt, rt.alloc())?;
+    judge_unsolvable(&rt, rt.alloc())?;
+    judge_rooms(&rt, rt.alloc())?;
+    judge_six_pushes(&rt, rt.alloc())?;
+    judge_other_pushes(&rt, rt.alloc())
+}
+
+/// Judges the front of a text of each length, of a certificate that ends behind 69 bytes.
+fn judge_each_front(rt: &impl Abort, alloc: Global, board: &Board, text: &[u8]) {
+    for length in 0..=text.len() {
+        let told = match length {
+            0..=29 => Err(CertFault::Header),
+            30..=67 => Err(CertFault::Truncated),
+            68 | 69 => SIX_PUSHES,
+            _ => Err(CertFault::Line(7)),
+        };
+        judge_text(rt, alloc, board, &text[..length], told);
+    }
 }
 
 /// A certificate that is cut off anywhere is refused. Only its last line may lack its end. Nothing
@@ -314,16 +340,7 @@ fn corridor_cut_at_each_length(rt: HostRuntime) -> Result<(), Fail> {
     let alloc = rt.alloc();
     let once = "sokoban-certificate 1\npushes 6\nx 0 4 1 5\nx 1 5 1 6\nb 2 6 1 7 4 0\nend\n";
     let twice = once.repeat(alloc, 2)?;
-    let text = twice.as_bytes();
     let board = sets::board(alloc, sketch::CORRIDOR_OF_SIX_PUSHES)?;
-    for length in 0..=text.len() {
-        let told = match length {
-            0..=29 => Err(CertFault::Header),
-            30..=67 => Err(CertFault::Truncated),
-            68 | 69 => SIX_PUSHES,
-            _ => Err(CertFault::Line(7)),
-        };
-        judge_text(&rt, alloc, &board, &text[..length], told);
-    }
+    judge_each_front(&rt, alloc, &board, twice.as_bytes());
     Ok(())
 }

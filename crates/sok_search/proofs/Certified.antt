@@ -10,9 +10,10 @@ use Rattle.sok_cert.specs.Entry.{Entry}
 use Rattle.sok_cert.specs.Text.{FitsEntry, FitsReason, IsSmall, numbers_of_position, numbers_of_reason}
 use Rattle.sok_region.proofs.Floods.{slice_get-push_cases}
 use Rattle.sok_state.specs.declared.key.Key.{Key}
+use Rattle.sok_alone.specs.Losses.{losses_of}
 use Rattle.sok_search.specs.declared.note.Note.{Note}
 use Rattle.sok_search.specs.declared.note.Standing.{Standing}
-use Rattle.sok_search.specs.declared.note.Standing.TheVariants.{Open, Expanded, Dead}
+use Rattle.sok_search.specs.declared.note.Standing.TheVariants.{Open, Expanded, Dead, Lost}
 use Rattle.sok_search.specs.Finished.{AreFirstEntries, HasText, IsAtMost, IsDone, IsEntryAt, IsEntryOf, claim_of}
 use Rattle.sok_search.specs.Limits.{state_limit}
 use Rattle.sok_search.specs.Searches.{Progress, IsBeaten, IsSearch, IsState, Stands}
@@ -27,17 +28,19 @@ beaten-at_most (Some k) n beaten = beaten
 
 -- where nothing waits, each state is done with
 pub stands-done : (b : Numbered) (p : Progress) (i : ℕ) (key : Key) (depth : ℕ) → p.queue ≡ [] → (s : Standing) → Stands b p i key depth s
-    → IsDone b (claim_of p.best) key.boxes depth s
+    → IsDone b (claim_of p.best) (losses_of p.frame.losses) key.least key.boxes depth s
 stands-done b p i key depth none (Open bound) (prices, inl waits) = absurd (none_waits p.queue i none waits)
 stands-done b p i key depth none (Open bound) (prices, inr beaten) = (bound, prices, beaten-at_most p.best (depth + bound) beaten)
 stands-done b p i key depth none (Expanded bound) stands = tt
 stands-done b p i key depth none Dead dead = dead
+stands-done b p i key depth none (Lost place) lost = lost
 
 pub is-done : (b : Numbered) (limit : ℕ) (p : Progress) (i : ℕ) (key : Key) (depth : ℕ) (note : Note) (claim : Claim) → IsSearch b limit p → p.queue ≡ []
     → claim ≡ claim_of p.best → IsState p i key depth note
-    → IsDone b claim key.boxes depth note.standing
+    → IsDone b claim (losses_of p.frame.losses) key.least key.boxes depth note.standing
 is-done b limit p i key depth note claim search none is state =
-    subst (λ c. IsDone b c key.boxes depth note.standing) (sym is) (stands-done b p i key depth none note.standing (search.noted i key depth note state).stands)
+    subst (λ c. IsDone b c (losses_of p.frame.losses) key.least key.boxes depth note.standing) (sym is)
+    (stands-done b p i key depth none note.standing (search.noted i key depth note state).stands)
 
 -- what stands at an index is one state alone
 entry-along : (b : Numbered) (claim : Claim) (p : Progress) (i : ℕ) (key other : Key) (depth deep : ℕ) (note noted : Note) (e : Entry)

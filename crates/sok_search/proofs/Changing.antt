@@ -14,11 +14,11 @@ use Rattle.sok_state.specs.declared.key.Key.{Key}
 use Rattle.sok_state.specs.Tables.{Entries, HasDistinctKeys}
 use Rattle.sok_search.specs.declared.note.Note.{Note}
 use Rattle.sok_search.specs.declared.note.Standing.{Standing}
-use Rattle.sok_search.specs.declared.note.Standing.TheVariants.{Open, Expanded, Dead}
+use Rattle.sok_search.specs.declared.note.Standing.TheVariants.{Open, Expanded, Dead, Lost}
 use Rattle.sok_search.specs.Searches.{Progress, IsBeaten, IsCome, IsNoted, IsSearch, IsSolvedIn, IsState, Stands}
-use Rattle.sok_search.specs.Steps.{Grows, IsAdded, IsChanged, IsJudged, Queues}
+use Rattle.sok_search.specs.Steps.{Grows, IsAdded, IsChanged, IsJudgedIn, Queues}
 use Rattle.sok_search.proofs.Knowing.{key-within}
-use Rattle.sok_search.proofs.Keeping.{come-along, IsUnchanged, best-along, keeps}
+use Rattle.sok_search.proofs.Keeping.{come-along, IsUnchanged, best-along, keeps, later-same}
 
 -- an element of a list that has another at one place
 pub set_cases : {X : Type 0} (xs : List X) (j : ℕ) (y : X) (i : ℕ) (x : X) → slice_get (set xs j y) i ≡ Some x
@@ -58,18 +58,21 @@ queues-waits : (s : Standing) (index : ℕ) (old new : List ℕ) → Queues s in
 queues-waits (Open bound) index old new queues i waits = (queues.exact i).1 (inr waits)
 queues-waits (Expanded bound) index old new queues i waits = subst (λ queue. Contains queue i) (sym queues) waits
 queues-waits Dead index old new queues i waits = subst (λ queue. Contains queue i) (sym queues) waits
+queues-waits (Lost place) index old new queues i waits = subst (λ queue. Contains queue i) (sym queues) waits
 
 pub queues-cases : (s : Standing) (index : ℕ) (old new : List ℕ) → Queues s index old new → (i : ℕ) → Contains new i → (i ≡ index) ⊎ Contains old i
 queues-cases (Open bound) index old new queues i waits = (queues.exact i).0 waits
 queues-cases (Expanded bound) index old new queues i waits = inr (subst (λ queue. Contains queue i) queues waits)
 queues-cases Dead index old new queues i waits = inr (subst (λ queue. Contains queue i) queues waits)
+queues-cases (Lost place) index old new queues i waits = inr (subst (λ queue. Contains queue i) queues waits)
 
 -- a state that is judged stands, once it waits
-pub stands-judged : (b : Numbered) (q : Progress) (old : List ℕ) (i : ℕ) (key : Key) (depth : ℕ) (s : Standing) → IsJudged b key.boxes s
-    → Queues s i old q.queue → Stands b q i key depth s
+pub stands-judged : (b : Numbered) (q : Progress) (old : List ℕ) (i : ℕ) (key : Key) (depth : ℕ) (s : Standing)
+    → IsJudgedIn b q.frame key s → Queues s i old q.queue → Stands b q i key depth s
 stands-judged b q old i key depth (Open bound) prices queues = (prices, inl ((queues.exact i).1 (inl refl)))
 stands-judged b q old i key depth (Expanded bound) none queues = absurd none
 stands-judged b q old i key depth Dead dead queues = dead
+stands-judged b q old i key depth (Lost place) lost queues = lost
 
 -- a new state, before it is added
 pub record IsFit (b : Numbered) (p : Progress) (i : ℕ) (key : Key) (depth : ℕ) (note : Note) : Type 0 where
@@ -77,16 +80,17 @@ pub record IsFit (b : Numbered) (p : Progress) (i : ℕ) (key : Key) (depth : �
   pub as_many : length key.boxes ≡ length (boxes_of b)
   pub shallow : depth ≤ i
   pub come : IsCome b p key depth note.origin
-  pub judged : IsJudged b key.boxes note.standing
+  pub judged : IsJudgedIn b p.frame key note.standing
 
-fit-noted : (b : Numbered) (p q : Progress) (i : ℕ) (key : Key) (depth : ℕ) (note : Note) → Grows p.table q.table → Queues note.standing i p.queue q.queue
+fit-noted : (b : Numbered) (p q : Progress) (i : ℕ) (key : Key) (depth : ℕ) (note : Note) → q.frame ≡ p.frame → Grows p.table q.table
+    → Queues note.standing i p.queue q.queue
     → IsFit b p i key depth note → IsNoted b q i key depth note
-fit-noted b p q i key depth note grows queues fit = record {
+fit-noted b p q i key depth note same grows queues fit = record {
   state = fit.state;
   as_many = fit.as_many;
   shallow = fit.shallow;
   come = come-along b p q grows key depth note.origin fit.come;
-  stands = stands-judged b q p.queue i key depth note.standing fit.judged queues;
+  stands = stands-judged b q p.queue i key depth note.standing (subst (λ frame. IsJudgedIn b frame key note.standing) (sym same) fit.judged) queues;
 }
 
 same_best : (b : Numbered) (p q : Progress) → q.best ≡ p.best → (n : ℕ) → IsBeaten p.best n → IsBeaten q.best n
@@ -159,7 +163,7 @@ module _ (b : Numbered) (limit : ℕ) (p q : Progress) (key : Key) (depth : ℕ)
             let same_depth = push-last (values_of p.table) depth i d (omega (arith, last, keys, depths)) depth_is in
             let same_note = push-last p.notes note i n (omega (arith, last, keys, notes)) note_is in
             let at : length p.table ≡ i = omega (arith, last, keys) in
-            let noted = fit-noted b p q (length p.table) key depth note added-grows added.queue fit in
+            let noted = fit-noted b p q (length p.table) key depth note added.frame added-grows added.queue fit in
             inr (subst (λ m. IsNoted b q m k d n) at
             (subst (λ x. IsNoted b q (length p.table) x d n) is
             (subst (λ x. IsNoted b q (length p.table) key x n) same_depth (subst (IsNoted b q (length p.table) key depth) same_note noted))))
@@ -172,7 +176,7 @@ module _ (b : Numbered) (limit : ℕ) (p q : Progress) (key : Key) (depth : ℕ)
       let one = ap length added.notes in
       let more = length-append p.notes (note ∷ []) in
       keeps b limit p q search (record {
-        frame = added.frame;
+        frame = later-same b p.frame q.frame added.frame;
         distinct = added-distinct absent;
         a_note_each = omega (arith, count, notes, one, more);
         few = omega (arith, count, room);
@@ -248,7 +252,7 @@ module _ (b : Numbered) (limit : ℕ) (p q : Progress) (index : ℕ) (key : Key)
       let few = search.few in
       let keys = changed.keys in
       keeps b limit p q search (record {
-        frame = changed.frame;
+        frame = later-same b p.frame q.frame changed.frame;
         distinct = subst (AllPairs (λ k other. k ≢ other)) (sym keys) search.distinct;
         a_note_each = omega (arith, count, notes, one, as_long);
         few = omega (arith, count, few);
@@ -259,5 +263,5 @@ module _ (b : Numbered) (limit : ℕ) (p q : Progress) (index : ℕ) (key : Key)
         grows = changed-grows;
         better = same_best b p q changed.best;
         best = best-of b p q changed-grows changed.best search.best;
-        each = changed-cases (fit-noted b p q index key depth note changed-grows changed.queue fit);
+        each = changed-cases (fit-noted b p q index key depth note changed.frame changed-grows changed.queue fit);
       })

@@ -15,11 +15,11 @@ use Rattle.sok_state.specs.Pushes.{IsLegal}
 use Rattle.sok_state.specs.Tables.{IsAt}
 use Rattle.sok_search.specs.declared.note.Note.{Note}
 use Rattle.sok_search.specs.declared.note.Standing.{Standing}
-use Rattle.sok_search.specs.declared.note.Standing.TheVariants.{Open, Expanded, Dead}
+use Rattle.sok_search.specs.declared.note.Standing.TheVariants.{Open, Expanded, Dead, Lost}
 use Rattle.sok_search.specs.Searches.{Progress, IsBeaten, IsCome, IsMet, IsNoted, IsSearch, IsSolved, IsSolvedIn, IsState, Stands}
 use Rattle.sok_search.specs.Steps.{IsAdded, IsChanged, Queues, done, holding, work}
 use Rattle.sok_search.proofs.Changing.{key_count, set_cases, set_same}
-use Rattle.sok_search.proofs.Keeping.{Grows-refl, best-along, come-along, keeps}
+use Rattle.sok_search.proofs.Keeping.{Grows-refl, best-along, come-along, keeps, later-same}
 
 left : (index : ℕ) (queue : List ℕ) (i : ℕ) → (i ≡ index → ⊥) → Contains (index ∷ queue) i → Contains queue i
 left index queue i other waits = elim (Contains-cons_cases index i queue waits) [ inl same ↦ absurd (other (sym same)) | inr waits ↦ waits ]
@@ -34,7 +34,7 @@ keeps-done b limit p index key depth note notes best search there depth_is note_
     let q = done p notes best in
     let count = search.a_note_each in
     keeps b limit (holding index p) q search (record {
-      frame = refl;
+      frame = later-same b p.frame p.frame refl;
       distinct = search.distinct;
       a_note_each = omega (arith, as_many, count);
       few = search.few;
@@ -131,6 +131,7 @@ queues-holding (Open bound) index i old new queues = record {
 }
 queues-holding (Expanded bound) index i old new queues = ap (λ queue. index ∷ queue) queues
 queues-holding Dead index i old new queues = ap (λ queue. index ∷ queue) queues
+queues-holding (Lost place) index i old new queues = ap (λ queue. index ∷ queue) queues
 
 pub added-holding : (index : ℕ) (p : Progress) (key : Key) (depth : ℕ) (note : Note) (q : Progress) → IsAdded p key depth note q
     → IsAdded (holding index p) key depth note (holding index q)
@@ -168,6 +169,7 @@ queue_length : (s : Standing) (i : ℕ) (old new : List ℕ) → Queues s i old 
 queue_length (Open bound) i old new queues = let longer = queues.longer in omega (arith, longer)
 queue_length (Expanded bound) i old new queues = let same = ap length queues in omega (arith, same)
 queue_length Dead i old new queues = let same = ap length queues in omega (arith, same)
+queue_length (Lost place) i old new queues = let same = ap length queues in omega (arith, same)
 
 pub work-added : (limit : ℕ) (p : Progress) (key : Key) (depth : ℕ) (note : Note) (q : Progress) → IsAdded p key depth note q → depth ≤ length p.table
     → length p.table < limit → work limit q ≤ work limit p

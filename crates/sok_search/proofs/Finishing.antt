@@ -100,38 +100,41 @@ looking-made b accepted limit claim p entries search are = record {
 }
 
 -- what is expanded bars nothing
-barred : (b : Numbered) (boxes : List ℕ) (claim : Claim) (depth : ℕ) (why : Reason) → is_expanded why ≡ true → ReasonBars b boxes why (rest_of claim depth) → ⊥
-barred b boxes claim depth reason.Expanded is bars = bars 0
-barred b boxes claim depth reason.Spent is bars = true≢false (sym is)
-barred b boxes claim depth (reason.Bound u v) is bars = true≢false (sym is)
-barred b boxes claim depth (reason.Crowd members) is bars = true≢false (sym is)
-barred b boxes claim depth (reason.Frozen members) is bars = true≢false (sym is)
-barred b boxes claim depth (reason.Pattern members inner) is bars = true≢false (sym is)
+barred : (b : Numbered) (player : ℕ) (boxes : List ℕ) (claim : Claim) (depth : ℕ) (why : Reason) → is_expanded why ≡ true
+    → ReasonBars b player boxes why (rest_of claim depth) → ⊥
+barred b player boxes claim depth reason.Expanded is bars = bars
+barred b player boxes claim depth reason.Spent is bars = true≢false (sym is)
+barred b player boxes claim depth (reason.Bound u v) is bars = true≢false (sym is)
+barred b player boxes claim depth (reason.Crowd members) is bars = true≢false (sym is)
+barred b player boxes claim depth (reason.Frozen members) is bars = true≢false (sym is)
+barred b player boxes claim depth (reason.Pattern members inner) is bars = true≢false (sym is)
 
 abbrev reasoned_as : Numbered → Claim → Entry → Bool → Type 0
 reasoned_as b claim e t = MatchBool t (AllOnGoals b.rows (entry_position b e) → ⊥) (IsBarredBy b claim e)
 
-reasoned-bars : (b : Numbered) (claim : Claim) (e : Entry) → ReasonBars b e.boxes e.reason (rest_of claim e.depth) → IsReasoned b claim e
+reasoned-bars : (b : Numbered) (claim : Claim) (e : Entry) → ReasonBars b e.player e.boxes e.reason (rest_of claim e.depth) → IsReasoned b claim e
 reasoned-bars b claim e bars = elim (cases_Bool (is_expanded e.reason)) [
-  | inl expanded ↦ absurd (barred b e.boxes claim e.depth e.reason expanded bars)
-  | inr other ↦ subst (reasoned_as b claim e) (sym other) (bars e.player)
+  | inl expanded ↦ absurd (barred b e.player e.boxes claim e.depth e.reason expanded bars)
+  | inr other ↦ subst (reasoned_as b claim e) (sym other) bars
 ]
 
--- the reason is of the entry's own boxes and depth
+-- the reason is of the entry's own position and depth
 bars-made : (b : Numbered) (claim : Claim) (p : Progress) (i : ℕ) (e : Entry) → (made : Made b claim p i e)
-    → ReasonBars b made.key.boxes e.reason (rest_of claim made.depth) → ReasonBars b e.boxes e.reason (rest_of claim e.depth)
+    → ReasonBars b made.key.least made.key.boxes e.reason (rest_of claim made.depth) → ReasonBars b e.player e.boxes e.reason (rest_of claim e.depth)
 bars-made b claim p i e made bars =
-    subst (λ boxes. ReasonBars b boxes e.reason (rest_of claim e.depth)) (sym made.entry.boxes_are)
-    (subst (λ depth. ReasonBars b made.key.boxes e.reason (rest_of claim depth)) (sym made.entry.depth_is) bars)
+    subst (λ player. ReasonBars b player e.boxes e.reason (rest_of claim e.depth)) (sym made.entry.player_is)
+    (subst (λ boxes. ReasonBars b made.key.least boxes e.reason (rest_of claim e.depth)) (sym made.entry.boxes_are)
+    (subst (λ depth. ReasonBars b made.key.least made.key.boxes e.reason (rest_of claim depth)) (sym made.entry.depth_is) bars))
 
 -- by the standing of the state
 reasoned-standing : (b : Numbered) (claim : Claim) (p : Progress) (i : ℕ) (e : Entry) (made : Made b claim p i e) (s : Standing)
-    → Stands b p i made.key made.depth s → IsReasonOf b claim made.key.boxes made.depth s e.reason → IsReasoned b claim e
+    → Stands b p i made.key made.depth s → IsReasonOf b claim made.key.least made.key.boxes made.depth s e.reason → IsReasoned b claim e
 reasoned-standing b claim p i e made (standing.Expanded bound) (prices, unsolved, met) why =
     let off : AllOnGoals b.rows (entry_position b e) → ⊥ = subst (λ x. AllOnGoals b.rows x → ⊥) (place-made b claim p i e made) unsolved in
     subst (reasoned_as b claim e) (sym (ap is_expanded why)) off
 reasoned-standing b claim p i e made (standing.Open bound) stands why = reasoned-bars b claim e (bars-made b claim p i e made why)
 reasoned-standing b claim p i e made standing.Dead stands why = reasoned-bars b claim e (bars-made b claim p i e made why)
+reasoned-standing b claim p i e made (standing.Lost place) stands why = reasoned-bars b claim e (bars-made b claim p i e made why)
 
 -- a whole search leaves no push out
 found-whole : (b : Numbered) (p : Progress) → p.frame.whole ≡ true → (key : Key) (depth : ℕ) (push : Push) → IsMet b p key depth push
@@ -141,16 +144,18 @@ found-whole b p whole key depth push (inr left) = absurd (true≢false (sym whol
 
 followed-standing : (b : Numbered) → IsAccepted b → (claim : Claim) (p : Progress) → p.frame.whole ≡ true → (entries : List Entry)
     → IsLooking node_of b (length (boxes_of b)) entries p.table → (i : ℕ) (e : Entry) → Contains entries e
-    → (made : Made b claim p i e) (s : Standing) → Stands b p i made.key made.depth s → IsReasonOf b claim made.key.boxes made.depth s e.reason
+    → (made : Made b claim p i e) (s : Standing) → Stands b p i made.key made.depth s → IsReasonOf b claim made.key.least made.key.boxes made.depth s e.reason
     → IsTrue (is_expanded e.reason) → IsFollowed node_of b entries (node_of e)
 followed-standing b accepted claim p whole entries looking i e listed made (standing.Expanded bound) (prices, unsolved, met) why expanded =
     IsFollowed-found node_of b (length (boxes_of b)) entries p.table looking e listed made.key (key-made b accepted claim p i e made)
     (λ push legal. subst (λ depth. IsFound b p.table made.key depth push) (sym made.entry.depth_is)
     (found-whole b p whole made.key made.depth push (met push legal)))
 followed-standing b accepted claim p whole entries looking i e listed made (standing.Open bound) stands why expanded = absurd
-    (barred b e.boxes claim e.depth e.reason expanded (bars-made b claim p i e made why))
+    (barred b e.player e.boxes claim e.depth e.reason expanded (bars-made b claim p i e made why))
 followed-standing b accepted claim p whole entries looking i e listed made standing.Dead stands why expanded = absurd
-    (barred b e.boxes claim e.depth e.reason expanded (bars-made b claim p i e made why))
+    (barred b e.player e.boxes claim e.depth e.reason expanded (bars-made b claim p i e made why))
+followed-standing b accepted claim p whole entries looking i e listed made (standing.Lost place) stands why expanded = absurd
+    (barred b e.player e.boxes claim e.depth e.reason expanded (bars-made b claim p i e made why))
 
 -- no two entries are one state, since the keys are distinct
 apart-made : (b : Numbered) → IsAccepted b → (claim : Claim) (p : Progress) → HasDistinctKeys p.table → (i j : ℕ) (e f : Entry)

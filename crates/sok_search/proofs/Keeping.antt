@@ -1,5 +1,5 @@
 -- What holds of a search holds after each step.
-use Rattle.std.proofs.Common.{ℕ, ◌≡◌, ◌<◌, ◌≤◌, ◌+◌, ◌∙◌, ◌⊎◌, inl, inr, refl, ap, List, Option, Some, None}
+use Rattle.std.proofs.Common.{ℕ, ◌≡◌, ◌<◌, ◌≤◌, ◌+◌, ◌∙◌, ◌⊎◌, inl, inr, refl, sym, ap, subst, List, Option, Some, None}
 use Rattle.std.proofs.Common.{Contains, arith, length}
 use Rattle.std.specs.Option.{IfSome}
 use Rattle.sok_board.specs.Area.{Numbered}
@@ -7,12 +7,15 @@ use Rattle.sok_state.specs.declared.key.Key.{Key}
 use Rattle.sok_state.specs.declared.push.Push.{Push}
 use Rattle.sok_state.specs.Tables.{Entries, HasDistinctKeys}
 use Rattle.sok_closed.specs.Lookup.{IsFound}
+use Rattle.sok_alone.specs.declared.losses.Losses.{Losses}
+use Rattle.sok_alone.specs.Losses.{KeepsLosses, KeepsPlaces, losses_of}
+use Rattle.sok_alone.proofs.Losing.{lost-kept}
 use Rattle.sok_search.specs.declared.note.Note.{Note}
 use Rattle.sok_search.specs.declared.note.Origin.{Origin}
 use Rattle.sok_search.specs.declared.note.Standing.{Standing}
-use Rattle.sok_search.specs.declared.note.Standing.TheVariants.{Open, Expanded, Dead}
-use Rattle.sok_search.specs.Searches.{Frame, Progress, IsBeaten, IsBegun, IsCome, IsFrom, IsMet, IsNoted, IsSearch, IsSolvedIn, IsState, Stands}
-use Rattle.sok_search.specs.Steps.{Grows}
+use Rattle.sok_search.specs.declared.note.Standing.TheVariants.{Open, Expanded, Dead, Lost}
+use Rattle.sok_search.specs.Searches.{Frame, Progress, IsBeaten, IsBegun, IsCome, IsFrom, IsLater, IsMet, IsNoted, IsSearch, IsSolvedIn, IsState, Stands}
+use Rattle.sok_search.specs.Steps.{Grows, knowing}
 
 pub Grows-refl : (table : Entries) → Grows table table
 Grows-refl table = record { keys = λ key i there. there; depths = λ i depth there. (depth, there, omega arith) }
@@ -32,10 +35,10 @@ found-along b old new grows key depth push found =
       near = omega (arith, near, was);
     }
 
-pub met-along : (b : Numbered) (p q : Progress) → q.frame ≡ p.frame → Grows p.table q.table → (key : Key) (depth : ℕ) (push : Push) → IsMet b p key depth push
+pub met-along : (b : Numbered) (p q : Progress) → q.frame.whole ≡ p.frame.whole → Grows p.table q.table → (key : Key) (depth : ℕ) (push : Push) → IsMet b p key depth push
     → IsMet b q key depth push
 met-along b p q same grows key depth push (inl found) = inl (found-along b p.table q.table grows key depth push found)
-met-along b p q same grows key depth push (inr left) = inr (record { part = ap (λ (f : Frame). f.whole) same ∙ left.part; nowhere = left.nowhere })
+met-along b p q same grows key depth push (inr left) = inr (record { part = same ∙ left.part; nowhere = left.nowhere })
 
 pub from-along : (b : Numbered) (p q : Progress) → Grows p.table q.table → (key : Key) (depth : ℕ) (origin : Origin) → IsFrom b p key depth origin
     → IsFrom b q key depth origin
@@ -64,15 +67,17 @@ pub record IsUnchanged (p q : Progress) (i : ℕ) (key : Key) (depth : ℕ) (not
   pub state : IsState p i key depth note
   pub waits : Contains p.queue i → Contains q.queue i
 
-pub stands-along : (b : Numbered) (p q : Progress) → q.frame ≡ p.frame → Grows p.table q.table → ((n : ℕ) → IsBeaten p.best n → IsBeaten q.best n)
+pub stands-along : (b : Numbered) (p q : Progress) → IsLater b p.frame q.frame → Grows p.table q.table → ((n : ℕ) → IsBeaten p.best n → IsBeaten q.best n)
     → (i : ℕ) (key : Key) (depth : ℕ) (s : Standing) → (Contains p.queue i → Contains q.queue i) → Stands b p i key depth s → Stands b q i key depth s
 stands-along b p q same grows better i key depth (Open bound) waits (prices, inl waited) = (prices, inl (waits waited))
 stands-along b p q same grows better i key depth (Open bound) waits (prices, inr beaten) = (prices, inr (better (depth + bound) beaten))
 stands-along b p q same grows better i key depth (Expanded bound) waits (prices, unsolved, met) =
-    (prices, unsolved, λ push legal. met-along b p q same grows key depth push (met push legal))
+    (prices, unsolved, λ push legal. met-along b p q same.whole grows key depth push (met push legal))
 stands-along b p q same grows better i key depth Dead waits dead = dead
+stands-along b p q same grows better i key depth (Lost place) waits lost =
+    lost-kept b key.least key.boxes (losses_of p.frame.losses) place lost (losses_of q.frame.losses) same.kept
 
-pub noted-along : (b : Numbered) (p q : Progress) → q.frame ≡ p.frame → Grows p.table q.table → ((n : ℕ) → IsBeaten p.best n → IsBeaten q.best n)
+pub noted-along : (b : Numbered) (p q : Progress) → IsLater b p.frame q.frame → Grows p.table q.table → ((n : ℕ) → IsBeaten p.best n → IsBeaten q.best n)
     → (i : ℕ) (key : Key) (depth : ℕ) (note : Note) → (Contains p.queue i → Contains q.queue i)
     → IsNoted b p i key depth note → IsNoted b q i key depth note
 noted-along b p q same grows better i key depth note waits noted = record {
@@ -108,9 +113,14 @@ pub best-along : (b : Numbered) (p q : Progress) → Grows p.table q.table → (
 best-along b p q grows None one = one
 best-along b p q grows (Some k) one = solved-along b p q grows k one
 
+-- the same frame
+pub later-same : (b : Numbered) (old new : Frame) → new ≡ old → IsLater b old new
+later-same b old new same =
+    subst (IsLater b old) (sym same) (record { room = refl; whole = refl; kept = λ place loss there. there; losses = λ losses. losses })
+
 -- a step after which each state is as it was, or is noted anew
 pub record IsStep (b : Numbered) (limit : ℕ) (p q : Progress) : Type 0 where
-  pub frame : q.frame ≡ p.frame
+  pub frame : IsLater b p.frame q.frame
   pub distinct : HasDistinctKeys q.table
   pub a_note_each : length q.notes ≡ length q.table
   pub few : length q.table ≤ limit
@@ -122,7 +132,8 @@ pub record IsStep (b : Numbered) (limit : ℕ) (p q : Progress) : Type 0 where
 
 pub keeps : (b : Numbered) (limit : ℕ) (p q : Progress) → IsSearch b limit p → IsStep b limit p q → IsSearch b limit q
 keeps b limit p q search after = record {
-  wide = let wide = search.wide in let room = ap (λ (f : Frame). f.room) after.frame in omega (arith, wide, room);
+  wide = let wide = search.wide in let room = after.frame.room in omega (arith, wide, room);
+  losses = after.frame.losses search.losses;
   distinct = after.distinct;
   a_note_each = after.a_note_each;
   few = after.few;
@@ -135,6 +146,26 @@ keeps b limit p q search after = record {
   best = after.best;
 }
 
+-- more is known of pairs of boxes
+pub keeps-knowing : (b : Numbered) (limit : ℕ) (p : Progress) (losses : Losses) → IsSearch b limit p → KeepsLosses b losses
+    → KeepsPlaces (losses_of p.frame.losses) (losses_of losses) → IsSearch b limit (knowing losses p)
+keeps-knowing b limit p losses search keeps_losses kept =
+    let q = knowing losses p in
+    keeps b limit p q search (record {
+      frame = record { room = refl; whole = refl; kept = kept; losses = λ before. keeps_losses };
+      distinct = search.distinct;
+      a_note_each = search.a_note_each;
+      few = search.few;
+      queued = search.queued;
+      grows = Grows-refl p.table;
+      better = λ n beaten. beaten;
+      best = best-along b p q (Grows-refl p.table) p.best search.best;
+      each = λ i key depth note state. inl (record {
+        state = record { there = state.there; depth_is = state.depth_is; note_is = state.note_is };
+        waits = λ waits. waits;
+      });
+    })
+
 -- another queue, which lacks no open state that is not beaten
 pub keeps-queue : (b : Numbered) (limit : ℕ) (p : Progress) (queue : List ℕ) → IsSearch b limit p → ((i : ℕ) → Contains queue i → i < length p.table)
     → ((i : ℕ) (key : Key) (depth : ℕ) (note : Note) → IsState p i key depth note
@@ -143,7 +174,7 @@ pub keeps-queue : (b : Numbered) (limit : ℕ) (p : Progress) (queue : List ℕ)
 keeps-queue b limit p queue search queued each =
     let q : Progress = record p { queue = queue } in
     keeps b limit p q search (record {
-      frame = refl;
+      frame = later-same b p.frame p.frame refl;
       distinct = search.distinct;
       a_note_each = search.a_note_each;
       few = search.few;

@@ -44,7 +44,7 @@ pub pushed-left_out : (b : Numbered) (limit index : ℕ) (p : Progress) → IsSe
     → IsLeftOut b p.frame.whole key push → IsPushed b limit (holding index p) key depth push (holding index p)
 pushed-left_out b limit index p search key depth push left = record {
   search = search;
-  frame = refl;
+  whole = refl;
   grows = Grows-refl p.table;
   stay = λ i k deep n shallow s. s;
   met = inr left;

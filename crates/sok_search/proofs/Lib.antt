@@ -1,4 +1,5 @@
 pub mod Adding
+pub mod Asking
 pub mod Bucketing
 pub mod Certified
 pub mod Chains

@@ -6,9 +6,10 @@ use Rattle.sok_rules.specs.Play.{start}
 use Rattle.sok_board.specs.Area.{Numbered, boxes_of}
 use Rattle.sok_state.specs.declared.key.Key.{Key}
 use Rattle.sok_state.specs.Keys.{IsKey, IsKeyOf}
+use Rattle.sok_alone.specs.Losses.{KeepsLosses}
 use Rattle.sok_search.specs.declared.note.Note.{Note}
 use Rattle.sok_search.specs.Searches.{Frame, Progress, IsCome, IsNoted, IsSearch, IsSolvedIn}
-use Rattle.sok_search.specs.Steps.{IsAdded, IsJudged}
+use Rattle.sok_search.specs.Steps.{IsAdded, IsJudgedIn}
 use Rattle.sok_search.proofs.Changing.{key_count, queues-cases, stands-judged}
 
 abbrev pub nothing : Frame → Progress
@@ -21,17 +22,18 @@ only x i y there =
     let first : i ≡ 0 = omega (arith, within) in
     (first, same_Some x y (ap (slice_get (x ∷ [])) (sym first) ∙ there))
 
-module _ (b : Numbered) (limit : ℕ) (frame : Frame) (positive : 0 < limit) (wide : length b.area ≤ frame.room) (key : Key) (note : Note) (q : Progress)
+module _ (b : Numbered) (limit : ℕ) (frame : Frame) (positive : 0 < limit) (wide : length b.area ≤ frame.room)
+    (losses : KeepsLosses b frame.losses) (key : Key) (note : Note) (q : Progress)
     (added : IsAdded (nothing frame) key 0 note q)
     (state : IsKey b key) (is : IsKeyOf b (start b.rows) key) (as_many : length key.boxes ≡ length (boxes_of b))
-    (origin : note.origin ≡ None) (judged : IsJudged b key.boxes note.standing) where
+    (origin : note.origin ≡ None) (judged : IsJudgedIn b frame key note.standing) where
   noted : IsNoted b q 0 key 0 note
   noted = record {
     state = state;
     as_many = as_many;
     shallow = omega arith;
     come = subst (IsCome b q key 0) (sym origin) is;
-    stands = stands-judged b q [] 0 key 0 note.standing judged added.queue;
+    stands = stands-judged b q [] 0 key 0 note.standing (subst (λ f. IsJudgedIn b f key note.standing) (sym added.frame) judged) added.queue;
   }
 
   pub begun : IsSearch b limit q
@@ -41,6 +43,7 @@ module _ (b : Numbered) (limit : ℕ) (frame : Frame) (positive : 0 < limit) (wi
       let notes = ap length added.notes in
       record {
         wide = let same = ap (λ (f : Frame). f.room) added.frame in omega (arith, wide, same);
+        losses = subst (λ (f : Frame). KeepsLosses b f.losses) (sym added.frame) losses;
         distinct = subst (AllPairs (λ k other. k ≢ other)) (sym added.keys) (λ i j d below within. absurd (omega (arith, below, within)));
         a_note_each = omega (arith, count, keys, notes);
         few = omega (arith, count, keys, positive);

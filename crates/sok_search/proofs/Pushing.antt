@@ -11,21 +11,37 @@ use Rattle.sok_state.specs.declared.push.Push.{Push}
 use Rattle.sok_state.specs.Keys.{IsKey, IsKeyOf}
 use Rattle.sok_state.specs.Pushes.{IsLegal, LeadsTo}
 use Rattle.sok_state.specs.Tables.{Entries, IsAt, Stays}
+use Rattle.sok_alone.specs.declared.losses.Losses.{Losses}
 use Rattle.sok_search.specs.declared.note.Note.{Note}
 use Rattle.sok_search.specs.declared.note.Standing.{Standing}
-use Rattle.sok_search.specs.declared.note.Standing.TheVariants.{Open, Expanded, Dead}
+use Rattle.sok_search.specs.declared.note.Standing.TheVariants.{Open, Expanded, Dead, Lost}
 use Rattle.sok_search.specs.Searches.{Frame, Progress, IsCome, IsFrom, IsNoted, IsSearch, IsState, Stands}
-use Rattle.sok_search.specs.Steps.{IsAdded, IsChanged, IsJudged, IsPushed, Nears, holding, reopened}
+use Rattle.sok_search.specs.Steps.{IsAdded, IsChanged, IsJudgedIn, IsPushed, Nears, holding, knowing, reopened}
 use Rattle.sok_search.proofs.Doing.{added-holding, changed-holding, work-added, work-changed}
 use Rattle.sok_search.proofs.Changing.{added-grows, changed-grows, depth_count, keeps-added, keeps-changed, key_count, set_other, set_same}
 use Rattle.sok_search.proofs.Keeping.{Grows-refl}
 use Rattle.sok_search.proofs.Knowing.{key-within, noted-at}
 
+-- more was known of pairs of boxes before it was followed
+pub pushed-knowing : (b : Numbered) (limit : ℕ) (p : Progress) (losses : Losses) (key : Key) (depth : ℕ) (push : Push) (q : Progress)
+    → IsPushed b limit (knowing losses p) key depth push q → IsPushed b limit p key depth push q
+pushed-knowing b limit p losses key depth push q pushed = record {
+  search = pushed.search;
+  whole = pushed.whole;
+  grows = pushed.grows;
+  stay = λ i other deep note near state.
+      pushed.stay i other deep note near (record { there = state.there; depth_is = state.depth_is; note_is = state.note_is });
+  met = pushed.met;
+  no_more = pushed.no_more;
+}
+
 -- what is open again is judged as before
-judged-reopened : (b : Numbered) (p : Progress) (i : ℕ) (key : Key) (depth : ℕ) (s : Standing) → Stands b p i key depth s → IsJudged b key.boxes (reopened s)
+judged-reopened : (b : Numbered) (p : Progress) (i : ℕ) (key : Key) (depth : ℕ) (s : Standing) → Stands b p i key depth s
+    → IsJudgedIn b p.frame key (reopened s)
 judged-reopened b p i key depth (Open bound) (prices, waits) = prices
 judged-reopened b p i key depth (Expanded bound) (prices, unsolved, met) = prices
 judged-reopened b p i key depth Dead dead = dead
+judged-reopened b p i key depth (Lost place) lost = lost
 
 module _ (b : Numbered) (limit index : ℕ) (p : Progress) (search : IsSearch b limit (holding index p)) (key : Key) (depth : ℕ)
     (there : IsAt p.table key index)
@@ -58,7 +74,7 @@ module _ (b : Numbered) (limit index : ℕ) (p : Progress) (search : IsSearch b 
 
   -- it is new
   module _ (absent : Contains (keys_of p.table) next → ⊥) (room : length p.table < limit) (note : Note)
-      (origin : note.origin ≡ Some (record { parent = index; push = push })) (judged : IsJudged b next.boxes note.standing) (q : Progress)
+      (origin : note.origin ≡ Some (record { parent = index; push = push })) (judged : IsJudgedIn b p.frame next note.standing) (q : Progress)
       (added : IsAdded p next (depth + 1) note q) where
     held : IsAdded (holding index p) next (depth + 1) note (holding index q)
     held = added-holding index p next (depth + 1) note q added
@@ -77,7 +93,7 @@ module _ (b : Numbered) (limit index : ℕ) (p : Progress) (search : IsSearch b 
             come = subst (IsCome b (holding index p) next (depth + 1)) (sym origin) from;
             judged = judged;
           });
-          frame = added.frame;
+          whole = ap (λ (f : Frame). f.whole) added.frame;
           grows = grows;
           stay = λ i other deep n near state. record {
             there = grows.keys other i state.there;
@@ -121,9 +137,9 @@ module _ (b : Numbered) (limit index : ℕ) (p : Progress) (search : IsSearch b 
               as_many = as_many;
               shallow = omega (arith, own, near);
               come = subst (IsCome b (holding index p) next (depth + 1)) (sym origin) from;
-              judged = subst (IsJudged b next.boxes) (sym standing) (judged-reopened b (holding index p) at next old other.standing was_noted.stands);
+              judged = subst (IsJudgedIn b p.frame next) (sym standing) (judged-reopened b (holding index p) at next old other.standing was_noted.stands);
             });
-            frame = changed.frame;
+            whole = ap (λ (f : Frame). f.whole) changed.frame;
             grows = grows;
             stay = λ i k deep n shallow s. record {
               there = grows.keys k i s.there;
@@ -148,7 +164,7 @@ module _ (b : Numbered) (limit index : ℕ) (p : Progress) (search : IsSearch b 
     pub pushed-stays : old ≤ depth + 1 → IsPushed b limit (holding index p) key depth push (holding index p)
     pushed-stays near = record {
       search = search;
-      frame = refl;
+      whole = refl;
       grows = Grows-refl p.table;
       stay = λ i k deep n shallow s. s;
       met = inl (record { next = next; is = is; index = at; there = state.there; deep = old; depth_is = state.depth_is; near = near });

@@ -45,7 +45,7 @@ bound-again b boxes u v goal_of total depth (Pushes k) (bound, (us, vs, priced),
     bound-priced b boxes u v total depth k are.priced (omega (arith, least, cost, near))
 
 pub assigned-again : (b : Numbered) (boxes : List ℕ) (depth : ℕ) (claim : Claim) → CostsEnough b claim boxes depth → (why : Reason) → IsAssigned b boxes why
-    → ReasonBars b boxes why (rest_of claim depth)
+    → (player : ℕ) → ReasonBars b player boxes why (rest_of claim depth)
 assigned-again b boxes depth claim enough reason.Expanded none = absurd none
 assigned-again b boxes depth claim enough reason.Spent none = absurd none
 assigned-again b boxes depth claim enough (reason.Bound u v) (total, goal_of, are) = bound-again b boxes u v goal_of total depth claim enough are
@@ -55,7 +55,7 @@ assigned-again b boxes depth claim enough (reason.Pattern members inner) none = 
 
 -- a dead state without a jam has a crowd, which is found
 pub crowd-again : (b : Numbered) (boxes : List ℕ) → ((members : List ℕ) → IsJam b boxes members → ⊥) → IsDead b boxes → (why : Reason)
-    → IsAssigned b boxes why → (rest : Rest) → ReasonBars b boxes why rest
+    → IsAssigned b boxes why → (player : ℕ) (rest : Rest) → ReasonBars b player boxes why rest
 crowd-again b boxes none dead reason.Expanded assigned rest = absurd assigned
 crowd-again b boxes none dead reason.Spent assigned rest = absurd assigned
 crowd-again b boxes none (Barring.spent, of_boxes, bars) (reason.Bound u v) assigned rest = absurd (bars 0 Never)

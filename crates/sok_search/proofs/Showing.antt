@@ -10,7 +10,10 @@ use Rattle.sok_board.specs.Area.{Numbered, IsAccepted}
 use Rattle.sok_region.specs.Regions.{IsPlaced}
 use Rattle.sok_bar.specs.declared.rest.Rest.TheVariants.{AtLeast}
 use Rattle.sok_bar.specs.Bars.{Barring}
+use Rattle.sok_bar.proofs.Patterns.{NeverFrom-Same}
 use Rattle.sok_bar.proofs.ReasonLaws.{reasons-bar}
+use Rattle.sok_alone.specs.Losses.{losses_of}
+use Rattle.sok_alone.proofs.Losing.{lost-never}
 use Rattle.sok_cert.specs.Claim.{Claim}
 use Rattle.sok_cert.specs.Claim.TheVariants.{Pushes, Unsolvable}
 use Rattle.sok_cert.specs.Closed.{IsTrueOf, rest_of}
@@ -25,7 +28,7 @@ use Rattle.sok_state.specs.Pushes.{IsLegal, LeadsTo}
 use Rattle.sok_state.specs.Tables.{IsAt}
 use Rattle.sok_state.specs.Keys.{key_position}
 use Rattle.sok_search.specs.declared.note.Standing.{Standing}
-use Rattle.sok_search.specs.declared.note.Standing.TheVariants.{Open, Expanded, Dead}
+use Rattle.sok_search.specs.declared.note.Standing.TheVariants.{Open, Expanded, Dead, Lost}
 use Rattle.sok_search.specs.Finished.{CostsEnough, claim_of}
 use Rattle.sok_search.specs.Searches.{Progress, IsDead, IsMet, IsSearch, Stands}
 use Rattle.sok_search.proofs.Certified.{stands-done}
@@ -111,6 +114,9 @@ module _ (b : Numbered) (accepted : IsAccepted b) (limit : ℕ) (p : Progress) (
       pushed = pushed met;
     })
     standing-known Dead dead = inl (agree-dead b accepted (claim_of p.best) at.key depth at.deep x placed at.same at.near dead)
+    standing-known (Lost place) lost = inl (λ w solves. absurd
+        (NeverFrom-Same b.rows (key_position b at.key) x at.same
+        (lost-never b at.key.least at.key.boxes (losses_of p.frame.losses) place lost accepted placed) w solves))
 
   known : (depth : ℕ) (x : Position) → IsKnown b p depth x → AllAgree b.rows (claim_of p.best) depth x ⊎ LeadsOn b.rows (IsKnown b p) depth x
   known depth x (inr never) = inl (λ w solves. absurd (never w solves))

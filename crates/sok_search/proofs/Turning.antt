@@ -11,7 +11,7 @@ use Rattle.sok_state.specs.Pushes.{IsLegal}
 use Rattle.sok_search.specs.declared.note.Note.{Note}
 use Rattle.sok_search.specs.declared.reaching.Reached.{Reached}
 use Rattle.sok_search.specs.declared.reaching.Reached.TheVariants.{On}
-use Rattle.sok_search.specs.declared.note.Standing.TheVariants.{Open, Expanded, Dead}
+use Rattle.sok_search.specs.declared.note.Standing.TheVariants.{Open, Expanded, Dead, Lost}
 use Rattle.sok_search.specs.Searches.{Progress, IsBeaten, IsSearch, IsSolved, IsState, Stands}
 use Rattle.sok_search.specs.Steps.{HasOneMore, done, holding, work}
 use Rattle.sok_search.specs.Views.{HasFollowed, IsTurned, TellsTurned}
@@ -65,7 +65,7 @@ pub turned-taken : (b : Numbered) (limit index : ℕ) (p q : Progress) (rest : L
 turned-taken b limit index p q rest reached taken tells on =
     let held : Progress = holding index (record p { queue = rest }) in
     let told : IsTurned b limit held q = subst (TellsTurned b limit held q) on tells in
-    record { search = told.search; frame = told.frame; less = subst (λ n. work limit q < n) (work-taken limit index p rest taken) told.less }
+    record { search = told.search; whole = told.whole; less = subst (λ n. work limit q < n) (work-taken limit index p rest taken) told.less }
 
 -- what is not open stands without waiting
 pub let-go : (b : Numbered) (limit index : ℕ) (p : Progress) (note : Note) → IsSearch b limit (holding index p) → slice_get p.notes index ≡ Some note
@@ -79,7 +79,7 @@ let-go b limit index p note search note_is stands =
     record {
       search = keeps-dropped b limit p index key known.depth note search (record { there = there; depth_is = depth_is; note_is = note_is })
           (stands key known.depth depth_is noted.stands);
-      frame = refl;
+      whole = refl;
       less = work-held limit index p;
     }
 
@@ -95,6 +95,13 @@ pub go-dead : (b : Numbered) (limit index : ℕ) (p : Progress) (note : Note) �
 go-dead b limit index p note search note_is is =
     let-go b limit index p note search note_is (λ key depth depth_is stood.
     let was : Stands b (holding index p) index key depth Dead = subst (Stands b (holding index p) index key depth) is stood in
+    subst (Stands b p index key depth) (sym is) was)
+
+pub go-lost : (b : Numbered) (limit index place : ℕ) (p : Progress) (note : Note) → IsSearch b limit (holding index p)
+    → slice_get p.notes index ≡ Some note → note.standing ≡ Lost place → IsTurned b limit (holding index p) p
+go-lost b limit index place p note search note_is is =
+    let-go b limit index p note search note_is (λ key depth depth_is stood.
+    let was : Stands b (holding index p) index key depth (Lost place) = subst (Stands b (holding index p) index key depth) is stood in
     subst (Stands b p index key depth) (sym is) was)
 
 pub go-beaten : (b : Numbered) (limit index bound depth : ℕ) (p : Progress) (note : Note) → IsSearch b limit (holding index p)
@@ -117,7 +124,7 @@ pub go-solved : (b : Numbered) (limit index bound depth : ℕ) (key : Key) (p : 
 go-solved b limit index bound depth key p note search state is solved far =
     record {
       search = keeps-solved b limit p index key depth bound note search state is solved (unbeaten p.best depth bound far);
-      frame = refl;
+      whole = refl;
       less = work-held limit index p;
     }
 
@@ -132,7 +139,7 @@ go-on b limit index bound depth key p q note state is unsolved followed r same =
     let no_more = followed.no_more in
     let less : work limit q < work limit (holding index q) = work-held limit index q in
     let now : work limit s < work limit (holding index p) = below (work limit q) (work limit (holding index q)) (work limit (holding index p)) less no_more in
-    subst (IsTurned b limit (holding index p)) (sym same) (record { search = kept; frame = followed.frame; less = now })
+    subst (IsTurned b limit (holding index p)) (sym same) (record { search = kept; whole = followed.whole; less = now })
   where
     below : (x y z : ℕ) → x < y → y ≤ z → x < z
     below x y z f g = omega (arith, f, g)

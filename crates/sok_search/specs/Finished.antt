@@ -13,6 +13,8 @@ use Rattle.sok_bar.specs.declared.rest.Rest.{Rest}
 use Rattle.sok_bar.specs.Bars.{Bars}
 use Rattle.sok_state.specs.declared.key.Key.{Key}
 use Rattle.sok_cert.specs.Closed.{barring, rest_of}
+use Rattle.sok_alone.specs.declared.losses.Loss.{Loss}
+use Rattle.sok_alone.specs.Losses.{IsLostBy}
 use Rattle.sok_search.specs.declared.note.Note.{Note}
 use Rattle.sok_search.specs.declared.note.Standing.{Standing}
 use Rattle.sok_search.specs.declared.note.Standing.TheVariants as standing
@@ -23,22 +25,23 @@ abbrev pub claim_of : Option ℕ → Claim
 claim_of None = Unsolvable
 claim_of (Some k) = Pushes k
 
--- what a reason says of a position with these boxes, wherever the player stands; an expanded one gives none
-abbrev pub ReasonBars : Numbered → List ℕ → Reason → Rest → Type 0
-ReasonBars b boxes why rest = (player : ℕ) → IsSomeAnd (barring why) (λ reason. Bars b player boxes reason rest)
+-- what a reason says of a position; an expanded one gives none
+abbrev pub ReasonBars : Numbered → ℕ → List ℕ → Reason → Rest → Type 0
+ReasonBars b player boxes why rest = IsSomeAnd (barring why) (λ reason. Bars b player boxes reason rest)
 
 -- an expanded state is expanded in the list, and each other one is barred
-abbrev pub IsReasonOf : Numbered → Claim → List ℕ → ℕ → Standing → Reason → Type 0
-IsReasonOf b claim boxes depth (standing.Expanded bound) why = why ≡ reason.Expanded
-IsReasonOf b claim boxes depth (standing.Open bound) why = ReasonBars b boxes why (rest_of claim depth)
-IsReasonOf b claim boxes depth standing.Dead why = ReasonBars b boxes why (rest_of claim depth)
+abbrev pub IsReasonOf : Numbered → Claim → ℕ → List ℕ → ℕ → Standing → Reason → Type 0
+IsReasonOf b claim player boxes depth (standing.Expanded bound) why = why ≡ reason.Expanded
+IsReasonOf b claim player boxes depth (standing.Open bound) why = ReasonBars b player boxes why (rest_of claim depth)
+IsReasonOf b claim player boxes depth standing.Dead why = ReasonBars b player boxes why (rest_of claim depth)
+IsReasonOf b claim player boxes depth (standing.Lost place) why = ReasonBars b player boxes why (rest_of claim depth)
 
 -- an entry made of a state
 pub record IsEntryOf (b : Numbered) (claim : Claim) (key : Key) (depth : ℕ) (note : Note) (e : Entry) : Type 0 where
   pub depth_is : e.depth ≡ depth
   pub player_is : e.player ≡ key.least
   pub boxes_are : e.boxes ≡ key.boxes
-  pub reason_is : IsReasonOf b claim key.boxes depth note.standing e.reason
+  pub reason_is : IsReasonOf b claim key.least key.boxes depth note.standing e.reason
 
 -- entries of the first states
 pub record AreFirstEntries (b : Numbered) (claim : Claim) (p : Progress) (n : ℕ) (entries : List Entry) : Type 0 where
@@ -60,10 +63,11 @@ abbrev pub CostsEnough : Numbered → Claim → List ℕ → ℕ → Type 0
 CostsEnough b claim boxes depth = (bound : ℕ) × HasBound b boxes bound × IsAtMost claim (depth + bound)
 
 -- a state that needs no more looking at: it bars what is claimed
-abbrev pub IsDone : Numbered → Claim → List ℕ → ℕ → Standing → Type 0
-IsDone b claim boxes depth (standing.Open bound) = CostsEnough b claim boxes depth
-IsDone b claim boxes depth (standing.Expanded bound) = Unit {0}
-IsDone b claim boxes depth standing.Dead = IsDead b boxes
+abbrev pub IsDone : Numbered → Claim → List Loss → ℕ → List ℕ → ℕ → Standing → Type 0
+IsDone b claim losses player boxes depth (standing.Open bound) = CostsEnough b claim boxes depth
+IsDone b claim losses player boxes depth (standing.Expanded bound) = Unit {0}
+IsDone b claim losses player boxes depth standing.Dead = IsDead b boxes
+IsDone b claim losses player boxes depth (standing.Lost place) = IsLostBy b player boxes losses place
 
 -- prices of a least assignment, or a crowd
 abbrev pub IsAssigned : Numbered → List ℕ → Reason → Type 0

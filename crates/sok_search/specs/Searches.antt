@@ -12,18 +12,28 @@ use Rattle.sok_state.specs.Keys.{IsKey, IsKeyOf}
 use Rattle.sok_state.specs.Pushes.{IsLegal, LeadsTo}
 use Rattle.sok_state.specs.Tables.{Entries, HasDistinctKeys, IsAt}
 use Rattle.sok_closed.specs.Lookup.{IsFound}
+use Rattle.sok_alone.specs.declared.losses.Losses.{Losses}
+use Rattle.sok_alone.specs.Losses.{IsLostBy, KeepsLosses, KeepsPlaces, losses_of}
 use Rattle.sok_search.specs.declared.note.Note.{Note}
 use Rattle.sok_search.specs.declared.note.Origin.{Origin}
 use Rattle.sok_search.specs.declared.note.Standing.{Standing}
-use Rattle.sok_search.specs.declared.note.Standing.TheVariants.{Open, Expanded, Dead}
+use Rattle.sok_search.specs.declared.note.Standing.TheVariants.{Open, Expanded, Dead, Lost}
 use Rattle.sok_search.specs.Limits.{state_limit}
 
--- what stays as it is: how many squares there is room for, and whether each state is kept that is come to
+-- how many squares there is room for, whether each state is kept that is come to, and what is known of pairs of boxes
 pub record Frame : Type 0 where
   pub room : ℕ
   pub whole : Bool
+  pub losses : Losses
 
--- what stays as it is, the known states with their depths, a note of each, the indices that wait, and the least depth at which a solved state was taken
+-- the same, but that more may be known of pairs
+pub record IsLater (b : Numbered) (old new : Frame) : Type 0 where
+  pub room : new.room ≡ old.room
+  pub whole : new.whole ≡ old.whole
+  pub kept : KeepsPlaces (losses_of old.losses) (losses_of new.losses)
+  pub losses : KeepsLosses b old.losses → KeepsLosses b new.losses
+
+-- its frame, the known states with their depths, a note of each, the indices that wait, and the least depth at which a solved state was taken
 pub record Progress : Type 0 where
   pub frame : Frame
   pub table : Entries
@@ -87,6 +97,7 @@ Stands b p i key depth (Open bound) = HasBound b key.boxes bound × (Contains p.
 Stands b p i key depth (Expanded bound) =
     HasBound b key.boxes bound × (IsSolved b key → ⊥) × ((push : Push) → IsLegal b key push → IsMet b p key depth push)
 Stands b p i key depth Dead = IsDead b key.boxes
+Stands b p i key depth (Lost place) = IsLostBy b key.least key.boxes (losses_of p.frame.losses) place
 
 -- a state of the board, no deeper than its index, which was come to and may stand as it does
 pub record IsNoted (b : Numbered) (p : Progress) (i : ℕ) (key : Key) (depth : ℕ) (note : Note) : Type 0 where
@@ -116,6 +127,7 @@ pub record IsSolvedIn (b : Numbered) (p : Progress) (k : ℕ) : Type 0 where
 -- all that is known
 pub record IsSearch (b : Numbered) (limit : ℕ) (p : Progress) : Type 0 where
   pub wide : length b.area ≤ p.frame.room
+  pub losses : KeepsLosses b p.frame.losses
   pub distinct : HasDistinctKeys p.table
   pub a_note_each : length p.notes ≡ length p.table
   pub few : length p.table ≤ limit

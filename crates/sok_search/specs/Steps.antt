@@ -5,11 +5,14 @@ use Rattle.sok_board.specs.Area.{Numbered}
 use Rattle.sok_state.specs.declared.key.Key.{Key}
 use Rattle.sok_state.specs.declared.push.Push.{Push}
 use Rattle.sok_state.specs.Tables.{Entries, IsAt}
+use Rattle.sok_alone.specs.declared.losses.Loss.{Loss}
+use Rattle.sok_alone.specs.declared.losses.Losses.{Losses}
+use Rattle.sok_alone.specs.Losses.{IsLostBy, losses_of}
 use Rattle.sok_search.specs.declared.note.Note.{Note}
 use Rattle.sok_search.specs.declared.note.Origin.{Origin}
 use Rattle.sok_search.specs.declared.note.Standing.{Standing}
-use Rattle.sok_search.specs.declared.note.Standing.TheVariants.{Open, Expanded, Dead}
-use Rattle.sok_search.specs.Searches.{Progress, HasBound, IsDead, IsMet, IsSearch, IsState}
+use Rattle.sok_search.specs.declared.note.Standing.TheVariants.{Open, Expanded, Dead, Lost}
+use Rattle.sok_search.specs.Searches.{Frame, Progress, HasBound, IsDead, IsMet, IsSearch, IsState}
 
 -- each state stays where it is, and no deeper
 pub record Grows (old new : Entries) : Type 0 where
@@ -30,6 +33,7 @@ abbrev pub Queues : Standing → ℕ → List ℕ → List ℕ → Type 0
 Queues (Open bound) index old new = HasOneMore old index new
 Queues (Expanded bound) index old new = new ≡ old
 Queues Dead index old new = new ≡ old
+Queues (Lost place) index old new = new ≡ old
 
 -- a state is added
 pub record IsAdded (p : Progress) (key : Key) (depth : ℕ) (note : Note) (q : Progress) : Type 0 where
@@ -62,6 +66,7 @@ abbrev pub reopened : Standing → Standing
 reopened (Open bound) = Open bound
 reopened (Expanded bound) = Open bound
 reopened Dead = Dead
+reopened (Lost place) = Lost place
 
 -- a known state is come to again, at a smaller depth
 pub record ComesNearer (p : Progress) (index depth : ℕ) (origin : Option Origin) (q : Progress) : Type 0 where
@@ -83,6 +88,10 @@ pub record StaysNear (p : Progress) (index depth : ℕ) (q : Progress) : Type 0 
 abbrev pub Nears : Progress → ℕ → ℕ → Option Origin → Progress → Type 0
 Nears p index depth origin q = StaysNear p index depth q ⊎ ComesNearer p index depth origin q
 
+-- where more is known of pairs of boxes
+abbrev pub knowing : Losses → Progress → Progress
+knowing losses p = record p { frame = record { room = p.frame.room; whole = p.frame.whole; losses = losses } }
+
 -- with an index that was taken out of the queue, and is not done with
 abbrev pub holding : ℕ → Progress → Progress
 holding index p = record p { queue = index ∷ p.queue }
@@ -91,11 +100,15 @@ holding index p = record p { queue = index ∷ p.queue }
 abbrev pub done : Progress → List Note → Option ℕ → Progress
 done p notes best = record { frame = p.frame; table = p.table; notes = notes; queue = p.queue; best = best }
 
--- what is found of a new state
-abbrev pub IsJudged : Numbered → List ℕ → Standing → Type 0
-IsJudged b boxes (Open bound) = HasBound b boxes bound
-IsJudged b boxes (Expanded bound) = ⊥
-IsJudged b boxes Dead = IsDead b boxes
+-- what is found of a new state, given by the player and the boxes, with the losses that are known
+abbrev pub IsJudged : Numbered → List Loss → ℕ → List ℕ → Standing → Type 0
+IsJudged b losses player boxes (Open bound) = HasBound b boxes bound
+IsJudged b losses player boxes (Expanded bound) = ⊥
+IsJudged b losses player boxes Dead = IsDead b boxes
+IsJudged b losses player boxes (Lost place) = IsLostBy b player boxes losses place
+
+abbrev pub IsJudgedIn : Numbered → Frame → Key → Standing → Type 0
+IsJudgedIn b frame key standing = IsJudged b (losses_of frame.losses) key.least key.boxes standing
 
 -- the work that remains: room in the table, depths to be lowered, indices that wait
 abbrev pub work : ℕ → Progress → ℕ
@@ -104,7 +117,7 @@ work limit p = (limit - length p.table) * (2 * limit + 2) + (2 * sum_by (λ dept
 -- what a push that was followed leaves: all that is known holds, states that are no deeper stay, the push is met, and no work was added
 pub record IsPushed (b : Numbered) (limit : ℕ) (p : Progress) (key : Key) (depth : ℕ) (push : Push) (q : Progress) : Type 0 where
   pub search : IsSearch b limit q
-  pub frame : q.frame ≡ p.frame
+  pub whole : q.frame.whole ≡ p.frame.whole
   pub grows : Grows p.table q.table
   pub stay : (i : ℕ) (other : Key) (deep : ℕ) (note : Note) → deep ≤ depth → IsState p i other deep note → IsState q i other deep note
   pub met : IsMet b q key depth push

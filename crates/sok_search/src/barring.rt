@@ -1,6 +1,8 @@
 //! The reasons of a certificate, found again from the boxes of a state.
 
-ghost use Rattle.std.specs.Prelude.{◌≡◌, ◌<◌, ◌↔◌, IfOk, IsTrue, All, length};
+ghost use Rattle.std.specs.Prelude.{ℕ, ◌≡◌, ◌<◌, ◌↔◌, IfOk, IsTrue, All, length};
+ghost use Rattle.sok_alone.specs.Losses.{IsLostBy, losses_of};
+ghost use Rattle.sok_board.specs.Area.{Numbered};
 ghost use Rattle.sok_price.specs.Matched.{Serves};
 ghost use Rattle.sok_bar.specs.declared.rest.Rest.{Rest};
 ghost use Rattle.sok_cert.specs.Closed.{rest_of};
@@ -9,7 +11,10 @@ ghost use Rattle.sok_search.specs.Finished.{CostsEnough, HasText, IsAssigned, Is
 ghost use Rattle.sok_search.specs.Finished.{IsReasonOf, ReasonBars};
 
 use crate::note::Standing;
+use sok_alone::found::FoundPattern;
+use sok_alone::losses::Losses;
 use sok_bar::frozen::find_jam;
+use sok_board::area::Sq;
 use sok_board::board::Board;
 use sok_board::box_set::BoxSet;
 use sok_cert::claim::Claim;
@@ -27,6 +32,8 @@ pub(crate) fn reason_of(
     tables: &Tables,
     matching: &mut Matching,
     claim: Claim,
+    losses: &Losses,
+    player: Sq,
     boxes: &BoxSet,
     depth: u32,
     standing: Standing,
@@ -34,15 +41,18 @@ pub(crate) fn reason_of(
     requires tables { tables.now.board ≡ board.now }
     requires serves { Serves board.now matching.old }
     requires exist { All (λ square. square < length board.now.area) boxes.now }
-    requires finished { IsDone board.now claim boxes.now depth standing }
+    requires finished { IsDone board.now claim (losses_of losses.now) player boxes.now depth
+        standing }
     ensures serves { Serves board.now matching.new }
-    ensures reason { IfOk result (IsReasonOf board.now claim boxes.now depth standing) }
+    ensures reason { IfOk result
+        (IsReasonOf board.now claim player boxes.now depth standing) }
     ensures fits { IfOk result (HasText boxes.now) }
 {
     match standing {
         Standing::Open(_) => open_reason(alloc, board, matching, claim, boxes, depth),
         Standing::Expanded(_) => Ok(Reason::Expanded),
         Standing::Dead => dead_reason(alloc, board, tables, matching, boxes),
+        Standing::Lost(place) => lost_reason(alloc, losses, boxes, place),
     }
 }
 
@@ -60,7 +70,8 @@ fn open_reason(
     requires exist { All (λ square. square < length board.now.area) boxes.now }
     requires finished { CostsEnough board.now claim boxes.now depth }
     ensures serves { Serves board.now matching.new }
-    ensures bars { IfOk result (λ why. ReasonBars board.now boxes.now why (rest_of claim depth)) }
+    ensures bars { IfOk result (λ why. (player : ℕ)
+        → ReasonBars board.now player boxes.now why (rest_of claim depth)) }
     ensures fits { IfOk result (HasText boxes.now) }
 {
     if is_spent(claim, depth) {
@@ -92,7 +103,8 @@ fn dead_reason(
     requires exist { All (λ square. square < length board.now.area) boxes.now }
     requires dead { IsDead board.now boxes.now }
     ensures serves { Serves board.now matching.new }
-    ensures bars { IfOk result (λ why. (rest : Rest) → ReasonBars board.now boxes.now why rest) }
+    ensures bars { IfOk result (λ why. (player : ℕ) (rest : Rest)
+        → ReasonBars board.now player boxes.now why rest) }
     ensures fits { IfOk result (HasText boxes.now) }
 {
     // There are few boxes, so their indices have a text.
@@ -104,6 +116,21 @@ fn dead_reason(
         }
         None => assigned_reason(alloc, board, matching, boxes),
     }
+}
+
+/// The reason why nothing solves from a lost state: the loss at a place, as a pattern of its boxes.
+fn lost_reason(alloc: Global, losses: &Losses, boxes: &BoxSet, place: u32) -> Result<Reason, Memory>
+    requires lost { (b : Numbered) × (player : ℕ)
+        × IsLostBy b player boxes.now (losses_of losses.now) place }
+    ensures bars { (b : Numbered) (player : ℕ)
+        → IsLostBy b player boxes.now (losses_of losses.now) place
+        → IfOk result (λ why. (rest : Rest) → ReasonBars b player boxes.now why rest) }
+    ensures fits { IfOk result (HasText boxes.now) }
+{
+    // There are few boxes, so their indices have a text.
+    let _list = boxes.list();
+    let FoundPattern { members, inner } = losses.pattern_at(alloc, boxes, place)?;
+    Ok(Reason::Pattern { members, inner })
 }
 
 /// The prices of a least assignment of goals to boxes, or a crowd.

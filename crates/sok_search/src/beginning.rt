@@ -8,6 +8,7 @@ use crate::judging::judge;
 use crate::note::Note;
 use crate::queue::Queue;
 use crate::search::{Search, add};
+use sok_alone::losses::Losses;
 use sok_board::board::Board;
 use sok_push::tables::Tables;
 use sok_rules::fault::Memory;
@@ -28,11 +29,13 @@ pub(crate) fn begin(
     ensures whole { IfOk result (λ search. search.whole ≡ whole) }
 {
     let key = Key::start(alloc, board)?;
-    let standing = judge(alloc, board, tables, &key.boxes)?;
+    let mut losses = Losses::new(alloc, board)?;
+    let standing = judge(alloc, board, tables, &mut losses, &key)?;
     let mut table = Table::new(alloc, board.squares());
     let (index, _is_new) = table.insert(&key, 0)?;
     let mut search = Search {
         whole,
+        losses,
         table,
         notes: Vec::new(alloc),
         queue: Queue::new(alloc),

@@ -86,6 +86,8 @@ fn entry_at(
         tables,
         matching,
         claim,
+        &search.losses,
+        key.least,
         &key.boxes,
         depth,
         note.standing,

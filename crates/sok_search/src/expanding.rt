@@ -1,7 +1,6 @@
 //! A state is expanded.
 
 ghost use Rattle.std.specs.Prelude.{◌≡◌, IfOk, OnOk, All};
-ghost use Rattle.sok_alone.specs.Losses.{KeepsLosses};
 ghost use Rattle.sok_region.specs.Layouts.{IsLaidOut};
 ghost use Rattle.sok_state.specs.Pushes.{IsLegal};
 ghost use Rattle.sok_search.specs.Trials.{IsReady, IsTrial};
@@ -10,7 +9,6 @@ ghost use Rattle.sok_search.specs.Views.{progress_of, HoldsState, TellsFollowed,
 use crate::reaching::{Reached, reach};
 use crate::search::Search;
 use crate::trial::Trial;
-use sok_alone::losses::Losses;
 use sok_board::area::Sq;
 use sok_board::board::Board;
 use sok_field::field::Field;
@@ -64,7 +62,6 @@ fn follow(
     limit: u32,
     search: &mut Search,
     trial: &mut Trial,
-    losses: &mut Losses,
     index: usize,
     key: &Key,
     depth: u32,
@@ -73,18 +70,16 @@ fn follow(
     requires state { HoldsState board.now tables.now limit index key.now depth search.old }
     requires trial { IsTrial board.now key.now.boxes trial.old.matching trial.old.matched }
     requires laid { IsLaidOut board.now key.now.boxes trial.old.layout }
-    requires losses { KeepsLosses board.now losses.old }
     requires legal { All (IsLegal board.now key.now) pushes.now }
     ensures trial { OnOk result
         (IsTrial board.now key.now.boxes trial.new.matching trial.new.matched) }
     ensures laid { OnOk result (IsLaidOut board.now key.now.boxes trial.new.layout) }
-    ensures losses { OnOk result (KeepsLosses board.now losses.new) }
     ensures tells { IfOk result (TellsFollowed board.now limit (progress_of search.old) index
         key.now depth pushes.now (progress_of search.new)) }
 {
     for push in pushes {
         match reach(
-            alloc, board, tables, limit, search, trial, losses, index, key, depth, *push,
+            alloc, board, tables, limit, search, trial, index, key, depth, *push,
         )? {
             Reached::On => {}
             Reached::Full => return Ok(Reached::Full),
@@ -101,16 +96,13 @@ pub(crate) fn expand(
     limit: u32,
     search: &mut Search,
     scratch: &mut Scratch,
-    losses: &mut Losses,
     index: usize,
     key: &Key,
     depth: u32,
 ) -> Result<Reached, Memory>
     requires state { HoldsState board.now tables.now limit index key.now depth search.old }
     requires ready { IsReady board.now scratch.old.trial }
-    requires losses { KeepsLosses board.now losses.old }
     ensures ready { OnOk result (IsReady board.now scratch.new.trial) }
-    ensures losses { OnOk result (KeepsLosses board.now losses.new) }
     ensures tells { IfOk result (TellsExpanded board.now limit (progress_of search.old) index
         key.now depth (progress_of search.new)) }
 {
@@ -125,7 +117,6 @@ pub(crate) fn expand(
         limit,
         search,
         &mut scratch.trial,
-        losses,
         index,
         key,
         depth,

@@ -1,35 +1,45 @@
 //! How a new state stands.
 
-ghost use Rattle.std.specs.Prelude.{◌≡◌, ◌<◌, IfOk, All, length};
+ghost use Rattle.std.specs.Prelude.{◌≡◌, IfOk, OnOk};
+ghost use Rattle.sok_alone.specs.Losses.{KeepsLosses, losses_of};
+ghost use Rattle.sok_region.specs.Regions.{IsPlaced};
 ghost use Rattle.sok_search.specs.Steps.{IsJudged};
 
 use crate::note::Standing;
+use sok_alone::losses::Losses;
 use sok_bar::frozen::find_jam;
-use sok_board::area::Sq;
 use sok_board::board::Board;
-use sok_board::box_set::BoxSet;
 use sok_price::assign::{Match, assign};
 use sok_push::tables::Tables;
 use sok_rules::fault::Memory;
+use sok_state::key::Key;
 use std::alloc::Global;
 
-/// How a new state with these boxes stands: dead, by a jam or a crowd, or open, with prices of a
-/// total.
+/// How a state stands: dead, by a jam or a crowd, lost, by two of its boxes, or open, with prices of
+/// a total. What is found of its boxes by two is kept.
 pub(crate) fn judge(
     alloc: Global,
     board: &Board,
     tables: &Tables,
-    boxes: &BoxSet,
+    losses: &mut Losses,
+    key: &Key,
 ) -> Result<Standing, Memory>
     requires tables { tables.now.board ≡ board.now }
-    requires exist { All (λ square. square < length board.now.area) boxes.now }
-    ensures { IfOk result (IsJudged board.now boxes.now) }
+    requires placed { IsPlaced board.now key.now.boxes key.now.least }
+    requires losses { KeepsLosses board.now losses.old }
+    ensures losses { OnOk result (KeepsLosses board.now losses.new) }
+    ensures judged { IfOk result
+        (IsJudged board.now (losses_of losses.new) key.now.least key.now.boxes) }
 {
-    if let Some(_jam) = find_jam(alloc, board, tables, boxes)? {
+    if let Some(_jam) = find_jam(alloc, board, tables, &key.boxes)? {
         return Ok(Standing::Dead);
     }
-    match assign(alloc, tables, boxes)? {
-        Match::Prices { total, .. } => Ok(Standing::Open(total)),
-        Match::Crowd { .. } => Ok(Standing::Dead),
+    let total = match assign(alloc, tables, &key.boxes)? {
+        Match::Prices { total, .. } => total,
+        Match::Crowd { .. } => return Ok(Standing::Dead),
+    };
+    match losses.loss_among(alloc, board, tables, &key.boxes, key.least)? {
+        Some(place) => Ok(Standing::Lost(place)),
+        None => Ok(Standing::Open(total)),
     }
 }

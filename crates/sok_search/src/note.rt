@@ -18,8 +18,10 @@ pub(crate) enum Standing {
     Open(u32),
     /// Each push leads to a state that is known. No fewer more pushes than this solve from it.
     Expanded(u32),
-    /// Nothing solves from it.
+    /// Nothing solves from it, wherever the player stands.
     Dead,
+    /// Nothing solves from it, as the loss at a place shows.
+    Lost(u32),
 }
 
 /// A note of a state: its origin, which the start lacks, and its standing.

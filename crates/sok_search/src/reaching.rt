@@ -1,12 +1,12 @@
 //! A push is followed.
 
-ghost use Rattle.std.specs.Prelude.{◌≡◌, ◌<◌, ◌^◌, IfOk, IsTrue, OnOk, Some, length};
-ghost use Rattle.sok_alone.specs.Losses.{KeepsLosses};
+ghost use Rattle.std.specs.Prelude.{◌≡◌, ◌<◌, ◌^◌, IfOk, IfSome, OnOk, Some, length};
+ghost use Rattle.sok_alone.specs.Losses.{IsLostBy, KeepsLosses, KeepsPlaces, losses_of};
 ghost use Rattle.sok_board.specs.Area.{IsAccepted, beside};
+ghost use Rattle.sok_board.specs.BoxSets.{put_in_order};
 ghost use Rattle.sok_region.specs.Layouts.{IsLaidOut};
 ghost use Rattle.sok_state.specs.Keys.{IsKey};
 ghost use Rattle.sok_state.specs.Pushes.{IsLegal};
-ghost use Rattle.sok_search.specs.Searches.{LeadsNowhere};
 ghost use Rattle.sok_search.specs.Steps.{Nears, reopened};
 ghost use Rattle.sok_search.specs.Trials.{IsTrial};
 ghost use Rattle.sok_search.specs.Views.{progress_of, HoldsState, TellsReached};
@@ -39,6 +39,7 @@ fn reopened(standing: Standing) -> Standing
         Standing::Open(bound) => Standing::Open(bound),
         Standing::Expanded(bound) => Standing::Open(bound),
         Standing::Dead => Standing::Dead,
+        Standing::Lost(place) => Standing::Lost(place),
     }
 }
 
@@ -62,17 +63,18 @@ fn approach(
     lower(search, index, depth, Note { origin, standing })
 }
 
-/// Whether nothing solves after a push: its box reaches no goal from there, or it and another box
-/// are never solved, were they alone on the board.
-fn leads_nowhere(
+/// The place of a loss that shows that nothing solves after a push. None is looked for where its
+/// box reaches no goal from there, which shows it as well.
+fn ask(
     alloc: Global,
     board: &Board,
     tables: &Tables,
     losses: &mut Losses,
+    known: usize,
     key: &Key,
     push: Push,
     to: Sq,
-) -> Result<bool, Memory>
+) -> Result<Option<u32>, Memory>
     requires accepted { IsAccepted board.now }
     requires tables { tables.now.board ≡ board.now }
     requires state { IsKey board.now key.now }
@@ -80,17 +82,21 @@ fn leads_nowhere(
     requires ahead { beside board.now push.from push.dir ≡ Some to }
     requires losses { KeepsLosses board.now losses.old }
     ensures losses { OnOk result (KeepsLosses board.now losses.new) }
-    ensures nowhere { IfOk result (λ nowhere. IsTrue nowhere
-        → LeadsNowhere board.now key.now push) }
+    ensures kept { OnOk result (KeepsPlaces (losses_of losses.old) (losses_of losses.new)) }
+    ensures lost { IfOk result (λ found. IfSome found (IsLostBy board.now push.from
+        (put_in_order push.from to key.now.boxes) (losses_of losses.new))) }
 {
     if tables.stuck(to) {
-        return Ok(true);
+        return Ok(None);
     }
-    losses.are_lost(alloc, board, tables, &key.boxes, push.from, push.dir, to)
+    losses.loss_after(
+        alloc, board, tables, known, &key.boxes, push.from, push.dir, to,
+    )
 }
 
 /// Follows a push from a state that was taken: the next state is added, comes nearer, or stays. Or
-/// the push is left out, since nothing solves after it.
+/// the push is left out, since its box reaches no goal from there, or it and another box are never
+/// solved, were they alone on the board.
 pub(crate) fn reach(
     alloc: Global,
     board: &Board,
@@ -98,7 +104,6 @@ pub(crate) fn reach(
     limit: u32,
     search: &mut Search,
     trial: &mut Trial,
-    losses: &mut Losses,
     index: usize,
     key: &Key,
     depth: u32,
@@ -107,20 +112,58 @@ pub(crate) fn reach(
     requires state { HoldsState board.now tables.now limit index key.now depth search.old }
     requires trial { IsTrial board.now key.now.boxes trial.old.matching trial.old.matched }
     requires laid { IsLaidOut board.now key.now.boxes trial.old.layout }
-    requires losses { KeepsLosses board.now losses.old }
     requires legal { IsLegal board.now key.now push }
     ensures trial { OnOk result
         (IsTrial board.now key.now.boxes trial.new.matching trial.new.matched) }
     ensures laid { OnOk result (IsLaidOut board.now key.now.boxes trial.new.layout) }
-    ensures losses { OnOk result (KeepsLosses board.now losses.new) }
+    ensures tells { IfOk result (TellsReached board.now limit (progress_of search.old) index
+        key.now depth push (progress_of search.new)) }
+{
+    let to = square_ahead(board, push);
+    if !search.whole && tables.stuck(to) {
+        return Ok(Reached::On);
+    }
+    let known = search.table.len();
+    let losses = &mut search.losses;
+    let lost = ask(alloc, board, tables, losses, known, key, push, to)?;
+    if !search.whole && lost.is_some() {
+        return Ok(Reached::On);
+    }
+    arrive(
+        alloc, board, tables, limit, search, trial, index, key, depth, push, to, lost,
+    )
+}
+
+/// Comes to the state behind a push to a square: it is added, comes nearer, or stays. A new one may
+/// be lost by a loss that is known.
+fn arrive(
+    alloc: Global,
+    board: &Board,
+    tables: &Tables,
+    limit: u32,
+    search: &mut Search,
+    trial: &mut Trial,
+    index: usize,
+    key: &Key,
+    depth: u32,
+    push: Push,
+    to: Sq,
+    lost: Option<u32>,
+) -> Result<Reached, Memory>
+    requires state { HoldsState board.now tables.now limit index key.now depth search.old }
+    requires trial { IsTrial board.now key.now.boxes trial.old.matching trial.old.matched }
+    requires laid { IsLaidOut board.now key.now.boxes trial.old.layout }
+    requires legal { IsLegal board.now key.now push }
+    requires ahead { beside board.now push.from push.dir ≡ Some to }
+    requires lost { IfSome lost (IsLostBy board.now push.from
+        (put_in_order push.from to key.now.boxes) (losses_of search.old.losses)) }
+    ensures trial { OnOk result
+        (IsTrial board.now key.now.boxes trial.new.matching trial.new.matched) }
+    ensures laid { OnOk result (IsLaidOut board.now key.now.boxes trial.new.layout) }
     ensures tells { IfOk result (TellsReached board.now limit (progress_of search.old) index
         key.now depth push (progress_of search.new)) }
 {
     let from = push.from;
-    let to = square_ahead(board, push);
-    if !search.whole && leads_nowhere(alloc, board, tables, losses, key, push, to)? {
-        return Ok(Reached::On);
-    }
     let least = step(board, push, to, &mut trial.layout, &mut trial.seen);
     let origin = Some(Origin {
         parent: index as u32,
@@ -135,7 +178,7 @@ pub(crate) fn reach(
     if at >= limit as usize {
         return Ok(Reached::Full);
     }
-    let standing = judge_after(alloc, board, tables, trial, &key.boxes, from, to)?;
+    let standing = judge_after(alloc, board, tables, trial, &key.boxes, from, to, lost)?;
     add(search, at, deeper, Note { origin, standing })?;
     Ok(Reached::On)
 }

@@ -2,7 +2,6 @@
 
 ghost use Rattle.std.specs.Prelude.{◌≡◌, ◌<◌, ◌+◌, ◌↔◌, IfOk, IsTrue, OnOk, Some};
 ghost use Rattle.std.specs.Prelude.{length, slice_get, slice_set};
-ghost use Rattle.sok_alone.specs.Losses.{KeepsLosses};
 ghost use Rattle.sok_search.specs.Searches.{IsBeaten};
 ghost use Rattle.sok_search.specs.Steps.{done, holding};
 ghost use Rattle.sok_search.specs.Trials.{IsReady};
@@ -13,7 +12,6 @@ use crate::expanding::{Scratch, expand};
 use crate::note::{Note, Standing};
 use crate::reaching::Reached;
 use crate::search::Search;
-use sok_alone::losses::Losses;
 use sok_board::board::Board;
 use sok_closed::solved::is_solved;
 use sok_push::tables::Tables;
@@ -47,18 +45,15 @@ fn visit(
     limit: u32,
     search: &mut Search,
     scratch: &mut Scratch,
-    losses: &mut Losses,
     index: usize,
     note: Note,
     bound: u32,
 ) -> Result<Reached, Memory>
     requires held { IsRunning board.now tables.now limit (holding index (progress_of search.old)) }
     requires ready { IsReady board.now scratch.old.trial }
-    requires losses { KeepsLosses board.now losses.old }
     requires noted { slice_get search.old.notes.items index ≡ Some note }
     requires is_open { note.standing ≡ Open bound }
     ensures ready { OnOk result (IsReady board.now scratch.new.trial) }
-    ensures losses { OnOk result (KeepsLosses board.now losses.new) }
     ensures tells { IfOk result (TellsTurned board.now limit
         (holding index (progress_of search.old)) (progress_of search.new)) }
 {
@@ -72,7 +67,7 @@ fn visit(
         return Ok(Reached::On);
     }
     match expand(
-        alloc, board, tables, limit, search, scratch, losses, index, &key, depth,
+        alloc, board, tables, limit, search, scratch, index, &key, depth,
     )? {
         Reached::On => {
             let standing = Standing::Expanded(bound);
@@ -92,24 +87,22 @@ fn turn(
     limit: u32,
     search: &mut Search,
     scratch: &mut Scratch,
-    losses: &mut Losses,
     index: usize,
 ) -> Result<Reached, Memory>
     requires held { IsRunning board.now tables.now limit (holding index (progress_of search.old)) }
     requires ready { IsReady board.now scratch.old.trial }
-    requires losses { KeepsLosses board.now losses.old }
     ensures ready { OnOk result (IsReady board.now scratch.new.trial) }
-    ensures losses { OnOk result (KeepsLosses board.now losses.new) }
     ensures tells { IfOk result (TellsTurned board.now limit
         (holding index (progress_of search.old)) (progress_of search.new)) }
 {
     let note = search.notes[index];
     match note.standing {
         Standing::Open(bound) => visit(
-            alloc, board, tables, limit, search, scratch, losses, index, note, bound,
+            alloc, board, tables, limit, search, scratch, index, note, bound,
         ),
         Standing::Expanded(_) => Ok(Reached::On),
         Standing::Dead => Ok(Reached::On),
+        Standing::Lost(_) => Ok(Reached::On),
     }
 }
 
@@ -121,17 +114,14 @@ pub(crate) fn run(
     limit: u32,
     search: &mut Search,
     scratch: &mut Scratch,
-    losses: &mut Losses,
 ) -> Result<Reached, Memory>
     requires running { IsRunning board.now tables.now limit (progress_of search.old) }
     requires ready { IsReady board.now scratch.old.trial }
-    requires losses { KeepsLosses board.now losses.old }
     ensures { IfOk result
         (TellsFinished board.now limit (progress_of search.old) (progress_of search.new)) }
 {
     while let Some(index) = search.queue.pop() {
-        let at = index as usize;
-        match turn(alloc, board, tables, limit, search, scratch, losses, at)? {
+        match turn(alloc, board, tables, limit, search, scratch, index as usize)? {
             Reached::On => {}
             Reached::Full => return Ok(Reached::Full),
         }

@@ -7,16 +7,18 @@ ghost use Rattle.sok_search.specs.Views.{progress_of};
 
 use crate::note::{Note, Standing};
 use crate::queue::Queue;
+use sok_alone::losses::Losses;
 use sok_rules::fault::Memory;
 use sok_state::table::Table;
 
-/// The known states with a note of each, the indices of those that wait, and the least depth at
-/// which a solved state was taken.
+/// What is known of pairs of boxes, the known states with a note of each, the indices of those that
+/// wait, and the least depth at which a solved state was taken.
 #[derive(Drop)]
 pub(crate) struct Search {
     /// Whether each state is kept that is come to. Else those are left out from which nothing solves,
     /// by the box alone that was just pushed, or by it and another one.
     pub(crate) whole: bool,
+    pub(crate) losses: Losses,
     pub(crate) table: Table,
     pub(crate) notes: Vec<Note>,
     pub(crate) queue: Queue,
@@ -34,6 +36,7 @@ fn wait(queue: &mut Queue, index: u32, depth: u32, standing: Standing) -> Result
         }
         Standing::Expanded(_) => Ok(()),
         Standing::Dead => Ok(()),
+        Standing::Lost(_) => Ok(()),
     }
 }
 

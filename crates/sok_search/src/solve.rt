@@ -23,7 +23,6 @@ use crate::running::run;
 use crate::search::Search;
 use crate::tracing::{find_solved, trace};
 use crate::trail::letters;
-use sok_alone::losses::Losses;
 use sok_board::board::Board;
 use sok_cert::claim::Claim;
 use sok_push::tables::Tables;
@@ -148,16 +147,7 @@ fn finish(
         (TellsFinished board.now limit (progress_of search.old) (progress_of search.new)) }
 {
     let mut scratch = Scratch::new(alloc, board, tables)?;
-    let mut losses = Losses::new(alloc, board)?;
-    let reached = run(
-        alloc,
-        board,
-        tables,
-        limit,
-        search,
-        &mut scratch,
-        &mut losses,
-    );
+    let reached = run(alloc, board, tables, limit, search, &mut scratch);
     // As one value: field by field takes five times as long to prove.
     drop(scratch);
     reached

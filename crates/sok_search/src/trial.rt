@@ -1,6 +1,8 @@
 //! How a new state stands that a push leads to.
 
-ghost use Rattle.std.specs.Prelude.{ℕ, List, ◌≡◌, ◌<◌, ◌↔◌, IfOk, IsTrue, OnOk, All, length};
+ghost use Rattle.std.specs.Prelude.{ℕ, List, ◌≡◌, ◌<◌, ◌↔◌, IfOk, IfSome, IsTrue, OnOk, All, length};
+ghost use Rattle.sok_alone.specs.declared.losses.Loss.{Loss};
+ghost use Rattle.sok_alone.specs.Losses.{IsLostBy};
 ghost use Rattle.sok_board.specs.Area.{IsAccepted};
 ghost use Rattle.sok_price.specs.Matched.{TellsLeast};
 ghost use Rattle.sok_bar.specs.Jam.{HasJamWith};
@@ -92,7 +94,7 @@ fn is_jammed(board: &Board, tables: &Tables, layout: &mut Layout, from: Sq, to: 
 }
 
 /// How a new state with some boxes stands, of which one was pushed: dead, by a jam with that box or
-/// by a crowd, or open, with prices of a total.
+/// by a crowd, lost, by a loss that is known, or open, with prices of a total.
 pub(crate) fn judge_after(
     alloc: Global,
     board: &Board,
@@ -101,6 +103,7 @@ pub(crate) fn judge_after(
     before: &BoxSet,
     from: Sq,
     to: Sq,
+    lost: Option<u32>,
 ) -> Result<Standing, Memory>
     requires accepted { IsAccepted board.now }
     requires tables { tables.now.board ≡ board.now }
@@ -110,10 +113,15 @@ pub(crate) fn judge_after(
     ensures trial { OnOk result
         (IsTrial board.now before.now trial.new.matching trial.new.matched) }
     ensures laid { OnOk result (IsLaidOut board.now before.now trial.new.layout) }
-    ensures judged { IfOk result (IsJudged board.now (put_in_order from to before.now)) }
+    ensures judged { (losses : List Loss) (player : ℕ)
+        → IfSome lost (IsLostBy board.now player (put_in_order from to before.now) losses)
+        → IfOk result (IsJudged board.now losses player (put_in_order from to before.now)) }
 {
     if is_jammed(board, tables, &mut trial.layout, from, to) {
         return Ok(Standing::Dead);
+    }
+    if let Some(place) = lost {
+        return Ok(Standing::Lost(place));
     }
     match bound_after(alloc, board, trial, before, from, to)? {
         Some(bound) => Ok(Standing::Open(bound)),

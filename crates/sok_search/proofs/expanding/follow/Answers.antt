@@ -12,7 +12,6 @@ loop-push-init c = record {
       (progress_of c.args.search.now) c.args.index c.args.key.now c.args.depth c.args.pushes.now c.requires.state.running.search;
   trial = c.requires.trial;
   laid = c.requires.laid;
-  losses = c.requires.losses;
 }
 
 pub reach-requires-clause-state : goal.reach-requires-clause-state
@@ -41,7 +40,6 @@ loop-push-preserved c =
           (slice_get-get_or pushes n no_push c.loop-push-test.true) c.loop-push.invariant.followed told;
       trial = c.in_ok-reach.ensures.trial;
       laid = c.in_ok-reach.ensures.laid;
-      losses = c.in_ok-reach.ensures.losses;
     }
 
 pub returns-clause-tells : goal.returns-clause-tells

@@ -6,14 +6,14 @@ use Rattle.sok_bar.specs.Bars.{Barring}
 use Rattle.sok_bar.specs.Jam.{IsJam}
 use Rattle.sok_search.proofs.judging.judge.Goals as goal
 
-pub returns-in-Some : goal.returns-in-Some
-returns-in-Some c =
-    let jam = subst (λ (found : Option (Vec _ Global)). IfSome found (λ members. IsJam c.args.board.now c.args.boxes.now members.items)) c.in-Some.is
+pub returns-in-Some-clause-judged : goal.returns-in-Some-clause-judged
+returns-in-Some-clause-judged c =
+    let jam = subst (λ (found : Option (Vec _ Global)). IfSome found (λ members. IsJam c.args.board.now c.args.key.now.boxes members.items)) c.in-Some.is
     c.in_ok-_jam.ensures.jam in
     (Barring.frozen c.in-Some._jam.items, tt, λ player rest. jam)
 
-pub returns : goal.returns
-returns c =
-    let crowd : IsMatch c.args.board.now c.args.boxes.now (Crowd c.in-Crowd.members) =
-    subst (IsMatch c.args.board.now c.args.boxes.now) c.in-Crowd.is (subst (λ b. IsMatch b c.args.boxes.now c.in_ok-total.field-0) c.requires.tables c.in_ok-total.ensures) in
+pub returns-in-Crowd-clause-judged : goal.returns-in-Crowd-clause-judged
+returns-in-Crowd-clause-judged c =
+    let crowd : IsMatch c.args.board.now c.args.key.now.boxes (Crowd c.in-Crowd.members) =
+    subst (IsMatch c.args.board.now c.args.key.now.boxes) c.in-Crowd.is (subst (λ b. IsMatch b c.args.key.now.boxes c.in_ok-total.field-0) c.requires.tables c.in_ok-total.ensures) in
     (Barring.crowd c.in-Crowd.members.items, tt, λ player rest. crowd)

@@ -1,21 +1,18 @@
-use Rattle.std.proofs.Common.{◌≡◌, ◌+◌, ap, subst, refl, arith, length}
-use Rattle.sok_board.proofs.Beside.{beside-within}
-use Rattle.sok_closed.proofs.Starting.{at-within}
-use Rattle.sok_state.specs.declared.key.Key.{Key}
-use Rattle.sok_state.specs.Tables.{Entries, Enters, GoesLast, Stays, Tabled}
-use Rattle.sok_search.specs.declared.search.Search.{Search}
-use Rattle.sok_search.specs.Searches.{Frame}
-use Rattle.sok_search.specs.Steps.{holding}
-use Rattle.sok_search.specs.Trials.{IsPushable}
+use Rattle.std.proofs.Common.{◌∙◌, subst, sym}
+use Rattle.std.proofs.lemmas.Result.{IfOk-weaker}
+use Rattle.sok_board.specs.Area.{Numbered}
+use Rattle.sok_push.specs.Pushing.{IsStuck}
+use Rattle.sok_alone.specs.Losses.{losses_of}
+use Rattle.sok_search.specs.Searches.{IsSearch}
+use Rattle.sok_search.specs.Steps.{holding, knowing}
 use Rattle.sok_search.specs.Views.{progress_of}
-use Rattle.sok_search.proofs.Adding.{added-made, note-within, taken, taken-deep, taken-key, taken-pushable}
-use Rattle.sok_search.proofs.Filling.{full-more}
-use Rattle.sok_search.proofs.Moving.{moved-next}
-use Rattle.sok_search.proofs.LeavingOut.{pushed-left_out}
-use Rattle.sok_search.proofs.Pushing.{pushed-added, pushed-known}
-use Rattle.sok_search.proofs.Stepped.{ComesNext, comes-next, next_of}
+use Rattle.sok_search.proofs.Adding.{taken-key, taken-pushable}
+use Rattle.sok_search.proofs.Asking.{lost-found, tells-knowing}
+use Rattle.sok_search.proofs.Keeping.{keeps-knowing}
+use Rattle.sok_search.proofs.Pushing.{pushed-knowing}
+use Rattle.sok_search.proofs.LeavingOut.{leads-nowhere, pushed-left_out}
 use Rattle.sok_search.proofs.reaching.reach.Goals as goal
-use Rattle.sok_search.proofs.reaching.reach.Goals.{After-step-least, Then-not-is_new}
+use Rattle.sok_search.proofs.reaching.reach.Goals.{In_ok-lost}
 
 pub square_ahead-to-requires-clause-legal : goal.square_ahead-to-requires-clause-legal
 square_ahead-to-requires-clause-legal c = (
@@ -25,159 +22,57 @@ square_ahead-to-requires-clause-legal c = (
   c.requires.legal,
 )
 
-pub leads_nowhere-requires-clause-state : goal.leads_nowhere-requires-clause-state
-leads_nowhere-requires-clause-state c = taken-key c.args.board.now c.args.limit c.args.index (progress_of c.args.search.now) c.args.key.now c.args.depth
+pub ask-requires-clause-state : goal.ask-requires-clause-state
+ask-requires-clause-state c = taken-key c.args.board.now c.args.limit c.args.index (progress_of c.args.search.now) c.args.key.now c.args.depth
     c.requires.state.running.search c.requires.state.there c.requires.state.depth_is
 
-pub returns-then-branch-clause-tells : goal.returns-then-branch-clause-tells
-returns-then-branch-clause-tells c =
-    pushed-left_out c.args.board.now c.args.limit c.args.index (progress_of c.args.search.now) c.requires.state.running.search c.args.key.now c.args.depth c.args.push
-    (record { part = c.if-not-search.true; nowhere = c.in_ok-leads_nowhere.ensures.nowhere c.if-branch.true })
-
-pub step-least-requires-clause-pushable : goal.step-least-requires-clause-pushable
-step-least-requires-clause-pushable c =
-    let can = taken-pushable c.args.board.now c.requires.state.running.accepted c.args.limit c.args.index (progress_of c.args.search.now) c.args.key.now c.args.depth
-    c.requires.state.running.search c.requires.state.there c.requires.state.depth_is c.args.push c.requires.legal c.args.trial.now.layout c.requires.laid in
-    (c.args.key.now, can)
-
-pub insert_next-requires-clause-exists : goal.insert_next-requires-clause-exists
-insert_next-requires-clause-exists c = at-within c.args.search.now.table.entries c.args.key.now c.args.index c.requires.state.there
-
-pub insert_next-requires-clause-to : goal.insert_next-requires-clause-to
-insert_next-requires-clause-to c =
-    let exists = beside-within c.args.board.now c.args.push.dir c.args.push.from c.square_ahead-to.result c.square_ahead-to.ensures in
-    let wide = c.requires.state.running.search.wide in
-    omega (arith, exists, wide)
-
-pub overflow_cast-origin : goal.overflow_cast-origin
-overflow_cast-origin c =
-    let within = at-within c.args.search.now.table.entries c.args.key.now c.args.index c.requires.state.there in
-    let few = c.requires.state.running.search.few in
-    omega (arith, within, few, c.ranges.limit.fits)
-
-pub overflow_add-deeper : goal.overflow_add-deeper
-overflow_add-deeper c =
-    let deep = taken-deep c.args.board.now c.args.limit c.args.index
-    (progress_of c.args.search.now) c.args.key.now c.args.depth c.requires.state.running.search c.requires.state.there c.requires.state.depth_is in
-    omega (arith, deep, c.ranges.limit.fits)
-
--- the push can be made
-can_in : (c : After-step-least) → IsPushable c.args.board.now c.args.push c.args.trial.now.layout c.args.key.now
-can_in c = taken-pushable c.args.board.now c.requires.state.running.accepted c.args.limit c.args.index (progress_of c.args.search.now) c.args.key.now c.args.depth
-    c.requires.state.running.search c.requires.state.there c.requires.state.depth_is c.args.push c.requires.legal c.args.trial.now.layout c.requires.laid
-
--- and leads to a state
-comes_in : (c : After-step-least) → ComesNext c.args.board.now c.args.key.now c.args.push c.square_ahead-to.result c.step-least.result
-comes_in c = comes-next c.args.board.now c.requires.state.running.accepted c.args.key.now c.args.push c.square_ahead-to.result c.step-least.result
-    c.args.trial.now.layout (can_in c) c.square_ahead-to.ensures c.step-least.ensures.next
-
--- the frame of a search with another table
-abbrev frame_in : Search → Tabled → Frame
-frame_in search table = record { room = table.room; whole = search.whole }
-
-same_frame : (search : Search) (table : Tabled) → table.room ≡ search.table.room → frame_in search table ≡ (progress_of search).frame
-same_frame search table same = λ i. record { room = same i; whole = search.whole }
-
--- the next state is known
-next_in : Then-not-is_new → Key
-next_in c = next_of c.args.key.now c.args.push.from c.square_ahead-to.result c.step-least.result
-
-stays_in : (c : Then-not-is_new) → Stays c.args.search.now.table.entries (next_in c) c.in_ok-at.at c.insert_next.new.self.entries
-unfolding next_in
-stays_in c =
-    let can = taken-pushable c.args.board.now c.requires.state.running.accepted c.args.limit c.args.index (progress_of c.args.search.now) c.args.key.now c.args.depth
-    c.requires.state.running.search c.requires.state.there c.requires.state.depth_is c.args.push c.requires.legal c.args.trial.now.layout c.requires.laid in
-    let comes = comes-next c.args.board.now c.requires.state.running.accepted c.args.key.now c.args.push c.square_ahead-to.result c.step-least.result
-    c.args.trial.now.layout can c.square_ahead-to.ensures c.step-least.ensures.next in
-    subst (λ t. Enters c.args.search.now.table.entries (next_in c) (c.args.depth + 1) c.in_ok-at.at t c.insert_next.new.self.entries)
-    c.if-not-is_new.true (c.in_ok-at.ensures.inserted.enters c.args.key.now (next_in c) c.requires.state.there comes.is)
-
-pub approach-requires-clause-exists : goal.approach-requires-clause-exists
-approach-requires-clause-exists c =
-    let here = (goal.at.approach-requires-clause-exists c).Then-not-is_new in
-    let stays = stays_in here in
-    let within = at-within c.args.search.now.table.entries (next_in here) c.in_ok-at.at stays.there in
-    let same = ap (λ (es : Entries). length es) stays.unchanged in
-    omega (arith, within, same)
-
-pub approach-requires-clause-small : goal.approach-requires-clause-small
-approach-requires-clause-small c =
-    let here = (goal.at.approach-requires-clause-small c).Then-not-is_new in
-    let within = at-within c.args.search.now.table.entries (next_in here) c.in_ok-at.at (stays_in here).there in
-    let few = c.requires.state.running.search.few in
-    omega (arith, within, few, c.ranges.limit.fits)
-
-pub approach-requires-clause-noted : goal.approach-requires-clause-noted
-approach-requires-clause-noted c =
-    let here = (goal.at.approach-requires-clause-noted c).Then-not-is_new in
-    note-within c.args.board.now c.args.limit c.args.index (progress_of c.args.search.now) c.requires.state.running.search c.in_ok-at.at (next_in here) (stays_in here).there
-
-pub returns-then-not-is_new-clause-laid : goal.returns-then-not-is_new-clause-laid
-returns-then-not-is_new-clause-laid c =
-    c.step-least.ensures.laid c.args.key.now (can_in ((goal.at.returns-then-not-is_new-clause-laid c).After-step-least))
-
-pub returns-then-not-is_new-clause-tells : goal.returns-then-not-is_new-clause-tells
-unfolding next_in
-returns-then-not-is_new-clause-tells c =
+pub returns-then-stuck-clause-tells : goal.returns-then-stuck-clause-tells
+returns-then-stuck-clause-tells c =
+    let b = c.args.board.now in
     let p = progress_of c.args.search.now in
-    let one = taken c.args.board.now c.args.limit c.args.index p c.args.key.now c.args.depth c.requires.state.running.search c.requires.state.there c.requires.state.depth_is in
-    let comes = comes_in ((goal.at.returns-then-not-is_new-clause-tells c).After-step-least) in
-    let next = next_of c.args.key.now c.args.push.from c.square_ahead-to.result c.step-least.result in
-    let stays = stays_in ((goal.at.returns-then-not-is_new-clause-tells c).Then-not-is_new) in
-    pushed-known c.args.board.now c.args.limit c.args.index p c.requires.state.running.search c.args.key.now c.args.depth c.requires.state.there c.requires.state.depth_is
-    one.note one.note_is c.args.push c.requires.legal next comes.came.exact comes.came.state comes.as_many
-    c.in_ok-at.at (frame_in c.args.search.now c.insert_next.new.self) c.insert_next.new.self.entries
-    (same_frame c.args.search.now c.insert_next.new.self c.in_ok-at.ensures.room) stays
-    (progress_of c.approach.new.search) c.in_ok-approach.ensures
+    let key = c.args.key.now in
+    let to = c.square_ahead-to.result in
+    let running = c.requires.state.running in
+    let state = taken-key b c.args.limit c.args.index p key c.args.depth running.search c.requires.state.there c.requires.state.depth_is in
+    let stuck = subst (λ (board : Numbered). IsStuck board to) running.tables (c.stuck.ensures.0 c.if-stuck.true) in
+    pushed-left_out b c.args.limit c.args.index p running.search key c.args.depth c.args.push (record {
+      part = c.if-not-search.true;
+      nowhere = leads-nowhere b running.accepted key state c.args.push c.requires.legal to c.square_ahead-to.ensures stuck;
+    })
 
--- it is new
-pub returns-then-at-limit-clause-laid : goal.returns-then-at-limit-clause-laid
-returns-then-at-limit-clause-laid c =
-    c.step-least.ensures.laid c.args.key.now (can_in ((goal.at.returns-then-at-limit-clause-laid c).After-step-least))
+-- the search that knows what was found of pairs
+known-in : (c : In_ok-lost) → IsSearch c.args.board.now c.args.limit (holding c.args.index (knowing c.ask.new.losses (progress_of c.args.search.now)))
+known-in c = keeps-knowing c.args.board.now c.args.limit (holding c.args.index (progress_of c.args.search.now)) c.ask.new.losses c.requires.state.running.search
+    c.in_ok-lost.ensures.losses c.in_ok-lost.ensures.kept
 
-pub returns-then-at-limit-clause-tells : goal.returns-then-at-limit-clause-tells
-returns-then-at-limit-clause-tells c =
+pub returns-then-is_some-clause-tells : goal.returns-then-is_some-clause-tells
+returns-then-is_some-clause-tells c =
+    let b = c.args.board.now in
     let p = progress_of c.args.search.now in
-    let comes = comes_in ((goal.at.returns-then-at-limit-clause-tells c).After-step-least) in
-    let next = next_of c.args.key.now c.args.push.from c.square_ahead-to.result c.step-least.result in
-    let last : GoesLast p.table next (c.args.depth + 1) c.in_ok-at.at c.insert_next.new.self.entries = subst
-    (λ t. Enters p.table next (c.args.depth + 1) c.in_ok-at.at t c.insert_next.new.self.entries) c.if-not-is_new.false
-    (c.in_ok-at.ensures.inserted.enters c.args.key.now next c.requires.state.there comes.is) in
-    let full = c.if-at-limit.true in
-    let count = last.last in
-    full-more c.args.board.now c.requires.state.running.accepted c.args.limit (holding c.args.index p) c.args.index c.args.key.now next c.args.push
-    c.requires.legal.after c.requires.state.running.search (omega (arith, full, count))
-    c.requires.state.there c.requires.legal.leads (comes.came.exact c.requires.legal.after c.requires.legal.leads) last.absent
+    let q = knowing c.ask.new.losses p in
+    let key = c.args.key.now in
+    let running = c.requires.state.running in
+    let can = taken-pushable b running.accepted c.args.limit c.args.index p key c.args.depth running.search c.requires.state.there c.requires.state.depth_is c.args.push
+    c.requires.legal c.args.trial.now.layout c.requires.laid in
+    pushed-knowing b c.args.limit (holding c.args.index p) c.ask.new.losses key c.args.depth c.args.push (holding c.args.index q)
+    (pushed-left_out b c.args.limit c.args.index q (known-in ((goal.at.returns-then-is_some-clause-tells c).In_ok-lost)) key c.args.depth c.args.push (record {
+      part = c.if-not-search-2.true;
+      nowhere = lost-found b running.accepted key c.args.push c.square_ahead-to.result c.args.trial.now.layout can c.square_ahead-to.ensures
+          (losses_of c.ask.new.losses) c.in_ok-lost.lost (sym c.is_some.ensures ∙ c.if-is_some.true) c.in_ok-lost.ensures.lost;
+    }))
 
-pub judge_after-requires-clause-laid : goal.judge_after-requires-clause-laid
-judge_after-requires-clause-laid c =
-    c.step-least.ensures.laid c.args.key.now (can_in ((goal.at.judge_after-requires-clause-laid c).After-step-least))
-
-pub judge_after-requires-clause-moved : goal.judge_after-requires-clause-moved
-judge_after-requires-clause-moved c =
-    let here = (goal.at.judge_after-requires-clause-moved c).After-step-least in
-    let can = can_in here in
-    let comes = comes_in here in
-    moved-next c.args.board.now c.requires.state.running.accepted c.args.key.now _ c.args.push c.square_ahead-to.result can.state can.few comes.came.state c.requires.legal
-    comes.came.exact c.square_ahead-to.ensures
+pub arrive-requires-clause-state : goal.arrive-requires-clause-state
+arrive-requires-clause-state c = record {
+  running = record {
+    accepted = c.requires.state.running.accepted;
+    tables = c.requires.state.running.tables;
+    search = known-in ((goal.at.arrive-requires-clause-state c).In_ok-lost);
+  };
+  there = c.requires.state.there;
+  depth_is = c.requires.state.depth_is;
+}
 
 pub returns-clause-tells : goal.returns-clause-tells
-returns-clause-tells c =
-    let p = progress_of c.args.search.now in
-    let q = progress_of c.add.new.search in
-    let at = c.in_ok-at.at in
-    let one = taken c.args.board.now c.args.limit c.args.index p c.args.key.now c.args.depth c.requires.state.running.search c.requires.state.there c.requires.state.depth_is in
-    let comes = comes_in ((goal.at.returns-clause-tells c).After-step-least) in
-    let next = next_of c.args.key.now c.args.push.from c.square_ahead-to.result c.step-least.result in
-    let last : GoesLast p.table next (c.args.depth + 1) at c.insert_next.new.self.entries = subst
-    (λ t. Enters p.table next (c.args.depth + 1) at t c.insert_next.new.self.entries) c.if-not-is_new.false
-    (c.in_ok-at.ensures.inserted.enters c.args.key.now next c.requires.state.there comes.is) in
-    let room = c.if-at-limit.false in
-    let count = last.last in
-    pushed-added c.args.board.now c.args.limit c.args.index p c.requires.state.running.search c.args.key.now
-    c.args.depth c.requires.state.there c.requires.state.depth_is one.note one.note_is
-    c.args.push c.requires.legal next comes.came.exact comes.came.state comes.as_many last.absent
-    (omega (arith, room, count)) _ refl c.in_ok-standing.ensures.judged q
-    (added-made p (frame_in c.args.search.now c.insert_next.new.self) c.insert_next.new.self.entries q next (c.args.depth + 1) at _
-    (same_frame c.args.search.now c.insert_next.new.self c.in_ok-at.ensures.room) last
-    c.in_ok-add.ensures)
+returns-clause-tells c = IfOk-weaker c.arrive.result _ _
+    (tells-knowing c.args.board.now c.args.limit (progress_of c.args.search.now) c.ask.new.losses c.args.index c.args.key.now c.args.depth c.args.push
+    (progress_of c.arrive.new.search)) c.arrive.ensures.tells

@@ -5,7 +5,7 @@ use Rattle.sok_search.proofs.Turning.{held-search, turned-taken}
 use Rattle.sok_search.proofs.running.run.Goals as goal
 
 pub loop-index-init : goal.loop-index-init
-loop-index-init c = record { search = c.requires.running.search; frame = refl; ready = c.requires.ready; losses = c.requires.losses }
+loop-index-init c = record { search = c.requires.running.search; whole = refl; ready = c.requires.ready }
 
 pub turn-requires-clause-held : goal.turn-requires-clause-held
 turn-requires-clause-held c = record {
@@ -19,7 +19,7 @@ pub loop-index-preserved : goal.loop-index-preserved
 loop-index-preserved c =
     let turned = turned-taken c.args.board.now c.args.limit c.in-Some.index (progress_of c.loop-index.search) (progress_of c.turn.new.search)
     c.pop.new.self _ c.in-Some.ensures c.in_ok-turn.ensures.tells c.in-On.is in
-    record { search = turned.search; frame = turned.frame ∙ c.loop-index.invariant.frame; ready = c.in_ok-turn.ensures.ready; losses = c.in_ok-turn.ensures.losses }
+    record { search = turned.search; whole = turned.whole ∙ c.loop-index.invariant.whole; ready = c.in_ok-turn.ensures.ready }
 
 pub loop-index-smaller : goal.loop-index-smaller
 loop-index-smaller c = (turned-taken c.args.board.now c.args.limit c.in-Some.index (progress_of c.loop-index.search) (progress_of c.turn.new.search)
@@ -31,6 +31,6 @@ returns c =
     record {
       search = subst (λ (queue : List ℕ). IsSearch c.args.board.now c.args.limit (record (progress_of c.loop-index.search) { queue = queue }))
           (before ∙ sym after) c.loop-index.invariant.search;
-      frame = c.loop-index.invariant.frame;
+      whole = c.loop-index.invariant.whole;
       empty = after;
     }

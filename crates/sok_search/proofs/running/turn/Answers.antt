@@ -1,7 +1,7 @@
 use Rattle.std.proofs.Common.{◌∙◌, sym, ap, Some, rules}
 use Rattle.std.proofs.lemmas.Option.{slice_get-get_or}
 use Rattle.sok_search.specs.Views.{progress_of}
-use Rattle.sok_search.proofs.Turning.{go-dead, go-expanded, held-noted}
+use Rattle.sok_search.proofs.Turning.{go-dead, go-expanded, go-lost, held-noted}
 use Rattle.sok_search.proofs.running.turn.Goals as goal
 
 pub index-note-requires : goal.index-note-requires
@@ -24,3 +24,10 @@ returns-in-Dead-clause-tells c =
     let within = held-noted c.args.board.now c.args.limit c.args.index (progress_of c.args.search.now) c.requires.held.search in
     let there = slice_get-get_or c.args.search.now.notes.items c.args.index c.index-note.result.now within ∙ ap Some (sym c.index-note.ensures) in
     go-dead c.args.board.now c.args.limit c.args.index (progress_of c.args.search.now) c.index-note.result.now c.requires.held.search there c.in-Dead.is
+
+pub returns-in-Lost-clause-tells : goal.returns-in-Lost-clause-tells
+returns-in-Lost-clause-tells c =
+    let within = held-noted c.args.board.now c.args.limit c.args.index (progress_of c.args.search.now) c.requires.held.search in
+    let there = slice_get-get_or c.args.search.now.notes.items c.args.index c.index-note.result.now within ∙ ap Some (sym c.index-note.ensures) in
+    go-lost c.args.board.now c.args.limit c.args.index c.in-Lost.field-0
+    (progress_of c.args.search.now) c.index-note.result.now c.requires.held.search there c.in-Lost.is

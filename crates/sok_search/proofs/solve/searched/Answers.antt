@@ -1,6 +1,5 @@
-use Rattle.std.proofs.Common.{ap, subst, ◌∙◌}
+use Rattle.std.proofs.Common.{subst, ◌∙◌}
 use Rattle.sok_search.specs.declared.reaching.Reached.TheVariants.{On}
-use Rattle.sok_search.specs.Searches.{Frame}
 use Rattle.sok_search.specs.Views.{TellsFinished, progress_of}
 use Rattle.sok_search.proofs.solve.searched.Goals as goal
 
@@ -16,7 +15,7 @@ returns-in-On c =
     let p = progress_of c.in_ok-search.search in
     let q = progress_of c.finish.new.search in
     let told : TellsFinished c.args.board.now c.args.limit p q On = subst (TellsFinished c.args.board.now c.args.limit p q) c.in-On.is c.in_ok-finish.ensures in
-    record { search = told.search; kept = ap (λ (frame : Frame). frame.whole) told.frame ∙ c.in_ok-search.ensures.whole; empty = told.empty }
+    record { search = told.search; kept = told.whole ∙ c.in_ok-search.ensures.whole; empty = told.empty }
 
 pub returns-in-Full : goal.returns-in-Full
 returns-in-Full c =

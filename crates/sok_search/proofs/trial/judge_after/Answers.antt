@@ -13,13 +13,17 @@ returns-then-is_jammed-clause-laid c =
     c.is_jammed.ensures.laid c.args.before.now (put_in_order c.args.from c.args.to c.args.before.now) c.requires.moved c.requires.laid
 
 pub returns-then-is_jammed-clause-judged : goal.returns-then-is_jammed-clause-judged
-returns-then-is_jammed-clause-judged c =
+returns-then-is_jammed-clause-judged c losses player lost =
     let after = put_in_order c.args.from c.args.to c.args.before.now in
     let (members, jam, with_box) = (c.if-is_jammed.ensures.jammed c.args.before.now after c.requires.moved c.requires.laid).0 refl in
     (Barring.frozen members, tt, λ player rest. jam)
 
 pub returns-in-Some-clause-laid : goal.returns-in-Some-clause-laid
-returns-in-Some-clause-laid c = subst (IsLaidOut c.args.board.now c.args.before.now) (sym c.bound_after.ensures.layout)
+returns-in-Some-clause-laid c =
+    c.is_jammed.ensures.laid c.args.before.now (put_in_order c.args.from c.args.to c.args.before.now) c.requires.moved c.requires.laid
+
+pub returns-in-Some-2-clause-laid : goal.returns-in-Some-2-clause-laid
+returns-in-Some-2-clause-laid c = subst (IsLaidOut c.args.board.now c.args.before.now) (sym c.bound_after.ensures.layout)
     (c.is_jammed.ensures.laid c.args.before.now (put_in_order c.args.from c.args.to c.args.before.now) c.requires.moved c.requires.laid)
 
 pub returns-in-None-clause-laid : goal.returns-in-None-clause-laid
@@ -27,7 +31,7 @@ returns-in-None-clause-laid c = subst (IsLaidOut c.args.board.now c.args.before.
     (c.is_jammed.ensures.laid c.args.before.now (put_in_order c.args.from c.args.to c.args.before.now) c.requires.moved c.requires.laid)
 
 pub returns-in-None-clause-judged : goal.returns-in-None-clause-judged
-returns-in-None-clause-judged c =
+returns-in-None-clause-judged c losses player lost =
     let after = put_in_order c.args.from c.args.to c.args.before.now in
     let (members, crowd) = subst (TellsLeast c.args.board.now after) c.in-None.is c.in_ok-bound.ensures.least in
     (Barring.crowd members, tt, λ player rest. crowd)
