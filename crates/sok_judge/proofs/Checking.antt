@@ -1,5 +1,5 @@
 -- A certificate for a level of a collection is judged on its board, if it has one.
-use Rattle.std.proofs.Common.{ℕ, ◌≡◌, ◌≢◌, ◌≤◌, ◌⊎◌, ◌∙◌, inl, inr, List, [], Option, Some, None, Result, Ok, Err, IfSome, true≢false, is_ok}
+use Rattle.std.proofs.Common.{ℕ, ◌≡◌, ◌≤◌, ◌⊎◌, ◌∙◌, inl, inr, List, [], Option, Some, None, Result, Ok, Err, IfSome, true≢false, is_ok}
 use Rattle.std.proofs.Common.{ap, length, refl, subst, sym}
 use Rattle.sok_text.specs.Collections.{blocks_of, level_at}
 use Rattle.sok_rules.specs.declared.fault.LevelFault.{LevelFault}
