@@ -62,13 +62,22 @@ fn is_told<S: Alter>(alloc: Global, book: &mut Book<S>, row: Row) -> bool {
     answer(alloc, book, command, &mut out) == result && out.as_slice() == text.as_bytes()
 }
 
+/// The first command that tells something else of a book.
+fn first_other_of<S: Alter>(
+    alloc: Global,
+    book: &mut Book<S>,
+    rows: &[Row],
+) -> Option<Command<'static>> {
+    for row in rows {
+        if !is_told(alloc, book, *row) {
+            return Some(row.0);
+        }
+    }
+    None
+}
+
 /// The first command that tells something else, beginning with an empty book in memory.
 pub(crate) fn first_other(alloc: Global, rows: &[Row]) -> Result<Option<Command<'static>>, Fail> {
     let mut book = book_in(alloc, Connection::open_in_memory(alloc)?)?;
-    for row in rows {
-        if !is_told(alloc, &mut book, *row) {
-            return Ok(Some(row.0));
-        }
-    }
-    Ok(None)
+    Ok(first_other_of(alloc, &mut book, rows))
 }

@@ -10,6 +10,7 @@ use sok_sql::writing::insert;
 use sok_store::book::Book;
 use sqlite::{Connection, MemStore};
 use std::alloc::{AllocError, Global};
+use std::process::Abort;
 use std::test::Fail;
 
 /// A table as a book.
@@ -59,22 +60,24 @@ fn keeps(
     Ok(found == Ok(id) && is_titled(book, id, kept)?)
 }
 
-#[test]
-fn the_first_title_is_kept_without_its_ends(rt: HostRuntime) -> Result<(), Fail> {
-    let alloc = rt.alloc();
-    let mut book = book_in(alloc, Connection::open_in_memory(alloc)?)?;
+/// Adds boards with titles, one after the other.
+fn add_titled(rt: &impl Abort, alloc: Global, book: &mut Book<MemStore>) -> Result<(), Fail> {
     let whole = " \t A \t level \r\t\r\nmore";
     for (board, title, id, kept) in [
         (ONE_PUSH, whole, 1, Some(b"A \t level".as_slice())),
         (ONE_PUSH, "Another", 1, Some(b"A \t level".as_slice())),
         (SOLVED, "\r \nmore", 2, None),
     ] {
-        assert!(rt;
-            keeps(alloc, &mut book, board, title, id, kept)?,
-            "{title:?}"
-        );
+        assert!(rt; keeps(alloc, book, board, title, id, kept)?, "{title:?}");
     }
     Ok(())
+}
+
+#[test]
+fn the_first_title_is_kept_without_its_ends(rt: HostRuntime) -> Result<(), Fail> {
+    let alloc = rt.alloc();
+    let mut book = book_in(alloc, Connection::open_in_memory(alloc)?)?;
+    add_titled(&rt, alloc, &mut book)
 }
 
 /// A level with the digits of a number at its side.
@@ -89,27 +92,37 @@ fn numbered(alloc: Global, number: u32) -> Result<String, AllocError> {
     format!(in alloc; "{wall}\n#@$.#{digits}#\n{wall}\n")
 }
 
-/// A table of as many levels as a book may have.
-fn filled(alloc: Global) -> Result<Connection<MemStore>, Fail> {
-    let mut connection = Connection::open_in_memory(alloc)?;
-    create(&mut connection)?;
+/// Makes a table of as many levels as a book may have.
+fn fill(alloc: Global, connection: &mut Connection<MemStore>) -> Result<(), Fail> {
+    create(connection)?;
     for id in 1..=LEVEL_LIMIT {
         let text = numbered(alloc, id)?;
-        insert(&mut connection, id, text.as_str(), None)?;
+        insert(connection, id, text.as_str(), None)?;
     }
+    Ok(())
+}
+
+fn filled(alloc: Global) -> Result<Connection<MemStore>, Fail> {
+    let mut connection = Connection::open_in_memory(alloc)?;
+    fill(alloc, &mut connection)?;
     Ok(connection)
+}
+
+/// Adds a level to a full book, and one that is there.
+fn add_to_full(rt: &impl Abort, alloc: Global, book: &mut Book<MemStore>) -> Result<(), Fail> {
+    let there = numbered(alloc, 7)?;
+    for (board, found) in [
+        (ONE_PUSH, Err(BookFault::BookFull)),
+        (there.as_str(), Ok(7)),
+    ] {
+        assert_eq!(rt; added(alloc, book, board, None)?, found);
+    }
+    Ok(())
 }
 
 #[test]
 fn a_full_book_takes_no_other_level(rt: HostRuntime) -> Result<(), Fail> {
     let alloc = rt.alloc();
     let mut book = book_in(alloc, filled(alloc)?)?;
-    let there = numbered(alloc, 7)?;
-    for (board, found) in [
-        (ONE_PUSH, Err(BookFault::BookFull)),
-        (there.as_str(), Ok(7)),
-    ] {
-        assert_eq!(rt; added(alloc, &mut book, board, None)?, found);
-    }
-    Ok(())
+    add_to_full(&rt, alloc, &mut book)
 }

@@ -5,8 +5,11 @@ use sok_book::fault::BookFault;
 use sok_engine::fault::ToolFault;
 use sok_rules::fault::PlayFault;
 use sok_sketch::sketch::{BOX_BEYOND_THE_GOAL, PAIR_THAT_IS_LOST, ROOM_OF_TWO_ROWS, SOLVED};
+use sok_store::book::Book;
 use sok_text::lurd::LurdFault;
-use sqlite::Connection;
+use sqlite::{Connection, MemStore};
+use std::alloc::Global;
+use std::process::Abort;
 use std::test::Fail;
 
 /// That the room cannot be solved with fewer than two pushes.
@@ -173,20 +176,25 @@ fn faults_come_in_their_order(rt: HostRuntime) -> Result<(), Fail> {
     Ok(())
 }
 
+/// Offers a solution whose answer cannot be written, and then once more.
+fn offer_twice(rt: &impl Abort, alloc: Global, book: &mut Book<MemStore>) -> Result<(), Fail> {
+    let mut out = Vec::new(alloc);
+    answer(alloc, book, Command::Add(ROOM_OF_TWO_ROWS), &mut out)?;
+    let mut room = [0u8; 4];
+    let offer = Command::Offer(1, "ulldRR");
+    let offered = answer(alloc, book, offer, &mut room.as_mut_slice());
+    assert_eq!(rt; offered, Err(ToolFault::WriteFailed));
+    assert_eq!(rt; room.as_slice(), b"stor".as_slice());
+    let again = answer(alloc, book, offer, &mut out);
+    assert_eq!(rt; again, Ok(1));
+    assert_eq!(rt; out.as_slice(), b"1 id 1\nkept 2 6\n".as_slice());
+    Ok(())
+}
+
 /// The answer of an offer cannot be written, and the offer stands.
 #[test]
 fn a_command_stands_without_its_answer(rt: HostRuntime) -> Result<(), Fail> {
     let alloc = rt.alloc();
     let mut book = book_in(alloc, Connection::open_in_memory(alloc)?)?;
-    let mut out = Vec::new(alloc);
-    answer(alloc, &mut book, Command::Add(ROOM_OF_TWO_ROWS), &mut out)?;
-    let mut room = [0u8; 4];
-    let offer = Command::Offer(1, "ulldRR");
-    let offered = answer(alloc, &mut book, offer, &mut room.as_mut_slice());
-    assert_eq!(rt; offered, Err(ToolFault::WriteFailed));
-    assert_eq!(rt; room.as_slice(), b"stor".as_slice());
-    let again = answer(alloc, &mut book, offer, &mut out);
-    assert_eq!(rt; again, Ok(1));
-    assert_eq!(rt; out.as_slice(), b"1 id 1\nkept 2 6\n".as_slice());
-    Ok(())
+    offer_twice(&rt, alloc, &mut book)
 }

@@ -120,14 +120,19 @@ fn make_large(rt: &HostRuntime, alloc: Global) -> Result<(), Fail> {
     Ok(())
 }
 
+/// A database with the bad row.
+fn make_faulty(rt: &HostRuntime) -> Result<(), Fail> {
+    let mut connection = Connection::open(rt, "faulty/book")?;
+    connection.execute_batch(BAD_ROW)?;
+    Ok(())
+}
+
 #[test]
 fn a_book_with_a_bad_row_and_a_file_that_is_too_large(rt: HostRuntime) -> Result<(), Fail> {
     prepare(&rt, "faulty")?;
     make_large(&rt, rt.alloc())?;
     fs::write(&rt, "faulty/half", "\0")?;
-    let mut connection = Connection::open(&rt, "faulty/book")?;
-    connection.execute_batch(BAD_ROW)?;
-    drop(connection);
+    make_faulty(&rt)?;
     let other = first_other(&rt, &UNREADABLE)?;
     assert_eq!(rt; other, None);
     fs::remove_dir_all(&rt, "faulty")?;

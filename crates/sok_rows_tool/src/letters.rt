@@ -7,6 +7,7 @@ use sok_store::book::Book;
 use sok_text::lurd::LurdFault;
 use sqlite::{Connection, MemStore};
 use std::alloc::Global;
+use std::process::Abort;
 use std::test::Fail;
 
 /// What is told of a text that is offered.
@@ -45,17 +46,22 @@ fn room(alloc: Global) -> Result<Book<MemStore>, Fail> {
     Ok(book)
 }
 
+/// Offers a million letters, and one more.
+fn offer_letters(rt: &impl Abort, alloc: Global, book: &mut Book<MemStore>) -> Result<(), Fail> {
+    let mut letters = "ud".repeat(alloc, 499_997)?;
+    letters.push_str("ulldRR")?;
+    assert!(rt; stores(alloc, book, letters.as_str(), "stored 2 1000000\n")?);
+    assert!(rt; shows(alloc, book, letters.as_str())?);
+    letters.push_str("l")?;
+    let longer = told(alloc, book, letters.as_str());
+    assert!(rt; longer == Err(ToolFault::Lurd(LurdFault::TooLong)));
+    Ok(())
+}
+
 /// Steps up and down before the room is solved.
 #[test]
 fn a_million_letters_are_stored(rt: HostRuntime) -> Result<(), Fail> {
     let alloc = rt.alloc();
     let mut book = room(alloc)?;
-    let mut letters = "ud".repeat(alloc, 499_997)?;
-    letters.push_str("ulldRR")?;
-    assert!(rt; stores(alloc, &mut book, letters.as_str(), "stored 2 1000000\n")?);
-    assert!(rt; shows(alloc, &mut book, letters.as_str())?);
-    letters.push_str("l")?;
-    let longer = told(alloc, &mut book, letters.as_str());
-    assert!(rt; longer == Err(ToolFault::Lurd(LurdFault::TooLong)));
-    Ok(())
+    offer_letters(&rt, alloc, &mut book)
 }

@@ -85,25 +85,20 @@ fn fail_each_read(
     assert!(rt; is_told(alloc, book, reading, 0, Ok(0), line.as_bytes()));
 }
 
+/// Fails each read of an addition, and of a proof.
+fn fail_reads(rt: &impl Abort, alloc: Global, book: &mut Book<MemStore>) -> Result<(), Fail> {
+    let add = Reading::Add(ROOM_OF_TWO_ROWS);
+    fail_each_read(rt, alloc, book, add, "1 id 1\n");
+    let mut out = Vec::new(alloc);
+    answer(alloc, book, Command::Offer(1, "ulldRR"), &mut out)?;
+    let prove = Reading::Prove(TWO_PUSHES);
+    fail_each_read(rt, alloc, book, prove, "proved optimal 2\n");
+    Ok(())
+}
+
 #[test]
 fn reads_of_commands_that_fail(rt: HostRuntime) -> Result<(), Fail> {
     let alloc = rt.alloc();
     let mut book = book_in(alloc, Connection::open_in_memory(alloc)?)?;
-    fail_each_read(
-        &rt,
-        alloc,
-        &mut book,
-        Reading::Add(ROOM_OF_TWO_ROWS),
-        "1 id 1\n",
-    );
-    let mut out = Vec::new(alloc);
-    answer(alloc, &mut book, Command::Offer(1, "ulldRR"), &mut out)?;
-    fail_each_read(
-        &rt,
-        alloc,
-        &mut book,
-        Reading::Prove(TWO_PUSHES),
-        "proved optimal 2\n",
-    );
-    Ok(())
+    fail_reads(&rt, alloc, &mut book)
 }

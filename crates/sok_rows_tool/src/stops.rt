@@ -131,6 +131,13 @@ fn worked(
     }
 }
 
+/// What is left of the files where a command answers.
+fn answered(alloc: Global, files: Stopping, command: Command<'_>) -> Result<Stopping, Fail> {
+    let (left, told) = worked(alloc, files, command)?;
+    told.ok_or("a command was refused")?;
+    Ok(left)
+}
+
 /// The files of the book that commands made.
 fn made(alloc: Global, commands: &[Command<'_>]) -> Result<Stopping, Fail> {
     let mut files = Files {
@@ -138,11 +145,15 @@ fn made(alloc: Global, commands: &[Command<'_>]) -> Result<Stopping, Fail> {
         db: Fuse::new(Memory::new(alloc), u64::MAX),
     };
     for command in commands {
-        let (next, told) = worked(alloc, files, *command)?;
-        told.ok_or("a command was refused")?;
-        files = next;
+        files = answered(alloc, files, *command)?;
     }
     Ok(files)
+}
+
+/// What a command writes of the book in files, which is opened again.
+fn found(alloc: Global, files: Stopping, command: Command<'_>) -> Result<String, Fail> {
+    let (_, told) = worked(alloc, files, command)?;
+    Ok(String::from_utf8(told.ok_or("the book is not opened again")?)?)
 }
 
 /// Asserts that what is found in files may be found there.
@@ -153,8 +164,7 @@ fn look(
     stop: &Stop,
     answered: bool,
 ) -> Result<(), Fail> {
-    let (_, told) = worked(alloc, files, stop.look)?;
-    let told = String::from_utf8(told.ok_or("the book is not opened again")?)?;
+    let told = found(alloc, files, stop.look)?;
     let last = stop.found.last().copied();
     let may_stand = if answered {
         last == Some(told.as_str())
@@ -165,8 +175,24 @@ fn look(
     Ok(())
 }
 
-/// Stops a command after so many calls to the log and to the database, and looks at what it leaves:
-/// all that it wrote, and all that is left if the machine stops with it. Whether it answered.
+/// Looks at what a command leaves: all that it wrote, and all that is left if the machine stops with
+/// it.
+fn look_twice(
+    rt: &impl Abort,
+    alloc: Global,
+    mut left: Stopping,
+    stop: &Stop,
+    answered: bool,
+) -> Result<(), Fail> {
+    let written = copy_of(alloc, &left, u64::MAX, u64::MAX)?;
+    look(rt, alloc, written, stop, answered)?;
+    left.log.crash();
+    left.db.crash();
+    look(rt, alloc, left, stop, answered)
+}
+
+/// Stops a command after so many calls to the log and to the database, and looks at what it leaves.
+/// Whether it answered.
 fn is_answered(
     rt: &impl Abort,
     alloc: Global,
@@ -175,13 +201,10 @@ fn is_answered(
     stop: &Stop,
 ) -> Result<bool, Fail> {
     let files = copy_of(alloc, before, calls.0, calls.1)?;
-    let (mut left, told) = worked(alloc, files, stop.command)?;
-    let written = copy_of(alloc, &left, u64::MAX, u64::MAX)?;
-    look(rt, alloc, written, stop, told.is_some())?;
-    left.log.crash();
-    left.db.crash();
-    look(rt, alloc, left, stop, told.is_some())?;
-    Ok(told.is_some())
+    let (left, told) = worked(alloc, files, stop.command)?;
+    let answered = told.is_some();
+    look_twice(rt, alloc, left, stop, answered)?;
+    Ok(answered)
 }
 
 /// Stops a command after no call to one of the files, after one, and so on, until it answers.
@@ -205,14 +228,19 @@ fn stop_each(
     Ok(false)
 }
 
+/// Stops a command at each call to the log, and at each to the database.
+fn stop_both(rt: &impl Abort, alloc: Global, before: &Stopping, stop: &Stop) -> Result<(), Fail> {
+    for to_log in [true, false] {
+        assert!(rt; stop_each(rt, alloc, before, to_log, stop)?);
+    }
+    Ok(())
+}
+
 #[test]
 fn stops_at_each_call(rt: HostRuntime) -> Result<(), Fail> {
-    let alloc = rt.alloc();
     for stop in &STOPS {
-        let before = made(alloc, stop.before)?;
-        for to_log in [true, false] {
-            assert!(rt; stop_each(&rt, alloc, &before, to_log, stop)?);
-        }
+        let before = made(rt.alloc(), stop.before)?;
+        stop_both(&rt, rt.alloc(), &before, stop)?;
     }
     Ok(())
 }

@@ -4,6 +4,7 @@ use sok_book::fault::BookFault;
 use sok_store::book::{Book, OpenRefused};
 use sqlite::{Connection, MemStore};
 use std::alloc::Global;
+use std::process::Abort;
 use std::test::Fail;
 
 /// A table whose columns take any value, with a level as it was added, and one whose best is
@@ -102,17 +103,21 @@ fn tables_that_keep_the_rules_are_opened(rt: HostRuntime) -> Result<(), Fail> {
     Ok(())
 }
 
-#[test]
-fn a_table_with_other_columns_stays(rt: HostRuntime) -> Result<(), Fail> {
-    let sql = "CREATE TABLE level (name); INSERT INTO level VALUES ('kept')";
-    let Err(refused) = made(rt.alloc(), sql)? else {
-        return Err("it was opened".into());
-    };
-    assert_eq!(rt; refused.fault, BookFault::Database);
-    let mut connection = refused.connection;
+/// Asserts what a table of one name has.
+fn assert_kept(rt: &impl Abort, connection: &mut Connection<MemStore>) -> Result<(), Fail> {
     let rows = connection.query_all("SELECT name FROM level", &[])?;
     assert_eq!(rt; rows.len(), 1);
     let name: String = rows[0].get(0)?;
     assert_eq!(rt; name.as_str(), "kept");
     Ok(())
+}
+
+#[test]
+fn a_table_with_other_columns_stays(rt: HostRuntime) -> Result<(), Fail> {
+    let sql = "CREATE TABLE level (name); INSERT INTO level VALUES ('kept')";
+    let Err(mut refused) = made(rt.alloc(), sql)? else {
+        return Err("it was opened".into());
+    };
+    assert_eq!(rt; refused.fault, BookFault::Database);
+    assert_kept(&rt, &mut refused.connection)
 }
