@@ -21,39 +21,14 @@ use Rattle.sok_region.specs.Regions.{IsPlaced}
 use Rattle.sok_state.specs.declared.key.Key.{Key}
 use Rattle.sok_state.specs.Keys.{IsKeyOf, key_position}
 use Rattle.sok_state.proofs.Placed.{IsStanding-placed}
-use Rattle.sok_closed.specs.Rolls.{node_position}
-use Rattle.sok_entry.specs.declared.entry.Inner.{Inner}
-use Rattle.sok_bar.specs.Patterns.{AreClosedAlone, inner_node}
+use Rattle.sok_bar.proofs.Memos.{closed-from}
 use Rattle.sok_bar.proofs.Patterns.{thinner-among}
 use Rattle.sok_bar.proofs.ReasonLaws.{NeverFrom-alone}
 use Rattle.sok_alone.specs.declared.losses.Loss.{Loss}
 use Rattle.sok_alone.specs.Losses.{AreInOrder, HasKeyAt, IsLoss, IsLostBy, KeepsPlaces}
 use Rattle.sok_alone.proofs.Pairs.{rising-pair}
 
--- ---- closed lists
-
--- what is closed from one player of a state is closed from another
-closed-from : (b : Numbered) (player least : ℕ) (boxes : List ℕ) (inner : List Inner) → Same b.rows (position_of b player boxes) (position_of b least boxes)
-    → AreClosedAlone b least boxes inner → AreClosedAlone b player boxes inner
-closed-from b player least boxes inner same closed =
-    let (first, starts) = closed.rolled.starter in
-    record {
-      rolled = record {
-        positions = closed.rolled.positions;
-        apart = closed.rolled.apart;
-        unsolved = closed.rolled.unsolved;
-        starter = (
-          first,
-          record {
-            listed = starts.listed;
-            first = starts.first;
-            same = Same-trans b.rows (position_of b player boxes) (position_of b least boxes) (node_position b (inner_node first)) same starts.same;
-          },
-        );
-        followed = closed.rolled.followed;
-      };
-      barred = closed.barred;
-    }
+-- ---- losses
 
 -- the loss of a state's key is closed from each player of the state
 lost-at : (b : Numbered) (player : ℕ) (boxes : List ℕ) (key : Key) → IsKeyOf b (position_of b player boxes) key → key.boxes ≡ boxes → (losses : List Loss)

@@ -45,6 +45,7 @@ pub record IsLostBy (b : Numbered) (player : ℕ) (boxes : List ℕ) (losses : L
 abbrev pub KeepsPlaces : List Loss → List Loss → Type 0
 KeepsPlaces old new = (place : ℕ) (loss : Loss) → slice_get old place ≡ Some loss → slice_get new place ≡ Some loss
 
+-- the losses of what is kept
 abbrev pub losses_of : Losses → List Loss
 losses_of kept = kept.losses.items
 

@@ -102,6 +102,7 @@ fn fill(alloc: Global, connection: &mut Connection<MemStore>) -> Result<(), Fail
     Ok(())
 }
 
+/// The table of a full book.
 fn filled(alloc: Global) -> Result<Connection<MemStore>, Fail> {
     let mut connection = Connection::open_in_memory(alloc)?;
     fill(alloc, &mut connection)?;

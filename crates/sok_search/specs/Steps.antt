@@ -107,6 +107,7 @@ IsJudged b losses player boxes (Expanded bound) = ⊥
 IsJudged b losses player boxes Dead = IsDead b boxes
 IsJudged b losses player boxes (Lost place) = IsLostBy b player boxes losses place
 
+-- with the losses that a frame knows
 abbrev pub IsJudgedIn : Numbered → Frame → Key → Standing → Type 0
 IsJudgedIn b frame key standing = IsJudged b (losses_of frame.losses) key.least key.boxes standing
 
