@@ -27,7 +27,7 @@ use Rattle.sok_board.proofs.Lists.{Contains-at}
 use Rattle.sok_region.specs.Regions.{squares_of}
 use Rattle.sok_region.proofs.Regions.{Contains-squares_of}
 use Rattle.sok_state.specs.declared.packed.PackedKey.{PackedKey}
-use Rattle.sok_state.specs.PackedKeys.{ArePacked, IsOfWords, entries_of, state_of}
+use Rattle.sok_state.specs.PackedKeys.{ArePacked, IsOfWords, Stored, entries_of, state_of}
 use Rattle.sok_state.specs.declared.key.Key.{Key}
 use Rattle.sok_state.specs.Tables.{Entries, GoesLast, HasDistinctKeys, IsAt, Lowers, Stays}
 
@@ -101,13 +101,13 @@ packed_eq-refl a =
 pub packed_decides : {N : ℕ} (a b : PackedKey N) → Decides (packed_eq a b) (a ≡ b)
 packed_decides a b = (same_packed_is a b, λ e. subst (λ k. packed_eq a k ≡ true) e (packed_eq-refl a))
 
--- an index of the list as which a table is seen is one of its depths
-pub depth-within : {N : ℕ} (keys : List (PackedKey N)) (depths : List ℕ) (seen : Entries) (index : ℕ) → ArePacked N keys depths → entries_of keys depths ≡ seen
-    → index < length seen → index < length depths
+-- an index of the entries that a table is seen to have is one of its depths
+pub depth-within : {N spare : ℕ} (keys : List (PackedKey N)) (depths : List ℕ) (seen : Stored) (index : ℕ) → ArePacked N keys depths
+    → record { entries = entries_of keys depths; spare = spare } ≡ seen → index < length seen.entries → index < length depths
 depth-within keys depths seen index packed is within =
     let long = packed.a_depth_each in
     let all = length-entries_of keys depths long in
-    let same = ap (λ (es : Entries). length es) is in
+    let same = ap (λ (table : Stored). length table.entries) is in
     omega (arith, all, same, within, long)
 
 module _ {N : ℕ} (keys : List (PackedKey N)) (depths : List ℕ) (packed : ArePacked N keys depths) where

@@ -15,6 +15,11 @@ entries_of [] depths = []
 entries_of (key ∷ keys) [] = []
 entries_of (key ∷ keys) (depth ∷ depths) = (state_of key, depth) ∷ entries_of keys depths
 
+-- such keys with their depths, and how many more fit before memory is asked for
+pub record Stored : Type 0 where
+  pub entries : Entries
+  pub spare : ℕ
+
 -- words of 64 bits
 pub record IsOfWords (N : ℕ) (key : PackedKey N) : Type 0 where
   pub long : length key.boxes ≡ N

@@ -3,9 +3,9 @@ use Rattle.sok_state.specs.declared.table.Store.{Store}
 use Rattle.sok_state.specs.declared.table.Store.TheVariants.{One, Two, Four, Sixteen}
 use Rattle.sok_state.specs.Tables.{Tabled}
 
--- its entries, and a bit for each square below 64 for each word
+-- what it holds, and a bit for each square below 64 for each word
 abbrev pub seen : Store → Tabled
-seen (One table) = record { entries = table; room = 64 }
-seen (Two table) = record { entries = table; room = 128 }
-seen (Four table) = record { entries = table; room = 256 }
-seen (Sixteen table) = record { entries = table; room = 1024 }
+seen (One table) = record { entries = table.entries; room = 64; spare = table.spare }
+seen (Two table) = record { entries = table.entries; room = 128; spare = table.spare }
+seen (Four table) = record { entries = table.entries; room = 256; spare = table.spare }
+seen (Sixteen table) = record { entries = table.entries; room = 1024; spare = table.spare }

@@ -9,10 +9,12 @@ use Rattle.sok_state.specs.declared.key.Key.{Key}
 abbrev pub Entries : Type 0
 Entries = List (Key × ℕ)
 
--- the keys of a table with their depths, and its room: keys whose boxes stand on squares below it have a place
+-- the keys of a table with their depths, its room: keys whose boxes stand on squares below it have a place,
+-- and what it has to spare: so many more keys fit before it asks for memory
 pub record Tabled : Type 0 where
   pub entries : Entries
   pub room : ℕ
+  pub spare : ℕ
 
 -- no key stands at two indices
 abbrev pub HasDistinctKeys : Entries → Type 0

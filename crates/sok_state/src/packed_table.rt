@@ -1,7 +1,7 @@
 //! Packed keys of one width in the order of their insertion, with depths.
 
-ghost use Rattle.std.specs.Prelude.{ℕ, ◌≡◌, ◌<◌, ◌≤◌, ◌*◌, ◌^◌, [], Some, All, Contains, IfOk, OnErr};
-ghost use Rattle.std.specs.Prelude.{MatchOption, length, slice_get, slice_index};
+ghost use Rattle.std.specs.Prelude.{ℕ, ◌≡◌, ◌<◌, ◌≤◌, ◌+◌, ◌*◌, ◌^◌, [], Some, All, Contains, IfOk};
+ghost use Rattle.std.specs.Prelude.{IsOk, OnErr, MatchOption, length, slice_get, slice_index};
 ghost use Rattle.std.specs.Map.{keys_of, values_of};
 ghost use Rattle.sok_board.specs.Limits.{box_limit};
 ghost use Rattle.sok_state.specs.declared.key.Key.{Key};
@@ -18,7 +18,8 @@ use std::alloc::Global;
 use std::marker::Model;
 
 /// What a `Table` holds, in packed keys of `N` words. It is seen as the list of the keys that its
-/// packed keys stand for, with their depths. Its methods are those of a `Table`.
+/// packed keys stand for, with their depths, and what it has to spare: the lesser of what its two
+/// parts have. Its methods are those of a `Table`.
 #[derive(Drop)]
 pub(crate) struct PackedTable<const N: usize> {
     keys: IndexSet<PackedKey<N>>,
@@ -26,13 +27,16 @@ pub(crate) struct PackedTable<const N: usize> {
 }
 
 impl<const N: usize> Model for PackedTable<N> {
-    ghost use Rattle.std.specs.Prelude.{ℕ, List};
-    ghost use Rattle.sok_state.specs.declared.key.Key.{Key};
-    ghost use Rattle.sok_state.specs.PackedKeys.{ArePacked, entries_of};
+    ghost use Rattle.std.specs.Prelude.{◌-◌, min, vec_capacity, vec_len};
+    ghost use Rattle.indexmap.specs.IndexSet.{spare};
+    ghost use Rattle.sok_state.specs.PackedKeys.{ArePacked, Stored, entries_of};
 
-    ghost Value = { List (Key × ℕ) };
+    ghost Value = { Stored };
 
-    ghost view = { λ table. entries_of table.keys.keys table.depths.items };
+    ghost view = { λ table. record {
+      entries = entries_of table.keys.keys table.depths.items;
+      spare = min (spare table.keys) (vec_capacity table.depths - vec_len table.depths);
+    } };
 
     ghost invariant = { λ table. ArePacked N table.keys.keys table.depths.items };
 }
@@ -41,7 +45,7 @@ impl<const N: usize> PackedTable<N> {
     /// A table without a key.
     pub(crate) fn new(alloc: Global) -> PackedTable<N>
         requires { N ≤ 16 }
-        ensures { result ≡ [] }
+        ensures { result.entries ≡ [] }
     {
         PackedTable {
             keys: IndexSet::new(alloc),
@@ -52,8 +56,8 @@ impl<const N: usize> PackedTable<N> {
     /// How many keys the table has.
     pub(crate) fn len(&self) -> usize
         requires { N ≤ 16 }
-        ensures count { result ≡ length self.now }
-        ensures distinct { HasDistinctKeys self.now }
+        ensures count { result ≡ length self.now.entries }
+        ensures distinct { HasDistinctKeys self.now.entries }
     {
         self.keys.len()
     }
@@ -62,10 +66,12 @@ impl<const N: usize> PackedTable<N> {
     pub(crate) fn insert(&mut self, key: &Key, depth: u32) -> Result<(usize, bool), Memory>
         requires small { N ≤ 16 }
         requires room { All (λ square. square < 64 * N) key.now.boxes }
-        ensures inserted { IfOk result
-            (λ told. Enters self.old key.now depth told.0 told.1 self.new) }
-        ensures refused { OnErr result (self.new ≡ self.old) }
-        ensures refused_new { OnErr result (Contains (keys_of self.old) key.now → ⊥) }
+        ensures inserted { IfOk result (λ told.
+            Enters self.old.entries key.now depth told.0 told.1 self.new.entries) }
+        ensures refused { OnErr result (self.new.entries ≡ self.old.entries) }
+        ensures refused_new { OnErr result (Contains (keys_of self.old.entries) key.now → ⊥) }
+        ensures succeeds { 0 < self.old.spare → IsOk result }
+        ensures spare { self.old.spare ≤ self.new.spare + 1 }
     {
         self.enter(PackedKey::of(key), depth)
     }
@@ -80,13 +86,15 @@ impl<const N: usize> PackedTable<N> {
         depth: u32,
     ) -> Result<(usize, bool), Memory>
         requires small { N ≤ 16 }
-        requires exists { index < length self.old }
+        requires exists { index < length self.old.entries }
         requires from { from < 64 * N }
         requires to { to < 64 * N }
-        ensures inserted { IfOk result
-            (λ told. EntersNext self.old index from to least depth told.0 told.1 self.new) }
-        ensures refused { OnErr result (self.new ≡ self.old) }
-        ensures refused_new { OnErr result (LacksNext self.old index from to least) }
+        ensures inserted { IfOk result (λ told. EntersNext
+            self.old.entries index from to least depth told.0 told.1 self.new.entries) }
+        ensures refused { OnErr result (self.new.entries ≡ self.old.entries) }
+        ensures refused_new { OnErr result (LacksNext self.old.entries index from to least) }
+        ensures succeeds { 0 < self.old.spare → IsOk result }
+        ensures spare { self.old.spare ≤ self.new.spare + 1 }
     {
         let packed = self.packed(index);
         self.enter(packed.moved(from, to, least), depth)
@@ -95,10 +103,13 @@ impl<const N: usize> PackedTable<N> {
     /// Inserts a packed key.
     fn enter(&mut self, key: PackedKey<N>, depth: u32) -> Result<(usize, bool), Memory>
         requires { N ≤ 16 }
-        ensures inserted { IfOk result
-            (λ told. Enters self.old (state_of key.entry) depth told.0 told.1 self.new) }
-        ensures refused { OnErr result (self.new ≡ self.old) }
-        ensures refused_new { OnErr result (Contains (keys_of self.old) (state_of key.entry) → ⊥) }
+        ensures inserted { IfOk result (λ told. Enters
+            self.old.entries (state_of key.entry) depth told.0 told.1 self.new.entries) }
+        ensures refused { OnErr result (self.new.entries ≡ self.old.entries) }
+        ensures refused_new { OnErr result
+            (Contains (keys_of self.old.entries) (state_of key.entry) → ⊥) }
+        ensures succeeds { 0 < self.old.spare → IsOk result }
+        ensures spare { self.old.spare ≤ self.new.spare + 1 }
     {
         fit(&key.boxes);
         if self.depths.reserve(1).is_err() {
@@ -120,7 +131,7 @@ impl<const N: usize> PackedTable<N> {
         requires small { N ≤ 16 }
         requires room { All (λ square. square < 64 * N) key.now.boxes }
         ensures { MatchOption result
-            (Contains (keys_of self.now) key.now → ⊥) (IsAt self.now key.now) }
+            (Contains (keys_of self.now.entries) key.now → ⊥) (IsAt self.now.entries key.now) }
     {
         let packed: PackedKey<N> = PackedKey::of(key);
         fit(&packed.boxes);
@@ -135,9 +146,10 @@ impl<const N: usize> PackedTable<N> {
         index: usize,
     ) -> Result<Key, Memory>
         requires small { N ≤ 16 }
-        requires exists { index < length self.now }
-        requires few { (key : Key) → IsAt self.now key index → length key.boxes ≤ box_limit }
-        ensures { IfOk result (λ key. IsAt self.now key index) }
+        requires exists { index < length self.now.entries }
+        requires few { (key : Key) → IsAt self.now.entries key index
+            → length key.boxes ≤ box_limit }
+        ensures { IfOk result (λ key. IsAt self.now.entries key index) }
     {
         let packed = self.packed(index);
         packed.list(squares)?;
@@ -150,8 +162,8 @@ impl<const N: usize> PackedTable<N> {
     /// The packed key at an index.
     fn packed(&self, index: usize) -> PackedKey<N>
         requires small { N ≤ 16 }
-        requires exists { index < length self.now }
-        ensures { IsAt self.now (state_of result) index }
+        requires exists { index < length self.now.entries }
+        ensures { IsAt self.now.entries (state_of result) index }
     {
         *self.keys.get_index(index).unwrap()
     }
@@ -159,8 +171,8 @@ impl<const N: usize> PackedTable<N> {
     /// The depth of the key at an index.
     pub(crate) fn depth(&self, index: usize) -> u32
         requires small { N ≤ 16 }
-        requires exists { index < length self.now }
-        ensures { slice_get (values_of self.now) index ≡ Some result }
+        requires exists { index < length self.now.entries }
+        ensures { slice_get (values_of self.now.entries) index ≡ Some result }
     {
         self.depths[index]
     }
@@ -168,8 +180,9 @@ impl<const N: usize> PackedTable<N> {
     /// Lowers the depth of the key at an index.
     pub(crate) fn lower_depth(&mut self, index: usize, depth: u32) -> bool
         requires small { N ≤ 16 }
-        requires exists { index < length self.old }
-        ensures { Lowers self.old index depth result self.new }
+        requires exists { index < length self.old.entries }
+        ensures lowered { Lowers self.old.entries index depth result self.new.entries }
+        ensures spare { self.new.spare ≡ self.old.spare }
     {
         if depth < self.depths[index] {
             self.depths[index] = depth;

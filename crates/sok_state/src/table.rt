@@ -1,7 +1,7 @@
 //! Keys in the order of their insertion, with depths.
 
-ghost use Rattle.std.specs.Prelude.{◌≡◌, ◌<◌, ◌≤◌, [], Some, All, Contains, IfOk, OnErr, MatchOption};
-ghost use Rattle.std.specs.Prelude.{length, slice_get};
+ghost use Rattle.std.specs.Prelude.{◌≡◌, ◌<◌, ◌≤◌, ◌+◌, [], Some, All, Contains, IfOk, IsOk};
+ghost use Rattle.std.specs.Prelude.{OnErr, MatchOption, length, slice_get};
 ghost use Rattle.std.specs.Map.{keys_of, values_of};
 ghost use Rattle.sok_board.specs.Limits.{box_limit, square_limit};
 ghost use Rattle.sok_state.specs.declared.key.Key.{Key};
@@ -15,7 +15,8 @@ use std::alloc::Global;
 use std::marker::Model;
 
 /// The states that are known, each with a depth, in the order of their insertion. A table is seen
-/// as the list of its keys with their depths, and its room: the squares below that have a bit.
+/// as the list of its keys with their depths, its room (the squares below that have a bit), and
+/// what it has to spare: how many more keys fit before it asks for memory.
 #[derive(Drop)]
 pub struct Table {
     store: Store,
@@ -78,14 +79,16 @@ impl Table {
 
     /// Inserts a key, and tells its index and whether it is new: a new key goes last, with the
     /// depth, and one that is present keeps its place and its depth. It refuses a new key alone, for
-    /// want of memory.
+    /// want of memory, and never while there is a place to spare; it takes up at most one place.
     pub fn insert(&mut self, key: &Key, depth: u32) -> Result<(usize, bool), Memory>
         requires { All (λ square. square < self.old.room) key.now.boxes }
         ensures inserted { IfOk result (λ told.
             Enters self.old.entries key.now depth told.0 told.1 self.new.entries) }
-        ensures refused { OnErr result (self.new ≡ self.old) }
+        ensures refused { OnErr result (self.new.entries ≡ self.old.entries) }
         ensures refused_new { OnErr result (Contains (keys_of self.old.entries) key.now → ⊥) }
         ensures room { self.new.room ≡ self.old.room }
+        ensures succeeds { 0 < self.old.spare → IsOk result }
+        ensures spare { self.old.spare ≤ self.new.spare + 1 }
     {
         match &mut self.store {
             Store::One(table) => table.insert(key, depth),
@@ -110,9 +113,11 @@ impl Table {
         requires to { to < self.old.room }
         ensures inserted { IfOk result (λ told. EntersNext
             self.old.entries index from to least depth told.0 told.1 self.new.entries) }
-        ensures refused { OnErr result (self.new ≡ self.old) }
+        ensures refused { OnErr result (self.new.entries ≡ self.old.entries) }
         ensures refused_new { OnErr result (LacksNext self.old.entries index from to least) }
         ensures room { self.new.room ≡ self.old.room }
+        ensures succeeds { 0 < self.old.spare → IsOk result }
+        ensures spare { self.old.spare ≤ self.new.spare + 1 }
     {
         match &mut self.store {
             Store::One(table) => table.insert_next(index, from, to, least, depth),
@@ -171,6 +176,7 @@ impl Table {
         requires { index < length self.old.entries }
         ensures lowered { Lowers self.old.entries index depth result self.new.entries }
         ensures room { self.new.room ≡ self.old.room }
+        ensures spare { self.new.spare ≡ self.old.spare }
     {
         match &mut self.store {
             Store::One(table) => table.lower_depth(index, depth),

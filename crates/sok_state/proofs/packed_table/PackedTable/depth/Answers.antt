@@ -1,7 +1,7 @@
 use Rattle.std.proofs.Common.{arith, ap, sym, ◌∙◌, slice_get, Some}
 use Rattle.std.specs.Map.{values_of}
 use Rattle.std.proofs.lemmas.Option.{slice_get-get_or}
-use Rattle.sok_state.specs.Tables.{Entries}
+use Rattle.sok_state.specs.PackedKeys.{Stored}
 use Rattle.sok_state.proofs.PackedTables.{depth-within, values-entries_of}
 use Rattle.sok_state.proofs.packed_table.PackedTable.depth.Goals as goal
 
@@ -15,6 +15,6 @@ returns g c =
     let inside = c.self.inside in
     let within = depth-within inside.keys.keys inside.depths.items _ c.args.index c.self.invariant c.self.view_is c.requires.exists in
     let values = sym (values-entries_of inside.keys.keys inside.depths.items c.self.invariant.a_depth_each) ∙
-    ap (λ (es : Entries). values_of es) c.self.view_is in
+    ap (λ (table : Stored). values_of table.entries) c.self.view_is in
     ap (λ ds. slice_get ds c.args.index) (sym values) ∙ slice_get-get_or inside.depths.items c.args.index c.index.result.now within ∙ ap Some
     (sym c.index.ensures)

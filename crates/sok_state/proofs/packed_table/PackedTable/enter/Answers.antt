@@ -3,8 +3,8 @@ use Rattle.std.specs.Map.{keys_of}
 use Rattle.std.specs.List.{list_any}
 use Rattle.std.proofs.lemmas.Bool.{not-false, not-true}
 use Rattle.sok_state.specs.declared.packed.PackedKey.{PackedKey}
-use Rattle.sok_state.specs.PackedKeys.{ArePacked, entries_of, state_of}
-use Rattle.sok_state.specs.Tables.{Enters, Entries, GoesLast, IsAt, Stays}
+use Rattle.sok_state.specs.PackedKeys.{ArePacked, Stored, entries_of, state_of}
+use Rattle.sok_state.specs.Tables.{Enters, GoesLast, IsAt, Stays}
 use Rattle.sok_state.proofs.PackedTables.{packed_eq, ArePacked-more, GoesLast-packed, Stays-packed, absent-packed, found-packed}
 use Rattle.sok_state.proofs.packed_table.PackedTable.enter.Goals as goal
 
@@ -27,7 +27,7 @@ on_err P (Err e) holds = holds
 
 pub returns-in_default-clause-refused_new : goal.returns-in_default-clause-refused_new
 returns-in_default-clause-refused_new g c =
-    subst (λ (es : Entries). Contains (keys_of es) (state_of c.args.key) → ⊥) c.self.view_is
+    subst (λ (table : Stored). Contains (keys_of table.entries) (state_of c.args.key) → ⊥) c.self.view_is
     (found-packed c.self.inside.keys.keys c.self.inside.depths.items c.self.invariant c.args.key None (record { long = omega arith; fits = c.fit.ensures })
     (sym c.in_default.is ∙ c.get_index_of.ensures.index))
 
@@ -36,13 +36,13 @@ returns-then-is_err-clause-inserted g c =
     let at = found-packed c.self.inside.keys.keys c.self.inside.depths.items c.self.invariant c.args.key (Some c.in-Some.index)
     (record { long = omega arith; fits = c.fit.ensures }) (sym c.in-Some.is ∙ c.get_index_of.ensures.index) in
     record {
-      there = subst (λ (es : Entries). IsAt es (state_of c.args.key) c.in-Some.index) c.self.view_is at;
-      unchanged = ap (entries_of c.self.inside.keys.keys) c.reserve.ensures.items ∙ c.self.view_is;
+      there = subst (λ (table : Stored). IsAt table.entries (state_of c.args.key) c.in-Some.index) c.self.view_is at;
+      unchanged = ap (entries_of c.self.inside.keys.keys) c.reserve.ensures.items ∙ (λ i. (c.self.view_is i).entries);
     }
 
 pub returns-in_err-index-clause-refused_new : goal.returns-in_err-index-clause-refused_new
-returns-in_err-index-clause-refused_new g c = on_err (Contains (keys_of c.args.self.now) (state_of c.args.key) → ⊥) c.from_residual.result
-    (subst (λ (es : Entries). Contains (keys_of es) (state_of c.args.key) → ⊥) c.self.view_is
+returns-in_err-index-clause-refused_new g c = on_err (Contains (keys_of c.args.self.now.entries) (state_of c.args.key) → ⊥) c.from_residual.result
+    (subst (λ (table : Stored). Contains (keys_of table.entries) (state_of c.args.key) → ⊥) c.self.view_is
     (absent-packed c.self.inside.keys.keys c.self.inside.depths.items c.self.invariant c.args.key (record { long = omega arith; fits = c.fit.ensures })
     c.in_err-index.ensures.absent))
 
@@ -60,11 +60,11 @@ returns-then-new-clause-inserted g c =
     (ap (λ (ds : List ℕ). ds ++ depth ∷ []) c.reserve.ensures.items) in
     let last = GoesLast-packed keys depths c.self.invariant key depth index (record { long = omega arith; fits = c.fit.ensures }) none
     c.in_ok-index.ensures.index in
-    let seen : GoesLast c.args.self.now (state_of key) depth index (entries_of c.insert_full.new.self.keys c.push_reserved.new.self.items) =
-    subst (λ ks. GoesLast c.args.self.now (state_of key) depth index (entries_of ks c.push_reserved.new.self.items)) (sym new_keys)
-    (subst (λ ds. GoesLast c.args.self.now (state_of key) depth index (entries_of (keys ++ key ∷ []) ds)) (sym new_depths)
-    (subst (λ (es : Entries). GoesLast es (state_of key) depth index (entries_of (keys ++ key ∷ []) (depths ++ depth ∷ []))) c.self.view_is last)) in
-    subst (λ t. Enters c.args.self.now (state_of key) depth index t (entries_of c.insert_full.new.self.keys c.push_reserved.new.self.items))
+    let seen : GoesLast c.args.self.now.entries (state_of key) depth index (entries_of c.insert_full.new.self.keys c.push_reserved.new.self.items) =
+    subst (λ ks. GoesLast c.args.self.now.entries (state_of key) depth index (entries_of ks c.push_reserved.new.self.items)) (sym new_keys)
+    (subst (λ ds. GoesLast c.args.self.now.entries (state_of key) depth index (entries_of (keys ++ key ∷ []) ds)) (sym new_depths)
+    (subst (λ (table : Stored). GoesLast table.entries (state_of key) depth index (entries_of (keys ++ key ∷ []) (depths ++ depth ∷ []))) c.self.view_is last)) in
+    subst (λ t. Enters c.args.self.now.entries (state_of key) depth index t (entries_of c.insert_full.new.self.keys c.push_reserved.new.self.items))
     (sym c.if-new.true) seen
 
 pub returns-else-new-clause-inserted : goal.returns-else-new-clause-inserted
@@ -78,9 +78,9 @@ returns-else-new-clause-inserted g c =
     let same_keys : c.insert_full.new.self.keys ≡ keys = c.in_ok-index.ensures.keys ∙ ap (λ t. if t then keys else keys ++ key ∷ []) some in
     let (stored, there, equal) = c.in_ok-index.ensures.stored in
     let stays = Stays-packed keys depths c.self.invariant key stored index (ap (λ ks. slice_get ks index) (sym same_keys) ∙ there) equal in
-    let seen : Stays c.args.self.now (state_of key) index (entries_of c.insert_full.new.self.keys c.reserve.new.self.items) =
-    subst (λ ks. Stays c.args.self.now (state_of key) index (entries_of ks c.reserve.new.self.items)) (sym same_keys)
-    (subst (λ ds. Stays c.args.self.now (state_of key) index (entries_of keys ds)) (sym {A = List ℕ} c.reserve.ensures.items)
-    (subst (λ (es : Entries). Stays es (state_of key) index (entries_of keys depths)) c.self.view_is stays)) in
-    subst (λ t. Enters c.args.self.now (state_of key) c.args.depth index t (entries_of c.insert_full.new.self.keys c.reserve.new.self.items))
+    let seen : Stays c.args.self.now.entries (state_of key) index (entries_of c.insert_full.new.self.keys c.reserve.new.self.items) =
+    subst (λ ks. Stays c.args.self.now.entries (state_of key) index (entries_of ks c.reserve.new.self.items)) (sym same_keys)
+    (subst (λ ds. Stays c.args.self.now.entries (state_of key) index (entries_of keys ds)) (sym {A = List ℕ} c.reserve.ensures.items)
+    (subst (λ (table : Stored). Stays table.entries (state_of key) index (entries_of keys depths)) c.self.view_is stays)) in
+    subst (λ t. Enters c.args.self.now.entries (state_of key) c.args.depth index t (entries_of c.insert_full.new.self.keys c.reserve.new.self.items))
     (sym c.if-new.false) seen

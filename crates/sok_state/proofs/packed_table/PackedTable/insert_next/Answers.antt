@@ -1,4 +1,4 @@
-use Rattle.std.proofs.Common.{sym, subst}
+use Rattle.std.proofs.Common.{subst}
 use Rattle.std.proofs.lemmas.Result.{IfOk-weaker, on_err_weaker}
 use Rattle.std.specs.Map.{keys_of}
 use Rattle.std.specs.Prelude.{Contains}
@@ -18,8 +18,8 @@ pub returns-clause-inserted : goal.returns-clause-inserted
 returns-clause-inserted g c = IfOk-weaker c.enter.result _ _ (λ told entered. record {
   enters = λ key next there is.
       let args = c.args in
-      let equal = next-at args.self.now args.index args.from args.to args.least _ key _ next c.packed-packed.ensures (made g c) there is in
-      subst (λ (k : Key). Enters args.self.now k args.depth told.0 told.1 c.enter.new.self) equal entered;
+      let equal = next-at args.self.now.entries args.index args.from args.to args.least _ key _ next c.packed-packed.ensures (made g c) there is in
+      subst (λ (k : Key). Enters args.self.now.entries k args.depth told.0 told.1 c.enter.new.self.entries) equal entered;
 })
     c.enter.ensures.inserted
 
@@ -27,7 +27,7 @@ pub returns-clause-refused_new : goal.returns-clause-refused_new
 returns-clause-refused_new g c = on_err_weaker c.enter.result (λ absent. record {
   absent = λ key next there is.
       let args = c.args in
-      let equal = next-at args.self.now args.index args.from args.to args.least _ key _ next c.packed-packed.ensures (made g c) there is in
-      subst (λ (k : Key). Contains (keys_of args.self.now) k → ⊥) equal absent;
+      let equal = next-at args.self.now.entries args.index args.from args.to args.least _ key _ next c.packed-packed.ensures (made g c) there is in
+      subst (λ (k : Key). Contains (keys_of args.self.now.entries) k → ⊥) equal absent;
 })
     c.enter.ensures.refused_new

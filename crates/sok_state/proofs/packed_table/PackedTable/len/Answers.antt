@@ -1,15 +1,17 @@
 use Rattle.std.proofs.Common.{ap, sym, ◌∙◌, subst, length}
-use Rattle.sok_state.specs.Tables.{Entries, HasDistinctKeys}
+use Rattle.sok_state.specs.PackedKeys.{Stored}
+use Rattle.sok_state.specs.Tables.{HasDistinctKeys}
 use Rattle.sok_state.proofs.PackedTables.{length-entries_of, distinct-states}
 use Rattle.sok_state.proofs.packed_table.PackedTable.len.Goals as goal
 
 pub returns-clause-count : goal.returns-clause-count
 returns-clause-count g c =
     let inside = c.self.inside in
-    c.len.ensures.len ∙ sym (length-entries_of inside.keys.keys inside.depths.items c.self.invariant.a_depth_each) ∙ ap (λ (es : Entries). length es)
+    c.len.ensures.len ∙ sym (length-entries_of inside.keys.keys inside.depths.items c.self.invariant.a_depth_each) ∙ ap (λ (table : Stored). length table.entries)
     c.self.view_is
 
 pub returns-clause-distinct : goal.returns-clause-distinct
 returns-clause-distinct g c =
     let inside = c.self.inside in
-    subst HasDistinctKeys c.self.view_is (distinct-states inside.keys.keys inside.depths.items c.self.invariant c.len.ensures.unique)
+    subst (λ (table : Stored). HasDistinctKeys table.entries) c.self.view_is
+    (distinct-states inside.keys.keys inside.depths.items c.self.invariant c.len.ensures.unique)

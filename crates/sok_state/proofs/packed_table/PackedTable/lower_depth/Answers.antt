@@ -1,7 +1,7 @@
 use Rattle.std.proofs.Common.{true, false, ◌∙◌, subst, arith, slice_set}
 use Rattle.std.proofs.lemmas.List.{get_or_default}
-use Rattle.sok_state.specs.PackedKeys.{entries_of}
-use Rattle.sok_state.specs.Tables.{Entries, Lowers}
+use Rattle.sok_state.specs.PackedKeys.{Stored, entries_of}
+use Rattle.sok_state.specs.Tables.{Lowers}
 use Rattle.sok_state.proofs.PackedTables.{depth-within, Lowers-packed, Lowers-kept}
 use Rattle.sok_state.proofs.packed_table.PackedTable.lower_depth.Goals as goal
 
@@ -15,8 +15,8 @@ index_mut-requires g c =
     let within = depth-within c.self.inside.keys.keys c.self.inside.depths.items _ c.args.index c.self.invariant c.self.view_is c.requires.exists in
     omega (arith, within)
 
-pub returns-then-depth-index : goal.returns-then-depth-index
-returns-then-depth-index g c =
+pub returns-then-depth-index-clause-lowered : goal.returns-then-depth-index-clause-lowered
+returns-then-depth-index-clause-lowered g c =
     let keys = c.self.inside.keys.keys in
     let depths = c.self.inside.depths.items in
     let index = c.args.index in
@@ -24,16 +24,16 @@ returns-then-depth-index g c =
     let within = depth-within keys depths _ index c.self.invariant c.self.view_is c.requires.exists in
     let deep = c.index.ensures ∙ get_or_default depths index c.index.result.now 0 within in
     let below = c.if-depth-index.true in
-    subst (λ (es : Entries). Lowers es index c.args.depth true (entries_of keys (slice_set depths index c.args.depth))) c.self.view_is
+    subst (λ (table : Stored). Lowers table.entries index c.args.depth true (entries_of keys (slice_set depths index c.args.depth))) c.self.view_is
     (Lowers-packed keys depths c.self.invariant index c.args.depth (omega (arith, within, long)) (omega (arith, deep, below)))
 
-pub returns : goal.returns
-returns g c =
+pub returns-clause-lowered : goal.returns-clause-lowered
+returns-clause-lowered g c =
     let keys = c.self.inside.keys.keys in
     let depths = c.self.inside.depths.items in
     let index = c.args.index in
     let within = depth-within keys depths _ index c.self.invariant c.self.view_is c.requires.exists in
     let deep = c.index.ensures ∙ get_or_default depths index c.index.result.now 0 within in
     let above = c.if-depth-index.false in
-    subst (λ (es : Entries). Lowers es index c.args.depth false es) c.self.view_is
+    subst (λ (table : Stored). Lowers table.entries index c.args.depth false table.entries) c.self.view_is
     (Lowers-kept keys depths c.self.invariant index c.args.depth (omega (arith, deep, above)))

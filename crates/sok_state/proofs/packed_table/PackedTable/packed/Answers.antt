@@ -1,7 +1,7 @@
 use Rattle.std.proofs.Common.{◌≡◌, ap, sym, ◌∙◌, subst, arith, length, slice_get, Some}
 use Rattle.std.specs.Option.{option_copied}
-use Rattle.sok_state.specs.PackedKeys.{state_of}
-use Rattle.sok_state.specs.Tables.{Entries, IsAt}
+use Rattle.sok_state.specs.PackedKeys.{Stored, state_of}
+use Rattle.sok_state.specs.Tables.{IsAt}
 use Rattle.sok_state.proofs.PackedTables.{length-entries_of, IsAt-packed}
 use Rattle.sok_state.proofs.packed_table.PackedTable.packed.Goals as goal
 
@@ -9,7 +9,7 @@ pub unwrap-requires : goal.unwrap-requires
 unwrap-requires g c =
     let inside = c.self.inside in
     let all = length-entries_of inside.keys.keys inside.depths.items c.self.invariant.a_depth_each in
-    let seen = ap (λ (es : Entries). length es) c.self.view_is in
+    let seen = ap (λ (table : Stored). length table.entries) c.self.view_is in
     let within = c.requires.exists in
     c.get_index.ensures.found.1 (omega (arith, all, seen, within))
 
@@ -18,5 +18,5 @@ returns g c =
     let inside = c.self.inside in
     let key = c.unwrap.result.now in
     let at : slice_get inside.keys.keys c.args.index ≡ Some key = sym c.get_index.ensures.key ∙ ap option_copied c.unwrap.ensures in
-    subst (λ (es : Entries). IsAt es (state_of key) c.args.index) c.self.view_is
+    subst (λ (table : Stored). IsAt table.entries (state_of key) c.args.index) c.self.view_is
     (IsAt-packed inside.keys.keys inside.depths.items c.self.invariant key c.args.index at)
