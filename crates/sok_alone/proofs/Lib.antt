@@ -1,4 +1,5 @@
 pub mod Adding
+pub mod Chosen
 pub mod Counting
 pub mod Finishing
 pub mod Fitting
@@ -7,4 +8,3 @@ pub mod Growing
 pub mod Knowing
 pub mod Losing
 pub mod Members
-pub mod Pairs

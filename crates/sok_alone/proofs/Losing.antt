@@ -1,5 +1,6 @@
--- What losses show: nothing solves where two boxes are lost alone.
+-- What losses show: nothing solves where some of the boxes are lost alone.
 use Rattle.std.proofs.Common.{ℕ, ◌≡◌, ◌<◌, ◌⊎◌, ◌∙◌, ◌&&◌, ◌==◌, false, true, true≢false, inl, inr, refl, sym, ap, subst, List, [], ◌∷◌, zero, suc, All, Contains, IfSome, Option, None, Some, arith, get_or, length}
+use Rattle.std.specs.List.Sorted.{IsStrictlyIncreasing}
 use Rattle.std.proofs.lemmas.Bool.{cases_Bool}
 use Rattle.std.proofs.lemmas.Bool.Decides.{nat_tests}
 use Rattle.std.proofs.lemmas.List.{get_or_default}
@@ -15,7 +16,7 @@ use Rattle.sok_rules.proofs.Steps.{both, step-walk, walk_step}
 use Rattle.sok_rules.proofs.Walking.{Same-refl, Same-step, Same-sym, Same-trans, quiet_step}
 use lib.Pointwise.{pointwise, pointwise_decides}
 use Rattle.sok_board.specs.Area.{Numbered, IsAccepted, position_of}
-use Rattle.sok_board.specs.BoxSets.{put_in_order}
+use Rattle.sok_board.specs.BoxSets.{IsMoved, put_in_order}
 use Rattle.sok_board.proofs.Moves.{IsMoved-put}
 use Rattle.sok_region.specs.Regions.{IsPlaced}
 use Rattle.sok_state.specs.declared.key.Key.{Key}
@@ -25,8 +26,7 @@ use Rattle.sok_bar.proofs.Memos.{closed-from}
 use Rattle.sok_bar.proofs.Patterns.{thinner-among}
 use Rattle.sok_bar.proofs.ReasonLaws.{NeverFrom-alone}
 use Rattle.sok_alone.specs.declared.losses.Loss.{Loss}
-use Rattle.sok_alone.specs.Losses.{AreInOrder, HasKeyAt, IsLoss, IsLostBy, KeepsPlaces}
-use Rattle.sok_alone.proofs.Pairs.{rising-pair}
+use Rattle.sok_alone.specs.Losses.{ArePushed, HasKeyAt, IsLoss, IsLostBy, KeepsPlaces}
 
 -- ---- losses
 
@@ -56,6 +56,17 @@ pub lost-found : (b : Numbered) (player : ℕ) (boxes : List ℕ) (key : Key) �
 lost-found b player boxes key is boxes_are losses each None told = told
 lost-found b player boxes key is boxes_are losses each (Some place) at = lost-at b player boxes key is boxes_are losses each place at
 
+-- some of the boxes make a position with the player
+pub placed-among : (b : Numbered) (player : ℕ) (some boxes : List ℕ) → IsStrictlyIncreasing some → ((square : ℕ) → Contains some square → Contains boxes square)
+    → IsPlaced b boxes player → IsPlaced b some player
+placed-among b player some boxes rising among placed = record {
+  rising = rising;
+  boxes_exist = λ k d within. All-contains (λ square. square < length b.area) boxes (get_or some k d) placed.boxes_exist
+      (among (get_or some k d) (k, within, get_or_default some k (get_or some k d) d within));
+  player_exists = placed.player_exists;
+  free = λ there. placed.free (among player there);
+}
+
 module _ (b : Numbered) (player : ℕ) (boxes : List ℕ) (losses : List Loss) (place : ℕ) (lost : IsLostBy b player boxes losses place) where
   -- where there are more boxes
   lost-more : (more : List ℕ) → ((square : ℕ) → Contains boxes square → Contains more square) → IsLostBy b player more losses place
@@ -81,24 +92,12 @@ module _ (b : Numbered) (player : ℕ) (boxes : List ℕ) (losses : List Loss) (
     fit = lost.fit;
   }
 
-  -- the boxes that are lost make a position with the player
-  placed-lost : IsPlaced b boxes player → IsPlaced b lost.loss.key.boxes player
-  placed-lost placed =
-      let squares = lost.loss.key.boxes in
-      record {
-        rising = lost.rising;
-        boxes_exist = λ k d within. All-contains (λ square. square < length b.area) boxes (get_or squares k d) placed.boxes_exist
-            (lost.among (get_or squares k d) (k, within, get_or_default squares k (get_or squares k d) d within));
-        player_exists = placed.player_exists;
-        free = λ there. placed.free (lost.among player there);
-      }
-
   -- nothing solves
   pub lost-never : IsAccepted b → IsPlaced b boxes player → NeverFrom b.rows (position_of b player boxes)
   lost-never accepted placed =
       let squares = lost.loss.key.boxes in
       NeverFrom-thinner b.rows (position_of b player squares) (position_of b player boxes) (thinner-among b player squares boxes lost.among)
-      (NeverFrom-alone b accepted player squares lost.loss.inner (placed-lost placed) lost.closed)
+      (NeverFrom-alone b accepted player squares lost.loss.inner (placed-among b player squares boxes lost.rising lost.among placed) lost.closed)
 
 -- ---- walks
 
@@ -139,62 +138,37 @@ lost-walked b accepted player other boxes losses place placed same lost =
       fit = lost.fit;
     }
 
--- ---- two boxes
+-- ---- some of the boxes
 
-both-among : (x y : ℕ) (boxes : List ℕ) → Contains boxes x → Contains boxes y → (n : ℕ) → Contains (x ∷ y ∷ []) n → Contains boxes n
-both-among x y boxes one two n (zero, within, is) = subst (Contains boxes) is one
-both-among x y boxes one two n (suc zero, within, is) = subst (Contains boxes) is two
-both-among x y boxes one two n (suc (suc k), within, is) = absurd (omega (arith, within))
+-- what is lost of some of the boxes is lost of them all
+pub lost-among : (b : Numbered) (player : ℕ) (some boxes : List ℕ) → ((square : ℕ) → Contains some square → Contains boxes square) → (losses : List Loss)
+    → (found : Option ℕ) → IfSome found (IsLostBy b player some losses) → IfSome found (IsLostBy b player boxes losses)
+lost-among b player some boxes among losses None told = told
+lost-among b player some boxes among losses (Some place) lost = lost-more b player some losses place lost boxes among
 
-one-of-both : (x y n : ℕ) → Contains (x ∷ y ∷ []) n → (n ≡ x) ⊎ (n ≡ y)
-one-of-both x y n (zero, within, is) = inl (sym is)
-one-of-both x y n (suc zero, within, is) = inr (sym is)
-one-of-both x y n (suc (suc k), within, is) = absurd (omega (arith, within))
+-- some of the boxes after a push of one of them
+module _ (from to : ℕ) (boxes some after : List ℕ) (among : (square : ℕ) → Contains some square → Contains boxes square) (moved : IsMoved some from to after) where
+  pub among-pushed : (square : ℕ) → Contains after square → Contains (put_in_order from to boxes) square
+  among-pushed square there = (IsMoved-put from to boxes square).1 (elim ((moved square).0 there) [
+    | inl is ↦ inl is
+    | inr (before, stays) ↦ inr (among square before, stays)
+  ])
 
-placed-both : (b : Numbered) (x y player : ℕ) → x < y → x < length b.area → y < length b.area → player < length b.area → (player ≡ x → ⊥) → (player ≡ y → ⊥)
-    → IsPlaced b (x ∷ y ∷ []) player
-placed-both b x y player less x_in y_in player_in off_x off_y = record {
-  rising = rising-pair x y less;
-  boxes_exist = All-cons (λ n. n < length b.area) x (y ∷ []) x_in (All-cons (λ n. n < length b.area) y [] y_in (All-nil (λ n. n < length b.area)));
-  player_exists = player_in;
-  free = λ among. elim (one-of-both x y player among) [
-    | inl is ↦ off_x is
-    | inr is ↦ off_y is
-  ];
-}
-
--- they make a position with the player
-pub placed-pair : (b : Numbered) (x y player : ℕ) (pair : List ℕ) → AreInOrder x y pair → x < length b.area → y < length b.area → player < length b.area
-    → (player ≡ x → ⊥) → (player ≡ y → ⊥) → IsPlaced b pair player
-placed-pair b x y player pair (inl (less, is)) x_in y_in player_in off_x off_y =
-    subst (λ squares. IsPlaced b squares player) (sym is) (placed-both b x y player less x_in y_in player_in off_x off_y)
-placed-pair b x y player pair (inr (less, is)) x_in y_in player_in off_x off_y =
-    subst (λ squares. IsPlaced b squares player) (sym is) (placed-both b y x player less y_in x_in player_in off_y off_x)
-
-pair-among : (x y : ℕ) (pair boxes : List ℕ) → AreInOrder x y pair → Contains boxes x → Contains boxes y → (n : ℕ) → Contains pair n → Contains boxes n
-pair-among x y pair boxes (inl (less, is)) one two n there = both-among x y boxes one two n (subst (λ squares. Contains squares n) is there)
-pair-among x y pair boxes (inr (less, is)) one two n there = both-among y x boxes two one n (subst (λ squares. Contains squares n) is there)
-
--- the loss of two boxes, wherever they are among others
-pub lost-among : (b : Numbered) (x y player : ℕ) (pair : List ℕ) → AreInOrder x y pair → (losses : List Loss) (found : Option ℕ)
-    → IfSome found (IsLostBy b player pair losses)
-    → IfSome found (λ place. (boxes : List ℕ) → Contains boxes x → Contains boxes y → IsLostBy b player boxes losses place)
-lost-among b x y player pair order losses None told = told
-lost-among b x y player pair order losses (Some place) lost =
-    λ boxes one two. lost-more b player pair losses place lost boxes (pair-among x y pair boxes order one two)
-
-pub lost-of : (b : Numbered) (x y player : ℕ) (losses : List Loss) (found : Option ℕ)
-    → IfSome found (λ place. (boxes : List ℕ) → Contains boxes x → Contains boxes y → IsLostBy b player boxes losses place) → (boxes : List ℕ)
-    → Contains boxes x → Contains boxes y → IfSome found (IsLostBy b player boxes losses)
-lost-of b x y player losses None told boxes one two = told
-lost-of b x y player losses (Some place) lost boxes one two = lost boxes one two
-
--- both are boxes after a push of the first
-pub both-after : (from to other : ℕ) (boxes : List ℕ) → Contains boxes other → (other ≡ from → ⊥)
-    → Contains (put_in_order from to boxes) to × Contains (put_in_order from to boxes) other
-both-after from to other boxes there apart =
-    let moves = IsMoved-put from to boxes in
-    ((moves to).1 (inl refl), (moves other).1 (inr (there, apart)))
+  pub placed-pushed : (b : Numbered) → ArePushed b boxes from to → IsStrictlyIncreasing after → IsPlaced b after from
+  placed-pushed b pushed rising =
+      let exist : (square : ℕ) → Contains after square → square < length b.area = λ square there. elim ((moved square).0 there) [
+        | inl is ↦ subst (λ s. s < length b.area) (sym is) pushed.within
+        | inr (before, stays) ↦ All-contains (λ s. s < length b.area) boxes square pushed.exist (among square before)
+      ] in
+      record {
+        rising = rising;
+        boxes_exist = λ k d within. exist (get_or after k d) (k, within, get_or_default after k (get_or after k d) d within);
+        player_exists = All-contains (λ s. s < length b.area) boxes from pushed.exist pushed.there;
+        free = λ there. elim ((moved from).0 there) [
+          | inl is ↦ pushed.free (subst (Contains boxes) is pushed.there)
+          | inr (before, stays) ↦ stays refl
+        ];
+      }
 
 -- the test by which keys are compared
 pub same-key : (a b : Key) → ((a.least == b.least) && pointwise ◌==◌ a.boxes b.boxes) ≡ true → a ≡ b

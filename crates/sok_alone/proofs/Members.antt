@@ -40,6 +40,12 @@ members-at boxes squares members rising in_order as_many within are = record {
   squares_are = are;
 }
 
+-- by equal lists
+pub members-as : (boxes list squares others members : List ℕ) → list ≡ boxes → squares ≡ others → AreMembersAt list squares members
+    → AreMembersAt boxes others members
+members-as boxes list squares others members list_is squares_are at =
+    subst (λ (s : List ℕ). AreMembersAt boxes s members) squares_are (subst (λ (bs : List ℕ). AreMembersAt bs squares members) list_is at)
+
 -- what is closed of them alone is a pattern
 pub pattern-of : (b : Numbered) (player : ℕ) (boxes squares members : List ℕ) (inner : List Inner) → AreMembersAt boxes squares members
     → AreClosedAlone b player squares inner → IsPattern b player boxes members inner

@@ -1,5 +1,5 @@
--- Pairs of boxes that are found to be never solved, kept for a whole search.
-use Rattle.std.specs.Prelude.{ℕ, ◌≡◌, ◌<◌, ◌≤◌, ◌⊎◌, List, [], ◌∷◌, Some, All, Contains, length, slice_get}
+-- Boxes that are found to be never solved, taken alone: kept for a whole search.
+use Rattle.std.specs.Prelude.{ℕ, ◌≡◌, ◌<◌, ◌≤◌, ◌↔◌, List, Some, All, Contains, length, slice_get}
 use Rattle.std.specs.List.Sorted.{IsStrictlyIncreasing}
 use Rattle.sok_board.specs.Area.{Numbered}
 use Rattle.sok_entry.specs.Text.{FitsInner}
@@ -49,9 +49,10 @@ KeepsPlaces old new = (place : ℕ) (loss : Loss) → slice_get old place ≡ So
 abbrev pub losses_of : Losses → List Loss
 losses_of kept = kept.losses.items
 
--- two squares as a rising list
-abbrev pub AreInOrder : ℕ → ℕ → List ℕ → Type 0
-AreInOrder one other pair = ((one < other) × (pair ≡ one ∷ other ∷ [])) ⊎ ((other < one) × (pair ≡ other ∷ one ∷ []))
+-- those of some boxes that stand on some squares, rising
+pub record AreChosen (boxes squares chosen : List ℕ) : Type 0 where
+  pub rising : IsStrictlyIncreasing chosen
+  pub exact : (n : ℕ) → Contains chosen n ↔ (Contains boxes n × Contains squares n)
 
 -- a box that stands on one square can be pushed to another, which is free
 pub record ArePushed (b : Numbered) (boxes : List ℕ) (from to : ℕ) : Type 0 where

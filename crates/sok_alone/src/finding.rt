@@ -6,7 +6,7 @@ ghost use Rattle.sok_board.specs.Area.{position_of};
 ghost use Rattle.sok_board.specs.Limits.{box_limit};
 ghost use Rattle.sok_entry.specs.Text.{FitsInner};
 ghost use Rattle.sok_bar.specs.Patterns.{IsPattern};
-ghost use Rattle.sok_alone.specs.Finding.{AreMembersAt, ArePlaces};
+ghost use Rattle.sok_alone.specs.Finding.{AreMembersAt};
 ghost use Rattle.sok_alone.specs.GivenUp.{IsGivenUp};
 
 use crate::closing::close_alone;
@@ -44,20 +44,18 @@ pub fn find_pattern(
     ensures holds { IfOk result (λ found. IfSome found
         (λ pattern. IsPattern board.now player boxes.now pattern.members pattern.inner)) }
     ensures members { IfOk result (λ found. IfSome found
-        (λ pattern. ArePlaces boxes.now first second pattern.members)) }
+        (λ pattern. AreMembersAt boxes.now (first ∷ second ∷ []) pattern.members)) }
     ensures few { IfOk result (λ found. IfSome found
         (λ pattern. length pattern.inner ≤ limit)) }
     ensures fit { IfOk result (λ found. IfSome found (λ pattern. All FitsInner pattern.inner)) }
     ensures none { IfOk result (λ found. IfNone found (IsGivenUp board.now.rows
         (position_of board.now player (first ∷ second ∷ [])) limit)) }
 {
-    let first_place = place_of(boxes.list(), first);
-    let second_place = place_of(boxes.list(), second);
     let pair = BoxSet::of(alloc, &[first, second])?;
     let Some(inner) = close_alone(alloc, board, tables, &pair, player, limit)? else {
         return Ok(None);
     };
-    let members = Numbers::copied(alloc, &[first_place, second_place])?;
+    let members = members_of(alloc, boxes.list(), pair.list())?;
     Ok(Some(FoundPattern { members, inner }))
 }
 

@@ -1,4 +1,4 @@
-//! Pairs of boxes that are never solved, taken alone.
+//! Two or three boxes that are never solved, taken alone.
 
 ghost use Rattle.std.specs.Prelude.{◌≡◌, OnOk};
 ghost use Rattle.sok_alone.specs.Losses.{KeepsLosses};
@@ -10,7 +10,7 @@ use sok_board::area::Sq;
 use sok_board::board::Board;
 use sok_push::tables::Tables;
 use sok_rules::cell::Dir;
-use sok_sketch::sketch::PAIR_THAT_IS_LOST;
+use sok_sketch::sketch::{PAIR_THAT_IS_LOST, THREE_THAT_ARE_LOST};
 use std::alloc::Global;
 use std::process::Abort;
 use std::test::Fail;
@@ -69,10 +69,10 @@ fn two_boxes_alone(rt: HostRuntime) -> Result<(), Fail> {
 }
 
 /// Boxes, one of them, a direction in which it is pushed, the square to which it comes, and whether
-/// it and another box are never solved from there, were they alone.
+/// it and another box, or two that stand close, are never solved from there, were they alone.
 type PushCase = ([Sq; 3], Sq, Dir, Sq, bool);
 
-const PUSHES: [PushCase; 6] = [
+const PUSHES_OF_TWO: [PushCase; 6] = [
     // two boxes that follow one another into the corridor
     ([7, 9, 12], 9, Dir::Right, 10, true),
     ([7, 10, 12], 10, Dir::Right, 11, true),
@@ -84,13 +84,23 @@ const PUSHES: [PushCase; 6] = [
     ([7, 9, 12], 7, Dir::Left, 6, false),
 ];
 
-/// Whether nothing solves after a push, by the box that is pushed and one other.
+const PUSHES_OF_THREE: [PushCase; 4] = [
+    ([6, 14, 15], 6, Dir::Left, 5, true),
+    // the goal below is free, or can be left
+    ([6, 15, 16], 6, Dir::Left, 5, false),
+    ([6, 14, 16], 6, Dir::Left, 5, false),
+    // the box comes down onto another goal
+    ([6, 14, 15], 6, Dir::Right, 7, false),
+];
+
+/// Whether nothing solves after a push, by the box that is pushed and one or two others.
 fn is_lost(
     rt: &impl Abort,
     alloc: Global,
     board: &Board,
     tables: &Tables,
     losses: &mut Losses,
+    player: Sq,
     case: &PushCase,
 ) -> Result<bool, Fail>
     requires tables { tables.now.board ≡ board.now }
@@ -98,7 +108,7 @@ fn is_lost(
     ensures { OnOk result (KeepsLosses board.now losses.new) }
 {
     let (squares, from, dir, to, _lost) = case;
-    let boxes = placed(rt, alloc, board, squares, 15)?;
+    let boxes = placed(rt, alloc, board, squares, player)?;
     assert!(rt; boxes.has(*from) && !boxes.has(*to));
     assert!(rt; (*to as usize) < board.squares());
     let place = losses.loss_after(alloc, board, tables, 1_000, &boxes, *from, *dir, *to)?;
@@ -112,13 +122,15 @@ fn ask_twice(
     board: &Board,
     tables: &Tables,
     losses: &mut Losses,
+    player: Sq,
+    cases: &[PushCase],
 ) -> Result<(), Fail>
     requires tables { tables.now.board ≡ board.now }
     requires losses { KeepsLosses board.now losses.old }
 {
     for _round in 0..2 {
-        for case in &PUSHES {
-            let lost = is_lost(rt, alloc, board, tables, losses, case)?;
+        for case in cases {
+            let lost = is_lost(rt, alloc, board, tables, losses, player, case)?;
             assert_eq!(rt; lost, case.4, "{} to {}", case.1, case.3);
         }
     }
@@ -131,5 +143,22 @@ fn a_pair_is_lost_however_often_it_is_asked(rt: HostRuntime) -> Result<(), Fail>
     let board = board(alloc, PAIR_THAT_IS_LOST)?;
     let tables = tables(alloc, &board)?;
     let mut losses = Losses::new(alloc, &board)?;
-    ask_twice(&rt, alloc, &board, &tables, &mut losses)
+    ask_twice(&rt, alloc, &board, &tables, &mut losses, 15, &PUSHES_OF_TWO)
+}
+
+#[test]
+fn three_boxes_are_lost_though_no_two_are(rt: HostRuntime) -> Result<(), Fail> {
+    let alloc = rt.alloc();
+    let board = board(alloc, THREE_THAT_ARE_LOST)?;
+    let tables = tables(alloc, &board)?;
+    let mut losses = Losses::new(alloc, &board)?;
+    ask_twice(
+        &rt,
+        alloc,
+        &board,
+        &tables,
+        &mut losses,
+        12,
+        &PUSHES_OF_THREE,
+    )
 }

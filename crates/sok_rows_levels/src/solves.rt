@@ -209,6 +209,18 @@ fn limits(rt: HostRuntime) -> Result<(), Fail> {
     Ok(())
 }
 
+/// Whether an entry has a pattern of so many boxes as its reason.
+fn has_pattern_of(entries: &[Entry], count: usize) -> bool {
+    for entry in entries {
+        if let Reason::Pattern { members, .. } = &entry.reason {
+            if members.as_slice().len() == count {
+                return true;
+            }
+        }
+    }
+    false
+}
+
 /// A start that two of its boxes lose is one entry, a pattern of these two.
 #[test]
 fn a_lost_pair_is_one_entry(rt: HostRuntime) -> Result<(), Fail> {
@@ -216,17 +228,20 @@ fn a_lost_pair_is_one_entry(rt: HostRuntime) -> Result<(), Fail> {
     let Outcome::Unsolvable { cert } = solve(rt.alloc(), &level, 1)? else {
         panic!(rt; "a lost pair is unsolvable");
     };
-    let Some(
-        Entry {
-            reason: Reason::Pattern { members, .. },
-            ..
-        },
-    ) = cert.entries.first()
-    else {
-        panic!(rt; "its reason is a pattern");
-    };
-    assert_eq!(rt; members.as_slice().len(), 2);
+    assert!(rt; has_pattern_of(&cert.entries, 2));
     assert_eq!(rt; cert.entries.len(), 1);
+    Ok(())
+}
+
+/// A push that loses three boxes, though no two of them, leads to a pattern of these three.
+#[test]
+fn three_lost_boxes_are_a_pattern(rt: HostRuntime) -> Result<(), Fail> {
+    let level = sketch::level(rt.alloc(), sketch::THREE_THAT_ARE_LOST)?;
+    let Outcome::Solved { pushes, cert, .. } = solve(rt.alloc(), &level, 100)? else {
+        panic!(rt; "the box comes to the third goal");
+    };
+    assert_eq!(rt; pushes, 3);
+    assert!(rt; has_pattern_of(&cert.entries, 3));
     Ok(())
 }
 

@@ -95,8 +95,8 @@ fn ask(
 }
 
 /// Follows a push from a state that was taken: the next state is added, comes nearer, or stays. Or
-/// the push is left out, since its box reaches no goal from there, or it and another box are never
-/// solved, were they alone on the board.
+/// the push is left out, since its box reaches no goal from there, or it and one or two others are
+/// never solved, were they alone on the board.
 pub(crate) fn reach(
     alloc: Global,
     board: &Board,

@@ -11,7 +11,7 @@ use sok_alone::losses::Losses;
 use sok_rules::fault::Memory;
 use sok_state::table::Table;
 
-/// What is known of pairs of boxes, the known states with a note of each, the indices of those that
+/// What is known of boxes taken alone, the known states with a note of each, the indices of those that
 /// wait, and the least depth at which a solved state was taken.
 #[derive(Drop)]
 pub(crate) struct Search {

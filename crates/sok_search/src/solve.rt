@@ -51,9 +51,9 @@ pub fn solve(alloc: Global, level: &Level, limit: u32) -> Result<Outcome, SolveF
 }
 
 /// What `solve` answers, without a certificate, which takes time and most of the memory. States in
-/// which a box was pushed to where it reaches no goal, or where it and another box are never solved,
-/// were they alone on the board, are not kept. So there may be an answer where `solve` tells that
-/// there are more states than the limit.
+/// which a box was pushed to where it reaches no goal, or where it and one or two others are never
+/// solved, were they alone on the board, are not kept. So there may be an answer where `solve` tells
+/// that there are more states than the limit.
 pub fn find(alloc: Global, level: &Level, limit: u32) -> Result<Found, SolveFault>
     ensures found { IfOk result (IsFound level.now limit) }
     ensures bad_limit { (result ≡ Err fault.BadLimit) ↔ IsBadLimit limit }

@@ -76,6 +76,17 @@ pub const PAIR_THAT_IS_LOST: &str = "\
 #######
 ";
 
+/// The box on square 6 is pushed to the left, and comes down onto the goal 14 alone: so with boxes on
+/// 14 and 15 the three are lost, though no two of them are. The goals are 14, 15 and 16.
+pub const THREE_THAT_ARE_LOST: &str = "\
+#######
+#     #
+## $@##
+#     #
+# **. #
+#######
+";
+
 /// Both boxes lie at the upper wall, where one goal alone is.
 pub const TWO_BOXES_FOR_ONE_GOAL: &str = "\
 #######

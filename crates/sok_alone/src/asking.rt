@@ -1,0 +1,283 @@
+//! Which boxes of a position are asked for a loss, and when.
+
+ghost use Rattle.std.specs.Prelude.{◌≡◌, ◌<◌, Contains, IfOk, IfSome, OnOk, length};
+ghost use Rattle.sok_board.specs.BoxSets.{put_in_order};
+ghost use Rattle.sok_region.specs.Regions.{IsPlaced};
+ghost use Rattle.sok_alone.specs.Losses.{ArePushed, IsLostBy, KeepsLosses, KeepsPlaces, losses_of};
+
+use crate::choosing::chosen;
+use crate::hints::hint_of;
+use crate::losses::Losses;
+use sok_board::area::Sq;
+use sok_board::board::Board;
+use sok_board::box_set::BoxSet;
+use sok_push::tables::Tables;
+use sok_rules::cell::Dir;
+use sok_rules::fault::Memory;
+use std::alloc::Global;
+
+/// How far apart three boxes stand at most that are asked, in rows and in columns.
+const REACH: u32 = 2;
+
+impl Losses {
+    /// The place of a loss that shows that nothing solves after a push of one of the boxes: that box
+    /// and another one, or two that stand close, are never solved from there, were they alone on the
+    /// board. What was found of them is kept. Those that were not asked yet are searched if that is
+    /// worth it where so many states are known. None promises nothing. It refuses only for want of
+    /// memory.
+    pub fn loss_after(
+        &mut self,
+        alloc: Global,
+        board: &Board,
+        tables: &Tables,
+        known: usize,
+        boxes: &BoxSet,
+        from: Sq,
+        dir: Dir,
+        to: Sq,
+    ) -> Result<Option<u32>, Memory>
+        requires tables { tables.now.board ≡ board.now }
+        requires pushed { ArePushed board.now boxes.now from to }
+        requires losses { KeepsLosses board.now self.old }
+        ensures losses { OnOk result (KeepsLosses board.now self.new) }
+        ensures kept { OnOk result (KeepsPlaces (losses_of self.old) (losses_of self.new)) }
+        ensures lost { IfOk result (λ found. IfSome found (IsLostBy board.now from
+            (put_in_order from to boxes.now) (losses_of self.new))) }
+    {
+        let found = self.loss_of_two(alloc, board, tables, known, boxes, from, dir, to)?;
+        if found.is_some() {
+            return Ok(found);
+        }
+        self.loss_of_three(alloc, board, tables, known, boxes, from, dir, to)
+    }
+
+    /// The place of a loss of the pushed box and another one.
+    fn loss_of_two(
+        &mut self,
+        alloc: Global,
+        board: &Board,
+        tables: &Tables,
+        known: usize,
+        boxes: &BoxSet,
+        from: Sq,
+        dir: Dir,
+        to: Sq,
+    ) -> Result<Option<u32>, Memory>
+        requires tables { tables.now.board ≡ board.now }
+        requires pushed { ArePushed board.now boxes.now from to }
+        requires losses { KeepsLosses board.now self.old }
+        ensures losses { OnOk result (KeepsLosses board.now self.new) }
+        ensures kept { OnOk result (KeepsPlaces (losses_of self.old) (losses_of self.new)) }
+        ensures lost { IfOk result (λ found. IfSome found (IsLostBy board.now from
+            (put_in_order from to boxes.now) (losses_of self.new))) }
+    {
+        for one in boxes.list() {
+            if *one == from {
+                continue;
+            }
+            let found = self.ask(
+                alloc, board, tables, known, boxes, from, dir, to, *one, None,
+            )?;
+            if found.is_some() {
+                return Ok(found);
+            }
+        }
+        Ok(None)
+    }
+
+    /// The place of a loss of the pushed box and two others, where the three stand close.
+    fn loss_of_three(
+        &mut self,
+        alloc: Global,
+        board: &Board,
+        tables: &Tables,
+        known: usize,
+        boxes: &BoxSet,
+        from: Sq,
+        dir: Dir,
+        to: Sq,
+    ) -> Result<Option<u32>, Memory>
+        requires tables { tables.now.board ≡ board.now }
+        requires pushed { ArePushed board.now boxes.now from to }
+        requires losses { KeepsLosses board.now self.old }
+        ensures losses { OnOk result (KeepsLosses board.now self.new) }
+        ensures kept { OnOk result (KeepsPlaces (losses_of self.old) (losses_of self.new)) }
+        ensures lost { IfOk result (λ found. IfSome found (IsLostBy board.now from
+            (put_in_order from to boxes.now) (losses_of self.new))) }
+    {
+        for one in boxes.list() {
+            if *one == from || !are_close(board, to, *one) {
+                continue;
+            }
+            let found = self.loss_beside(alloc, board, tables, known, boxes, from, dir, to, *one)?;
+            if found.is_some() {
+                return Ok(found);
+            }
+        }
+        Ok(None)
+    }
+
+    /// The place of a loss of the pushed box, one that stands close to it, and one behind that.
+    fn loss_beside(
+        &mut self,
+        alloc: Global,
+        board: &Board,
+        tables: &Tables,
+        known: usize,
+        boxes: &BoxSet,
+        from: Sq,
+        dir: Dir,
+        to: Sq,
+        one: Sq,
+    ) -> Result<Option<u32>, Memory>
+        requires tables { tables.now.board ≡ board.now }
+        requires pushed { ArePushed board.now boxes.now from to }
+        requires among { Contains boxes.now one }
+        requires losses { KeepsLosses board.now self.old }
+        ensures losses { OnOk result (KeepsLosses board.now self.new) }
+        ensures kept { OnOk result (KeepsPlaces (losses_of self.old) (losses_of self.new)) }
+        ensures lost { IfOk result (λ found. IfSome found (IsLostBy board.now from
+            (put_in_order from to boxes.now) (losses_of self.new))) }
+    {
+        for two in boxes.list() {
+            if *two <= one || *two == from || !are_close(board, to, *two) {
+                continue;
+            }
+            if !are_close(board, one, *two) {
+                continue;
+            }
+            let two = Some(*two);
+            let found = self.ask(alloc, board, tables, known, boxes, from, dir, to, one, two)?;
+            if found.is_some() {
+                return Ok(found);
+            }
+        }
+        Ok(None)
+    }
+
+    /// The place of a loss of the pushed box and one other, or two, unless none is known by a hint.
+    fn ask(
+        &mut self,
+        alloc: Global,
+        board: &Board,
+        tables: &Tables,
+        known: usize,
+        boxes: &BoxSet,
+        from: Sq,
+        dir: Dir,
+        to: Sq,
+        one: Sq,
+        two: Option<Sq>,
+    ) -> Result<Option<u32>, Memory>
+        requires tables { tables.now.board ≡ board.now }
+        requires pushed { ArePushed board.now boxes.now from to }
+        requires losses { KeepsLosses board.now self.old }
+        ensures losses { OnOk result (KeepsLosses board.now self.new) }
+        ensures kept { OnOk result (KeepsPlaces (losses_of self.old) (losses_of self.new)) }
+        ensures lost { IfOk result (λ found. IfSome found (IsLostBy board.now from
+            (put_in_order from to boxes.now) (losses_of self.new))) }
+    {
+        let hint = hint_of(board, dir, to, one, two);
+        if self.has_hint(hint) || !self.is_worth_it(known) {
+            return Ok(None);
+        }
+        let squares = [from, one, two.unwrap_or(one)];
+        let found = self.loss_pushed(alloc, board, tables, boxes, from, to, &squares)?;
+        if found.is_none() {
+            self.note_hint(hint);
+        }
+        Ok(found)
+    }
+
+    /// The place of a loss after a push, of those of the boxes that stand on some squares before it.
+    fn loss_pushed(
+        &mut self,
+        alloc: Global,
+        board: &Board,
+        tables: &Tables,
+        boxes: &BoxSet,
+        from: Sq,
+        to: Sq,
+        squares: &[Sq],
+    ) -> Result<Option<u32>, Memory>
+        requires tables { tables.now.board ≡ board.now }
+        requires pushed { ArePushed board.now boxes.now from to }
+        requires among { Contains squares.now from }
+        requires losses { KeepsLosses board.now self.old }
+        ensures losses { OnOk result (KeepsLosses board.now self.new) }
+        ensures kept { OnOk result (KeepsPlaces (losses_of self.old) (losses_of self.new)) }
+        ensures lost { IfOk result (λ found. IfSome found (IsLostBy board.now from
+            (put_in_order from to boxes.now) (losses_of self.new))) }
+    {
+        let before = chosen(alloc, boxes, squares)?;
+        let after = before.moved(alloc, from, to)?;
+        self.recall(alloc, board, tables, &after, from)
+    }
+
+    /// The place of a loss of two of the boxes, which are never solved from where the player stands,
+    /// were they alone on the board. None promises nothing. It refuses only for want of memory.
+    pub fn loss_among(
+        &mut self,
+        alloc: Global,
+        board: &Board,
+        tables: &Tables,
+        boxes: &BoxSet,
+        player: Sq,
+    ) -> Result<Option<u32>, Memory>
+        requires tables { tables.now.board ≡ board.now }
+        requires placed { IsPlaced board.now boxes.now player }
+        requires losses { KeepsLosses board.now self.old }
+        ensures losses { OnOk result (KeepsLosses board.now self.new) }
+        ensures kept { OnOk result (KeepsPlaces (losses_of self.old) (losses_of self.new)) }
+        ensures lost { IfOk result (λ found. IfSome found
+            (IsLostBy board.now player boxes.now (losses_of self.new))) }
+    {
+        for one in boxes.list() {
+            let found = self.loss_with(alloc, board, tables, boxes, player, *one)?;
+            if found.is_some() {
+                return Ok(found);
+            }
+        }
+        Ok(None)
+    }
+
+    /// The place of a loss of one of the boxes and one behind it.
+    fn loss_with(
+        &mut self,
+        alloc: Global,
+        board: &Board,
+        tables: &Tables,
+        boxes: &BoxSet,
+        player: Sq,
+        one: Sq,
+    ) -> Result<Option<u32>, Memory>
+        requires tables { tables.now.board ≡ board.now }
+        requires placed { IsPlaced board.now boxes.now player }
+        requires losses { KeepsLosses board.now self.old }
+        ensures losses { OnOk result (KeepsLosses board.now self.new) }
+        ensures kept { OnOk result (KeepsPlaces (losses_of self.old) (losses_of self.new)) }
+        ensures lost { IfOk result (λ found. IfSome found
+            (IsLostBy board.now player boxes.now (losses_of self.new))) }
+    {
+        for other in boxes.list() {
+            if *other <= one {
+                continue;
+            }
+            let pair = chosen(alloc, boxes, &[one, *other])?;
+            let found = self.recall(alloc, board, tables, &pair, player)?;
+            if found.is_some() {
+                return Ok(found);
+            }
+        }
+        Ok(None)
+    }
+}
+
+/// Whether two boxes stand close to each other.
+fn are_close(board: &Board, one: Sq, other: Sq) -> bool
+    requires one { one < length board.now.area }
+    requires other { other < length board.now.area }
+{
+    let (one, other) = (board.spot(one), board.spot(other));
+    one.row.abs_diff(other.row) <= REACH && one.col.abs_diff(other.col) <= REACH
+}
