@@ -11,18 +11,21 @@ use Rattle.sok_board.specs.Area.{Numbered, IsAccepted, position_of}
 use Rattle.sok_board.specs.Limits.{box_limit}
 use Rattle.sok_region.specs.Regions.{IsPlaced}
 use Rattle.sok_state.specs.declared.key.Key.{Key}
-use Rattle.sok_state.specs.Keys.{IsKeyOf}
+use Rattle.sok_state.specs.Keys.{IsKeyOf, key_position}
 use Rattle.sok_state.specs.Tables.{Tabled}
 use Rattle.sok_state.proofs.Placed.{IsStanding-placed}
 use Rattle.sok_closed.specs.Lookup.{AreFollowed}
 use Rattle.sok_closed.specs.Rolls.{IsClosed}
 use Rattle.sok_closed.proofs.Fine.{IsLooking-fine, missed-closed}
 use Rattle.sok_closed.proofs.Starting.{one-starts}
+use Rattle.sok_entry.specs.Text.{FitsInner}
 use Rattle.sok_entry.specs.declared.entry.Inner.{Inner}
 use Rattle.sok_bar.specs.Patterns.{AreClosedAlone, IsBarredAlone, inner_node, is_expanded}
 use Rattle.sok_alone.specs.declared.known.Known.{Known}
-use Rattle.sok_alone.specs.Known.{roll_of}
-use Rattle.sok_alone.specs.Meeting.{IsFinished}
+use Rattle.sok_alone.specs.declared.meeting.Met.{Met}
+use Rattle.sok_alone.specs.declared.meeting.Met.TheVariants.{On, Ended}
+use Rattle.sok_alone.specs.Known.{IsCome, roll_of}
+use Rattle.sok_alone.specs.Meeting.{IsFinished, TellsAlone, TellsRun}
 use Rattle.sok_alone.specs.GivenUp.{IsGivenUp}
 use Rattle.sok_alone.proofs.Knowing.{zero-at}
 
@@ -35,7 +38,7 @@ more-walked rows x y limit walk more = record {
   apart = more.apart;
 }
 
-pub given-up-walked : (rows : Rows) (x y : Position) (limit : ℕ) → Same rows x y → IsGivenUp rows y limit → IsGivenUp rows x limit
+given-up-walked : (rows : Rows) (x y : Position) (limit : ℕ) → Same rows x y → IsGivenUp rows y limit → IsGivenUp rows x limit
 given-up-walked rows x y limit walk (inl (w, solves)) = inl (reached-solves rows x y (walk.0, walk.1) w solves)
 given-up-walked rows x y limit walk (inr more) = inr (more-walked rows x y limit walk more)
 
@@ -47,7 +50,7 @@ none-ended (Ok (Some inner)) P lives none told = told
 none-ended (Err fault) P lives none told = told
 
 -- the known states are a closed list
-pub closed-finished : (b : Numbered) → IsAccepted b → (player : ℕ) (boxes : List ℕ) (key : Key) (limit : ℕ) (known : Known) → IsPlaced b boxes player
+closed-finished : (b : Numbered) → IsAccepted b → (player : ℕ) (boxes : List ℕ) (key : Key) (limit : ℕ) (known : Known) → IsPlaced b boxes player
     → key.boxes ≡ boxes → length key.boxes ≤ box_limit → IsKeyOf b (position_of b player boxes) key → IsFinished b key limit key known
     → AreClosedAlone b player boxes known.inner.items
 closed-finished b accepted player boxes key limit known placed boxes_are few key_is finished =
@@ -64,3 +67,15 @@ closed-finished b accepted player boxes key limit known placed boxes_are few key
     let followed : AreFollowed b roll (length roll.marks) = subst (AreFollowed b roll) (sym marks) finished.followed in
     subst (λ n. IsClosed inner_node b n from (IsBarredAlone b) inner) (ap length boxes_are)
     ((missed-closed inner_node b count (IsBarredAlone b) from inner roll accepted few entered starter None followed).0 refl)
+
+-- what a run from the key of a state tells of the position with that state
+pub tells-alone : (b : Numbered) → IsAccepted b → (lives : Tabled) (player : ℕ) (boxes : List ℕ) (key : Key) (limit : ℕ) (known : Known) → IsPlaced b boxes player
+    → key.boxes ≡ boxes → length key.boxes ≤ box_limit → IsKeyOf b (position_of b player boxes) key → (met : Met) → TellsRun b lives key limit key known met
+    → TellsAlone b lives player boxes limit known.inner.items met
+tells-alone b accepted lives player boxes key limit known placed boxes_are few key_is On finished = record {
+  closed = closed-finished b accepted player boxes key limit known placed boxes_are few key_is finished;
+  few = finished.known.few;
+  fit = All-weaker (IsCome b key) FitsInner (λ one come. come.fits) known.inner.items finished.known.come;
+}
+tells-alone b accepted lives player boxes key limit known placed boxes_are few key_is Ended ended =
+    λ none. given-up-walked b.rows (position_of b player boxes) (key_position b key) limit key_is.same (ended none)

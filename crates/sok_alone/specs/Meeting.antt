@@ -1,11 +1,13 @@
 -- What the steps of a search tell.
-use Rattle.std.specs.Prelude.{ℕ, ◌≡◌, ◌+◌, ◌++◌, List, Contains, length}
-use Rattle.sok_board.specs.Area.{Numbered}
+use Rattle.std.specs.Prelude.{ℕ, ◌≡◌, ◌≤◌, ◌+◌, ◌++◌, List, All, Contains, length}
+use Rattle.sok_board.specs.Area.{Numbered, position_of}
 use Rattle.sok_state.specs.declared.key.Key.{Key}
 use Rattle.sok_state.specs.declared.push.Push.{Push}
 use Rattle.sok_state.specs.Tables.{Entries, IsAt, Tabled}
 use Rattle.sok_closed.specs.Lookup.{AreFollowed, IsFound}
 use Rattle.sok_entry.specs.declared.entry.Inner.{Inner}
+use Rattle.sok_entry.specs.Text.{FitsInner}
+use Rattle.sok_bar.specs.Patterns.{AreClosedAlone}
 use Rattle.sok_alone.specs.declared.known.Known.{Known}
 use Rattle.sok_alone.specs.declared.meeting.Met.{Met}
 use Rattle.sok_alone.specs.declared.meeting.Met.TheVariants.{On, Ended}
@@ -66,3 +68,14 @@ pub record IsFinished (b : Numbered) (start : Key) (limit : ℕ) (first : Key) (
 abbrev pub TellsRun : Numbered → Tabled → Key → ℕ → Key → Known → Met → Type 0
 TellsRun b lives start limit first new On = IsFinished b start limit first new
 TellsRun b lives start limit first new Ended = HasEnded lives b.rows (key_position b start) limit
+
+-- positions of some boxes alone that are closed under pushes, no more than the limit, with numbers that are small enough
+pub record AreClosedWithin (b : Numbered) (player : ℕ) (boxes : List ℕ) (limit : ℕ) (inner : List Inner) : Type 0 where
+  pub closed : AreClosedAlone b player boxes inner
+  pub few : length inner ≤ limit
+  pub fit : All FitsInner inner
+
+-- the known positions are so, where the search has run from where the player stands
+abbrev pub TellsAlone : Numbered → Tabled → ℕ → List ℕ → ℕ → List Inner → Met → Type 0
+TellsAlone b lives player boxes limit inner On = AreClosedWithin b player boxes limit inner
+TellsAlone b lives player boxes limit inner Ended = HasEnded lives b.rows (position_of b player boxes) limit

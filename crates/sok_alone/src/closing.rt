@@ -1,11 +1,12 @@
 //! The list of positions of some boxes alone that is closed under pushes.
 
-ghost use Rattle.std.specs.Prelude.{◌≡◌, ◌<◌, ◌≤◌, All, IfOk, IfNone, IfSome, length};
-ghost use Rattle.sok_board.specs.Area.{position_of};
+ghost use Rattle.std.specs.Prelude.{◌≡◌, ◌<◌, ◌≤◌, [], All, IfOk, IfNone, IfSome, length};
+ghost use Rattle.sok_board.specs.Area.{IsAccepted, position_of};
 ghost use Rattle.sok_entry.specs.Text.{FitsInner};
 ghost use Rattle.sok_region.specs.Regions.{IsPlaced};
 ghost use Rattle.sok_bar.specs.Patterns.{AreClosedAlone};
 ghost use Rattle.sok_alone.specs.GivenUp.{HasEnded, IsGivenUp};
+ghost use Rattle.sok_alone.specs.Meeting.{TellsAlone};
 
 use crate::expanding::run;
 use crate::known::Known;
@@ -66,17 +67,48 @@ pub(crate) fn close_unless(
     ensures none { IfOk result (λ found. IfNone found
         (HasEnded lives.now board.now.rows (position_of board.now player boxes.now) limit)) }
 {
+    let mut known = Known::new(alloc, board.squares());
+    let met = run_from(
+        alloc, board, tables, lives, boxes, player, limit, &mut known,
+    );
+    // The table is let go here once, and not at each exit.
+    let inner = {
+        let Known {
+            table: _table,
+            inner,
+        } = known;
+        inner
+    };
+    match met? {
+        Met::On => Ok(Some(Inners::from(inner))),
+        Met::Ended => Ok(None),
+    }
+}
+
+/// Runs a search from where the player stands, with no states known before. It has the key for
+/// itself, and leaves the known states to its caller, so that each is let go at one exit alone.
+fn run_from(
+    alloc: Global,
+    board: &Board,
+    tables: &Tables,
+    lives: &Table,
+    boxes: &BoxSet,
+    player: Sq,
+    limit: u32,
+    known: &mut Known,
+) -> Result<Met, Memory>
+    requires accepted { IsAccepted board.now }
+    requires tables { tables.now.board ≡ board.now }
+    requires room { length board.now.area ≤ lives.now.room }
+    requires placed { IsPlaced board.now boxes.now player }
+    requires none { known.old.table.entries ≡ [] }
+    requires no_inner { known.old.inner.items ≡ [] }
+    requires wide { length board.now.area ≤ known.old.table.room }
+    ensures { IfOk result (TellsAlone board.now lives.now player boxes.now limit
+        known.new.inner.items) }
+{
     // A set of boxes tells with its list that they are few.
     let _squares = boxes.list();
     let key = Key::of(alloc, board, boxes, player)?;
-    let mut known = Known::new(alloc, board.squares());
-    match run(alloc, board, tables, lives, limit, &mut known, &key)? {
-        Met::On => {}
-        Met::Ended => return Ok(None),
-    }
-    let Known {
-        table: _table,
-        inner,
-    } = known;
-    Ok(Some(Inners::from(inner)))
+    run(alloc, board, tables, lives, limit, known, &key)
 }

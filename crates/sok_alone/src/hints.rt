@@ -62,9 +62,15 @@ pub(crate) fn hint_of(board: &Board, dir: Dir, to: Sq, one: Sq, two: Option<Sq>)
         Dir::Right => 2,
         Dir::Down => 3,
     };
-    let pair = (to as usize * 4 + side) * squares + one as usize;
+    let pair = with_square(to as usize * 4 + side, squares, one);
     match two {
         None => pair,
-        Some(two) => squares * 4 * squares + pair * squares + two as usize,
+        Some(two) => with_square((squares * 4).wrapping_add(pair), squares, two),
     }
+}
+
+/// A number with a square behind it, as a last digit. It never wraps where the squares are of the
+/// board, which nothing has to show: a wrong hint costs time alone.
+fn with_square(number: usize, squares: usize, square: Sq) -> usize {
+    number.wrapping_mul(squares).wrapping_add(square as usize)
 }

@@ -1,9 +1,10 @@
 //! Positions of some boxes alone, judged: whether they are closed under pushes.
 
-ghost use Rattle.std.specs.Prelude.{ℕ, List, [], ◌∷◌, ◌++◌, ◌≡◌, ◌≤◌, ◌↔◌, IsTrue, IfOk, IsOkAnd, MatchBool, MatchOption, length};
+ghost use Rattle.std.specs.Prelude.{ℕ, List, [], ◌∷◌, ◌++◌, ◌≡◌, ◌≤◌, ◌↔◌, IsTrue, IfOk, IsOkAnd, MatchBool, length};
 ghost use Rattle.sok_board.specs.Area.{IsAccepted};
 ghost use Rattle.sok_board.specs.Limits.{box_limit};
 ghost use Rattle.sok_closed.specs.Fine.{AreEntered, AreFine, IsFine, IsOfBoard, IsReasoned};
+ghost use Rattle.sok_closed.specs.Placing.{IsLocated};
 ghost use Rattle.sok_region.specs.Regions.{IsPlaced};
 ghost use Rattle.sok_bar.specs.Patterns.{AreClosedAlone, IsBarredAlone, inner_node, is_expanded};
 ghost use Rattle.sok_entry.specs.declared.entry.Inner.{Inner};
@@ -40,39 +41,66 @@ pub(crate) fn are_closed_alone(
     ensures { IfOk result
         (λ closed. IsTrue closed ↔ AreClosedAlone board.now player boxes.now inner.now) }
 {
-    let count = boxes.list().len();
-    match rolled_alone(alloc, board, tables, count, inner)? {
-        Some(roll) => leads_on(alloc, board, boxes, player, &roll),
-        None => Ok(false),
-    }
+    let mut roll = Roll::new(alloc, board.squares());
+    are_closed_by(alloc, board, tables, boxes, player, inner, &mut roll)
 }
 
-/// The roll of the positions' states, in order, with their depths and with marks where they are
-/// expanded; None where one has a fault of its own. It refuses only for want of memory.
-fn rolled_alone(
+/// The same by a roll that is empty and has room for the board. It is borrowed, since a proof lays
+/// out the drop of an owned one at each way out.
+fn are_closed_by(
+    alloc: Global,
+    board: &Board,
+    tables: &Tables,
+    boxes: &BoxSet,
+    player: Sq,
+    inner: &[Inner],
+    roll: &mut Roll,
+) -> Result<bool, Memory>
+    requires accepted { IsAccepted board.now }
+    requires tables { tables.now.board ≡ board.now }
+    requires placed { IsPlaced board.now boxes.now player }
+    requires none { roll.old.entries ≡ [] }
+    requires unmarked { roll.old.marks ≡ [] }
+    requires wide { length board.now.area ≤ roll.old.room }
+    ensures { IfOk result
+        (λ closed. IsTrue closed ↔ AreClosedAlone board.now player boxes.now inner.now) }
+{
+    let count = boxes.list().len();
+    if !enter_all(alloc, board, tables, count, inner, roll)? {
+        return Ok(false);
+    }
+    leads_on(alloc, board, boxes, player, roll)
+}
+
+/// Enters the positions' states into an empty roll, in order, with their depths and with marks
+/// where they are expanded, up to the first that has a fault of its own, and tells whether none
+/// has. It refuses only for want of memory.
+fn enter_all(
     alloc: Global,
     board: &Board,
     tables: &Tables,
     count: usize,
     inner: &[Inner],
-) -> Result<Option<Roll>, Memory>
+    roll: &mut Roll,
+) -> Result<bool, Memory>
     requires accepted { IsAccepted board.now }
     requires tables { tables.now.board ≡ board.now }
     requires few { count ≤ box_limit }
-    ensures entered { IfOk result (λ found. MatchOption found
+    requires none { roll.old.entries ≡ [] }
+    requires unmarked { roll.old.marks ≡ [] }
+    requires wide { length board.now.area ≤ roll.old.room }
+    ensures entered { IfOk result (λ fine. MatchBool fine
+        (AreEntered inner_node board.now count (IsBarredAlone board.now) inner.now roll.new)
         (AreFine inner_node board.now count (IsBarredAlone board.now) inner.now
-        (length inner.now) → ⊥)
-        (AreEntered inner_node board.now count (IsBarredAlone board.now) inner.now)) }
-    ensures of_board { IfOk result
-        (λ found. MatchOption found (Unit {0}) (IsOfBoard board.now)) }
+        (length inner.now) → ⊥)) }
+    ensures of_board { IsOfBoard board.now roll.new }
 {
-    let mut roll = Roll::new(alloc, board.squares());
     for one in inner {
-        if !enter_alone(alloc, board, tables, count, one, &mut roll)? {
-            return Ok(None);
+        if !enter_alone(alloc, board, tables, count, one, roll)? {
+            return Ok(false);
         }
     }
-    Ok(Some(roll))
+    Ok(true)
 }
 
 /// Enters the state of a position into the roll of those before it, if it has no fault of its own,
@@ -98,23 +126,43 @@ fn enter_alone(
         one.now → ⊥)) }
     ensures of_board { IsOfBoard board.now roll.new }
 {
-    let Some(Located { boxes, key }) = locate(
-        alloc,
-        board,
-        count,
-        one.player,
-        one.boxes.as_slice(),
-    )?
-    else {
-        return Ok(false);
-    };
-    if roll.has(&key) {
+    match locate(alloc, board, count, one.player, one.boxes.as_slice())? {
+        Some(located) => enter_located(alloc, board, tables, one, &located, roll),
+        None => Ok(false),
+    }
+}
+
+/// The same of a position that was located: it is borrowed too, since there are several ways out.
+fn enter_located(
+    alloc: Global,
+    board: &Board,
+    tables: &Tables,
+    one: &Inner,
+    located: &Located,
+    roll: &mut Roll,
+) -> Result<bool, Memory>
+    requires accepted { IsAccepted board.now }
+    requires tables { tables.now.board ≡ board.now }
+    requires located { IsLocated board.now (length one.now.boxes) (inner_node one.now) located.now }
+    requires few { length one.now.boxes ≤ box_limit }
+    requires of_board { IsOfBoard board.now roll.old }
+    ensures tells { (before : List Inner)
+        → AreEntered inner_node board.now (length one.now.boxes) (IsBarredAlone board.now) before
+        roll.old → IfOk result (λ fine. MatchBool fine
+        (AreEntered inner_node board.now (length one.now.boxes) (IsBarredAlone board.now)
+        (before ++ one.now ∷ []) roll.new)
+        (IsFine inner_node board.now (length one.now.boxes) (IsBarredAlone board.now) before
+        (length before) one.now → ⊥)) }
+    ensures of_board { IsOfBoard board.now roll.new }
+{
+    let Located { boxes, key } = located;
+    if roll.has(key) {
         return Ok(false);
     }
-    if !may_stand(alloc, board, tables, one, &boxes)? {
+    if !may_stand(alloc, board, tables, one, boxes)? {
         return Ok(false);
     }
-    roll.enter(&key, one.depth, is_expanded(&one.reason))?;
+    roll.enter(key, one.depth, is_expanded(&one.reason))?;
     Ok(true)
 }
 

@@ -1,7 +1,6 @@
 -- One entry more in the roll.
-use Rattle.std.proofs.Common.{ℕ, ◌≡◌, ◌∙◌, sym, subst, List, [], ◌∷◌, ◌++◌, Option, Some, None, is_some, true, true≢false, arith, Contains, length, take, drop}
+use Rattle.std.proofs.Common.{ℕ, ◌≡◌, ◌∙◌, sym, subst, List, [], ◌∷◌, ◌++◌, Option, Some, None, is_some, true, true≢false, arith, Contains, length}
 use Rattle.std.specs.Map.{keys_of}
-use Rattle.std.proofs.lemmas.List.{take-append-drop}
 use Rattle.sok_board.specs.Area.{Numbered, IsAccepted, boxes_of}
 use Rattle.sok_board.proofs.Lists.{slice_get-push}
 use Rattle.sok_region.proofs.Floods.{slice_get-append}
@@ -16,8 +15,8 @@ use Rattle.sok_entry.specs.declared.fault.CertFault.TheVariants as fault
 use Rattle.sok_cert.specs.declared.judging.Finding.TheVariants.{Fine, Solved, Unreasoned}
 use Rattle.sok_cert.specs.Closed.{IsBarredBy, IsPosition, is_expanded, node_of}
 use Rattle.sok_cert.specs.Judging.{IsFinding, IsLocated}
-use Rattle.sok_cert.specs.Refusals.{IsFaulty, IsNew, IsRefused, IsRepeated, IsSolved, IsUnreasoned}
-use Rattle.sok_cert.specs.Rosters.{AreEntered, IsOwn, TellsEntries}
+use Rattle.sok_cert.specs.Refusals.{IsFaulty, IsNew, IsRepeated, IsSolved, IsUnreasoned}
+use Rattle.sok_cert.specs.Rosters.{AreEntered, TellsEntries}
 use Rattle.sok_cert.proofs.Longer.{IsRefused-append}
 
 -- ---- behind entries that are fine
@@ -90,9 +89,3 @@ pub tells-behind : (b : Numbered) (claim : Claim) (entries more : List Entry) (r
     → TellsEntries b claim entries roll found → TellsEntries b claim (entries ++ more) roll found
 tells-behind b claim entries more roll None none told = absurd (true≢false (sym none))
 tells-behind b claim entries more roll (Some f) some (own, refused) = (own, IsRefused-append b claim entries more f own refused)
-
--- a list with a fault is refused
-pub refused-whole : (b : Numbered) (claim : Claim) (entries : List Entry) (n : ℕ) (f : CertFault) → IsOwn f × IsRefused b claim (take n entries) f
-    → IsRefused b claim entries f
-refused-whole b claim entries n f (own, refused) =
-    subst (λ es. IsRefused b claim es f) (take-append-drop n entries) (IsRefused-append b claim (take n entries) (drop n entries) f own refused)

@@ -56,3 +56,7 @@ pub record EndsFor (text : List ℕ) (e : Ending) : Type 0 where
   pub entries : List Entry
   pub spelled : Spells text e.claim entries
   pub tells : TellsEntries e.board e.claim entries e.roster.roll e.roster.fault
+
+-- the end of a stream that has come so far, with what is claimed
+abbrev pub ending_of : Numbered → Claim → Progressed → Ending
+ending_of b claim p = record { board = b; claim = claim; roster = p.roster }

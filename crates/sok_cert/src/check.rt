@@ -1,16 +1,18 @@
 //! The checker of certificates.
 
-ghost use Rattle.std.specs.Prelude.{◌≡◌, ◌↔◌, IfOk, IfErr, IsOk, Err};
+ghost use Rattle.std.specs.Prelude.{◌≡◌, ◌↔◌, [], IfOk, IfErr, IsOk, Err, MatchResult};
+ghost use Rattle.sok_board.specs.Area.{IsAccepted};
 ghost use Rattle.sok_cert.specs.Closed.{IsClosed};
+ghost use Rattle.sok_cert.specs.Parts.{IsRosterOf};
 ghost use Rattle.sok_cert.specs.Refusals.{IsRefused};
+ghost use Rattle.sok_cert.specs.Rosters.{TellsEntries};
 ghost use Rattle.sok_entry.specs.declared.fault.CertFault.TheVariants as fault;
 
 use crate::accepted::Accepted;
-use crate::close::close;
-use crate::entering::states;
+use crate::roster::Roster;
 use sok_board::board::Board;
 use sok_entry::claim::Claim;
-use sok_entry::entry::Cert;
+use sok_entry::entry::{Cert, Entry};
 use sok_entry::fault::CertFault;
 use sok_push::tables::Tables;
 use std::alloc::Global;
@@ -43,9 +45,43 @@ fn judged(alloc: Global, board: &Board, claim: Claim, cert: &Cert) -> Result<Acc
     ensures refused { IfErr result (IsRefused board.now claim cert.now.entries.items) }
 {
     let level = board.level();
-    let tables = Tables::new(alloc, board)?;
-    let entries = cert.entries.as_slice();
-    let roll = states(alloc, board, &tables, claim, entries)?;
-    close(alloc, board, &roll)?;
+    judge_entries(alloc, board, claim, cert.entries.as_slice())?;
     Ok(Accepted::new(level.copy(alloc)?, claim))
+}
+
+/// Judges the entries of a list.
+fn judge_entries(
+    alloc: Global,
+    board: &Board,
+    claim: Claim,
+    entries: &[Entry],
+) -> Result<(), CertFault>
+    ensures { MatchResult result (λ _. IsClosed board.now claim entries.now)
+        (IsRefused board.now claim entries.now) }
+{
+    let tables = Tables::new(alloc, board)?;
+    let mut roster = Roster::new(alloc, board);
+    enter_all(alloc, board, &tables, claim, entries, &mut roster)
+}
+
+/// Judges each entry by itself, on a roster without entries, and then all of them.
+fn enter_all(
+    alloc: Global,
+    board: &Board,
+    tables: &Tables,
+    claim: Claim,
+    entries: &[Entry],
+    roster: &mut Roster,
+) -> Result<(), CertFault>
+    requires accepted { IsAccepted board.now }
+    requires tables { tables.now.board ≡ board.now }
+    requires none { TellsEntries board.now claim [] roster.old.roll roster.old.fault }
+    requires of_board { IsRosterOf board.now roster.old }
+    ensures { MatchResult result (λ _. IsClosed board.now claim entries.now)
+        (IsRefused board.now claim entries.now) }
+{
+    for entry in entries {
+        roster.enter(alloc, board, tables, claim, entry)?;
+    }
+    roster.close(alloc, board)
 }

@@ -1,11 +1,10 @@
-//! The roll of the entries' states.
+//! The state of an entry, entered into the roll of those before it.
 
-ghost use Rattle.std.specs.Prelude.{◌≡◌, ◌++◌, ◌∷◌, [], IfOk, IfErr, List, MatchOption, length};
+ghost use Rattle.std.specs.Prelude.{◌≡◌, ◌++◌, ◌∷◌, [], IfOk, List, MatchOption, length};
 ghost use Rattle.sok_board.specs.Area.{IsAccepted};
 ghost use Rattle.sok_bar.specs.Memos.{KeepsClosed};
 ghost use Rattle.sok_cert.specs.Closed.{IsPosition};
 ghost use Rattle.sok_cert.specs.Judging.{IsLocated};
-ghost use Rattle.sok_cert.specs.Refusals.{IsRefused};
 ghost use Rattle.sok_cert.specs.Rosters.{AreEntered, IsOfBoard, TellsEntries};
 ghost use Rattle.sok_entry.specs.declared.entry.Entry.{Entry};
 
@@ -21,31 +20,6 @@ use sok_entry::fault::CertFault;
 use sok_push::tables::Tables;
 use sok_rules::fault::Memory;
 use std::alloc::Global;
-
-/// The roll of the entries' states, in order, with their depths and with marks where they are
-/// expanded. The first entry with a fault of its own is refused.
-pub(crate) fn states(
-    alloc: Global,
-    board: &Board,
-    tables: &Tables,
-    claim: Claim,
-    entries: &[Entry],
-) -> Result<Roll, CertFault>
-    requires accepted { IsAccepted board.now }
-    requires tables { tables.now.board ≡ board.now }
-    ensures entered { IfOk result (AreEntered board.now claim entries.now) }
-    ensures of_board { IfOk result (IsOfBoard board.now) }
-    ensures refused { IfErr result (IsRefused board.now claim entries.now) }
-{
-    let mut roll = Roll::new(alloc, board.squares());
-    let mut memo = Memo::new(alloc);
-    for entry in entries {
-        if let Some(fault) = enter(alloc, board, tables, claim, entry, &mut roll, &mut memo)? {
-            return Err(fault);
-        }
-    }
-    Ok(roll)
-}
 
 /// Enters the state of an entry into the roll of those before it. If the entry has a fault of its
 /// own, it is told, and the roll stays. The memo keeps the positions of patterns.

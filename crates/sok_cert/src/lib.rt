@@ -6,7 +6,7 @@
 //! | `accepted` | what a certificate that was accepted shows |
 //! | `check` | the checker |
 //! | `close` | whether entries that are fine are closed (private) |
-//! | `entering` | the roll of the entries' states (private) |
+//! | `entering` | the state of an entry, entered into a roll (private) |
 //! | `judging` | what is found of an entry by its reason (private) |
 //! | `law` | a closed certificate is true; a list has one judgement, and a text one verdict |
 //! | `progress` | how far a certificate has come that is read in pieces (private) |

@@ -1,7 +1,7 @@
 //! A certificate that is read in pieces: how far it has come.
 
 ghost use Rattle.std.specs.Prelude.{ℕ, ◌≡◌, ◌<◌, ◌^◌, ◌++◌, ◌∷◌, [], List, IfOk, IsTrue, MatchOption};
-ghost use Rattle.std.specs.Prelude.{OnOk, length};
+ghost use Rattle.std.specs.Prelude.{MatchResult, OnOk, length};
 ghost use Rattle.sok_text.specs.Lines.{IsUnended};
 ghost use Rattle.sok_board.specs.Area.{IsAccepted, Numbered};
 ghost use Rattle.sok_entry.specs.Reading.{GoesWrong};
@@ -9,10 +9,11 @@ ghost use Rattle.sok_entry.specs.Stages.{AreWrong, IsSplit, IsStage};
 ghost use Rattle.sok_entry.specs.declared.fault.CertFault.TheVariants as cert;
 ghost use Rattle.sok_entry.specs.declared.entry.Entry.{Entry};
 ghost use Rattle.sok_cert.specs.Parts.{IsRosterOf, progressed_of, rostered_of};
-ghost use Rattle.sok_cert.specs.Streams.{AreJudged, StandsFor};
+ghost use Rattle.sok_cert.specs.Streams.{AreJudged, EndsFor, StandsFor, ending_of};
 
 use crate::roster::Roster;
 use sok_board::board::Board;
+use sok_entry::claim::Claim;
 use sok_entry::fault::CertFault;
 use sok_entry::stage::{LineRead, Stage};
 use sok_push::tables::Tables;
@@ -71,6 +72,18 @@ impl Progress {
             rest = behind;
         }
         self.keep(rest)
+    }
+
+    /// What a text claims that ends here, or why it is no certificate. It takes no memory.
+    pub(crate) fn ended(&self) -> Result<Claim, CertFault>
+        ensures { (b : Numbered) (text : List ℕ) → StandsFor b text (progressed_of self.now)
+            → MatchResult result (λ claim. EndsFor text
+            (ending_of b claim (progressed_of self.now))) (GoesWrong text) }
+    {
+        if let Some(fault) = self.wrong {
+            return Err(fault);
+        }
+        self.stage.ended(self.line.as_slice(), self.ended.len())
     }
 
     /// Reads the bytes of a line up to its end.

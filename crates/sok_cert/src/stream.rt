@@ -1,9 +1,14 @@
 //! Certificates that are judged as they are read.
 
-ghost use Rattle.std.specs.Prelude.{ℕ, ◌≡◌, ◌≢◌, ◌⊎◌, ◌++◌, [], List, IfErr, IfOk, MatchResult};
+ghost use Rattle.std.specs.Prelude.{ℕ, ◌≡◌, ◌≢◌, ◌⊎◌, ◌++◌, [], List, Err, IfErr, IfOk, MatchResult};
+ghost use Rattle.std.specs.Prelude.{Ok};
 ghost use Rattle.std.specs.List.{flat_map};
+ghost use Rattle.sok_board.specs.Area.{IsAccepted};
 ghost use Rattle.sok_entry.specs.Reading.{GoesWrong};
+ghost use Rattle.sok_entry.specs.declared.entry.Entry.{Entry};
 ghost use Rattle.sok_entry.specs.declared.fault.CertFault.TheVariants as cert;
+ghost use Rattle.sok_cert.specs.Parts.{rostered_of};
+ghost use Rattle.sok_cert.specs.Rosters.{IsOfBoard, TellsEntries};
 ghost use Rattle.sok_cert.specs.Streams.{EndsFor, StandsFor};
 ghost use Rattle.sok_cert.specs.Verdicts.{IsShown, IsUnshown};
 
@@ -132,24 +137,33 @@ impl<'a> Stream<'a> {
             tables: _tables,
             progress,
         } = self;
-        let Progress {
-            stage,
-            ended,
-            line,
-            wrong,
-            roster,
-        } = progress;
-        if let Some(fault) = wrong {
-            return Err(fault);
-        }
-        let claim = stage.ended(line.as_slice(), ended.len())?;
-        Ok(Ended {
-            alloc,
-            board,
-            claim,
-            roster,
-        })
+        let claim = progress.ended();
+        ending(alloc, board, claim, progress.roster)
     }
+}
+
+/// The end of a stream, where the text is a certificate.
+fn ending<'a>(
+    alloc: Global,
+    board: &'a Board,
+    claim: Result<Claim, CertFault>,
+    roster: Roster,
+) -> Result<Ended<'a>, CertFault>
+    requires accepted { IsAccepted board.now }
+    requires of_board { IsOfBoard board.now roster.roll }
+    requires entered { IfOk claim (λ claim. (entries : List Entry)
+        × TellsEntries board.now claim entries roster.roll roster.fault) }
+    ensures ended { IfOk result (λ ended. (claim ≡ Ok ended.claim)
+        × (ended.board ≡ board.now) × (ended.roster ≡ rostered_of roster)) }
+    ensures fault { IfErr result (λ fault. claim ≡ Err fault) }
+{
+    let claim = claim?;
+    Ok(Ended {
+        alloc,
+        board,
+        claim,
+        roster,
+    })
 }
 
 impl Ended<'_> {

@@ -3,7 +3,6 @@
 use crate::rows::{OPEN_FAILED, first_other, prepare};
 use sok_engine::input::INPUT_LIMIT;
 use sok_sketch::tutorial::Row;
-use sqlite::Connection;
 use std::alloc::Global;
 use std::fs;
 use std::test::Fail;
@@ -90,12 +89,16 @@ fn a_book_in_a_file(rt: HostRuntime) -> Result<(), Fail> {
     Ok(())
 }
 
-/// A table whose second row has a best that does not solve its level.
-const BAD_ROW: &str = "
-CREATE TABLE level (id, text, title, lurd, pushes, moves, verdict);
-INSERT INTO level VALUES (1, '#####\n#@$.#\n#####\n', NULL, NULL, NULL, NULL, 0);
-INSERT INTO level VALUES (2, '###\n#@#\n#$#\n#.#\n###\n', NULL, 'd', 1, 1, 0);
-";
+/// A book of two levels, the second with a best.
+const BOOK: [Row; 2] = [
+    (
+        "sok add faulty/book faulty/levels",
+        "1 id 1\n2 fault 4 ManyPlayers\n3 fault 8 TooFewGoals\n4 id 2\n",
+        "",
+        0,
+    ),
+    ("sok offer faulty/book 2 ulldRR", "stored 2 6\n", "", 0),
+];
 
 const BAD_BOOK: &str = "fault 34 BadBook 2\n";
 
@@ -120,10 +123,25 @@ fn make_large(rt: &HostRuntime, alloc: Global) -> Result<(), Fail> {
     Ok(())
 }
 
-/// A database with the bad row.
-fn make_faulty(rt: &HostRuntime) -> Result<(), Fail> {
-    let mut connection = Connection::open(rt, "faulty/book")?;
-    connection.execute_batch(BAD_ROW)?;
+/// Where a text stands in bytes.
+fn place_of(bytes: &[u8], text: &[u8]) -> Option<usize> {
+    for place in 0..bytes.len() {
+        if bytes[place..].starts_with(text) {
+            return Some(place);
+        }
+    }
+    None
+}
+
+/// Turns the first letter of the best in the file of the book, so that it does not solve its level.
+fn turn_a_letter(rt: &HostRuntime) -> Result<(), Fail> {
+    let mut bytes = fs::read(rt, "faulty/book")?;
+    if let Some(place) = place_of(bytes.as_slice(), b"ulldRR") {
+        if let Some(letter) = bytes.get_mut(place) {
+            *letter = b'd';
+        }
+    }
+    fs::write(rt, "faulty/book", bytes.as_slice())?;
     Ok(())
 }
 
@@ -132,7 +150,9 @@ fn a_book_with_a_bad_row_and_a_file_that_is_too_large(rt: HostRuntime) -> Result
     prepare(&rt, "faulty")?;
     make_large(&rt, rt.alloc())?;
     fs::write(&rt, "faulty/half", "\0")?;
-    make_faulty(&rt)?;
+    let other = first_other(&rt, &BOOK)?;
+    assert_eq!(rt; other, None);
+    turn_a_letter(&rt)?;
     let other = first_other(&rt, &UNREADABLE)?;
     assert_eq!(rt; other, None);
     fs::remove_dir_all(&rt, "faulty")?;

@@ -1,8 +1,8 @@
 //! The start of a search.
 
-ghost use Rattle.std.specs.Prelude.{ℕ, ◌≡◌, ◌<◌, IfOk};
+ghost use Rattle.std.specs.Prelude.{ℕ, ◌≡◌, ◌<◌, IfOk, OnOk};
 ghost use Rattle.sok_search.specs.Searches.{IsSearch};
-ghost use Rattle.sok_search.specs.Views.{progress_of};
+ghost use Rattle.sok_search.specs.Views.{IsEmpty, progress_of};
 
 use crate::judging::judge;
 use crate::note::Note;
@@ -28,20 +28,42 @@ pub(crate) fn begin(
         → IfOk result (λ search. IsSearch board.now limit (progress_of search)) }
     ensures whole { IfOk result (λ search. search.whole ≡ whole) }
 {
-    let key = Key::start(alloc, board)?;
-    let mut losses = Losses::new(alloc, board)?;
-    let standing = judge(alloc, board, tables, &mut losses, &key)?;
-    let mut table = Table::new(alloc, board.squares());
-    let (index, _is_new) = table.insert(&key, 0)?;
-    let mut search = Search {
+    let mut search = empty(alloc, board, whole)?;
+    enter_start(alloc, board, tables, &mut search)?;
+    Ok(search)
+}
+
+/// A search that knows nothing.
+fn empty(alloc: Global, board: &Board, whole: bool) -> Result<Search, Memory>
+    ensures empty { IfOk result (IsEmpty board.now) }
+    ensures whole { IfOk result (λ search. search.whole ≡ whole) }
+{
+    Ok(Search {
         whole,
-        losses,
-        table,
+        losses: Losses::new(alloc, board)?,
+        table: Table::new(alloc, board.squares()),
         notes: Vec::new(alloc),
         queue: Queue::new(alloc),
         best: None,
-    };
+    })
+}
+
+/// Enters the start into a search that knows nothing.
+fn enter_start(
+    alloc: Global,
+    board: &Board,
+    tables: &Tables,
+    search: &mut Search,
+) -> Result<(), Memory>
+    requires tables { tables.now.board ≡ board.now }
+    requires empty { IsEmpty board.now search.old }
+    ensures search { (limit : ℕ) → 0 < limit
+        → OnOk result (IsSearch board.now limit (progress_of search.new)) }
+    ensures whole { OnOk result (search.new.whole ≡ search.old.whole) }
+{
+    let key = Key::start(alloc, board)?;
+    let standing = judge(alloc, board, tables, &mut search.losses, &key)?;
+    let (index, _is_new) = search.table.insert(&key, 0)?;
     let origin = None;
-    add(&mut search, index, 0, Note { origin, standing })?;
-    Ok(search)
+    add(search, index, 0, Note { origin, standing })
 }

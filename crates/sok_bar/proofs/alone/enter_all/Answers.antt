@@ -5,7 +5,7 @@ use Rattle.sok_closed.specs.Fine.{IsFine}
 use Rattle.sok_closed.proofs.Entered.{missing}
 use Rattle.sok_closed.proofs.Fine.{IsFine-front}
 use Rattle.sok_bar.specs.Patterns.{IsBarredAlone, inner_node}
-use Rattle.sok_bar.proofs.alone.rolled_alone.Goals as goal
+use Rattle.sok_bar.proofs.alone.enter_all.Goals as goal
 
 pub returns-then-not-branch-clause-entered : goal.returns-then-not-branch-clause-entered
 returns-then-not-branch-clause-entered c = λ fine.

@@ -1,7 +1,7 @@
 use Rattle.std.proofs.Common.{take}
 use Rattle.sok_closed.specs.Fine.{AreEntered, IsOfBoard}
 use Rattle.sok_bar.specs.Patterns.{IsBarredAlone, inner_node}
-use Rattle.sok_bar.proofs.alone.rolled_alone.Given as goal
+use Rattle.sok_bar.proofs.alone.enter_all.Given as goal
 
 abbrev pub invariant-loop-one : goal.invariant-loop-one
 invariant-loop-one l = record {

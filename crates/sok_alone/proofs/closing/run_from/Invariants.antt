@@ -1,4 +1,4 @@
-use Rattle.sok_alone.proofs.closing.close_unless.Given as goal
+use Rattle.sok_alone.proofs.closing.run_from.Given as goal
 
 abbrev pub ghost-run : goal.ghost-run
 ghost-run a = a.first.now
