@@ -38,18 +38,23 @@ fn parts(reason: &Reason) -> (char, &[u32], &[u32]) {
 /// An entry's depth, player, boxes and reason.
 type Told<'a> = (u32, u32, &'a [u32], (char, &'a [u32], &'a [u32]));
 
+/// Whether an entry tells this.
+fn tells(entry: &Entry, told: &Told<'_>) -> bool {
+    let (depth, player, boxes, (letter, first, second)) = *told;
+    let (found, left, right) = parts(&entry.reason);
+    entry.depth == depth
+        && entry.player == player
+        && entry.boxes.as_slice() == boxes
+        && found == letter
+        && left == first
+        && right == second
+}
+
 /// Asserts what entries tell.
 fn assert_entries(rt: &impl Abort, entries: &[Entry], told: &[Told<'_>]) {
     assert_eq!(rt; entries.len(), told.len());
-    for (entry, told) in entries.iter().zip(told) {
-        let Entry {
-            depth,
-            player,
-            boxes,
-            reason,
-        } = entry;
-        let found = (*depth, *player, boxes.as_slice(), parts(reason));
-        assert!(rt; found == *told, "{entry:?}");
+    for (index, (entry, told)) in entries.iter().zip(told).enumerate() {
+        assert!(rt; tells(entry, told), "entry {index}");
     }
 }
 
@@ -94,18 +99,22 @@ fn inner_parts(reason: &InnerReason) -> (char, &[u32]) {
 /// An inner position's depth, player, boxes and reason.
 type ToldInside<'a> = (u32, u32, &'a [u32], (char, &'a [u32]));
 
+/// Whether an inner position tells this.
+fn tells_inside(position: &Inner, told: &ToldInside<'_>) -> bool {
+    let (depth, player, boxes, (letter, members)) = *told;
+    let (found, listed) = inner_parts(&position.reason);
+    position.depth == depth
+        && position.player == player
+        && position.boxes.as_slice() == boxes
+        && found == letter
+        && listed == members
+}
+
 /// Asserts what inner positions tell.
 fn assert_inside(rt: &impl Abort, inner: &[Inner], told: &[ToldInside<'_>]) {
     assert_eq!(rt; inner.len(), told.len());
-    for (position, told) in inner.iter().zip(told) {
-        let Inner {
-            depth,
-            player,
-            boxes,
-            reason,
-        } = position;
-        let found = (*depth, *player, boxes.as_slice(), inner_parts(reason));
-        assert!(rt; found == *told, "{position:?}");
+    for (index, (position, told)) in inner.iter().zip(told).enumerate() {
+        assert!(rt; tells_inside(position, told), "position {index}");
     }
 }
 

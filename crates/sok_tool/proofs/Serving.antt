@@ -1,13 +1,14 @@
 -- What is answered to a job is what serves its form.
 use Rattle.std.proofs.Common.{ℕ, ℤ, ◌≡◌, ◌∙◌, inl, FitsSigned, Global, String, List, Option, Some, None, Err, option_map, pos, refl}
-use Rattle.std.proofs.Common.{string_bytes, subst, sym, w64}
+use Rattle.std.proofs.Common.{◌≤◌, ◌∷◌, ap, arith, length, map, string_bytes, subst, sym, w64}
+use Rattle.std.proofs.lemmas.List.{length-map}
 use Rattle.std.specs.Str.Parse.{digits_value}
 use Rattle.sok_engine.specs.declared.fault.ToolFault.TheVariants as tool
 use Rattle.sok_engine.specs.Certified.{Bytes, Stays}
 use Rattle.sok_keep.specs.Shows.{IsExport, IsShow}
 use Rattle.sok_keep.proofs.Ids.{fits, of_passed, passed}
 use Rattle.sok_words.specs.declared.job.Job.TheVariants as job
-use Rattle.sok_words.specs.Forms.{Form, IsId, IsPlain, Means, add, check, export, limit_of, list, offer, prove, replay, show, solve}
+use Rattle.sok_words.specs.Forms.{Form, IsId, IsPlain, Means, add, check, export, limit_of, list, offer, prove, replay, show, solve, words_of}
 use Rattle.sok_files.specs.Endings.{Ends}
 use Rattle.sok_files.specs.Files.{Files}
 use Rattle.sok_tool.specs.Commands.{RunsAdd, RunsCheck, RunsOffer, RunsProve, RunsReplay, RunsShowing, RunsSolve, Serves}
@@ -22,6 +23,23 @@ Serves-memory files databases (check file number cert) out err exit ends kept = 
 Serves-memory files databases (solve file number limit None) out err exit ends kept = (Err tool.Memory, kept, ends)
 Serves-memory files databases (solve file number limit (Some cert)) out err exit ends kept = (Err tool.Memory, inl (inl refl, kept), ends)
 Serves-memory files databases _ out err exit ends kept = (Err tool.Memory, refused tool.Memory (unread refl) refl kept, ends)
+
+-- a form has a word after the program's name
+asks : (form : Form) → 1 ≤ length (words_of form)
+asks (list file) = omega arith
+asks (replay file number text) = omega arith
+asks (solve file number limit cert) = omega arith
+asks (check file number cert) = omega arith
+asks (add db file) = omega arith
+asks (offer db id text) = omega arith
+asks (prove db id cert) = omega arith
+asks (show db id) = omega arith
+asks (export db) = omega arith
+
+-- so without further words none is asked for
+pub too_few : (words : List (String Global)) (program : List ℕ) (form : Form) → length words ≤ 1
+    → map (λ word. string_bytes word) words ≡ program ∷ words_of form → ⊥
+too_few words program form few is = omega (arith, asks form, simp length-map at (ap (λ l. length l) is))
 
 -- a job of replaying serves its form
 pub Serves-replay : (files : Files) (databases : Databases) (form : Form) (file : String Global) (n : ℕ) (text : String Global) (name letters : List ℕ)

@@ -1,11 +1,10 @@
 use Rattle.std.proofs.Common.{IfErr}
 use Rattle.sqlite.specs.Held.{state}
 use Rattle.sok_store.specs.Calls.{Stops, Turns}
-use Rattle.sok_store.proofs.Calls.{stops_less}
 use Rattle.sok_keep.specs.Causes.{IsCausedFault}
 use Rattle.sok_keep.specs.Proves.{ProvesBytes, WritesProof}
 use Rattle.sok_keep.proofs.Ids.{of_passed}
-use Rattle.sok_tool.proofs.Working.{Turns-weaker, caused_weaker, without_book, works}
+use Rattle.sok_tool.proofs.Working.{without_book, works_with_file}
 use Rattle.sok_tool.proofs.keeping.prove.Goals as goal
 
 pub returns-in_err-book : goal.returns-in_err-book
@@ -22,8 +21,6 @@ returns g c =
     let stop = of_passed (λ id. Stops (state g.S.Store c.in_ok-book.book) (state g.S.Store call.new.book) (ProvesBytes id known)) c.args.id c.ranges.id call.ensures.stop in
     let cause = of_passed (λ id. IfErr call.result (IsCausedFault (state g.S.Store c.in_ok-book.book) (state g.S.Store call.new.book) (ProvesBytes id known)))
     c.args.id c.ranges.id call.ensures.cause in
-    works _ _ _ _ _ _ c.in_ok-book.book call.new.book _ c.in_ok-book.ensures.opens c.into_connection.ensures c.close.ensures
-    (Turns-weaker _ _ _ _ (λ book after made. (known, c.in_ok-book.ensures.reads, made)) proves)
-    (stops_less _ _ _ _ (λ book after made. (known, c.in_ok-book.ensures.reads, made)) stop)
-    (caused_weaker (state g.S.Store c.in_ok-book.book) (state g.S.Store call.new.book) (ProvesBytes c.args.id known) _
-    (λ book after made. (known, c.in_ok-book.ensures.reads, made)) call.result cause)
+    works_with_file _ _ _ known c.in_ok-book.ensures.reads (ProvesBytes c.args.id)
+    (λ known book after. WritesProof book c.args.id known after before later call.result) _ _ c.in_ok-book.book call.new.book _ c.in_ok-book.ensures.opens
+    c.into_connection.ensures c.close.ensures proves stop cause

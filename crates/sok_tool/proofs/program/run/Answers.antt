@@ -1,5 +1,5 @@
 use Rattle.std.proofs.Common.{◌≡◌, arith}
-use Rattle.sok_tool.proofs.Serving.{Serves-memory}
+use Rattle.sok_tool.proofs.Serving.{Serves-memory, too_few}
 use Rattle.sok_tool.proofs.program.run.Goals as goal
 
 pub returns-in-Err-clause-serves : goal.returns-in-Err-clause-serves
@@ -9,3 +9,15 @@ returns-in-Err-clause-serves g c = λ program form plain words.
 
 pub returns-in-Ok-clause-serves : goal.returns-in-Ok-clause-serves
 returns-in-Ok-clause-serves g c = λ program form plain words. c.served.ensures form plain (c.in-Ok.ensures program form plain words)
+
+pub returns-then-words-le1-clause-plays : goal.returns-then-words-le1-clause-plays
+returns-then-words-le1-clause-plays g c = λ _. (c.play_bytes.result, c.play_bytes.ensures, c.ended.ensures)
+
+pub returns-then-words-le1-clause-serves : goal.returns-then-words-le1-clause-serves
+returns-then-words-le1-clause-serves g c = λ program form plain is. absurd (too_few _ program form c.if-words-le1.true is)
+
+pub returns-in-Err-clause-plays : goal.returns-in-Err-clause-plays
+returns-in-Err-clause-plays g c = λ few. absurd (omega (arith, few, c.if-words-le1.false))
+
+pub returns-in-Ok-clause-plays : goal.returns-in-Ok-clause-plays
+returns-in-Ok-clause-plays g c = λ few. absurd (omega (arith, few, c.if-words-le1.false))
