@@ -76,8 +76,17 @@ fn first_other_of<S: Alter>(
     None
 }
 
+/// The same of a database.
+fn first_other_in<S: Alter + Drop>(
+    alloc: Global,
+    connection: Connection<S>,
+    rows: &[Row],
+) -> Result<Option<Command<'static>>, Fail> {
+    let mut book = book_in(alloc, connection)?;
+    Ok(first_other_of(alloc, &mut book, rows))
+}
+
 /// The first command that tells something else, beginning with an empty book in memory.
 pub(crate) fn first_other(alloc: Global, rows: &[Row]) -> Result<Option<Command<'static>>, Fail> {
-    let mut book = book_in(alloc, Connection::open_in_memory(alloc)?)?;
-    Ok(first_other_of(alloc, &mut book, rows))
+    first_other_in(alloc, Connection::open_in_memory(alloc)?, rows)
 }

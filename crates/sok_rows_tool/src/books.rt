@@ -110,15 +110,22 @@ fn filled(alloc: Global) -> Result<Connection<MemStore>, Fail> {
 }
 
 /// Adds a level to a full book, and one that is there.
-fn add_to_full(rt: &impl Abort, alloc: Global, book: &mut Book<MemStore>) -> Result<(), Fail> {
-    let there = numbered(alloc, 7)?;
-    for (board, found) in [
-        (ONE_PUSH, Err(BookFault::BookFull)),
-        (there.as_str(), Ok(7)),
-    ] {
+fn add_both(
+    rt: &impl Abort,
+    alloc: Global,
+    book: &mut Book<MemStore>,
+    there: &str,
+) -> Result<(), Fail> {
+    for (board, found) in [(ONE_PUSH, Err(BookFault::BookFull)), (there, Ok(7))] {
         assert_eq!(rt; added(alloc, book, board, None)?, found);
     }
     Ok(())
+}
+
+/// Adds a level to a full book, and the one of the number 7.
+fn add_to_full(rt: &impl Abort, alloc: Global, book: &mut Book<MemStore>) -> Result<(), Fail> {
+    let there = numbered(alloc, 7)?;
+    add_both(rt, alloc, book, there.as_str())
 }
 
 #[test]

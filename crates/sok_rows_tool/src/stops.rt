@@ -5,7 +5,7 @@ use crate::answering::{Command, answer};
 use crate::commands::TWO_PUSHES;
 use sok_sketch::sketch::ROOM_OF_TWO_ROWS;
 use sok_store::book::Book;
-use sqlite::{Connection, FileStore, Files, Options};
+use sqlite::{Alter, Connection, Files, Options};
 use sqlite_disk::{Crash, Disk, Fuse, Memory};
 use std::alloc::Global;
 use std::process::Abort;
@@ -76,20 +76,8 @@ fn copy_of(alloc: Global, files: &Stopping, log: u64, db: u64) -> Result<Stoppin
     })
 }
 
-/// A database in files that stop.
-type Connected = Connection<FileStore<Fuse<Memory>>>;
-
-/// What is left of the files of a database.
-fn closed(connection: Connected) -> Stopping {
-    connection.into_store().close()
-}
-
-/// What a command writes, if it answers.
-fn written(
-    alloc: Global,
-    book: &mut Book<FileStore<Fuse<Memory>>>,
-    command: Command<'_>,
-) -> Option<Vec<u8>> {
+/// What a command writes of a book, if it answers.
+fn written<S: Alter>(alloc: Global, book: &mut Book<S>, command: Command<'_>) -> Option<Vec<u8>> {
     let mut out = Vec::new(alloc);
     match answer(alloc, book, command, &mut out) {
         Ok(_) => Some(out),
@@ -97,38 +85,51 @@ fn written(
     }
 }
 
-/// Works on the book in a database: what is left of the files, and what was written, if it
+/// Works on the book in a database: what is left of the database, and what was written, if it
 /// answered.
-fn worked_in(
+fn worked_in<S: Alter + Drop>(
     alloc: Global,
-    connection: Connected,
+    connection: Connection<S>,
     command: Command<'_>,
-) -> (Stopping, Option<Vec<u8>>) {
+) -> (S, Option<Vec<u8>>) {
     if !connection.is_autocommit() {
-        return (closed(connection), None);
+        return (connection.into_store(), None);
     }
     match Book::open(alloc, connection) {
-        Err(refused) => (closed(refused.connection), None),
+        Err(refused) => (refused.connection.into_store(), None),
         Ok(mut book) => {
             let told = written(alloc, &mut book, command);
-            (closed(book.into_connection()), told)
+            (book.into_connection().into_store(), told)
         }
     }
 }
 
-/// The same of the database in some files, which is opened first.
-fn worked(
+/// The same of the database in some files, which is opened first. It is over files of any kind, so
+/// that the contracts of the calls are read once, and not for the files that stop.
+fn worked_on<D: Disk + Drop>(
     alloc: Global,
-    files: Stopping,
+    files: Files<D>,
     command: Command<'_>,
-) -> Result<(Stopping, Option<Vec<u8>>), Fail> {
+) -> Result<(Files<D>, Option<Vec<u8>>), Fail> {
     if !files.may_be_used() {
         return Err("a sync has failed".into());
     }
     match Connection::open_files(alloc, files, Options::new(1)) {
         Err((_, left)) => Ok((left.into_files(), None)),
-        Ok(connection) => Ok(worked_in(alloc, connection, command)),
+        Ok(connection) => {
+            let (store, told) = worked_in(alloc, connection, command);
+            Ok((store.close(), told))
+        }
     }
+}
+
+/// The same of files that stop.
+fn worked(
+    alloc: Global,
+    files: Stopping,
+    command: Command<'_>,
+) -> Result<(Stopping, Option<Vec<u8>>), Fail> {
+    worked_on(alloc, files, command)
 }
 
 /// What is left of the files where a command answers.
