@@ -16,25 +16,8 @@ use sok_state::key::Key;
 use sok_state::table::Table;
 use std::alloc::Global;
 
-/// A search that knows the start alone. A whole one keeps each state that it comes to.
-pub(crate) fn begin(
-    alloc: Global,
-    board: &Board,
-    tables: &Tables,
-    whole: bool,
-) -> Result<Search, Memory>
-    requires { tables.now.board ≡ board.now }
-    ensures search { (limit : ℕ) → 0 < limit
-        → IfOk result (λ search. IsSearch board.now limit (progress_of search)) }
-    ensures whole { IfOk result (λ search. search.whole ≡ whole) }
-{
-    let mut search = empty(alloc, board, whole)?;
-    enter_start(alloc, board, tables, &mut search)?;
-    Ok(search)
-}
-
-/// A search that knows nothing.
-fn empty(alloc: Global, board: &Board, whole: bool) -> Result<Search, Memory>
+/// A search that knows nothing. A whole one keeps each state that it will come to.
+pub(crate) fn empty(alloc: Global, board: &Board, whole: bool) -> Result<Search, Memory>
     ensures empty { IfOk result (IsEmpty board.now) }
     ensures whole { IfOk result (λ search. search.whole ≡ whole) }
 {
@@ -49,7 +32,7 @@ fn empty(alloc: Global, board: &Board, whole: bool) -> Result<Search, Memory>
 }
 
 /// Enters the start into a search that knows nothing.
-fn enter_start(
+pub(crate) fn enter_start(
     alloc: Global,
     board: &Board,
     tables: &Tables,

@@ -9,10 +9,10 @@ ghost use Rattle.sok_search.specs.Limits.{state_limit};
 ghost use Rattle.sok_search.specs.Outcomes.{IsAnswer, IsFound};
 ghost use Rattle.sok_search.specs.Searches.{IsSearch, IsSearching, IsSmallSearch};
 ghost use Rattle.sok_search.specs.Trails.{IsSolvedWithin};
-ghost use Rattle.sok_search.specs.Views.{progress_of, IsRunning, TellsFinished, TellsSearched};
+ghost use Rattle.sok_search.specs.Views.{progress_of, IsEmpty, IsRunning, TellsFinished, TellsSearched};
 ghost use Rattle.sok_search.specs.declared.fault.SolveFault.TheVariants as fault;
 
-use crate::beginning::begin;
+use crate::beginning::{empty, enter_start};
 use crate::certifying::certificate;
 use crate::expanding::Scratch;
 use crate::fault::SolveFault;
@@ -94,9 +94,29 @@ fn answer(alloc: Global, board: &Board, limit: u32) -> Result<Outcome, Memory>
     // Its clauses tell that the level is accepted.
     let _level = board.level();
     let tables = Tables::new(alloc, board)?;
-    match searched(alloc, board, &tables, true, limit)? {
-        Some(search) => conclude(alloc, board, &tables, &search),
-        None => Ok(Outcome::Limit { states: limit }),
+    let mut search = empty(alloc, board, true)?;
+    answer_by(alloc, board, &tables, limit, &mut search)
+}
+
+/// The same, by a search that knows nothing.
+fn answer_by(
+    alloc: Global,
+    board: &Board,
+    tables: &Tables,
+    limit: u32,
+    search: &mut Search,
+) -> Result<Outcome, Memory>
+    requires accepted { IsAccepted board.now }
+    requires tables { tables.now.board ≡ board.now }
+    requires positive { 0 < limit }
+    requires small { limit ≤ state_limit }
+    requires empty { IsEmpty board.now search.old }
+    requires whole { search.old.whole ≡ true }
+    ensures { IfOk result (IsAnswer board.now.rows limit) }
+{
+    match search_all(alloc, board, tables, limit, search)? {
+        Reached::On => conclude(alloc, board, tables, search),
+        Reached::Full => Ok(Outcome::Limit { states: limit }),
     }
 }
 
@@ -108,30 +128,47 @@ fn find_on(alloc: Global, board: &Board, limit: u32) -> Result<Found, Memory>
     // Its clauses tell that the level is accepted.
     let _level = board.level();
     let tables = Tables::new(alloc, board)?;
-    match searched(alloc, board, &tables, false, limit)? {
-        Some(search) => find_in(alloc, board, &search),
-        None => Ok(Found::Limit { states: limit }),
-    }
+    let mut search = empty(alloc, board, false)?;
+    find_by(alloc, board, &tables, limit, &mut search)
 }
 
-/// A search of a board that goes on until no state waits, or None where its table is full before.
-fn searched(
+/// The same, by a search that knows nothing.
+fn find_by(
     alloc: Global,
     board: &Board,
     tables: &Tables,
-    whole: bool,
     limit: u32,
-) -> Result<Option<Search>, Memory>
+    search: &mut Search,
+) -> Result<Found, Memory>
     requires accepted { IsAccepted board.now }
     requires tables { tables.now.board ≡ board.now }
     requires positive { 0 < limit }
-    ensures { IfOk result (TellsSearched board.now limit whole) }
+    requires empty { IsEmpty board.now search.old }
+    ensures { IfOk result (IsFound board.now.rows limit) }
 {
-    let mut search = begin(alloc, board, tables, whole)?;
-    match finish(alloc, board, tables, limit, &mut search)? {
-        Reached::On => Ok(Some(search)),
-        Reached::Full => Ok(None),
+    match search_all(alloc, board, tables, limit, search)? {
+        Reached::On => find_in(alloc, board, search),
+        Reached::Full => Ok(Found::Limit { states: limit }),
     }
+}
+
+/// Searches from the start until no state waits, or the table is full before.
+fn search_all(
+    alloc: Global,
+    board: &Board,
+    tables: &Tables,
+    limit: u32,
+    search: &mut Search,
+) -> Result<Reached, Memory>
+    requires accepted { IsAccepted board.now }
+    requires tables { tables.now.board ≡ board.now }
+    requires positive { 0 < limit }
+    requires empty { IsEmpty board.now search.old }
+    ensures { IfOk result
+        (TellsSearched board.now limit search.old.whole (progress_of search.new)) }
+{
+    enter_start(alloc, board, tables, search)?;
+    finish(alloc, board, tables, limit, search)
 }
 
 /// Goes on with a search until no state waits, or its table is full.

@@ -1,0 +1,25 @@
+use Rattle.std.proofs.Common.{refl, subst, true, ◌∙◌}
+use Rattle.sok_search.specs.Views.{IsSearched, TellsSearched, progress_of}
+use Rattle.sok_search.proofs.solve.answer_by.Goals as goal
+use Rattle.sok_search.proofs.solve.answer_by.Goals.{In-On}
+
+told : (c : In-On) → IsSearched c.args.board.now c.args.limit c.args.search.now.whole (progress_of c.search_all.new.search)
+told c = subst (TellsSearched c.args.board.now c.args.limit c.args.search.now.whole (progress_of c.search_all.new.search)) c.in-On.is c.in_ok-search_all.ensures
+
+pub conclude-requires-clause-search : goal.conclude-requires-clause-search
+conclude-requires-clause-search c = (c.args.limit, (told (goal.at.conclude-requires-clause-search c).In-On).search, c.requires.small)
+
+pub conclude-requires-clause-whole : goal.conclude-requires-clause-whole
+conclude-requires-clause-whole c = (told (goal.at.conclude-requires-clause-whole c).In-On).kept ∙ c.requires.whole
+
+pub conclude-requires-clause-finished : goal.conclude-requires-clause-finished
+conclude-requires-clause-finished c = (told (goal.at.conclude-requires-clause-finished c).In-On).empty
+
+pub returns-in-On : goal.returns-in-On
+returns-in-On c = c.conclude.ensures c.args.limit (told (goal.at.returns-in-On c).In-On).search
+
+pub returns-in-Full : goal.returns-in-Full
+returns-in-Full c = record {
+  more = subst (TellsSearched c.args.board.now c.args.limit c.args.search.now.whole (progress_of c.search_all.new.search)) c.in-Full.is c.in_ok-search_all.ensures;
+  is = refl;
+}

@@ -1,0 +1,22 @@
+use Rattle.std.proofs.Common.{refl, subst}
+use Rattle.sok_search.specs.Views.{IsSearched, TellsSearched, progress_of}
+use Rattle.sok_search.proofs.solve.find_by.Goals as goal
+use Rattle.sok_search.proofs.solve.find_by.Goals.{In-On}
+
+told : (c : In-On) → IsSearched c.args.board.now c.args.limit c.args.search.now.whole (progress_of c.search_all.new.search)
+told c = subst (TellsSearched c.args.board.now c.args.limit c.args.search.now.whole (progress_of c.search_all.new.search)) c.in-On.is c.in_ok-search_all.ensures
+
+pub find_in-requires-clause-search : goal.find_in-requires-clause-search
+find_in-requires-clause-search c = (c.args.limit, (told (goal.at.find_in-requires-clause-search c).In-On).search)
+
+pub find_in-requires-clause-finished : goal.find_in-requires-clause-finished
+find_in-requires-clause-finished c = (told (goal.at.find_in-requires-clause-finished c).In-On).empty
+
+pub returns-in-On : goal.returns-in-On
+returns-in-On c = c.find_in.ensures c.args.limit (told (goal.at.returns-in-On c).In-On).search
+
+pub returns-in-Full : goal.returns-in-Full
+returns-in-Full c = record {
+  more = subst (TellsSearched c.args.board.now c.args.limit c.args.search.now.whole (progress_of c.search_all.new.search)) c.in-Full.is c.in_ok-search_all.ensures;
+  is = refl;
+}
