@@ -1,10 +1,14 @@
 //! What a certificate that was accepted shows.
 
-ghost use Rattle.std.specs.Prelude.{◌≡◌};
+ghost use Rattle.std.specs.Prelude.{◌≡◌, ◌⊎◌, Err, IfErr, IfOk, IsOk, OnOk};
+ghost use Rattle.sok_entry.specs.declared.fault.CertFault.TheVariants as cert;
 ghost use Rattle.sok_cert.specs.Closed.{IsTrueOf};
 
+use sok_board::board::Board;
 use sok_entry::claim::Claim;
+use sok_entry::fault::CertFault;
 use sok_rules::level::Level;
+use std::alloc::Global;
 use std::marker::Model;
 
 /// What a certificate that was accepted shows: a claim that is true of its level. It is made by
@@ -36,11 +40,21 @@ impl Accepted {
         self.claim
     }
 
-    /// A claim with its level, of which it is true.
-    pub(crate) fn new(level: Level, claim: Claim) -> Accepted
-        requires { IsTrueOf level claim }
-        ensures { result ≡ record { rows = level; claim = claim } }
+    /// A claim of a board's level, if it was judged without a fault.
+    pub(crate) fn of(
+        alloc: Global,
+        board: &Board,
+        claim: Claim,
+        judged: Result<(), CertFault>,
+    ) -> Result<Accepted, CertFault>
+        requires { IfOk judged (λ _. IsTrueOf board.now.rows claim) }
+        ensures made { IfOk result
+            (λ accepted. accepted ≡ record { rows = board.now.rows; claim = claim }) }
+        ensures judged { OnOk result (IsOk judged) }
+        ensures fault { IfErr result (λ fault. (fault ≡ cert.Memory) ⊎ (judged ≡ Err fault)) }
     {
-        Accepted { level, claim }
+        judged?;
+        let level = board.level().copy(alloc)?;
+        Ok(Accepted { level, claim })
     }
 }

@@ -44,9 +44,10 @@ fn judged(alloc: Global, board: &Board, claim: Claim, cert: &Cert) -> Result<Acc
     ensures closed { IfOk result (λ _. IsClosed board.now claim cert.now.entries.items) }
     ensures refused { IfErr result (IsRefused board.now claim cert.now.entries.items) }
 {
-    let level = board.level();
-    judge_entries(alloc, board, claim, cert.entries.as_slice())?;
-    Ok(Accepted::new(level.copy(alloc)?, claim))
+    // Its clauses tell that the level is accepted.
+    let _level = board.level();
+    let judged = judge_entries(alloc, board, claim, cert.entries.as_slice());
+    Accepted::of(alloc, board, claim, judged)
 }
 
 /// Judges the entries of a list.

@@ -190,9 +190,8 @@ impl Ended<'_> {
             claim,
             roster,
         } = self;
-        let level = board.level();
-        roster.close(alloc, board)?;
-        Ok(Accepted::new(level.copy(alloc)?, claim))
+        let judged = roster.close(alloc, board);
+        Accepted::of(alloc, board, claim, judged)
     }
 }
 
