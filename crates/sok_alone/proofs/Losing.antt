@@ -1,10 +1,10 @@
 -- What losses show: nothing solves where some of the boxes are lost alone.
-use Rattle.std.proofs.Common.{ℕ, ◌≡◌, ◌<◌, ◌⊎◌, ◌∙◌, ◌&&◌, ◌==◌, false, true, true≢false, inl, inr, refl, sym, ap, subst, List, [], ◌∷◌, zero, suc, All, Contains, IfSome, Option, None, Some, arith, get_or, length}
+use Rattle.std.proofs.Common.{ℕ, ◌≡◌, ◌<◌, ◌∙◌, ◌&&◌, ◌==◌, false, true, true≢false, inl, inr, refl, sym, ap, subst, List, [], ◌∷◌, All, Contains, IfSome, Option, None, Some, arith, get_or, length}
 use Rattle.std.specs.List.Sorted.{IsStrictlyIncreasing}
 use Rattle.std.proofs.lemmas.Bool.{cases_Bool}
 use Rattle.std.proofs.lemmas.Bool.Decides.{nat_tests}
 use Rattle.std.proofs.lemmas.List.{get_or_default}
-use Rattle.std.proofs.lemmas.List.Elements.{All-cons, All-contains, All-nil}
+use Rattle.std.proofs.lemmas.List.Elements.{All-contains}
 use Rattle.std.proofs.lemmas.Option.{get_or_from_slice_get, same_Some, slice_get_within}
 use Rattle.sok_rules.specs.declared.cell.Dir.{Dir}
 use Rattle.sok_rules.specs.declared.cell.Spot.{Spot}

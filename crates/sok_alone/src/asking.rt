@@ -178,13 +178,13 @@ impl Losses {
             (put_in_order from to boxes.now) (losses_of self.new))) }
     {
         let hint = hint_of(board, dir, to, one, two);
-        if self.has_hint(hint) || !self.is_worth_it(known) {
+        if self.hints.has(hint) || !self.is_worth_it(known) {
             return Ok(None);
         }
         let squares = [from, one, two.unwrap_or(one)];
         let found = self.loss_pushed(alloc, board, tables, boxes, from, to, &squares)?;
         if found.is_none() {
-            self.note_hint(hint);
+            self.hints.note(hint);
         }
         Ok(found)
     }

@@ -47,7 +47,7 @@ pub struct Loss {
 #[derive(Drop)]
 pub struct Losses {
     /// After which pushes no loss is known.
-    hints: Hints,
+    pub(crate) hints: Hints,
     /// The states that were asked. The depth of one is 0 where no loss is known, else one more than
     /// the place of its loss.
     asked: Table,
@@ -91,19 +91,6 @@ impl Losses {
     /// Whether boxes that were not asked yet may be searched where so many states are known.
     pub(crate) fn is_worth_it(&self, known: usize) -> bool {
         self.asked.len().saturating_sub(SEARCHES) <= known
-    }
-
-    /// Whether no loss is known, by a hint.
-    pub(crate) fn has_hint(&self, hint: usize) -> bool {
-        self.hints.has(hint)
-    }
-
-    /// Gives the hint that no loss is known.
-    pub(crate) fn note_hint(&mut self, hint: usize)
-        ensures asked { self.new.asked ≡ self.old.asked }
-        ensures losses { self.new.losses ≡ self.old.losses }
-    {
-        self.hints.note(hint);
     }
 
     /// The place of a loss of these boxes where the player stands. They are searched if they were
