@@ -3,6 +3,7 @@
 ghost use Rattle.std.specs.Prelude.{◌≡◌, ◌<◌, Contains, IfOk, IfSome, OnOk, length};
 ghost use Rattle.sok_board.specs.BoxSets.{put_in_order};
 ghost use Rattle.sok_region.specs.Regions.{IsPlaced};
+ghost use Rattle.sok_alone.specs.Asking.{MayAsk, TellsAsked};
 ghost use Rattle.sok_alone.specs.Losses.{ArePushed, IsLostBy, KeepsLosses, KeepsPlaces, losses_of};
 
 use crate::choosing::chosen;
@@ -18,6 +19,19 @@ use std::alloc::Global;
 
 /// How far apart three boxes stand at most that are asked, in rows and in columns.
 const REACH: u32 = 2;
+
+/// A push of one of some boxes, about which is asked where so many states are known.
+#[derive(Clone, Copy)]
+pub(crate) struct Asking<'a> {
+    alloc: Global,
+    board: &'a Board,
+    tables: &'a Tables,
+    known: usize,
+    boxes: &'a BoxSet,
+    from: Sq,
+    dir: Dir,
+    to: Sq,
+}
 
 impl Losses {
     /// The place of a loss that shows that nothing solves after a push of one of the boxes: that box
@@ -44,40 +58,33 @@ impl Losses {
         ensures lost { IfOk result (λ found. IfSome found (IsLostBy board.now from
             (put_in_order from to boxes.now) (losses_of self.new))) }
     {
-        let found = self.loss_of_two(alloc, board, tables, known, boxes, from, dir, to)?;
+        let asking = Asking {
+            alloc,
+            board,
+            tables,
+            known,
+            boxes,
+            from,
+            dir,
+            to,
+        };
+        let found = self.loss_of_two(&asking)?;
         if found.is_some() {
             return Ok(found);
         }
-        self.loss_of_three(alloc, board, tables, known, boxes, from, dir, to)
+        self.loss_of_three(&asking)
     }
 
     /// The place of a loss of the pushed box and another one.
-    fn loss_of_two(
-        &mut self,
-        alloc: Global,
-        board: &Board,
-        tables: &Tables,
-        known: usize,
-        boxes: &BoxSet,
-        from: Sq,
-        dir: Dir,
-        to: Sq,
-    ) -> Result<Option<u32>, Memory>
-        requires tables { tables.now.board ≡ board.now }
-        requires pushed { ArePushed board.now boxes.now from to }
-        requires losses { KeepsLosses board.now self.old }
-        ensures losses { OnOk result (KeepsLosses board.now self.new) }
-        ensures kept { OnOk result (KeepsPlaces (losses_of self.old) (losses_of self.new)) }
-        ensures lost { IfOk result (λ found. IfSome found (IsLostBy board.now from
-            (put_in_order from to boxes.now) (losses_of self.new))) }
+    fn loss_of_two(&mut self, asking: &Asking<'_>) -> Result<Option<u32>, Memory>
+        requires { MayAsk asking.now self.old }
+        ensures { IfOk result (TellsAsked asking.now self.old self.new) }
     {
-        for one in boxes.list() {
-            if *one == from {
+        for one in asking.boxes.list() {
+            if *one == asking.from {
                 continue;
             }
-            let found = self.ask(
-                alloc, board, tables, known, boxes, from, dir, to, *one, None,
-            )?;
+            let found = self.ask(asking, *one, None)?;
             if found.is_some() {
                 return Ok(found);
             }
@@ -86,30 +93,15 @@ impl Losses {
     }
 
     /// The place of a loss of the pushed box and two others, where the three stand close.
-    fn loss_of_three(
-        &mut self,
-        alloc: Global,
-        board: &Board,
-        tables: &Tables,
-        known: usize,
-        boxes: &BoxSet,
-        from: Sq,
-        dir: Dir,
-        to: Sq,
-    ) -> Result<Option<u32>, Memory>
-        requires tables { tables.now.board ≡ board.now }
-        requires pushed { ArePushed board.now boxes.now from to }
-        requires losses { KeepsLosses board.now self.old }
-        ensures losses { OnOk result (KeepsLosses board.now self.new) }
-        ensures kept { OnOk result (KeepsPlaces (losses_of self.old) (losses_of self.new)) }
-        ensures lost { IfOk result (λ found. IfSome found (IsLostBy board.now from
-            (put_in_order from to boxes.now) (losses_of self.new))) }
+    fn loss_of_three(&mut self, asking: &Asking<'_>) -> Result<Option<u32>, Memory>
+        requires { MayAsk asking.now self.old }
+        ensures { IfOk result (TellsAsked asking.now self.old self.new) }
     {
-        for one in boxes.list() {
-            if *one == from || !are_close(board, to, *one) {
+        for one in asking.boxes.list() {
+            if *one == asking.from || !are_close(asking.board, asking.to, *one) {
                 continue;
             }
-            let found = self.loss_beside(alloc, board, tables, known, boxes, from, dir, to, *one)?;
+            let found = self.loss_beside(asking, *one)?;
             if found.is_some() {
                 return Ok(found);
             }
@@ -118,36 +110,19 @@ impl Losses {
     }
 
     /// The place of a loss of the pushed box, one that stands close to it, and one behind that.
-    fn loss_beside(
-        &mut self,
-        alloc: Global,
-        board: &Board,
-        tables: &Tables,
-        known: usize,
-        boxes: &BoxSet,
-        from: Sq,
-        dir: Dir,
-        to: Sq,
-        one: Sq,
-    ) -> Result<Option<u32>, Memory>
-        requires tables { tables.now.board ≡ board.now }
-        requires pushed { ArePushed board.now boxes.now from to }
-        requires among { Contains boxes.now one }
-        requires losses { KeepsLosses board.now self.old }
-        ensures losses { OnOk result (KeepsLosses board.now self.new) }
-        ensures kept { OnOk result (KeepsPlaces (losses_of self.old) (losses_of self.new)) }
-        ensures lost { IfOk result (λ found. IfSome found (IsLostBy board.now from
-            (put_in_order from to boxes.now) (losses_of self.new))) }
+    fn loss_beside(&mut self, asking: &Asking<'_>, one: Sq) -> Result<Option<u32>, Memory>
+        requires asking { MayAsk asking.now self.old }
+        requires among { Contains asking.now.boxes.now one }
+        ensures { IfOk result (TellsAsked asking.now self.old self.new) }
     {
-        for two in boxes.list() {
-            if *two <= one || *two == from || !are_close(board, to, *two) {
+        for two in asking.boxes.list() {
+            if *two <= one || *two == asking.from || !are_close(asking.board, asking.to, *two) {
                 continue;
             }
-            if !are_close(board, one, *two) {
+            if !are_close(asking.board, one, *two) {
                 continue;
             }
-            let two = Some(*two);
-            let found = self.ask(alloc, board, tables, known, boxes, from, dir, to, one, two)?;
+            let found = self.ask(asking, one, Some(*two))?;
             if found.is_some() {
                 return Ok(found);
             }
@@ -156,33 +131,15 @@ impl Losses {
     }
 
     /// The place of a loss of the pushed box and one other, or two, unless none is known by a hint.
-    fn ask(
-        &mut self,
-        alloc: Global,
-        board: &Board,
-        tables: &Tables,
-        known: usize,
-        boxes: &BoxSet,
-        from: Sq,
-        dir: Dir,
-        to: Sq,
-        one: Sq,
-        two: Option<Sq>,
-    ) -> Result<Option<u32>, Memory>
-        requires tables { tables.now.board ≡ board.now }
-        requires pushed { ArePushed board.now boxes.now from to }
-        requires losses { KeepsLosses board.now self.old }
-        ensures losses { OnOk result (KeepsLosses board.now self.new) }
-        ensures kept { OnOk result (KeepsPlaces (losses_of self.old) (losses_of self.new)) }
-        ensures lost { IfOk result (λ found. IfSome found (IsLostBy board.now from
-            (put_in_order from to boxes.now) (losses_of self.new))) }
+    fn ask(&mut self, asking: &Asking<'_>, one: Sq, two: Option<Sq>) -> Result<Option<u32>, Memory>
+        requires { MayAsk asking.now self.old }
+        ensures { IfOk result (TellsAsked asking.now self.old self.new) }
     {
-        let hint = hint_of(board, dir, to, one, two);
-        if self.hints.has(hint) || !self.is_worth_it(known) {
+        let hint = hint_of(asking.board, asking.dir, asking.to, one, two);
+        if self.hints.has(hint) || !self.is_worth_it(asking.known) {
             return Ok(None);
         }
-        let squares = [from, one, two.unwrap_or(one)];
-        let found = self.loss_pushed(alloc, board, tables, boxes, from, to, &squares)?;
+        let found = self.loss_pushed(asking, &[asking.from, one, two.unwrap_or(one)])?;
         if found.is_none() {
             self.hints.note(hint);
         }
@@ -190,28 +147,20 @@ impl Losses {
     }
 
     /// The place of a loss after a push, of those of the boxes that stand on some squares before it.
-    fn loss_pushed(
-        &mut self,
-        alloc: Global,
-        board: &Board,
-        tables: &Tables,
-        boxes: &BoxSet,
-        from: Sq,
-        to: Sq,
-        squares: &[Sq],
-    ) -> Result<Option<u32>, Memory>
-        requires tables { tables.now.board ≡ board.now }
-        requires pushed { ArePushed board.now boxes.now from to }
-        requires among { Contains squares.now from }
-        requires losses { KeepsLosses board.now self.old }
-        ensures losses { OnOk result (KeepsLosses board.now self.new) }
-        ensures kept { OnOk result (KeepsPlaces (losses_of self.old) (losses_of self.new)) }
-        ensures lost { IfOk result (λ found. IfSome found (IsLostBy board.now from
-            (put_in_order from to boxes.now) (losses_of self.new))) }
+    fn loss_pushed(&mut self, asking: &Asking<'_>, squares: &[Sq]) -> Result<Option<u32>, Memory>
+        requires asking { MayAsk asking.now self.old }
+        requires among { Contains squares.now asking.now.from }
+        ensures { IfOk result (TellsAsked asking.now self.old self.new) }
     {
-        let before = chosen(alloc, boxes, squares)?;
-        let after = before.moved(alloc, from, to)?;
-        self.recall(alloc, board, tables, &after, from)
+        let before = chosen(asking.alloc, asking.boxes, squares)?;
+        let after = before.moved(asking.alloc, asking.from, asking.to)?;
+        self.recall(
+            asking.alloc,
+            asking.board,
+            asking.tables,
+            &after,
+            asking.from,
+        )
     }
 
     /// The place of a loss of two of the boxes, which are never solved from where the player stands,
@@ -233,40 +182,15 @@ impl Losses {
             (IsLostBy board.now player boxes.now (losses_of self.new))) }
     {
         for one in boxes.list() {
-            let found = self.loss_with(alloc, board, tables, boxes, player, *one)?;
-            if found.is_some() {
-                return Ok(found);
-            }
-        }
-        Ok(None)
-    }
-
-    /// The place of a loss of one of the boxes and one behind it.
-    fn loss_with(
-        &mut self,
-        alloc: Global,
-        board: &Board,
-        tables: &Tables,
-        boxes: &BoxSet,
-        player: Sq,
-        one: Sq,
-    ) -> Result<Option<u32>, Memory>
-        requires tables { tables.now.board ≡ board.now }
-        requires placed { IsPlaced board.now boxes.now player }
-        requires losses { KeepsLosses board.now self.old }
-        ensures losses { OnOk result (KeepsLosses board.now self.new) }
-        ensures kept { OnOk result (KeepsPlaces (losses_of self.old) (losses_of self.new)) }
-        ensures lost { IfOk result (λ found. IfSome found
-            (IsLostBy board.now player boxes.now (losses_of self.new))) }
-    {
-        for other in boxes.list() {
-            if *other <= one {
-                continue;
-            }
-            let pair = chosen(alloc, boxes, &[one, *other])?;
-            let found = self.recall(alloc, board, tables, &pair, player)?;
-            if found.is_some() {
-                return Ok(found);
+            for other in boxes.list() {
+                if *other <= *one {
+                    continue;
+                }
+                let pair = chosen(alloc, boxes, &[*one, *other])?;
+                let found = self.recall(alloc, board, tables, &pair, player)?;
+                if found.is_some() {
+                    return Ok(found);
+                }
             }
         }
         Ok(None)

@@ -6,3 +6,9 @@ invariant-loop-one l = record {
   losses : KeepsLosses l.board l.self;
   kept : KeepsPlaces (losses_of l.initial.self) (losses_of l.self);
 }
+
+abbrev pub invariant-loop-other : goal.invariant-loop-other
+invariant-loop-other l = record {
+  losses : KeepsLosses l.board l.self;
+  kept : KeepsPlaces (losses_of l.initial.self) (losses_of l.self);
+}

@@ -3,6 +3,6 @@ use Rattle.sok_alone.proofs.losses.Losses.loss_beside.Given as goal
 
 abbrev pub invariant-loop-two : goal.invariant-loop-two
 invariant-loop-two l = record {
-  losses : KeepsLosses l.board l.self;
+  losses : KeepsLosses l.asking.board.now l.self;
   kept : KeepsPlaces (losses_of l.initial.self) (losses_of l.self);
 }

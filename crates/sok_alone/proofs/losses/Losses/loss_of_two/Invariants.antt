@@ -3,6 +3,6 @@ use Rattle.sok_alone.proofs.losses.Losses.loss_of_two.Given as goal
 
 abbrev pub invariant-loop-one : goal.invariant-loop-one
 invariant-loop-one l = record {
-  losses : KeepsLosses l.board l.self;
+  losses : KeepsLosses l.asking.board.now l.self;
   kept : KeepsPlaces (losses_of l.initial.self) (losses_of l.self);
 }

@@ -1,6 +1,6 @@
 use Rattle.sok_alone.specs.Losses.{losses_of}
 use Rattle.sok_alone.proofs.Losing.{lost-among, placed-among}
-use Rattle.sok_alone.proofs.losses.Losses.loss_with.Goals as goal
+use Rattle.sok_alone.proofs.losses.Losses.loss_among.Goals as goal
 
 pub recall-requires-clause-placed : goal.recall-requires-clause-placed
 recall-requires-clause-placed c = placed-among c.args.board.now c.args.player c.in_ok-pair.pair c.args.boxes.now c.in_ok-pair.ensures.rising

@@ -1,8 +1,0 @@
-use Rattle.sok_alone.specs.Losses.{KeepsLosses, KeepsPlaces, losses_of}
-use Rattle.sok_alone.proofs.losses.Losses.loss_with.Given as goal
-
-abbrev pub invariant-loop-other : goal.invariant-loop-other
-invariant-loop-other l = record {
-  losses : KeepsLosses l.board l.self;
-  kept : KeepsPlaces (losses_of l.initial.self) (losses_of l.self);
-}
