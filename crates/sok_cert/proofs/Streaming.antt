@@ -1,5 +1,5 @@
 -- A certificate that is judged as it is read.
-use Rattle.std.proofs.Common.{ℕ, ◌≡◌, ◌+◌, ◌∙◌, sym, ap, refl, subst, List, [], ◌∷◌, ◌++◌, Option, Some, None, is_some, true, false, true≢false, MatchOption, Result, Ok, Err, IfOk, IsOk, OnOk, MatchResult, arith}
+use Rattle.std.proofs.Common.{ℕ, ◌≡◌, ◌+◌, ◌∙◌, sym, ap, refl, subst, List, [], ◌∷◌, ◌++◌, Option, Some, None, is_some, true, false, true≢false, MatchOption, arith}
 use Rattle.std.proofs.lemmas.List.{append_assoc, append-nil, length_push}
 use Rattle.std.specs.Str.Lines.{lines, strip_carriage_return}
 use Rattle.sok_text.specs.Lines.{IsCutAtEnd, IsUnended}
@@ -49,19 +49,6 @@ pub GoesWrong-now : (b : Numbered) (p : Progressed) (text : List ℕ) (fault : C
 GoesWrong-now b p text fault is stands =
     let told : StandsBy b text p (Some fault) = subst (StandsBy b text p) is stands in
     subst (λ t. GoesWrong t fault) (append-nil text) (told [])
-
--- what is told of an answer that is no fault
-pub if-ok : {T E : Type 0} (P : T → Type 0) (Q : E → Type 0) (r : Result T E) → MatchResult r P Q → IfOk r P
-if-ok P Q (Ok x) told = told
-if-ok P Q (Err e) told = tt
-
-pub all-ok : {E : Type 0} (P : Type 0) (Q : E → Type 0) (r : Result (Unit {0}) E) → IsOk r → MatchResult r (λ _. P) Q → P
-all-ok P Q (Ok x) ok told = told
-all-ok P Q (Err e) ok told = absurd (true≢false (sym ok))
-
-pub with-ok : {T E : Type 0} (P : Type 0) (Q : T → Type 0) (r : Result T E) → OnOk r P → IfOk r Q → IfOk r (λ x. P × Q x)
-with-ok P Q (Ok x) first second = (first, second)
-with-ok P Q (Err e) first second = tt
 
 -- nothing is read
 pub stands-nothing : (b : Numbered) (lines : ℕ) (line : List ℕ) (roster : Rostered) → line ≡ [] → lines ≡ 0

@@ -146,7 +146,7 @@ keeps b limit p q search after = record {
   best = after.best;
 }
 
--- more is known of pairs of boxes
+-- more is known of boxes taken alone
 pub keeps-knowing : (b : Numbered) (limit : ℕ) (p : Progress) (losses : Losses) → IsSearch b limit p → KeepsLosses b losses
     → KeepsPlaces (losses_of p.frame.losses) (losses_of losses) → IsSearch b limit (knowing losses p)
 keeps-knowing b limit p losses search keeps_losses kept =

@@ -1,4 +1,4 @@
--- A push that brings a box to where it reaches no goal, or is lost with another one: nothing solves after it, so it may be left out.
+-- A push that brings a box to where it reaches no goal, or is lost with one or two others: nothing solves after it, so it may be left out.
 use Rattle.std.proofs.Common.{ℕ, ◌≡◌, ◌∙◌, inl, inr, refl, sym, ap, subst, true, Some, arith}
 use Rattle.sok_rules.specs.Play.{NeverFrom, Position}
 use Rattle.sok_board.specs.Area.{Numbered, InArea, IsAccepted, beside, position_of, spot_of}

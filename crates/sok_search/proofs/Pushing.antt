@@ -22,7 +22,7 @@ use Rattle.sok_search.proofs.Changing.{added-grows, changed-grows, depth_count, 
 use Rattle.sok_search.proofs.Keeping.{Grows-refl}
 use Rattle.sok_search.proofs.Knowing.{key-within, noted-at}
 
--- more was known of pairs of boxes before it was followed
+-- more was known of boxes taken alone before it was followed
 pub pushed-knowing : (b : Numbered) (limit : ℕ) (p : Progress) (losses : Losses) (key : Key) (depth : ℕ) (push : Push) (q : Progress)
     → IsPushed b limit (knowing losses p) key depth push q → IsPushed b limit p key depth push q
 pushed-knowing b limit p losses key depth push q pushed = record {

@@ -20,13 +20,13 @@ use Rattle.sok_search.specs.declared.note.Standing.{Standing}
 use Rattle.sok_search.specs.declared.note.Standing.TheVariants.{Open, Expanded, Dead, Lost}
 use Rattle.sok_search.specs.Limits.{state_limit}
 
--- how many squares there is room for, whether each state is kept that is come to, and what is known of pairs of boxes
+-- how many squares there is room for, whether each state is kept that is come to, and what is known of boxes taken alone
 pub record Frame : Type 0 where
   pub room : ℕ
   pub whole : Bool
   pub losses : Losses
 
--- the same, but that more may be known of pairs
+-- the same, but that more may be known of boxes taken alone
 pub record IsLater (b : Numbered) (old new : Frame) : Type 0 where
   pub room : new.room ≡ old.room
   pub whole : new.whole ≡ old.whole

@@ -88,7 +88,7 @@ pub record StaysNear (p : Progress) (index depth : ℕ) (q : Progress) : Type 0 
 abbrev pub Nears : Progress → ℕ → ℕ → Option Origin → Progress → Type 0
 Nears p index depth origin q = StaysNear p index depth q ⊎ ComesNearer p index depth origin q
 
--- where more is known of pairs of boxes
+-- where more is known of boxes taken alone
 abbrev pub knowing : Losses → Progress → Progress
 knowing losses p = record p { frame = record { room = p.frame.room; whole = p.frame.whole; losses = losses } }
 

@@ -16,7 +16,7 @@ use sok_state::table::Table;
 #[derive(Drop)]
 pub(crate) struct Search {
     /// Whether each state is kept that is come to. Else those are left out from which nothing solves,
-    /// by the box alone that was just pushed, or by it and another one.
+    /// by the box alone that was just pushed, or by it and one or two others.
     pub(crate) whole: bool,
     pub(crate) losses: Losses,
     pub(crate) table: Table,

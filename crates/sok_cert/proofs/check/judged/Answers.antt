@@ -1,16 +1,12 @@
 use Rattle.std.proofs.Common.{inl, inr, subst, sym}
-use Rattle.std.proofs.lemmas.Result.{IfErr-weaker, IfOk-weaker, MatchResult-at_err}
+use Rattle.std.proofs.lemmas.Result.{IfErr-weaker, MatchResult-at_err, MatchResult-weaker}
 use Rattle.sok_cert.specs.Refusals.{IsRefused}
 use Rattle.sok_cert.proofs.ClosedLaws.{ShowsClaims-accepted}
-use Rattle.sok_cert.proofs.Streaming.{if-ok}
 use Rattle.sok_cert.proofs.check.judged.Goals as goal
 
 pub of-requires : goal.of-requires
-of-requires c =
-    let judged = c.judge_entries-judged in
-    IfOk-weaker judged.result _ _
-    (λ done closed. ShowsClaims-accepted c.args.board.now c.level-level.ensures.accepted c.args.claim c.as_slice.result.now closed)
-    (if-ok _ _ judged.result judged.ensures)
+of-requires c = MatchResult-weaker c.judge_entries-judged.result c.judge_entries-judged.ensures
+    (λ done closed. ShowsClaims-accepted c.args.board.now c.level-level.ensures.accepted c.args.claim c.as_slice.result.now closed) (λ fault refused. tt)
 
 pub returns-clause-refused : goal.returns-clause-refused
 returns-clause-refused c =

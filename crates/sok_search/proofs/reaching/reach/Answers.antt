@@ -40,7 +40,7 @@ returns-then-stuck-clause-tells c =
       nowhere = leads-nowhere b running.accepted key state c.args.push c.requires.legal to c.square_ahead-to.ensures stuck;
     })
 
--- the search that knows what was found of pairs
+-- the search that knows what was found of boxes taken alone
 known-in : (c : In_ok-lost) → IsSearch c.args.board.now c.args.limit (holding c.args.index (knowing c.ask.new.losses (progress_of c.args.search.now)))
 known-in c = keeps-knowing c.args.board.now c.args.limit (holding c.args.index (progress_of c.args.search.now)) c.ask.new.losses c.requires.state.running.search
     c.in_ok-lost.ensures.losses c.in_ok-lost.ensures.kept

@@ -1,19 +1,27 @@
-use Rattle.std.proofs.Common.{inl, inr, subst, sym}
-use Rattle.std.proofs.lemmas.Result.{IfErr-weaker, IfOk-weaker, MatchResult-at_err}
+use Rattle.std.proofs.Common.{inl, inr, subst, sym, true≢false, Result, Ok, Err, IfOk, IsOk, MatchResult, OnOk}
+use Rattle.std.proofs.lemmas.Result.{IfErr-weaker, IfOk-weaker, MatchResult-at_err, MatchResult-weaker}
 use Rattle.sok_cert.specs.Shown.{Shown}
 use Rattle.sok_cert.specs.Streams.{EndsFor, Ending}
 use Rattle.sok_cert.specs.Verdicts.{IsShown, IsUnshown}
 use Rattle.sok_cert.proofs.ClosedLaws.{ShowsClaims-accepted}
-use Rattle.sok_cert.proofs.Streaming.{all-ok, if-ok, with-ok}
 use Rattle.sok_cert.proofs.stream.Ended.judge.Goals as goal
+
+-- what holds where an answer is no fault
+all-ok : {E : Type 0} (P : Type 0) (Q : E → Type 0) (r : Result (Unit {0}) E) → IsOk r → MatchResult r (λ _. P) Q → P
+all-ok P Q (Ok x) ok told = told
+all-ok P Q (Err e) ok told = absurd (true≢false (sym ok))
+
+with-ok : {T E : Type 0} (P : Type 0) (Q : T → Type 0) (r : Result T E) → OnOk r P → IfOk r Q → IfOk r (λ x. P × Q x)
+with-ok P Q (Ok x) first second = (first, second)
+with-ok P Q (Err e) first second = tt
 
 pub of-requires : goal.of-requires
 of-requires c =
     let claim = c.self.inside.claim in
     let judged = c.close-judged in
     let (entries, tells) = c.self.invariant.2 in
-    IfOk-weaker judged.result _ _ (λ done closed. ShowsClaims-accepted c.self.inside.board.now c.self.invariant.0 claim entries closed)
-    (if-ok _ _ judged.result (judged.ensures claim entries tells))
+    MatchResult-weaker judged.result (judged.ensures claim entries tells)
+    (λ done closed. ShowsClaims-accepted c.self.inside.board.now c.self.invariant.0 claim entries closed) (λ fault refused. tt)
 
 pub returns-clause-shown : goal.returns-clause-shown
 returns-clause-shown c = λ text ends.

@@ -1,15 +1,14 @@
 use Rattle.std.proofs.Common.{◌≡◌, subst, sym}
-use Rattle.std.proofs.lemmas.Result.{IfErr-weaker, IfOk-weaker, MatchResult-at_err, MatchResult-at_ok, MatchResult-from_both}
+use Rattle.std.proofs.lemmas.Result.{IfErr-weaker, IfOk-weaker, MatchResult-at_err, MatchResult-at_ok, MatchResult-from_both, MatchResult-weaker}
 use Rattle.sok_cert.specs.Parts.{progressed_of}
 use Rattle.sok_cert.specs.Streams.{EndsFor, StandsFor, Streamed, ending_of}
-use Rattle.sok_cert.proofs.Streaming.{if-ok}
 use Rattle.sok_cert.proofs.stream.Stream.ended.Goals as goal
 
 pub ending-requires-clause-entered : goal.ending-requires-clause-entered
 ending-requires-clause-entered c =
     let b = c.self.inside.board.now in
     let known = c.self.invariant.3 in
-    IfOk-weaker c.ended-claim.result _ _ (λ claim ends. (ends.entries, ends.tells)) (if-ok _ _ c.ended-claim.result (c.ended-claim.ensures b known.0 known.1))
+    MatchResult-weaker c.ended-claim.result (c.ended-claim.ensures b known.0 known.1) (λ claim ends. (ends.entries, ends.tells)) (λ fault wrong. tt)
 
 pub returns-clause-ends : goal.returns-clause-ends
 returns-clause-ends c = λ text stands.
