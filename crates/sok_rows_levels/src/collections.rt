@@ -124,6 +124,29 @@ fn levels_and_fault(alloc: Global, text: &[u8]) -> Result<(usize, Option<LevelFa
     Ok((collection.len(), fault))
 }
 
+/// Packed lines of many rows and of long rows, floor at the ends of which counts for nothing.
+#[test]
+fn packed_lines_at_their_limits(rt: HostRuntime) -> Result<(), Fail> {
+    for (part, times, behind, fault) in [
+        ("", 0, "64#|#@$.#", None),
+        ("", 0, "65#|#@$.#", Some(LevelFault::TooWide)),
+        ("", 0, "#63-#|#@$.#", Some(LevelFault::TooWide)),
+        ("", 0, "64#128-128-|#@$.#128-", None),
+        ("", 0, "64#128-128-*|#@$.#", Some(LevelFault::TooWide)),
+        ("", 0, "128#128#|#@$.#", Some(LevelFault::TooWide)),
+        ("#|", 63, "#@$.#", None),
+        ("#|", 64, "#@$.#", Some(LevelFault::TooTall)),
+        ("#|", 63, "#@$.#|", None),
+        ("128#|", 65, "#@$.#", Some(LevelFault::TooTall)),
+    ] {
+        let mut text = part.repeat(rt.alloc(), times)?;
+        text.push_str(behind)?;
+        let found = levels_and_fault(rt.alloc(), text.as_bytes())?;
+        assert!(rt; found == (1, fault), "{times} times {part} and {behind}");
+    }
+    Ok(())
+}
+
 /// Of all texts of one byte a wall alone is a board, and it has no player.
 #[test]
 fn single_bytes(rt: HostRuntime) -> Result<(), Fail> {
@@ -178,6 +201,18 @@ fn board_lines_and_notes(rt: HostRuntime) -> Result<(), Fail> {
         (b"\xef\xbb\xbf#####\n#@$.#\n", 1, Some(1)),
         (b"\xff\x00\n#_@-$ *  .#\n", 1, Some(1)),
         (b"#@$.#\r#####\n", 0, None),
+        // packed lines, each a level by itself
+        (b"6#|#4-#|#-$@.#|6#", 1, Some(4)),
+        (b"6#|#4-#|#-$@.#|6#|\r\n", 1, Some(4)),
+        (b"5#|#@$.#|5#\n5#|#@$.#\n", 2, Some(3)),
+        (b"#@$.#\n5#|#@$.#|005#\n#####\n", 3, Some(1)),
+        (b"#####\n5#\n#@$.#\n", 2, None),
+        (b"0#|#", 0, None),
+        (b"129#|#@$.#", 0, None),
+        (b"0005#|#@$.#", 0, None),
+        (b"5#|#@$.#5", 0, None),
+        (b"5#|#@$.#3|#", 0, None),
+        (b"5-|@$.", 0, None),
     ] {
         assert!(rt; has_levels(rt.alloc(), text, levels, rows)?, "in {text:?}");
     }

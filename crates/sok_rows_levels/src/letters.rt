@@ -25,7 +25,7 @@ fn spells(alloc: Global, case: Case<'_>) -> Result<bool, AllocError> {
 #[test]
 fn letters_of_a_text(rt: HostRuntime) -> Result<(), Fail> {
     let (left, up, right, down) = (Dir::Left, Dir::Up, Dir::Right, Dir::Down);
-    let cases: [Case<'_>; 13] = [
+    let cases: [Case<'_>; 26] = [
         (0, "", Ok(&[])),
         (0, " \t\r\n", Ok(&[])),
         (0, "r", Ok(&[right])),
@@ -38,7 +38,21 @@ fn letters_of_a_text(rt: HostRuntime) -> Result<(), Fail> {
         (0, "ulxR", Err(LurdFault::BadLetter(2))),
         (0, " x", Err(LurdFault::BadLetter(1))),
         (0, "u\0", Err(LurdFault::BadLetter(1))),
-        (0, "\n\n2l", Err(LurdFault::BadLetter(2))),
+        // numbers repeat the letter behind them
+        (0, "\n\n2l 1U", Ok(&[left, left, up])),
+        (0, "02r", Ok(&[right, right])),
+        (999_998, "2D", Ok(&[down, down])),
+        (0, "2", Err(LurdFault::BadLetter(1))),
+        (0, "2 r", Err(LurdFault::BadLetter(1))),
+        (0, "0r", Err(LurdFault::BadLetter(0))),
+        (0, "0x", Err(LurdFault::BadLetter(1))),
+        (0, "lr1000000x", Err(LurdFault::BadLetter(9))),
+        (0, "lr1000000r", Err(LurdFault::TooLong)),
+        (0, "1000001r", Err(LurdFault::TooLong)),
+        (0, "l18446744073709551617r", Err(LurdFault::TooLong)),
+        (999_999, "2r", Err(LurdFault::TooLong)),
+        (1_000_000, "00r", Err(LurdFault::BadLetter(1_000_000))),
+        (1_000_000, "1", Err(LurdFault::BadLetter(1_000_001))),
         (1_000_000, "", Ok(&[])),
         (1_000_000, " x", Err(LurdFault::BadLetter(1_000_001))),
         (1_000_000, "\nL", Err(LurdFault::TooLong)),

@@ -7,7 +7,7 @@ use sok_sketch::sketch;
 use std::alloc::{AllocError, Global};
 use std::test::Fail;
 
-/// Rows without a wall, which no text holds.
+/// Rows without a wall, which no board line holds.
 #[test]
 fn rows_without_a_wall(rt: HostRuntime) -> Result<(), Fail> {
     let walls = [Cell::Wall, Cell::Wall].as_slice();

@@ -43,6 +43,11 @@ fn lists_levels_and_faults(rt: HostRuntime) -> Result<(), Fail> {
         (b";\n#####\n#@$.#\n#####\n", b"1 3 5 1 1\n"),
         (b"#####\n#@$.#\n#####\nTitle:\nTitle: C\n", b"1 3 5 1 1 C\n"),
         (b";  A b\t\n#####\n#@$.#\n#####\n", b"1 3 5 1 1 A b\n"),
+        // packed lines, and lines with counts that are none
+        (b"5#|#@$.#|5#", b"1 3 5 1 1\n"),
+        (b"5#||#@$.#", b"1 fault 17 NoWall 1\n"),
+        (b"5#", b""),
+        (b"0#|#", b""),
         // bytes that are no text
         (
             b"; \xff\x00\xe9\n#####\n#@$.#\n#####\n",
@@ -54,16 +59,17 @@ fn lists_levels_and_faults(rt: HostRuntime) -> Result<(), Fail> {
     Ok(())
 }
 
-/// Whether a text on a level of the collection is answered by this line.
+/// Whether a text on a level of a collection is answered by this line.
 fn is_answered(
     alloc: Global,
+    mut collection: &[u8],
     n: usize,
     text: &[u8],
     line: &str,
     answer: Result<u8, ToolFault>,
 ) -> bool {
     let mut out = Vec::new(alloc);
-    let result = replay_bytes(alloc, &mut &COLLECTION[..], n, text, &mut out);
+    let result = replay_bytes(alloc, &mut collection, n, text, &mut out);
     result == answer && out.as_slice() == line.as_bytes()
 }
 
@@ -97,7 +103,14 @@ fn replays_on_a_level_by_its_number(rt: HostRuntime) -> Result<(), Fail> {
             Err(ToolFault::Level(LevelFault::NoSuchLevel)),
         ),
     ] {
-        assert!(rt; is_answered(rt.alloc(), n, text, line, answer), "{n}");
+        assert!(rt;
+            is_answered(rt.alloc(), COLLECTION, n, text, line, answer),
+            "{n}"
+        );
+    }
+    for packed in [b"6#|#4-#|#-$@.#|6#".as_slice(), b"6#|#4-#|#-$@.#|6#|"] {
+        let told = is_answered(rt.alloc(), packed, 1, b"ulldRR", "solved 2 6\n", Ok(0));
+        assert!(rt; told, "{packed:?}");
     }
     Ok(())
 }

@@ -102,6 +102,12 @@ fn texts_on_boards(rt: HostRuntime) -> Result<(), Fail> {
             "RRdrruLLLL",
             Ok((true, 6, 10)),
         ),
+        // the first of them with numbers
+        (
+            sketch::CORRIDOR_OF_SIX_PUSHES,
+            "2Ru2rd4L",
+            Ok((true, 6, 10)),
+        ),
         (
             sketch::TWO_BOXES_AND_THREE_GOALS,
             "rrrdRullldR",

@@ -8,11 +8,12 @@ use Rattle.sok_rules.specs.Levels.{level_of}
 use Rattle.sok_rules.proofs.Proper.{level_of-IsLevel}
 use Rattle.sok_text.specs.Canonical.{level_text, row_text}
 use Rattle.sok_text.specs.Collections.{Part, Parts, blocks_from, blocks_of, parts_of}
-use Rattle.sok_text.specs.Lines.{AreOf, is_newline}
+use Rattle.sok_text.specs.declared.kind.Kind.TheVariants.{Note}
+use Rattle.sok_text.specs.Kinds.{kind_of, AreOf}
+use Rattle.sok_text.specs.Lines.{is_newline}
 use Rattle.sok_text.specs.Titles.{first_text, is_space, some_text, title_after, title_before, trimmed_back, trimmed_text}
-use Rattle.sok_text.specs.Xsb.{is_board_line}
-use Rattle.sok_text.proofs.Canonical.{boards, cells-rows, lines-level_text, some_rows, strip-kept}
-use Rattle.sok_text.proofs.Cutting.{parts_of-front, parts_of-notes}
+use Rattle.sok_text.proofs.Canonical.{boards, board_rows-row_text, lines-level_text, some_rows, strip-kept}
+use Rattle.sok_text.proofs.Cutting.{board_of, parts_of-front, parts_of-notes}
 use Rattle.sok_text.proofs.Lines.{lines-newline}
 use Rattle.sok_book.specs.Books.{Book, Page}
 use Rattle.sok_page.specs.Kept.{IsKeptPage}
@@ -71,9 +72,9 @@ lines-export (page ∷ book) kept =
 
 -- ---- parts
 
-notes-of : (title : Option (List ℕ)) → AreOf false (notes_of title)
-notes-of None = All-nil (λ line. is_board_line line ≡ false)
-notes-of (Some title) = All-cons (λ line. is_board_line line ≡ false) (59 ∷ 32 ∷ title) [] refl (All-nil (λ line. is_board_line line ≡ false))
+notes-of : (title : Option (List ℕ)) → AreOf Note (notes_of title)
+notes-of None = All-nil (λ line. kind_of line ≡ Note)
+notes-of (Some title) = All-cons (λ line. kind_of line ≡ Note) (59 ∷ 32 ∷ title) [] refl (All-nil (λ line. kind_of line ≡ Note))
 
 -- the boards of a book's export, with the notes after each
 abbrev boards_in : Book → List Part
@@ -88,10 +89,10 @@ parts-export (page ∷ book) kept =
     let rest = [] ∷ lines_in book in
     let later = parts-export book (All-tail IsKeptPage page book kept) in
     let blank : parts_of rest ≡ record { notes = [] ∷ first_notes book; boards = boards_in book } =
-    parts_of-notes ([] ∷ []) (lines_in book) (All-cons (λ line. is_board_line line ≡ false) [] [] refl (All-nil (λ line. is_board_line line ≡ false)))
+    parts_of-notes ([] ∷ []) (lines_in book) (All-cons (λ line. kind_of line ≡ Note) [] [] refl (All-nil (λ line. kind_of line ≡ Note)))
     ∙ ap (λ (parts : Parts). record { notes = [] ∷ parts.notes; boards = parts.boards }) later in
     let front : parts_of (board ++ rest) ≡ record { notes = []; boards = record { board = board; after = [] ∷ first_notes book } ∷ boards_in book } =
-    parts_of-front board rest (some_rows page.level is.level.proper.one_man) (boards page.level is.level.proper.walls) refl
+    parts_of-front board rest (board_of board rest (some_rows page.level is.level.proper.one_man) (boards page.level is.level.proper.walls) (λ row. cc))
     ∙ ap (λ (parts : Parts). record { notes = []; boards = record { board = board; after = parts.notes } ∷ parts.boards }) blank in
     parts_of-notes (notes_of page.title) (board ++ rest) (notes-of page.title)
     ∙ ap (λ (parts : Parts). record { notes = notes_of page.title ++ parts.notes; boards = parts.boards }) front
@@ -136,7 +137,7 @@ titled : (later : Bool) (page : Page) (book : Book) → IsKeptPage page → titl
   after = [] ∷ first_notes book;
 }) ≡ titled_page page
 titled later page book is =
-    let level = ap level_of (cells-rows page.level) ∙ level_of-IsLevel page.level is.level in
+    let level = ap level_of (board_rows-row_text page.level is.level.proper.walls) ∙ level_of-IsLevel page.level is.level in
     let title = (λ i. first_text (none_after-first book i ∷ title-before later page.title is.title i ∷ [])) ∙ first-some page.title in
     λ i. record { level = level i; title = title i } where
       first-some : (title : Option (List ℕ)) → first_text (None ∷ title ∷ []) ≡ title

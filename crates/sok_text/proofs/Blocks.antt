@@ -1,14 +1,15 @@
 -- The blocks of a collection, from the slices that it keeps.
-use Rattle.std.proofs.Common.{ℕ, ◌≡◌, ◌<◌, ◌≤◌, ◌+◌, List, [], ◌∷◌, ◌++◌, Option, Some, None, true, false, zero, suc, map}
-use Rattle.std.proofs.Common.{slice_get, length, sym, ap, ◌∙◌, refl, subst, arith, add-one, take, true≢false, ◌-◌}
+use Rattle.std.proofs.Common.{ℕ, ◌≡◌, ◌<◌, ◌≤◌, ◌+◌, List, [], ◌∷◌, ◌++◌, Option, Some, None, zero, suc, map}
+use Rattle.std.proofs.Common.{slice_get, length, sym, ap, ◌∙◌, refl, subst, arith, add-one, take, ◌-◌}
 use Rattle.std.proofs.lemmas.Option.{none-some, same_Some}
-use Rattle.std.proofs.lemmas.List.{append_assoc, append-nil, length-append}
+use Rattle.std.proofs.lemmas.List.{append_assoc, append-nil}
 use Rattle.std.specs.Option.{SomeIff}
 use Rattle.std.specs.Str.Lines.{lines}
-use Rattle.sok_text.specs.Lines.{StartsWith, Passes}
+use Rattle.sok_text.specs.declared.kind.Kind.TheVariants.{Note}
+use Rattle.sok_text.specs.Kinds.{StartsOther, IsBoard}
+use Rattle.sok_text.specs.Lines.{Passes, PassesBoard}
 use Rattle.sok_text.specs.Collections.{Part, Parts, blocks_from, block_at, parts_of}
-use Rattle.sok_text.proofs.Runs.{lines-Passes, take-Passes, length-Passes}
-use Rattle.sok_text.proofs.Lines.{lines-first}
+use Rattle.sok_text.proofs.Runs.{lines-Passes, lines-PassesBoard, take-Passes, take-PassesBoard, length-Passes, length-PassesBoard}
 use Rattle.sok_text.proofs.Cutting.{parts_of-notes, notes-board, boards-more}
 
 pub length-blocks_from : (notes : List (List ℕ)) (parts : List Part) → length (blocks_from notes parts) ≡ length parts
@@ -60,59 +61,35 @@ pub before-later : {X : Type 0} (part : X → Part) (notes : List (List ℕ)) (p
 before-later part notes parts i j x later there = ap (λ k. before_of part notes k parts) later ∙ before_of-suc part notes j parts x there
 
 -- the notes before the first board
-pub parts_of-start : (text rest : List ℕ) (passed : Passes false text rest) → StartsWith true (lines rest)
+pub parts_of-start : (text rest : List ℕ) (passed : Passes Note text rest) → StartsOther Note (lines rest)
     → parts_of (lines text) ≡ record { notes = lines passed.front; boards = (parts_of (lines rest)).boards }
 parts_of-start text rest passed starts =
-    ap parts_of (lines-Passes false text rest passed) ∙ parts_of-notes (lines passed.front) (lines rest) passed.same
+    ap parts_of (lines-Passes Note text rest passed) ∙ parts_of-notes (lines passed.front) (lines rest) passed.same
     ∙ ap (λ notes. record { notes = lines passed.front ++ notes; boards = (parts_of (lines rest)).boards }) (notes-board (lines rest) starts)
     ∙ ap (λ notes. record { notes = notes; boards = (parts_of (lines rest)).boards }) (append-nil (lines passed.front))
 
--- a text that begins with one kind has lines of it before the other kind
-some_of_kind : (whole front rest : List (List ℕ)) → whole ≡ front ++ rest → 0 < length whole → StartsWith true whole → StartsWith false rest → 0 < length front
-some_of_kind whole [] [] same some board note = absurd (omega (arith, ap length same))
-some_of_kind whole [] (line ∷ rest) same some board note = absurd (true≢false (sym (subst (StartsWith true) same board) ∙ note))
-some_of_kind whole (line ∷ front) rest same some board note = omega arith
-
-has_lines : (text : List ℕ) → 0 < length text → 0 < length (lines text)
-has_lines text some = omega (arith, ap length (lines-first text some))
-
-has_bytes : (text : List ℕ) → 0 < length (lines text) → 0 < length text
-has_bytes [] some = absurd (omega arith)
-has_bytes (byte ∷ text) some = omega arith
-
 -- a board and the notes after it are passed
-pub board_passed : (here behind : List ℕ) (board : Passes true here behind) → 0 < length here → StartsWith true (lines here)
-    → StartsWith false (lines behind) → 0 < length (lines board.front)
-board_passed here behind board some starts ends =
-    some_of_kind (lines here) (lines board.front) (lines behind) (lines-Passes true here behind board) (has_lines here some) starts ends
+pub length-board_passed : (here behind next : List ℕ) → PassesBoard here behind → Passes Note behind next → length next < length here
+length-board_passed here behind next board after =
+    omega (arith, length-PassesBoard here behind board, length-Passes Note behind next after)
 
-pub length-board_passed : (here behind next : List ℕ) (board : Passes true here behind) → Passes false behind next → 0 < length here
-    → StartsWith true (lines here) → StartsWith false (lines behind)
-    → length next < length here
-length-board_passed here behind next board after some starts ends =
-    let full = has_bytes board.front (board_passed here behind board some starts ends) in
-    omega (arith, ap length board.whole, length-append board.front behind, length-Passes false behind next after)
-
-boards-passed : (here behind next : List ℕ) (board : Passes true here behind) (after : Passes false behind next) → 0 < length here
-    → StartsWith true (lines here) → StartsWith false (lines behind) → StartsWith true (lines next)
+boards-passed : (here behind next : List ℕ) (board : PassesBoard here behind) (after : Passes Note behind next) → StartsOther Note (lines next)
     → (parts_of (lines here)).boards ≡ record { board = lines board.front; after = lines after.front } ∷ (parts_of (lines next)).boards
-boards-passed here behind next board after some starts ends on =
-    let rest = lines-Passes false behind next after in
-    ap (λ ls. (parts_of ls).boards) (lines-Passes true here behind board ∙ ap (λ ls. lines board.front ++ ls) rest)
-    ∙ boards-more (lines board.front) (lines after.front) (lines next) (board_passed here behind board some starts ends) board.same after.same
-    (subst (StartsWith false) rest ends) on
+boards-passed here behind next board after on =
+    let rest = lines-Passes Note behind next after in
+    ap (λ ls. (parts_of ls).boards) (lines-PassesBoard here behind board ∙ ap (λ ls. lines board.front ++ ls) rest)
+    ∙ boards-more (lines board.front) (lines after.front) (lines next) (subst (IsBoard (lines board.front)) rest board.board) after.same on
 
 -- one more board is kept, by the slices of its lines and of the notes after it
-pub parts_of-more : (whole : Parts) (notes : List (List ℕ)) (done : List Part) (here behind next board after : List ℕ) (b : Passes true here behind)
-    (a : Passes false behind next) → 0 < length here
-    → StartsWith true (lines here) → StartsWith false (lines behind) → StartsWith true (lines next)
+pub parts_of-more : (whole : Parts) (notes : List (List ℕ)) (done : List Part) (here behind next board after : List ℕ) (b : PassesBoard here behind)
+    (a : Passes Note behind next) → StartsOther Note (lines next)
     → board ≡ take (length here - length behind) here → after ≡ take (length behind - length next) behind
     → whole ≡ record { notes = notes; boards = done ++ (parts_of (lines here)).boards }
     → whole ≡ record { notes = notes; boards = (done ++ record { board = lines board; after = lines after } ∷ []) ++ (parts_of (lines next)).boards }
-parts_of-more whole notes done here behind next board after b a some starts ends on is_board is_after so_far =
-    let same_board = is_board ∙ take-Passes true here behind b in
-    let same_after = is_after ∙ take-Passes false behind next a in
-    let boards = boards-passed here behind next b a some starts ends on
+parts_of-more whole notes done here behind next board after b a on is_board is_after so_far =
+    let same_board = is_board ∙ take-PassesBoard here behind b in
+    let same_after = is_after ∙ take-Passes Note behind next a in
+    let boards = boards-passed here behind next b a on
     ∙ (λ i. record { board = lines (sym same_board i); after = lines (sym same_after i) } ∷ (parts_of (lines next)).boards) in
     so_far ∙ ap (λ bs. record { notes = notes; boards = done ++ bs }) boards
     ∙ ap (λ bs. record { notes = notes; boards = bs })

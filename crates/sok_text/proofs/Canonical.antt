@@ -14,11 +14,14 @@ use Rattle.sok_rules.specs.Squares.{Rows, is_man, is_wall}
 use Rattle.sok_rules.specs.Levels.{cells_of, count_in, level_of}
 use Rattle.sok_rules.proofs.Proper.{level_of-IsLevel}
 use Rattle.sok_text.specs.Canonical.{character, row_text, level_text, TextsAreOneLevel}
-use Rattle.sok_text.specs.Collections.{Parts, blocks_from, blocks_of, parts_of}
-use Rattle.sok_text.specs.Lines.{AreOf, is_newline}
+use Rattle.sok_text.specs.declared.kind.Kind.TheVariants.{Row}
+use Rattle.sok_text.specs.Collections.{Parts, blocks_from, blocks_of, board_rows, parts_of}
+use Rattle.sok_text.specs.Kinds.{kind_of, AreOf}
+use Rattle.sok_text.specs.Lines.{is_newline}
 use Rattle.sok_text.specs.Xsb.{cell_of, is_board_line}
-use Rattle.sok_text.proofs.Cutting.{parts_of-front}
+use Rattle.sok_text.proofs.Cutting.{board_of, kind-board, parts_of-front}
 use Rattle.sok_text.proofs.Lines.{lines-newline}
+use Rattle.sok_text.proofs.Rows.{rows-board}
 
 -- one text behind another
 row_text-append : (a b : List Cell) → row_text (a ++ b) ≡ row_text a ++ row_text b
@@ -137,15 +140,20 @@ lines-level_text (row ∷ rows) more =
 board-row_text : (row : List Cell) → list_any is_wall row ≡ true → is_board_line (row_text row) ≡ true
 board-row_text row wall = λ i. xsb-row_text row i && (walls-row_text row ∙ wall) i
 
-pub boards : (rows : Rows) → All (λ row. list_any is_wall row ≡ true) rows → AreOf true (map row_text rows)
-boards [] walls = All-nil (λ line. is_board_line line ≡ true)
+pub boards : (rows : Rows) → All (λ row. list_any is_wall row ≡ true) rows → AreOf Row (map row_text rows)
+boards [] walls = All-nil (λ line. kind_of line ≡ Row)
 boards (row ∷ rows) walls =
-    All-cons (λ line. is_board_line line ≡ true) (row_text row) (map row_text rows)
-    (board-row_text row (All-head (λ r. list_any is_wall r ≡ true) row rows walls)) (boards rows (All-tail (λ r. list_any is_wall r ≡ true) row rows walls))
+    All-cons (λ line. kind_of line ≡ Row) (row_text row) (map row_text rows)
+    (kind-board (row_text row) (board-row_text row (All-head (λ r. list_any is_wall r ≡ true) row rows walls)))
+    (boards rows (All-tail (λ r. list_any is_wall r ≡ true) row rows walls))
 
 pub cells-rows : (rows : Rows) → map (filter_map cell_of) (map row_text rows) ≡ rows
 cells-rows [] = refl
 cells-rows (row ∷ rows) = λ i. cells-row_text row i ∷ cells-rows rows i
+
+-- the rows of a level's lines
+pub board_rows-row_text : (rows : Rows) → All (λ row. list_any is_wall row ≡ true) rows → board_rows (map row_text rows) ≡ rows
+board_rows-row_text rows walls = rows-board (map row_text rows) (boards rows walls) ∙ cells-rows rows
 
 pub some_rows : (rows : Rows) → count_in is_man rows ≡ 1 → 0 < length (map row_text rows)
 some_rows [] e = absurd (omega (arith, e))
@@ -154,9 +162,9 @@ some_rows (row ∷ rows) e = omega arith
 alone : List (List ℕ) → Parts
 alone board = record { notes = []; boards = record { board = board; after = [] } ∷ [] }
 
-parts-alone : (board : List (List ℕ)) → 0 < length board → AreOf true board → parts_of board ≡ alone board
+parts-alone : (board : List (List ℕ)) → 0 < length board → AreOf Row board → parts_of board ≡ alone board
 unfolding alone
-parts-alone board some same = ap parts_of (sym (append-nil board)) ∙ parts_of-front board [] some same tt
+parts-alone board some same = ap parts_of (sym (append-nil board)) ∙ parts_of-front board [] (board_of board [] some same tt)
 
 block_alone : (text : List ℕ) (board : List (List ℕ)) → parts_of (lines text) ≡ alone board
     → blocks_of text ≡ record { before = []; board = board; after = [] } ∷ []
@@ -170,6 +178,6 @@ texts-are-one-level rows level = record {
       ap (λ text. parts_of (lines text)) (sym (append-nil (level_text rows)))
       ∙ ap parts_of (lines-level_text rows [] ∙ append-nil (map row_text rows))
       ∙ parts-alone (map row_text rows) (some_rows rows level.proper.one_man) (boards rows level.proper.walls));
-  level = ap level_of (cells-rows rows) ∙ level_of-IsLevel rows level;
+  level = ap level_of (board_rows-row_text rows level.proper.walls) ∙ level_of-IsLevel rows level;
   untitled = refl;
 }

@@ -1,9 +1,10 @@
 -- Marked texts, letter by letter.
-use Rattle.std.proofs.Common.{ℕ, ◌≡◌, ◌<◌, ◌≤◌, ◌+◌, List, [], ◌∷◌, ◌++◌, Bool, true, false, true≢false, not, Some, None, IsSome, IsNone}
-use Rattle.std.proofs.Common.{length, take, get_or, map, filter, sym, ap, ◌∙◌, refl, subst, arith}
-use Rattle.std.proofs.lemmas.List.{append_assoc, append-nil, take_all, take_more, map-append}
-use Rattle.std.proofs.lemmas.List.Elements.{filter-append}
+use Rattle.std.proofs.Common.{ℕ, ◌≡◌, ◌<◌, ◌≤◌, ◌+◌, List, [], ◌∷◌, ◌++◌, Bool, true, false, true≢false, All, Some, None, IsSome, IsNone}
+use Rattle.std.proofs.Common.{length, take, get_or, flat_map, sym, ap, ◌∙◌, refl, subst, arith}
+use Rattle.std.proofs.lemmas.List.{append_assoc, append-nil, take_all, take_more}
+use Rattle.std.proofs.lemmas.List.Elements.{All-cons, All-nil}
 use Rattle.std.proofs.lemmas.Option.{none-some, same_Some}
+use Rattle.std.specs.Char.{is_ascii_digit}
 use Rattle.std.specs.Option.{option_and_then, option_map_or}
 use Rattle.sok_rules.specs.declared.cell.Dir.{Dir}
 use Rattle.sok_rules.specs.declared.cell.Dir.TheVariants.{Left, Up, Right, Down}
@@ -12,7 +13,8 @@ use Rattle.sok_rules.specs.Play.{After, Position, run, start, step}
 use Rattle.sok_rules.specs.Replay.{AreMarks}
 use Rattle.sok_rules.proofs.Marks.{IsLetter-at, length-push_marks, some_of}
 use Rattle.sok_rules.proofs.Outcomes.{none_longer}
-use Rattle.sok_text.specs.Lurd.{is_blank, direction}
+use Rattle.sok_text.specs.Characters.{code}
+use Rattle.sok_text.specs.Lurd.{direction, Token, letter, IsToken, token_text, token_letters}
 use Rattle.sok_text.specs.Marked.{marked_letter, marked_text, MarkedTextsSpell}
 
 -- a text behind another
@@ -43,10 +45,10 @@ marked_text-take_more rows w at other none marks within are =
     let x = start rows in
     let d = get_or w at other in
     let (y, so_far) = legal_front rows w x at (omega arith) are.legal in
-    let (a, letter) = IsLetter-at rows w x y at other none within are.legal so_far in
-    let mark : a.pushed ≡ get_or marks at none = sym letter.pushed_is ∙ ap (λ flags. get_or flags at none) (sym are.are) in
+    let (a, played) = IsLetter-at rows w x y at other none within are.legal so_far in
+    let mark : a.pushed ≡ get_or marks at none = sym played.pushed_is ∙ ap (λ flags. get_or flags at none) (sym are.are) in
     let one : marked_text rows y (d ∷ []) ≡ marked_letter d a.pushed ++ [] =
-    ap (λ o. option_map_or (λ (after : After). marked_letter d after.pushed ++ []) o []) letter.leads in
+    ap (λ o. option_map_or (λ (after : After). marked_letter d after.pushed ++ []) o []) played.leads in
     ap (marked_text rows x) (take_more w at other within) ∙ marked_text-append rows (take at w) (d ∷ []) x y so_far
     ∙ ap (λ back. marked_text rows x (take at w) ++ back) (one ∙ append-nil (marked_letter d a.pushed) ∙ ap (marked_letter d) mark)
 
@@ -56,34 +58,54 @@ length-AreMarks rows w marks are =
     let (y, ran) = some_of (run rows (start rows) w) are.legal in
     ap length are.are ∙ length-push_marks rows w (start rows) y ran
 
-abbrev is_full : ℕ → Bool
-is_full c = not (is_blank c)
+-- the code of a letter
+abbrev mark : Dir → Bool → ℕ
+mark d pushed = code (marked_letter d pushed)
 
--- a letter spells its direction, whether it pushes or not
-letter_spells : (d : Dir) (pushed : Bool) → map direction (filter is_full (marked_letter d pushed)) ≡ Some d ∷ []
-letter_spells Left true = refl
-letter_spells Left false = refl
-letter_spells Up true = refl
-letter_spells Up false = refl
-letter_spells Right true = refl
-letter_spells Right false = refl
-letter_spells Down true = refl
-letter_spells Down false = refl
+abbrev token : Dir → Bool → Token
+token d pushed = letter [] (mark d pushed) d
 
-text_spells : (rows : Rows) (w : List Dir) (x : Position) → IsSome (run rows x w) → map direction (filter is_full (marked_text rows x w)) ≡ map Some w
-text_spells rows [] x = λ _. refl
+-- a letter is a token, whether it pushes or not
+record IsMark (d : Dir) (pushed : Bool) : Type 0 where
+  is : direction (mark d pushed) ≡ Some d
+  text : marked_letter d pushed ≡ mark d pushed ∷ []
+
+is_mark : (d : Dir) (pushed : Bool) → IsMark d pushed
+is_mark Left true = record { is = refl; text = refl }
+is_mark Left false = record { is = refl; text = refl }
+is_mark Up true = record { is = refl; text = refl }
+is_mark Up false = record { is = refl; text = refl }
+is_mark Right true = record { is = refl; text = refl }
+is_mark Right false = record { is = refl; text = refl }
+is_mark Down true = record { is = refl; text = refl }
+is_mark Down false = record { is = refl; text = refl }
+
+-- the bytes are the text of tokens of these letters
+record AreTokens (bytes : List ℕ) (w : List Dir) : Type 0 where
+  tokens : List Token
+  are : All IsToken tokens
+  text : bytes ≡ flat_map token_text tokens
+  letters : w ≡ flat_map token_letters tokens
+
+one_more : (d : Dir) (pushed : Bool) (rest : List ℕ) (w : List Dir) → AreTokens rest w → AreTokens (marked_letter d pushed ++ rest) (d ∷ w)
+one_more d pushed rest w more =
+    let own = is_mark d pushed in
+    record {
+      tokens = token d pushed ∷ more.tokens;
+      are = All-cons IsToken (token d pushed) more.tokens (All-nil (λ c. is_ascii_digit c ≡ true), own.is, omega arith) more.are;
+      text = ap (λ front. front ++ rest) own.text ∙ ap (λ bytes. mark d pushed ∷ bytes) more.text;
+      letters = ap (λ v. d ∷ v) more.letters;
+    }
+
+text_spells : (rows : Rows) (w : List Dir) (x : Position) → IsSome (run rows x w) → AreTokens (marked_text rows x w) w
+text_spells rows [] x = λ _. record { tokens = []; are = All-nil IsToken; text = refl; letters = refl }
 text_spells rows (d ∷ w) x = elim (step rows d x) as (λ o. IsSome (option_and_then (λ after. run rows after.position w) o)
-    → map direction (filter is_full (option_map_or (λ after. marked_letter d after.pushed ++ marked_text rows after.position w) o [])) ≡ Some d ∷ map Some w) [
+    → AreTokens (option_map_or (λ after. marked_letter d after.pushed ++ marked_text rows after.position w) o []) (d ∷ w)) [
       | None ↦ λ legal. absurd (true≢false (sym legal))
-      | Some a ↦ λ legal.
-          let letter = marked_letter d a.pushed in
-          let rest = marked_text rows a.position w in
-          ap (map direction) (filter-append is_full letter rest) ∙ map-append direction (filter is_full letter) (filter is_full rest)
-          ∙ (λ i. letter_spells d a.pushed i ++ text_spells rows w a.position legal i)
+      | Some a ↦ λ legal. one_more d a.pushed (marked_text rows a.position w) w (text_spells rows w a.position legal)
     ]
 
 pub marked-texts-spell : MarkedTextsSpell
-marked-texts-spell rows w text marked few = record {
-  letters = ap (λ t. map direction (filter is_full t)) marked.is ∙ text_spells rows w (start rows) marked.legal;
-  few = few;
-}
+marked-texts-spell rows w text marked few =
+    let own = text_spells rows w (start rows) marked.legal in
+    record { tokens = own.tokens; are = own.are; text = marked.is ∙ own.text; letters = own.letters; few = few }

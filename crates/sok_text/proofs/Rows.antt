@@ -1,14 +1,19 @@
 -- The rows of a board.
-use Rattle.std.proofs.Common.{ℕ, ◌≡◌, ◌<◌, List, [], ◌∷◌, ◌++◌, Vec, Option, true, get_or, take, ◌+◌, map, length, sym, ap, ◌∙◌, arith, ◌==◌}
+use Rattle.std.proofs.Common.{ℕ, ◌≡◌, ◌<◌, List, [], ◌∷◌, ◌++◌, Vec, Option, true, get_or, take, ◌+◌, map, length, refl, sym, ap, ◌∙◌, arith, ◌==◌}
 use Rattle.std.proofs.lemmas.Bool.Decides.{nat_tests}
 use Rattle.std.proofs.lemmas.List.{take_more, length-map, length-append, map_push, append_assoc, append-nil}
-use Rattle.std.proofs.lemmas.List.Elements.{filter_map-append}
+use Rattle.std.proofs.lemmas.List.Elements.{All-head, filter_map-append}
 use Rattle.std.specs.List.{filter_map}
 use Rattle.std.specs.Str.Lines.{lines}
 use Rattle.sok_rules.specs.declared.cell.Cell.{Cell}
 use Rattle.sok_rules.specs.Squares.{Rows}
 use Rattle.sok_rules.specs.Levels.{cells_of, level_of}
 use Rattle.sok_rules.proofs.Proper.{level_of-tall}
+use Rattle.sok_text.specs.declared.kind.Kind.{Kind}
+use Rattle.sok_text.specs.declared.kind.Kind.TheVariants.{Row, Packed, Note}
+use Rattle.sok_text.specs.Collections.{board_rows, rows_by}
+use Rattle.sok_text.specs.Kinds.{kind_of, AreOf}
+use Rattle.sok_text.specs.Packed.{packed_rows}
 use Rattle.sok_text.specs.Xsb.{cell_of}
 use Rattle.sok_text.specs.Lines.{first_line, after_line}
 use Rattle.sok_text.proofs.Lines.{lines-first}
@@ -42,3 +47,28 @@ level_of-all whole rows (byte ∷ rest) none so_far = absurd (grind (arith, nat_
 pub filter_map-more : {X Y : Type 0} (h : X → Option Y) (xs : List X) (i : ℕ) (d : X) → i < length xs
     → filter_map h (take (i + 1) xs) ≡ filter_map h (take i xs) ++ filter_map h (get_or xs i d ∷ [])
 filter_map-more h xs i d within = ap (filter_map h) (take_more xs i d within) ∙ filter_map-append h (take i xs) (get_or xs i d ∷ [])
+
+-- the rows of a packed line's text
+pub rows-packed : (text : List ℕ) → kind_of (first_line text) ≡ Packed → board_rows (lines text) ≡ packed_rows (first_line text)
+unfolding first_line
+rows-packed [] same = absurd cc
+rows-packed (byte ∷ text) same =
+    ap board_rows (lines-first (byte ∷ text) (omega arith))
+    ∙ ap (λ kind. rows_by kind (first_line (byte ∷ text)) (lines (after_line (byte ∷ text)))) same
+
+rows_by-lines : (kind : Kind) (line : List ℕ) (board : List (List ℕ)) → (kind ≡ Packed → ⊥) → rows_by kind line board ≡ map (filter_map cell_of) (line ∷ board)
+rows_by-lines Row line board other = refl
+rows_by-lines Note line board other = refl
+rows_by-lines Packed line board other = absurd (other refl)
+
+-- those of other lines
+pub rows-lines : (text : List ℕ) → (kind_of (first_line text) ≡ Packed → ⊥) → board_rows (lines text) ≡ map (filter_map cell_of) (lines text)
+rows-lines [] other = refl
+rows-lines (byte ∷ text) other =
+    let cut = lines-first (byte ∷ text) (omega arith) in
+    ap board_rows cut ∙ rows_by-lines (kind_of (first_line (byte ∷ text))) (first_line (byte ∷ text)) (lines (after_line (byte ∷ text))) other
+    ∙ ap (map (filter_map cell_of)) (sym cut)
+
+pub rows-board : (board : List (List ℕ)) → AreOf Row board → board_rows board ≡ map (filter_map cell_of) board
+rows-board [] same = refl
+rows-board (line ∷ board) same = ap (λ kind. rows_by kind line board) (All-head (λ l. kind_of l ≡ Row) line board same)

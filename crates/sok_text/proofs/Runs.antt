@@ -1,13 +1,14 @@
 -- Passing over the lines of one kind.
-use Rattle.std.proofs.Common.{ℕ, ◌≡◌, ◌<◌, ◌≤◌, ◌+◌, ◌-◌, List, [], ◌∷◌, ◌++◌, Bool, true, false, not, length, take, sym, ap, ◌∙◌}
-use Rattle.std.proofs.Common.{refl, subst, inl, inr, arith, true≢false, ◌==◌}
+use Rattle.std.proofs.Common.{ℕ, ◌≡◌, ◌<◌, ◌≤◌, ◌+◌, ◌-◌, List, [], ◌∷◌, ◌++◌, false, length, take, sym, ap, ◌∙◌}
+use Rattle.std.proofs.Common.{refl, subst, inl, inr, arith, ◌==◌}
 use Rattle.std.proofs.lemmas.List.{append_assoc, append-nil, take_at, length-append}
 use Rattle.std.proofs.lemmas.List.Elements.{All-push}
-use Rattle.std.proofs.Math.Bool.{beq}
 use Rattle.std.proofs.lemmas.Bool.Decides.{nat_tests}
 use Rattle.std.specs.Str.Lines.{lines}
-use Rattle.sok_text.specs.Xsb.{is_board_line}
-use Rattle.sok_text.specs.Lines.{first_line, after_line, AreOf, StartsWith, IsLineEnd, Passes}
+use Rattle.sok_text.specs.declared.kind.Kind.{Kind}
+use Rattle.sok_text.specs.declared.kind.Kind.TheVariants.{Row, Packed}
+use Rattle.sok_text.specs.Kinds.{kind_of, AreOf, StartsOther, IsBoard, rows, packed}
+use Rattle.sok_text.specs.Lines.{first_line, after_line, IsLineEnd, Passes, PassesBoard}
 use Rattle.sok_text.proofs.Lines.{head_of, head_of-append-after_line, lines-first, lines-head_of, IsLineEnd-head_of}
 
 -- at a place where a text can be cut
@@ -29,7 +30,7 @@ IsLineEnd-append front head rest before (inr cut) =
     ∙ sym (append_assoc (lines front) (lines head) (lines more)) ∙ ap (λ ls. ls ++ lines more) (sym (before head)))
 
 -- one more line is passed
-pub Passes-more : (kind : Bool) (from here : List ℕ) → Passes kind from here → 0 < length here → is_board_line (first_line here) ≡ kind
+pub Passes-more : (kind : Kind) (from here : List ℕ) → Passes kind from here → 0 < length here → kind_of (first_line here) ≡ kind
     → Passes kind from (after_line here)
 Passes-more kind from here passed some same =
     let before = cut_before passed.front here passed.cut some in
@@ -40,35 +41,68 @@ Passes-more kind from here passed some same =
       whole = passed.whole ∙ ap (λ rest. passed.front ++ rest) (head_of-append-after_line here)
           ∙ sym (append_assoc passed.front (head_of here) (after_line here));
       cut = IsLineEnd-append passed.front (head_of here) (after_line here) before (IsLineEnd-head_of here some);
-      same = subst (AreOf kind) (sym grown) (All-push (λ line. is_board_line line ≡ kind) (lines passed.front) (first_line here) passed.same same);
+      same = subst (AreOf kind) (sym grown) (All-push (λ line. kind_of line ≡ kind) (lines passed.front) (first_line here) passed.same same);
     }
-
-pub same_kind : (is kind : Bool) → beq is kind ≡ true → is ≡ kind
-same_kind true true same = refl
-same_kind true false same = absurd (true≢false (sym same))
-same_kind false true same = absurd (true≢false (sym same))
-same_kind false false same = refl
-
-pub other_kind : (is kind : Bool) → beq is kind ≡ false → is ≡ not kind
-other_kind true true other = absurd (true≢false other)
-other_kind true false other = refl
-other_kind false true other = refl
-other_kind false false other = absurd (true≢false other)
 
 pub not_empty : (text : List ℕ) → length text == 0 ≡ false → 0 < length text
 not_empty text full = grind (arith, nat_tests)
 
-pub StartsWith-first : (kind : Bool) (text : List ℕ) → 0 < length text → is_board_line (first_line text) ≡ kind → StartsWith kind (lines text)
-StartsWith-first kind text some is = subst (StartsWith kind) (sym (lines-first text some)) is
+pub StartsOther-first : (kind : Kind) (text : List ℕ) → 0 < length text → (kind_of (first_line text) ≡ kind → ⊥) → StartsOther kind (lines text)
+StartsOther-first kind text some other = subst (StartsOther kind) (sym (lines-first text some)) other
 
 -- what is passed is the text before the rest
-pub take-Passes : (kind : Bool) (from to : List ℕ) (passed : Passes kind from to) → take (length from - length to) from ≡ passed.front
+pub take-Passes : (kind : Kind) (from to : List ℕ) (passed : Passes kind from to) → take (length from - length to) from ≡ passed.front
 take-Passes kind from to passed =
     let long : length from ≡ length passed.front + length to = ap length passed.whole ∙ length-append passed.front to in
     ap (λ text. take (length from - length to) text) passed.whole ∙ take_at passed.front to (length from - length to) (omega arith)
 
-pub lines-Passes : (kind : Bool) (from to : List ℕ) (passed : Passes kind from to) → lines from ≡ lines passed.front ++ lines to
+pub lines-Passes : (kind : Kind) (from to : List ℕ) (passed : Passes kind from to) → lines from ≡ lines passed.front ++ lines to
 lines-Passes kind from to passed = ap lines passed.whole ∙ lines-cut passed.front to passed.cut
 
-pub length-Passes : (kind : Bool) (from to : List ℕ) → Passes kind from to → length to ≤ length from
+pub length-Passes : (kind : Kind) (from to : List ℕ) → Passes kind from to → length to ≤ length from
 length-Passes kind from to passed = omega (arith, ap length passed.whole, length-append passed.front to)
+
+-- a packed line is passed
+pub PassesBoard-packed : (from : List ℕ) → 0 < length from → kind_of (first_line from) ≡ Packed → PassesBoard from (after_line from)
+PassesBoard-packed from some same = record {
+  front = head_of from;
+  whole = head_of-append-after_line from;
+  cut = IsLineEnd-head_of from some;
+  board = packed (first_line from) (lines-head_of from some) same;
+}
+
+board_lines : (front : List (List ℕ)) (line : List ℕ) (more left : List (List ℕ)) → line ∷ more ≡ front ++ left → kind_of line ≡ Row → AreOf Row front
+    → StartsOther Row left → IsBoard front left
+board_lines [] line more left whole row same ends = absurd (subst (StartsOther Row) (sym whole) ends row)
+board_lines (first ∷ front) line more left whole row same ends = rows first front refl same ends
+
+-- lines of a board are passed
+pub PassesBoard-rows : (from to : List ℕ) → Passes Row from to → StartsOther Row (lines to) → 0 < length from → kind_of (first_line from) ≡ Row → PassesBoard from to
+PassesBoard-rows from to passed ends some row = record {
+  front = passed.front;
+  whole = passed.whole;
+  cut = passed.cut;
+  board = board_lines (lines passed.front) (first_line from) (lines (after_line from)) (lines to)
+      (sym (lines-first from some) ∙ ap lines passed.whole ∙ lines-cut passed.front to passed.cut) row passed.same ends;
+}
+
+pub take-PassesBoard : (from to : List ℕ) (passed : PassesBoard from to) → take (length from - length to) from ≡ passed.front
+take-PassesBoard from to passed =
+    let long : length from ≡ length passed.front + length to = ap length passed.whole ∙ length-append passed.front to in
+    ap (λ text. take (length from - length to) text) passed.whole ∙ take_at passed.front to (length from - length to) (omega arith)
+
+pub lines-PassesBoard : (from to : List ℕ) (passed : PassesBoard from to) → lines from ≡ lines passed.front ++ lines to
+lines-PassesBoard from to passed = ap lines passed.whole ∙ lines-cut passed.front to passed.cut
+
+some_lines : (front left : List (List ℕ)) → IsBoard front left → 0 < length front
+some_lines front left (rows line more whole same ends) = omega (arith, ap length whole)
+some_lines front left (packed line whole same) = omega (arith, ap length whole)
+
+has_bytes : (text : List ℕ) → 0 < length (lines text) → 0 < length text
+has_bytes [] some = absurd (omega arith)
+has_bytes (byte ∷ text) some = omega arith
+
+pub length-PassesBoard : (from to : List ℕ) → PassesBoard from to → length to < length from
+length-PassesBoard from to passed =
+    let full = has_bytes passed.front (some_lines (lines passed.front) (lines to) passed.board) in
+    omega (arith, ap length passed.whole, length-append passed.front to)

@@ -1,5 +1,5 @@
--- A collection of levels: runs of board lines are levels, and all other lines are notes.
-use Rattle.std.specs.Prelude.{ℕ, ◌≡◌, ◌<◌, List, [], ◌∷◌, ◌++◌, Option, None, Result, Err, zero, suc, slice_get, if◌then◌else◌, length, map, true, false}
+-- A collection of levels: runs of board lines are levels, and so are packed lines, each by itself; all other lines are notes.
+use Rattle.std.specs.Prelude.{ℕ, ◌≡◌, List, [], ◌∷◌, ◌++◌, Option, None, Result, Err, zero, suc, slice_get, if◌then◌else◌, map, Bool, false}
 use Rattle.std.specs.Option.{option_map_or}
 use Rattle.std.specs.List.{filter_map}
 use Rattle.std.specs.Str.Lines.{lines}
@@ -7,7 +7,10 @@ use Rattle.sok_rules.specs.declared.fault.LevelFault.{LevelFault}
 use Rattle.sok_rules.specs.declared.fault.LevelFault.TheVariants.{NoSuchLevel}
 use Rattle.sok_rules.specs.Squares.{Rows}
 use Rattle.sok_rules.specs.Levels.{level_of}
-use Rattle.sok_text.specs.Lines.{AreOf}
+use Rattle.sok_text.specs.declared.kind.Kind.{Kind}
+use Rattle.sok_text.specs.declared.kind.Kind.TheVariants.{Row, Packed, Note}
+use Rattle.sok_text.specs.Kinds.{kind_of, AreOf, IsBoard}
+use Rattle.sok_text.specs.Packed.{packed_rows}
 use Rattle.sok_text.specs.Xsb.{cell_of, is_board_line}
 
 -- the lines of a board, and the notes after it, up to the next board
@@ -20,18 +23,26 @@ pub record Parts : Type 0 where
   pub notes : List (List ℕ)
   pub boards : List Part
 
--- a board line before the parts of a text: it belongs to their first board, if no note stands between, and else is a board of its own
+abbrev pub starts_with_row : List (List ℕ) → Bool
+starts_with_row [] = false
+starts_with_row (line ∷ ls) = is_board_line line
+
+-- a line of a board before the parts of a text: it belongs to their first board, if that is of such lines and no note stands between, and else is a board of its own
 abbrev pub onto_board : List ℕ → List (List ℕ) → List Part → List Part
-onto_board line [] (first ∷ boards) = record first { board = line ∷ first.board } ∷ boards
+onto_board line [] (first ∷ boards) =
+    if starts_with_row first.board then record first { board = line ∷ first.board } ∷ boards else record { board = line ∷ []; after = [] } ∷ (first ∷ boards)
 onto_board line notes boards = record { board = line ∷ []; after = notes } ∷ boards
+
+-- the parts of a text behind a line of a kind
+abbrev pub parts_behind : Kind → List ℕ → Parts → Parts
+parts_behind Row line parts = record { notes = []; boards = onto_board line parts.notes parts.boards }
+parts_behind Packed line parts = record { notes = []; boards = record { board = line ∷ []; after = parts.notes } ∷ parts.boards }
+parts_behind Note line parts = record parts { notes = line ∷ parts.notes }
 
 -- lines cut into notes and boards
 abbrev pub parts_of : List (List ℕ) → Parts
 parts_of [] = record { notes = []; boards = [] }
-parts_of (line ∷ rest) =
-    let parts = parts_of rest in
-    if is_board_line line then record { notes = []; boards = onto_board line parts.notes parts.boards }
-    else record parts { notes = line ∷ parts.notes }
+parts_of (line ∷ rest) = parts_behind (kind_of line) line (parts_of rest)
 
 -- a level's board lines, with the notes before them and after them, up to the boards beside it
 pub record Block : Type 0 where
@@ -52,9 +63,18 @@ blocks_from before (part ∷ parts) = record { before = before; board = part.boa
 unfoldable pub blocks_of : List ℕ → List Block
 blocks_of text = let parts = parts_of (lines text) in blocks_from parts.notes parts.boards
 
--- the cells of a block's board
+-- the rows of a board whose first line is of a kind: those of a packed line, or one for each line
+abbrev pub rows_by : Kind → List ℕ → List (List ℕ) → Rows
+rows_by Packed line board = packed_rows line
+rows_by Row line board = map (filter_map cell_of) (line ∷ board)
+rows_by Note line board = map (filter_map cell_of) (line ∷ board)
+
+abbrev pub board_rows : List (List ℕ) → Rows
+board_rows [] = []
+board_rows (line ∷ board) = rows_by (kind_of line) line board
+
 abbrev pub rows_of : Block → Rows
-rows_of block = map (filter_map cell_of) block.board
+rows_of block = board_rows block.board
 
 -- the n-th block, counted from 1
 abbrev pub block_at : List Block → ℕ → Option Block
@@ -70,19 +90,17 @@ abbrev pub joined : List Part → List (List ℕ)
 joined [] = []
 joined (part ∷ parts) = part.board ++ (part.after ++ joined parts)
 
--- a board has lines, all of them board lines, and notes after it, at least one where another board follows
+-- a board, which is as long as it can be, and notes after it
 pub record IsRun (part : Part) (more : List Part) : Type 0 where
-  pub some : 0 < length part.board
-  pub lines : AreOf true part.board
-  pub notes : AreOf false part.after
-  pub apart : part.after ≡ [] → more ≡ []
+  pub board : IsBoard part.board (part.after ++ joined more)
+  pub notes : AreOf Note part.after
 
 abbrev pub AreRuns : List Part → Type 0
 AreRuns [] = Unit {0}
 AreRuns (part ∷ parts) = IsRun part parts × AreRuns parts
 
--- lines are cut into notes and runs of board lines, each as long as it can be
+-- lines are cut into notes and boards
 pub record IsCut (ls : List (List ℕ)) (parts : Parts) : Type 0 where
   pub whole : ls ≡ parts.notes ++ joined parts.boards
-  pub notes : AreOf false parts.notes
+  pub notes : AreOf Note parts.notes
   pub runs : AreRuns parts.boards

@@ -3,7 +3,8 @@ use Rattle.std.specs.Prelude.{ℕ, ◌≡◌, List, [], ◌∷◌, ◌++◌, ◌
 use Rattle.std.specs.List.{position_or_len, before_first, after_first}
 use Rattle.std.specs.Str.Lines.{lines, strip_carriage_return}
 use Rattle.sok_text.specs.Characters.{code}
-use Rattle.sok_text.specs.Xsb.{is_board_line}
+use Rattle.sok_text.specs.Kinds.{AreOf, IsBoard}
+use Rattle.sok_text.specs.declared.kind.Kind.{Kind}
 
 abbrev pub is_newline : ℕ → Bool
 is_newline c = c == code (codes "\n")
@@ -25,22 +26,20 @@ pub record IsCutAtEnd (text front rest : List ℕ) : Type 0 where
   pub whole : text ≡ front ++ 10 ∷ rest
   pub unended : IsUnended front
 
--- only board lines (true), or only notes (false)
-abbrev pub AreOf : Bool → List (List ℕ) → Type 0
-AreOf kind ls = All (λ line. is_board_line line ≡ kind) ls
-
--- the first line, if there is one, is of a kind
-abbrev pub StartsWith : Bool → List (List ℕ) → Type 0
-StartsWith kind [] = Unit {0}
-StartsWith kind (line ∷ ls) = is_board_line line ≡ kind
-
 -- a text can be cut into lines up to a place and from there on
 abbrev pub IsLineEnd : List ℕ → List ℕ → Type 0
 IsLineEnd front rest = (rest ≡ []) ⊎ ((more : List ℕ) → lines (front ++ more) ≡ lines front ++ lines more)
 
 -- between two places in a text stand whole lines of one kind
-pub record Passes (kind : Bool) (from to : List ℕ) : Type 0 where
+pub record Passes (kind : Kind) (from to : List ℕ) : Type 0 where
   pub front : List ℕ
   pub whole : from ≡ front ++ to
   pub cut : IsLineEnd front to
   pub same : AreOf kind (lines front)
+
+-- a board stands between two places in a text
+pub record PassesBoard (from to : List ℕ) : Type 0 where
+  pub front : List ℕ
+  pub whole : from ≡ front ++ to
+  pub cut : IsLineEnd front to
+  pub board : IsBoard (lines front) (lines to)

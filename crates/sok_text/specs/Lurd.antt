@@ -1,10 +1,13 @@
--- LURD, the notation of solutions (Sokoban Wiki, "Level format", "Solution").
-use Rattle.std.specs.Prelude.{ℕ, ◌≡◌, ◌≤◌, List, ◌∷◌, ◌++◌, Option, Some, None, Bool, false, if◌then◌else◌, ◌==◌, ◌||◌, length, map, filter, not, codes}
+-- LURD, the notation of solutions (Sokoban Wiki, "Level format", "Solution"), with a number before a letter that is repeated.
+use Rattle.std.specs.Prelude.{ℕ, ◌≡◌, ◌<◌, ◌≤◌, ◌+◌, List, [], ◌∷◌, ◌++◌, Option, Some, None, Bool, true, false, if◌then◌else◌, ◌==◌, ◌||◌, All, length, replicate, flat_map, codes}
+use Rattle.std.specs.Char.{is_ascii_digit}
+use Rattle.std.specs.List.{AllPass}
 use Rattle.std.specs.Fmt.{decimal}
 use Rattle.sok_rules.specs.declared.cell.Dir.{Dir}
 use Rattle.sok_rules.specs.declared.cell.Dir.TheVariants.{Left, Up, Right, Down}
 use Rattle.sok_rules.specs.Limits.{letter_limit}
 use Rattle.sok_text.specs.Characters.{code}
+use Rattle.sok_text.specs.Counts.{times, starts_with_digit}
 use Rattle.sok_text.specs.declared.lurd.LurdFault.{LurdFault}
 use Rattle.sok_text.specs.declared.lurd.LurdFault.TheVariants.{BadLetter, TooLong, Memory}
 
@@ -21,26 +24,60 @@ direction c =
     else if c == code (codes "D") || c == code (codes "d") then Some Down
     else None
 
--- the bytes spell these letters, in either case and with blanks anywhere
+-- a blank; or a letter with the digits before it, of which there may be none, and its direction
+pub data Token : Type 0 where
+  blank : ℕ → Token
+  letter : List ℕ → ℕ → Dir → Token
+
+-- the number of a letter is not 0
+abbrev pub IsToken : Token → Type 0
+IsToken (blank c) = is_blank c ≡ true
+IsToken (letter digits c d) = AllPass is_ascii_digit digits × (direction c ≡ Some d) × (0 < times digits)
+
+abbrev pub token_text : Token → List ℕ
+token_text (blank c) = c ∷ []
+token_text (letter digits c d) = digits ++ c ∷ []
+
+abbrev pub token_letters : Token → List Dir
+token_letters (blank c) = []
+token_letters (letter digits c d) = replicate (times digits) d
+
+-- the bytes are tokens, one after another, and these are their letters
 pub record Spells (bytes : List ℕ) (w : List Dir) : Type 0 where
-  pub letters : map direction (filter (λ c. not (is_blank c)) bytes) ≡ map Some w
+  pub tokens : List Token
+  pub are : All IsToken tokens
+  pub text : bytes ≡ flat_map token_text tokens
+  pub letters : w ≡ flat_map token_letters tokens
   pub few : length w ≤ letter_limit
 
--- what is wrong with a byte that is no blank, after these letters
-abbrev pub IsWrong : List ℕ → List Dir → Option Dir → LurdFault → Type 0
-IsWrong front w None fault = fault ≡ BadLetter (length front)
-IsWrong front w (Some d) fault = (length w ≡ letter_limit) × (fault ≡ TooLong)
+-- the direction of the letter that a text begins with
+abbrev pub first_direction : List ℕ → Option Dir
+first_direction [] = None
+first_direction (c ∷ text) = direction c
 
--- a front of the bytes spells letters, and the byte after it is where the text goes wrong
+-- what is wrong at a place in a text, where this is left of it, after these letters
+pub data IsWrong (at : ℕ) (w : List Dir) (left : List ℕ) (fault : LurdFault) : Type 0 where
+  -- a byte that is no blank, no digit and no letter
+  unknown : (c : ℕ) (rest : List ℕ) → left ≡ c ∷ rest → is_blank c ≡ false → is_ascii_digit c ≡ false → direction c ≡ None → fault ≡ BadLetter at
+      → IsWrong at w left fault
+  -- digits, as many as there are, and no letter behind them
+  alone : (c : ℕ) (digits rest : List ℕ) → left ≡ (c ∷ digits) ++ rest → AllPass is_ascii_digit (c ∷ digits) → starts_with_digit rest ≡ false
+      → first_direction rest ≡ None → fault ≡ BadLetter (at + length (c ∷ digits)) → IsWrong at w left fault
+  -- the number 0 before a letter
+  never : (digits rest : List ℕ) (c : ℕ) (d : Dir) → left ≡ digits ++ c ∷ rest → AllPass is_ascii_digit digits → direction c ≡ Some d → times digits ≡ 0
+      → fault ≡ BadLetter at → IsWrong at w left fault
+  -- more letters than a text may have
+  many : (digits rest : List ℕ) (c : ℕ) (d : Dir) → left ≡ digits ++ c ∷ rest → AllPass is_ascii_digit digits → direction c ≡ Some d
+      → letter_limit < length w + times digits → fault ≡ TooLong → IsWrong at w left fault
+
+-- a front of the bytes spells letters, and behind it the text goes wrong
 pub record GoesWrong (bytes : List ℕ) (fault : LurdFault) : Type 0 where
   pub front : List ℕ
-  pub byte : ℕ
-  pub rest : List ℕ
-  pub whole : bytes ≡ front ++ byte ∷ rest
+  pub left : List ℕ
+  pub whole : bytes ≡ front ++ left
   pub w : List Dir
   pub spelled : Spells front w
-  pub full : is_blank byte ≡ false
-  pub wrong : IsWrong front w (direction byte) fault
+  pub wrong : IsWrong (length front) w left fault
 
 -- the numbers by which faults are printed, and their names with their arguments, each after one space
 abbrev pub lurd_fault_number : LurdFault → ℕ

@@ -8,11 +8,14 @@ ghost use Rattle.std.specs.Str.Lines.{lines};
 ghost use Rattle.sok_rules.specs.Levels.{cells_of, level_of};
 ghost use Rattle.sok_rules.specs.declared.fault.LevelFault.TheVariants as fault;
 ghost use Rattle.sok_text.specs.Xsb.{cell_of};
-ghost use Rattle.sok_text.specs.Collections.{blocks_of, block_at, block_of, level_at};
+ghost use Rattle.sok_text.specs.Collections.{blocks_of, block_at, block_of, board_rows, level_at};
 ghost use Rattle.sok_text.specs.Collections.{Parts, IsCut, parts_of};
+ghost use Rattle.sok_text.specs.Plain.{TextsReadPlain};
 ghost use Rattle.sok_text.specs.Titles.{title_of};
 
-use crate::line::{before, cut_line, pass, place_at};
+use crate::kind::{Kind, kind_of};
+use crate::line::{before, cut_line, pass, pass_board, place_at};
+use crate::packed::unpack;
 use crate::title::title_between;
 use crate::xsb::cell_of;
 use sok_rules::cell::Cell;
@@ -58,19 +61,20 @@ impl<'a> Model for Collection<'a> {
 
 impl<'a> Collection<'a> {
     /// Reads a text in one pass. A line that has only characters of XSB, and a wall among them, is
-    /// a board line, and a level is a run of such lines, as long as it can be. Every other line is
-    /// a note, and may hold any bytes. A line ends with LF, CR LF or the end of the text.
+    /// a board line, and a level is a run of such lines, as long as it can be, or a packed line.
+    /// Every other line is a note, and may hold any bytes. A line ends with LF, CR LF or the end of
+    /// the text.
     #[tactic(auto, unfolding(crate::specs::Collections::blocks_of))]
     pub fn read(alloc: Global, text: &'a [u8]) -> Result<Collection<'a>, Memory>
         ensures { IfOk result (λ collection. collection ≡ blocks_of text.now) }
     {
-        let first = pass(false, place_at(text));
+        let first = pass(Kind::Note, place_at(text));
         let notes = before(text, first.rest);
         let mut parts = Vec::new(alloc);
         let mut here = first;
         while !here.rest.is_empty() {
-            let behind = pass(true, here);
-            let next = pass(false, behind);
+            let behind = pass_board(here);
+            let next = pass(Kind::Note, behind);
             let board = before(here.rest, behind.rest);
             let after = before(behind.rest, next.rest);
             parts.push(Part { board, after })?;
@@ -138,8 +142,20 @@ impl<'a> Collection<'a> {
     }
 }
 
-/// The cells of each line of a board, up to the row that is one too many.
+/// The rows of a board, or as many of their cells as tell its level.
 fn rows_of(alloc: Global, board: &[u8]) -> Result<Vec<Vec<Cell>>, AllocError>
+    ensures { IfOk result
+        (λ rows. level_of (cells_of rows.items) ≡ level_of (board_rows (lines board.now))) }
+{
+    let (line, _) = cut_line(board);
+    match kind_of(line) {
+        Kind::Packed => unpack(alloc, line),
+        _ => rows_of_lines(alloc, board),
+    }
+}
+
+/// The cells of each line of a board, up to the row that is one too many.
+fn rows_of_lines(alloc: Global, board: &[u8]) -> Result<Vec<Vec<Cell>>, AllocError>
     ensures { IfOk result
         (λ rows. level_of (cells_of rows.items)
         ≡ level_of (map (filter_map cell_of) (lines board.now))) }
@@ -168,15 +184,15 @@ fn row_of(alloc: Global, line: &[u8]) -> Result<Vec<Cell>, AllocError>
     Ok(row)
 }
 
-/// Cutting lines into notes and boards loses none of them, takes board lines alone into boards, and
-/// makes each board as long as it can be. No other cut does so.
+/// Cutting lines into notes and boards loses none of them, takes a packed line or board lines alone
+/// into each board, and makes each board of board lines as long as it can be. No other cut does so.
 pub fn boards_are_maximal_runs()
     ensures cut { (ls : List (List ℕ)) → IsCut ls (parts_of ls) }
     ensures only { (ls : List (List ℕ)) (parts : Parts) → IsCut ls parts → parts ≡ parts_of ls }
 {}
 
-/// No level of a collection is refused for a row without a wall.
-pub fn levels_have_a_wall_in_each_row()
-    ensures { (text : List ℕ) (n row : ℕ)
-        → level_at (blocks_of text) n ≡ Err (fault.NoWall row) → ⊥ }
+/// A text in which no bar stands is read as it was before there were packed lines: the same blocks,
+/// with the same rows.
+pub fn texts_without_bars_read_as_before()
+    ensures { TextsReadPlain }
 {}

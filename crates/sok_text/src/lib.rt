@@ -3,7 +3,10 @@
 //! | Module | What it holds |
 //! |---|---|
 //! | `xsb` | the characters of a level's text, and which lines belong to a board |
-//! | `line` | the lines of a text, and runs of board lines and of notes |
+//! | `count` | the digits before what they repeat |
+//! | `packed` | the rows of a level on one line |
+//! | `kind` | which lines are of a board, packed, or notes |
+//! | `line` | the lines of a text, and the boards and the notes that they are |
 //! | `collection` | the levels of a text that has notes around them |
 //! | `title` | the titles that notes give to levels; what is trimmed of them |
 //! | `print` | the canonical text of a level |
@@ -11,8 +14,11 @@
 #![tactic(auto)]
 
 pub mod collection;
+mod count;
+pub mod kind;
 pub mod line;
 pub mod lurd;
+pub mod packed;
 pub mod print;
 pub mod title;
 pub mod xsb;

@@ -1,12 +1,13 @@
-//! The lines of a text, and runs of board lines and of notes.
+//! The lines of a text, and the boards and the notes that they are.
 
-ghost use Rattle.std.specs.Prelude.{◌≡◌, ◌≤◌, ◌-◌, ◌==◌, MatchOption, position, length, take, not};
+ghost use Rattle.std.specs.Prelude.{◌≡◌, ◌<◌, ◌≤◌, ◌-◌, ◌==◌, MatchOption, position, length, take};
 ghost use Rattle.std.specs.Str.Lines.{lines, strip_carriage_return};
 ghost use Rattle.sok_text.specs.Lines.{first_line, after_line, IsCutAtEnd, IsUnended};
-ghost use Rattle.sok_text.specs.Lines.{StartsWith, Passes};
-ghost use Rattle.sok_text.specs.Xsb.{is_board_line};
+ghost use Rattle.sok_text.specs.Lines.{Passes, PassesBoard};
+ghost use Rattle.sok_text.specs.Kinds.{kind_of, StartsOther};
+ghost use Rattle.sok_text.specs.declared.kind.Kind.TheVariants as kind;
 
-use crate::xsb::is_board_line;
+use crate::kind::{Kind, kind_of};
 
 /// A place in a text at the start of a line, and what is known of that line.
 #[derive(Clone, Copy)]
@@ -15,9 +16,9 @@ pub(crate) struct Place<'a> {
     pub(crate) rest: &'a [u8],
     /// The text behind the line.
     next: &'a [u8],
-    is_board: bool,
+    kind: Kind,
     ghost behind: { next.now ≡ after_line rest.now },
-    ghost kind: { is_board ≡ is_board_line (first_line rest.now) },
+    ghost is: { kind ≡ kind_of (first_line rest.now) },
 }
 
 /// Looks at the first line of a text.
@@ -28,20 +29,32 @@ pub(crate) fn place_at(text: &[u8]) -> Place<'_>
     Place {
         rest: text,
         next,
-        is_board: is_board_line(line),
+        kind: kind_of(line),
     }
 }
 
-/// Passes the board lines that a text begins with, or its notes.
-pub(crate) fn pass<'a>(boards: bool, from: Place<'a>) -> Place<'a>
-    ensures passes { Passes boards from.entry.rest.now result.rest.now }
-    ensures ends { StartsWith (not boards) (lines result.rest.now) }
+/// Passes the lines of a kind that a text begins with.
+pub(crate) fn pass<'a>(kind: Kind, from: Place<'a>) -> Place<'a>
+    ensures passes { Passes kind from.entry.rest.now result.rest.now }
+    ensures ends { StartsOther kind (lines result.rest.now) }
 {
     let mut here = from;
-    while !here.rest.is_empty() && here.is_board == boards {
+    while !here.rest.is_empty() && here.kind == kind {
         here = place_at(here.next);
     }
     here
+}
+
+/// Passes the board that a text begins with: a packed line, or the lines of a board.
+pub(crate) fn pass_board<'a>(from: Place<'a>) -> Place<'a>
+    requires full { 0 < length from.rest.now }
+    requires begins { kind_of (first_line from.rest.now) ≡ kind.Note → ⊥ }
+    ensures { PassesBoard from.entry.rest.now result.rest.now }
+{
+    match from.kind {
+        Kind::Packed => place_at(from.next),
+        _ => pass(Kind::Row, from),
+    }
 }
 
 /// The part of a text before a rest of it.

@@ -1,14 +1,17 @@
 //! LURD: the letters of a text (Sokoban Wiki, "Level format", "Solution").
 
-ghost use Rattle.std.specs.Prelude.{◌≡◌, ◌⊎◌, ◌∷◌, ℕ, List, [], MatchResult, Some};
+ghost use Rattle.std.specs.Prelude.{◌≡◌, ◌⊎◌, ◌∷◌, ◌++◌, ℕ, List, [], IfOk, MatchResult, Some};
+ghost use Rattle.std.specs.Prelude.{replicate};
 ghost use Rattle.sok_rules.specs.declared.cell.Dir.{Dir};
 ghost use Rattle.sok_rules.specs.Replay.{IsReplayFault};
 ghost use Rattle.sok_text.specs.Lurd.{is_blank, direction, Spells, GoesWrong};
+ghost use Rattle.sok_text.specs.Lurd.{first_direction};
 ghost use Rattle.sok_text.specs.Lurd.{lurd_fault_number, lurd_fault_words};
 ghost use Rattle.sok_text.specs.Marked.{marked_letter, IsMarkedText, MarkedTextsSpell};
 ghost use Rattle.sok_text.specs.declared.lurd.LurdFault.{LurdFault};
 ghost use Rattle.sok_text.specs.declared.lurd.LurdFault.TheVariants as lurd;
 
+use crate::count::{cut_digits, times};
 use sok_rules::cell::Dir;
 use sok_rules::fault::PlayFault;
 use sok_rules::level::Level;
@@ -23,7 +26,8 @@ pub const LIMIT: usize = 1_000_000;
 /// Why a text is no list of letters. It is displayed as its name and its argument.
 #[derive(Clone, Copy, Debug, PartialEq, Eq, Error)]
 pub enum LurdFault {
-    /// The place, in bytes from 0, of the first byte that is neither a letter nor a blank.
+    /// The place, in bytes from 0, of a byte that is no letter, no digit and no blank; of what stands
+    /// behind a number and is no letter, the end of the text included; or of a number that is 0.
     BadLetter(usize),
     /// There are more than 1,000,000 letters.
     TooLong,
@@ -72,27 +76,53 @@ impl<T: Drop> From<AllocFailed<T>> for LurdFault {
     }
 }
 
-/// Reads a list of letters: `l`, `u`, `r` and `d` in either case, with spaces, tabs and ends of
-/// lines anywhere. Of a text that is none the fault is the one that comes first in it: a byte that
-/// is neither letter nor blank, or the letter that is one too many.
+/// Reads a list of letters: `l`, `u`, `r` and `d` in either case, each with a decimal number directly
+/// before it where it is repeated, and spaces, tabs and ends of lines between them. Of a text that is
+/// none the fault is the one that comes first in it, from the left: `BadLetter`, or `TooLong` at the
+/// letter by which there are too many.
 pub fn read_lurd(alloc: Global, text: &[u8]) -> Result<Vec<Dir>, LurdFault>
     ensures { MatchResult result (λ letters. Spells text.now letters.items)
         (λ fault. (fault ≡ lurd.Memory) ⊎ GoesWrong text.now fault) }
 {
     let mut letters = Vec::new(alloc);
-    for (at, byte) in text.iter().enumerate() {
-        if is_blank(*byte) {
+    let mut left = text;
+    while !left.is_empty() {
+        if is_blank(left[0]) {
+            left = &left[1..];
             continue;
         }
-        let Some(dir) = direction(*byte) else {
-            return Err(LurdFault::BadLetter(at));
+        let (digits, behind) = cut_digits(left);
+        let Some(dir) = first_direction(behind) else {
+            return Err(LurdFault::BadLetter(text.len() - behind.len()));
         };
-        if letters.len() >= LIMIT {
+        let count = times(digits);
+        if count == 0 {
+            return Err(LurdFault::BadLetter(text.len() - left.len()));
+        }
+        if count > LIMIT - letters.len() {
             return Err(LurdFault::TooLong);
         }
-        letters.push(dir)?;
+        put(&mut letters, dir, count)?;
+        left = &behind[1..];
     }
     Ok(letters)
+}
+
+/// Puts a letter behind others, so many times.
+fn put(letters: &mut Vec<Dir>, dir: Dir, count: usize) -> Result<(), AllocError>
+    ensures { IfOk result (λ _. letters.new.items ≡ letters.old.items ++ replicate count dir) }
+{
+    for _time in 0..count {
+        letters.push(dir)?;
+    }
+    Ok(())
+}
+
+/// The direction of the letter that a text begins with, if it begins with one.
+fn first_direction(text: &[u8]) -> Option<Dir>
+    ensures { result ≡ first_direction text.now }
+{
+    direction(*text.first()?)
 }
 
 fn is_blank(byte: u8) -> bool

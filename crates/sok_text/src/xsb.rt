@@ -37,7 +37,7 @@ fn has_only_xsb(line: &[u8]) -> bool
     line.iter().all(|byte| is_xsb(*byte))
 }
 
-fn has_wall(line: &[u8]) -> bool
+pub(crate) fn has_wall(line: &[u8]) -> bool
     ensures { result ≡ list_any (λ c. c == 35) line.now }
 {
     line.iter().any(|byte| *byte == b'#')

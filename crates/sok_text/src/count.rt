@@ -1,0 +1,38 @@
+//! Counts: digits before what they repeat.
+
+ghost use Rattle.std.specs.Prelude.{◌≡◌, ◌+◌, ◌++◌, false, min};
+ghost use Rattle.std.specs.Char.{is_ascii_digit};
+ghost use Rattle.std.specs.List.{AllPass};
+ghost use Rattle.sok_rules.specs.Limits.{letter_limit};
+ghost use Rattle.sok_text.specs.Counts.{times, starts_with_digit};
+
+/// The largest number that is told apart.
+const LIMIT: usize = 1_000_000;
+
+/// The digits that a text begins with, and what stands behind them.
+pub(crate) fn cut_digits(text: &[u8]) -> (&[u8], &[u8])
+    ensures whole { text.now ≡ result.0.now ++ result.1.now }
+    ensures digits { AllPass is_ascii_digit result.0.now }
+    ensures behind { starts_with_digit result.1.now ≡ false }
+{
+    let mut end = 0;
+    while end < text.len() && text[end].is_ascii_digit() {
+        end += 1;
+    }
+    text.split_at(end)
+}
+
+/// How often what stands behind these digits is meant, told up to 1,000,001.
+pub(crate) fn times(digits: &[u8]) -> usize
+    requires { AllPass is_ascii_digit digits.now }
+    ensures { result ≡ min (times digits.now) (letter_limit + 1) }
+{
+    if digits.is_empty() {
+        return 1;
+    }
+    let mut number = 0;
+    for digit in digits {
+        number = (number * 10 + usize::from(*digit - b'0')).min(LIMIT + 1);
+    }
+    number
+}
