@@ -1,19 +1,16 @@
 -- What losses show: nothing solves where some of the boxes are lost alone.
-use Rattle.std.proofs.Common.{ℕ, ◌≡◌, ◌<◌, ◌∙◌, ◌&&◌, ◌==◌, false, true, true≢false, inl, inr, refl, sym, ap, subst, List, [], ◌∷◌, All, Contains, IfSome, Option, None, Some, arith, get_or, length}
+use Rattle.std.proofs.Common.{ℕ, ◌≡◌, ◌<◌, ◌∙◌, ◌&&◌, ◌==◌, true, inl, inr, refl, sym, ap, subst, List, All, Contains, IfOk, IfSome, OnOk, Option, None, Some, Result, Ok, Err, arith, get_or, length}
 use Rattle.std.specs.List.Sorted.{IsStrictlyIncreasing}
-use Rattle.std.proofs.lemmas.Bool.{cases_Bool}
 use Rattle.std.proofs.lemmas.Bool.Decides.{nat_tests}
 use Rattle.std.proofs.lemmas.List.{get_or_default}
 use Rattle.std.proofs.lemmas.List.Elements.{All-contains}
-use Rattle.std.proofs.lemmas.Option.{get_or_from_slice_get, same_Some, slice_get_within}
-use Rattle.sok_rules.specs.declared.cell.Dir.{Dir}
-use Rattle.sok_rules.specs.declared.cell.Spot.{Spot}
-use Rattle.sok_rules.specs.Squares.{Rows, next}
-use Rattle.sok_rules.specs.Play.{After, NeverFrom, Position, pushes, run, step}
+use Rattle.std.proofs.lemmas.Option.{get_or_from_slice_get, slice_get_within}
+use Rattle.sok_rules.specs.declared.fault.Memory.{Memory}
+use Rattle.sok_rules.specs.Play.{NeverFrom}
 use Rattle.sok_rules.specs.States.{Same}
-use Rattle.sok_rules.proofs.Thinner.{IsThinner, NeverFrom-thinner}
-use Rattle.sok_rules.proofs.Steps.{both, step-walk, walk_step}
-use Rattle.sok_rules.proofs.Walking.{Same-refl, Same-step, Same-sym, Same-trans, quiet_step}
+use Rattle.sok_rules.proofs.Thinner.{NeverFrom-thinner, walk-thinner}
+use Rattle.sok_rules.proofs.Steps.{both}
+use Rattle.sok_rules.proofs.Walking.{Same-sym}
 use lib.Pointwise.{pointwise, pointwise_decides}
 use Rattle.sok_board.specs.Area.{Numbered, IsAccepted, position_of}
 use Rattle.sok_board.specs.BoxSets.{IsMoved, put_in_order}
@@ -26,7 +23,8 @@ use Rattle.sok_bar.proofs.Memos.{closed-from}
 use Rattle.sok_bar.proofs.Patterns.{thinner-among}
 use Rattle.sok_bar.proofs.ReasonLaws.{NeverFrom-alone}
 use Rattle.sok_alone.specs.declared.losses.Loss.{Loss}
-use Rattle.sok_alone.specs.Losses.{ArePushed, HasKeyAt, IsLoss, IsLostBy, KeepsPlaces}
+use Rattle.sok_alone.specs.declared.losses.Losses.{Losses}
+use Rattle.sok_alone.specs.Losses.{AddsLosses, ArePushed, HasKeyAt, IsLoss, IsLostBy, KeepsPlaces, TellsLoss, losses_of}
 
 -- ---- losses
 
@@ -101,24 +99,6 @@ module _ (b : Numbered) (player : ℕ) (boxes : List ℕ) (losses : List Loss) (
 
 -- ---- walks
 
-thinner-free : (y x : Position) (s : Spot) → IsThinner y x → x.boxes s ≡ false → y.boxes s ≡ false
-thinner-free y x s thin free = elim (cases_Bool (y.boxes s)) [
-  | inl there ↦ absurd (true≢false (sym (thin.among s there) ∙ free))
-  | inr gone ↦ gone
-]
-
--- a walk stays one where some of the boxes are gone
-walk-thinner : (rows : Rows) (w : List Dir) (y x z : Position) → IsThinner y x → run rows x w ≡ Some z → pushes rows x w ≡ 0 → Same rows y (record y { man = z.man })
-walk-thinner rows [] y x z thin e quiet = subst (λ man. Same rows y (record y { man = man })) (thin.man ∙ ap (λ (p : Position). p.man) (same_Some x z e))
-    (Same-refl rows y)
-walk-thinner rows (d ∷ w) y x z thin e quiet = quiet_step rows d w x z e quiet (λ a steps unpushed runs none.
-    let walk = walk_step rows d x a steps unpushed in
-    let c : After = record { position = record y { man = walk.to }; pushed = false } in
-    let so : step rows d y ≡ Some c = step-walk rows d y walk.to (ap (next d) thin.man ∙ walk.ahead) walk.to_open (thinner-free y x walk.to thin walk.to_free) in
-    let thin_on : IsThinner c.position a.position = subst (λ (after : After). IsThinner c.position after.position) (sym walk.leads)
-    (record { man = refl; among = thin.among }) in
-    Same-trans rows y c.position (record y { man = z.man }) (Same-step rows d y c so refl) (walk-thinner rows w c.position a.position z thin_on runs none))
-
 -- what is lost from one player of a state is lost from another
 pub lost-walked : (b : Numbered) → IsAccepted b → (player other : ℕ) (boxes : List ℕ) (losses : List Loss) (place : ℕ) → IsPlaced b boxes player
     → Same b.rows (position_of b player boxes) (position_of b other boxes) → IsLostBy b player boxes losses place → IsLostBy b other boxes losses place
@@ -145,6 +125,18 @@ pub lost-among : (b : Numbered) (player : ℕ) (some boxes : List ℕ) → ((squ
     → (found : Option ℕ) → IfSome found (IsLostBy b player some losses) → IfSome found (IsLostBy b player boxes losses)
 lost-among b player some boxes among losses None told = told
 lost-among b player some boxes among losses (Some place) lost = lost-more b player some losses place lost boxes among
+
+-- so is what is told by the key of their state
+pub tells-key : (b : Numbered) (player : ℕ) (some boxes : List ℕ) → ((square : ℕ) → Contains some square → Contains boxes square) → (key : Key)
+    → IsKeyOf b (position_of b player some) key → key.boxes ≡ some → (old new : Losses) (r : Result (Option ℕ) Memory) → OnOk r (AddsLosses b old new)
+    → IfOk r (λ found. IfSome found (λ place. HasKeyAt (losses_of new) place key)) → IfOk r (TellsLoss b player boxes old new)
+tells-key b player some boxes among key is boxes_are old new (Ok found) more there = record {
+  losses = more.losses;
+  kept = more.kept;
+  lost = lost-among b player some boxes among (losses_of new) found
+      (lost-found b player some key is boxes_are (losses_of new) more.losses.each found there);
+}
+tells-key b player some boxes among key is boxes_are old new (Err e) more there = tt
 
 -- some of the boxes after a push of one of them
 module _ (from to : ℕ) (boxes some after : List ℕ) (among : (square : ℕ) → Contains some square → Contains boxes square) (moved : IsMoved some from to after) where

@@ -1,6 +1,7 @@
 -- Boxes that are found to be never solved, taken alone: kept for a whole search.
-use Rattle.std.specs.Prelude.{ℕ, ◌≡◌, ◌<◌, ◌≤◌, ◌↔◌, List, Some, All, Contains, length, slice_get}
+use Rattle.std.specs.Prelude.{ℕ, ◌≡◌, ◌<◌, ◌≤◌, ◌↔◌, List, Option, Some, All, Contains, length, slice_get}
 use Rattle.std.specs.List.Sorted.{IsStrictlyIncreasing}
+use Rattle.std.specs.Option.{IfSome}
 use Rattle.sok_board.specs.Area.{Numbered}
 use Rattle.sok_entry.specs.Text.{FitsInner}
 use Rattle.sok_state.specs.declared.key.Key.{Key}
@@ -48,6 +49,17 @@ KeepsPlaces old new = (place : ℕ) (loss : Loss) → slice_get old place ≡ So
 -- the losses of what is kept
 abbrev pub losses_of : Losses → List Loss
 losses_of kept = kept.losses.items
+
+-- more are kept than before, each of the board
+pub record AddsLosses (b : Numbered) (old new : Losses) : Type 0 where
+  pub losses : KeepsLosses b new
+  pub kept : KeepsPlaces (losses_of old) (losses_of new)
+
+-- they are, and the loss at a place shows that nothing solves
+pub record TellsLoss (b : Numbered) (player : ℕ) (boxes : List ℕ) (old new : Losses) (found : Option ℕ) : Type 0 where
+  pub losses : KeepsLosses b new
+  pub kept : KeepsPlaces (losses_of old) (losses_of new)
+  pub lost : IfSome found (IsLostBy b player boxes (losses_of new))
 
 -- those of some boxes that stand on some squares, rising
 pub record AreChosen (boxes squares chosen : List ℕ) : Type 0 where

@@ -1,10 +1,10 @@
 //! Which boxes of a position are asked for a loss, and when.
 
-ghost use Rattle.std.specs.Prelude.{◌≡◌, ◌<◌, Contains, IfOk, IfSome, OnOk, length};
+ghost use Rattle.std.specs.Prelude.{◌≡◌, ◌<◌, Contains, IfOk, length};
 ghost use Rattle.sok_board.specs.BoxSets.{put_in_order};
 ghost use Rattle.sok_region.specs.Regions.{IsPlaced};
 ghost use Rattle.sok_alone.specs.Asking.{MayAsk, TellsAsked};
-ghost use Rattle.sok_alone.specs.Losses.{ArePushed, IsLostBy, KeepsLosses, KeepsPlaces, losses_of};
+ghost use Rattle.sok_alone.specs.Losses.{ArePushed, KeepsLosses, TellsLoss};
 
 use crate::choosing::chosen;
 use crate::hints::hint_of;
@@ -15,6 +15,7 @@ use sok_board::box_set::BoxSet;
 use sok_push::tables::Tables;
 use sok_rules::cell::Dir;
 use sok_rules::fault::Memory;
+use sok_state::key::Key;
 use std::alloc::Global;
 
 /// How far apart three boxes stand at most that are asked, in rows and in columns.
@@ -53,10 +54,8 @@ impl Losses {
         requires tables { tables.now.board ≡ board.now }
         requires pushed { ArePushed board.now boxes.now from to }
         requires losses { KeepsLosses board.now self.old }
-        ensures losses { OnOk result (KeepsLosses board.now self.new) }
-        ensures kept { OnOk result (KeepsPlaces (losses_of self.old) (losses_of self.new)) }
-        ensures lost { IfOk result (λ found. IfSome found (IsLostBy board.now from
-            (put_in_order from to boxes.now) (losses_of self.new))) }
+        ensures { IfOk result
+            (TellsLoss board.now from (put_in_order from to boxes.now) self.old self.new) }
     {
         let asking = Asking {
             alloc,
@@ -154,13 +153,8 @@ impl Losses {
     {
         let before = chosen(asking.alloc, asking.boxes, squares)?;
         let after = before.moved(asking.alloc, asking.from, asking.to)?;
-        self.recall(
-            asking.alloc,
-            asking.board,
-            asking.tables,
-            &after,
-            asking.from,
-        )
+        let key = Key::of(asking.alloc, asking.board, &after, asking.from)?;
+        self.recall(asking.alloc, asking.board, asking.tables, &key)
     }
 
     /// The place of a loss of two of the boxes, which are never solved from where the player stands,
@@ -176,10 +170,7 @@ impl Losses {
         requires tables { tables.now.board ≡ board.now }
         requires placed { IsPlaced board.now boxes.now player }
         requires losses { KeepsLosses board.now self.old }
-        ensures losses { OnOk result (KeepsLosses board.now self.new) }
-        ensures kept { OnOk result (KeepsPlaces (losses_of self.old) (losses_of self.new)) }
-        ensures lost { IfOk result (λ found. IfSome found
-            (IsLostBy board.now player boxes.now (losses_of self.new))) }
+        ensures { IfOk result (TellsLoss board.now player boxes.now self.old self.new) }
     {
         for one in boxes.list() {
             for other in boxes.list() {
@@ -187,7 +178,8 @@ impl Losses {
                     continue;
                 }
                 let pair = chosen(alloc, boxes, &[*one, *other])?;
-                let found = self.recall(alloc, board, tables, &pair, player)?;
+                let key = Key::of(alloc, board, &pair, player)?;
+                let found = self.recall(alloc, board, tables, &key)?;
                 if found.is_some() {
                     return Ok(found);
                 }

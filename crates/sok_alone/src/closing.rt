@@ -1,12 +1,10 @@
 //! The list of positions of some boxes alone that is closed under pushes.
 
-ghost use Rattle.std.specs.Prelude.{◌≡◌, ◌<◌, ◌≤◌, [], All, IfOk, IfNone, IfSome, length};
+ghost use Rattle.std.specs.Prelude.{◌≡◌, ◌≤◌, [], IfOk, IfNone, IfSome, length};
 ghost use Rattle.sok_board.specs.Area.{IsAccepted, position_of};
-ghost use Rattle.sok_entry.specs.Text.{FitsInner};
 ghost use Rattle.sok_region.specs.Regions.{IsPlaced};
-ghost use Rattle.sok_bar.specs.Patterns.{AreClosedAlone};
 ghost use Rattle.sok_alone.specs.GivenUp.{HasEnded, IsGivenUp};
-ghost use Rattle.sok_alone.specs.Meeting.{TellsAlone};
+ghost use Rattle.sok_alone.specs.Meeting.{AreClosedWithin, TellsAlone};
 
 use crate::expanding::run;
 use crate::known::Known;
@@ -36,9 +34,7 @@ pub fn close_alone(
     requires tables { tables.now.board ≡ board.now }
     requires placed { IsPlaced board.now boxes.now player }
     ensures closed { IfOk result (λ found. IfSome found
-        (AreClosedAlone board.now player boxes.now)) }
-    ensures few { IfOk result (λ found. IfSome found (λ inner. length inner ≤ limit)) }
-    ensures fit { IfOk result (λ found. IfSome found (All FitsInner)) }
+        (AreClosedWithin board.now player boxes.now limit)) }
     ensures none { IfOk result (λ found. IfNone found
         (IsGivenUp board.now.rows (position_of board.now player boxes.now) limit)) }
 {
@@ -61,9 +57,7 @@ pub(crate) fn close_unless(
     requires room { length board.now.area ≤ lives.now.room }
     requires placed { IsPlaced board.now boxes.now player }
     ensures closed { IfOk result (λ found. IfSome found
-        (AreClosedAlone board.now player boxes.now)) }
-    ensures few { IfOk result (λ found. IfSome found (λ inner. length inner ≤ limit)) }
-    ensures fit { IfOk result (λ found. IfSome found (All FitsInner)) }
+        (AreClosedWithin board.now player boxes.now limit)) }
     ensures none { IfOk result (λ found. IfNone found
         (HasEnded lives.now board.now.rows (position_of board.now player boxes.now) limit)) }
 {

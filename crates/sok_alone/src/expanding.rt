@@ -5,14 +5,13 @@ ghost use Rattle.sok_closed.specs.Lookup.{AreFollowed};
 ghost use Rattle.sok_state.specs.Pushes.{IsLegal};
 ghost use Rattle.sok_alone.specs.Known.{IsAsked, IsKnown, IsReached, roll_of};
 ghost use Rattle.sok_state.specs.declared.key.Key.{Key};
-ghost use Rattle.sok_bar.specs.Patterns.{is_expanded};
 ghost use Rattle.sok_alone.specs.Meeting.{TellsAll, TellsExpanded, TellsFollowed, TellsRun};
 
 use crate::known::Known;
 use crate::meeting::{Met, meet};
+use sok_bar::inners::is_expanded;
 use sok_board::area::Sq;
 use sok_board::board::Board;
-use sok_entry::entry::InnerReason;
 use sok_push::tables::Tables;
 use sok_region::region::Region;
 use sok_rules::fault::Memory;
@@ -90,13 +89,6 @@ fn expand(
         pushes,
         &mut region,
     )
-}
-
-/// Whether a reason is that every push leads to another state.
-fn is_expanded(reason: &InnerReason) -> bool
-    ensures { result ≡ is_expanded reason.now }
-{
-    matches!(reason, InnerReason::Expanded)
 }
 
 /// Expands one known state after another, until none is left or the search has ended.

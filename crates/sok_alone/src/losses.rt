@@ -1,13 +1,11 @@
 //! Boxes that are found to be never solved, taken alone: kept for a whole search.
 
-ghost use Rattle.std.specs.Prelude.{ℕ, List, ◌≡◌, ◌<◌, ◌≤◌, All, Contains, IfOk, IfSome, OnOk, Some};
-ghost use Rattle.std.specs.Prelude.{length, slice_get};
+ghost use Rattle.std.specs.Prelude.{ℕ, ◌≡◌, ◌≤◌, All, IfOk, IfSome, OnOk, length};
 ghost use Rattle.sok_bar.specs.Patterns.{IsPattern};
 ghost use Rattle.sok_board.specs.Area.{Numbered};
 ghost use Rattle.sok_entry.specs.Text.{FitsInner};
-ghost use Rattle.sok_region.specs.Regions.{IsPlaced};
 ghost use Rattle.sok_state.specs.Keys.{IsKey};
-ghost use Rattle.sok_alone.specs.Losses.{HasKeyAt, IsLostBy, KeepsLosses, KeepsPlaces, loss_limit};
+ghost use Rattle.sok_alone.specs.Losses.{AddsLosses, HasKeyAt, IsLostBy, KeepsLosses, loss_limit};
 ghost use Rattle.sok_alone.specs.Losses.{losses_of};
 
 use crate::closing::close_unless;
@@ -15,7 +13,6 @@ use crate::finding::members_of;
 use crate::found::FoundPattern;
 use crate::hints::Hints;
 use sok_bar::inners::copy_of;
-use sok_board::area::Sq;
 use sok_board::board::Board;
 use sok_board::box_set::BoxSet;
 use sok_entry::entry::Inners;
@@ -93,55 +90,33 @@ impl Losses {
         self.asked.len().saturating_sub(SEARCHES) <= known
     }
 
-    /// The place of a loss of these boxes where the player stands. They are searched if they were
-    /// not asked yet.
+    /// The place of a loss of a state of boxes alone. They are searched if they were not asked yet,
+    /// and it is noted that they were.
     pub(crate) fn recall(
         &mut self,
         alloc: Global,
         board: &Board,
         tables: &Tables,
-        boxes: &BoxSet,
-        player: Sq,
-    ) -> Result<Option<u32>, Memory>
-        requires tables { tables.now.board ≡ board.now }
-        requires placed { IsPlaced board.now boxes.now player }
-        requires losses { KeepsLosses board.now self.old }
-        ensures losses { OnOk result (KeepsLosses board.now self.new) }
-        ensures kept { OnOk result (KeepsPlaces (losses_of self.old) (losses_of self.new)) }
-        ensures lost { IfOk result (λ found. IfSome found
-            (IsLostBy board.now player boxes.now (losses_of self.new))) }
-    {
-        let key = Key::of(alloc, board, boxes, player)?;
-        if let Some(index) = self.asked.get(&key) {
-            let number = self.asked.depth(index);
-            return Ok(place_of(&self.losses, number, &key));
-        }
-        let number = self.search(alloc, board, tables, &key)?;
-        Ok(place_of(&self.losses, number, &key))
-    }
-
-    /// Searches a state of boxes alone, and notes that it was asked. The number of its loss, from 1
-    /// on, or 0 where none is found.
-    fn search(
-        &mut self,
-        alloc: Global,
-        board: &Board,
-        tables: &Tables,
         key: &Key,
-    ) -> Result<u32, Memory>
+    ) -> Result<Option<u32>, Memory>
         requires tables { tables.now.board ≡ board.now }
         requires state { IsKey board.now key.now }
         requires losses { KeepsLosses board.now self.old }
-        ensures losses { OnOk result (KeepsLosses board.now self.new) }
-        ensures kept { OnOk result (KeepsPlaces (losses_of self.old) (losses_of self.new)) }
+        ensures more { OnOk result (AddsLosses board.now self.old self.new) }
+        ensures there { IfOk result (λ found. IfSome found
+            (λ place. HasKeyAt (losses_of self.new) place key.now)) }
     {
+        if let Some(index) = self.asked.get(key) {
+            let number = self.asked.depth(index);
+            return Ok(place_of(&self.losses, number, key));
+        }
         let number = self.find(alloc, board, tables, key)?;
         let (_index, _is_new) = self.asked.insert(key, number)?;
-        Ok(number)
+        Ok(place_of(&self.losses, number, key))
     }
 
     /// Searches a state of boxes alone, up to a state of which no loss is known though it was asked.
-    /// Its loss goes last, if one is found, and its number is told, else 0.
+    /// Its loss goes last, if one is found, and its number, from 1 on, is told, else 0.
     fn find(
         &mut self,
         alloc: Global,
@@ -152,9 +127,8 @@ impl Losses {
         requires tables { tables.now.board ≡ board.now }
         requires state { IsKey board.now key.now }
         requires losses { KeepsLosses board.now self.old }
-        ensures losses { OnOk result (KeepsLosses board.now self.new) }
-        ensures kept { OnOk result (KeepsPlaces (losses_of self.old) (losses_of self.new)) }
-        ensures room { self.new.asked ≡ self.old.asked }
+        ensures more { OnOk result (AddsLosses board.now self.old self.new) }
+        ensures asked { self.new.asked ≡ self.old.asked }
     {
         if self.losses.len() >= LOSSES {
             return Ok(0);

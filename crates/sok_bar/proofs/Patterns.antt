@@ -1,7 +1,8 @@
 -- Boxes that are never solved alone are never solved among others; and the squares of members.
-use Rattle.std.proofs.Common.{ℕ, ◌≡◌, ◌<◌, ◌+◌, ◌∙◌, ◌||◌, inl, inr, refl, sym, ap, List, Bool, true, false, Contains}
+use Rattle.std.proofs.Common.{ℕ, ◌≡◌, ◌<◌, ◌+◌, ◌∙◌, ◌||◌, inl, inr, refl, sym, ap, List, true, Contains}
 use Rattle.std.proofs.Common.{arith, length, get_or, map, slice_index}
 use Rattle.std.specs.List.Sorted.{IsStrictlyIncreasing}
+use Rattle.std.proofs.Math.Bool.{or-true}
 use Rattle.std.proofs.lemmas.Bool.{cases_Bool}
 use Rattle.std.proofs.lemmas.List.{length-map, get_or-map, get_or_default}
 use Rattle.std.proofs.lemmas.List.Folds.{Any-from_list_any}
@@ -63,10 +64,6 @@ IsPlaced-alone b player boxes members placed listed = record {
 }
 
 -- ---- alone on the board
-
-or-true : (p : Bool) → (p || true) ≡ true
-or-true true = refl
-or-true false = refl
 
 -- a position has boxes that are among those of another
 pub thinner-among : (b : Numbered) (player : ℕ) (squares boxes : List ℕ) → ((n : ℕ) → Contains squares n → Contains boxes n)

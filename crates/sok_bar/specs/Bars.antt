@@ -1,5 +1,6 @@
 -- The reasons for barring a position: what each of them says, and what it shows.
-use Rattle.std.specs.Prelude.{ℕ, ◌≡◌, List, Option, Some, None}
+use Rattle.std.specs.Prelude.{ℕ, ◌≡◌, ◌↔◌, Bool, List, Option, Some, None, Result, IfOk, IsOkAnd, IsTrue}
+use Rattle.sok_rules.specs.declared.fault.Memory.{Memory}
 use Rattle.sok_board.specs.Area.{Numbered}
 use Rattle.sok_region.specs.Regions.{IsPlaced}
 use Rattle.sok_price.specs.Prices.{Priced, IsCrowd}
@@ -31,6 +32,11 @@ Bars b player boxes (Barring.bound u v) Never = ⊥
 Bars b player boxes (Barring.crowd members) rest = IsCrowd b boxes members
 Bars b player boxes (Barring.frozen members) rest = IsJam b boxes members
 Bars b player boxes (Barring.pattern members inner) rest = IsPattern b player boxes members inner
+
+-- whether it is so is what is answered. Memory may be refused to a pattern, and to no other reason
+abbrev pub IsJudged : Numbered → ℕ → List ℕ → Barring → Rest → Result Bool Memory → Type 0
+IsJudged b player boxes (Barring.pattern members inner) rest result = IfOk result (λ holds. IsTrue holds ↔ IsPattern b player boxes members inner)
+IsJudged b player boxes reason rest result = IsOkAnd result (λ holds. IsTrue holds ↔ Bars b player boxes reason rest)
 
 -- a reason that looks at the boxes alone, wherever the player stands
 abbrev pub IsOfBoxes : Barring → Type 0

@@ -6,12 +6,13 @@ ghost use Rattle.sok_board.specs.Limits.{box_limit};
 ghost use Rattle.sok_closed.specs.Fine.{AreEntered, AreFine, IsFine, IsOfBoard, IsReasoned};
 ghost use Rattle.sok_closed.specs.Placing.{IsLocated};
 ghost use Rattle.sok_region.specs.Regions.{IsPlaced};
-ghost use Rattle.sok_bar.specs.Patterns.{AreClosedAlone, IsBarredAlone, inner_node, is_expanded};
+ghost use Rattle.sok_bar.specs.Patterns.{AreClosedAlone, IsBarredAlone, inner_node};
 ghost use Rattle.sok_entry.specs.declared.entry.Inner.{Inner};
 
 use crate::bar::Bar;
 use crate::crowd::Crowd;
 use crate::frozen::Frozen;
+use crate::inners::is_expanded;
 use crate::rest::Rest;
 use sok_board::area::Sq;
 use sok_board::board::Board;
@@ -194,13 +195,6 @@ fn may_stand(
             Frozen { members }.holds(alloc, board, tables, boxes, player, Rest::Never)
         }
     }
-}
-
-/// Whether a reason is that every push leads to another position of the pattern.
-fn is_expanded(reason: &InnerReason) -> bool
-    ensures { result ≡ is_expanded reason.now }
-{
-    matches!(reason, InnerReason::Expanded)
 }
 
 /// Whether the state of a player and some boxes stands in a roll at depth 0, and each push from an

@@ -1,6 +1,8 @@
 //! What a reason for barring a position promises.
 
-ghost use Rattle.std.specs.Prelude.{◌≡◌, ◌<◌, IfOk, IsTrue, All, Contains, length};
+ghost use Rattle.std.specs.Prelude.{◌≡◌, IfOk, IsTrue};
+ghost use Rattle.sok_region.specs.Regions.{IsPlaced};
+ghost use Rattle.sok_bar.specs.Bars.{Barring, IsJudged};
 ghost use Rattle.sok_bar.specs.Rests.{IsBarred};
 
 use crate::rest::Rest;
@@ -13,8 +15,11 @@ use std::alloc::Global;
 
 /// A reason for barring a position: for going no further from it.
 pub trait Bar {
-    /// Whether the reason shows what is still to be shown of a position, given by the squares of
-    /// its boxes and of its player, with the tables of its board. Where it answers true, so it is
+    /// What it says, with its numbers.
+    ghost says: { Self → Barring };
+
+    /// Whether what it says is so of a position, given by the squares of its boxes and of its
+    /// player, with the tables of its board. Where it answers true, what is still to be shown is so
     /// of each position of the same state. It refuses only for want of memory.
     fn holds(
         &self,
@@ -26,9 +31,8 @@ pub trait Bar {
         rest: Rest,
     ) -> Result<bool, Memory>
         requires tables { tables.now.board ≡ board.now }
-        requires boxes_exist { All (λ square. square < length board.now.area) boxes.now }
-        requires player_exists { player < length board.now.area }
-        requires player_free { Contains boxes.now player → ⊥ }
+        requires placed { IsPlaced board.now boxes.now player }
         ensures law { IfOk result
-            (λ holds. IsTrue holds → IsBarred board.now player boxes.now rest) };
+            (λ holds. IsTrue holds → IsBarred board.now player boxes.now rest) }
+        ensures exact { IsJudged board.now player boxes.now (says self.now) rest result };
 }

@@ -1,11 +1,9 @@
 //! Prices that bound the pushes from below.
 
-ghost use Rattle.std.specs.Prelude.{◌≡◌, ◌<◌, ◌≤◌, ◌↔◌, ◌^◌, IsTrue, IsOkAnd, IfOk, All, Contains};
-ghost use Rattle.std.specs.Prelude.{length, sum};
+ghost use Rattle.std.specs.Prelude.{◌≡◌, ◌<◌, ◌↔◌, ◌^◌, IsTrue, All, length, sum};
 ghost use Rattle.sok_board.specs.Area.{goals_of};
-ghost use Rattle.sok_bar.specs.Bars.{Barring, Bars};
+ghost use Rattle.sok_bar.specs.Bars.{Barring};
 ghost use Rattle.sok_bar.specs.Fair.{IsAffordable, IsFair, AreFair};
-ghost use Rattle.sok_bar.specs.Rests.{IsBarred};
 
 use crate::bar::Bar;
 use crate::rest::Rest;
@@ -26,6 +24,8 @@ pub struct Bound<'a> {
 }
 
 impl Bar for Bound<'_> {
+    ghost says = { λ bar. Barring.bound bar.u.now bar.v.now };
+
     /// True where the lists are such prices, as many as boxes and goals, and leave as many pushes
     /// as are asked for; never where no solution is to be shown. It takes no memory.
     fn holds(
@@ -36,17 +36,7 @@ impl Bar for Bound<'_> {
         boxes: &BoxSet,
         player: Sq,
         rest: Rest,
-    ) -> Result<bool, Memory>
-        requires tables { tables.now.board ≡ board.now }
-        requires boxes_exist { All (λ square. square < length board.now.area) boxes.now }
-        requires player_exists { player < length board.now.area }
-        requires player_free { Contains boxes.now player → ⊥ }
-        ensures law { IfOk result
-            (λ holds. IsTrue holds → IsBarred board.now player boxes.now rest) }
-        ensures exact { IsOkAnd result
-            (λ holds. IsTrue holds
-            ↔ Bars board.now player boxes.now (Barring.bound self.now.u.now self.now.v.now) rest) }
-    {
+    ) -> Result<bool, Memory> {
         let Rest::AtLeast(pushes) = rest else {
             return Ok(false);
         };

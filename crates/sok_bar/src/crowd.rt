@@ -1,12 +1,10 @@
 //! Boxes that share too few goals.
 
-ghost use Rattle.std.specs.Prelude.{ℕ, List, ◌≡◌, ◌<◌, ◌≤◌, ◌↔◌, IsTrue, IsOkAnd, IfOk, All};
-ghost use Rattle.std.specs.Prelude.{Contains, length};
+ghost use Rattle.std.specs.Prelude.{ℕ, List, ◌≡◌, ◌<◌, ◌≤◌, ◌↔◌, IsTrue, All, length};
 ghost use Rattle.sok_board.specs.Area.{IsAccepted, goals_of};
 ghost use Rattle.sok_price.specs.Prices.{AreMembers};
-ghost use Rattle.sok_bar.specs.Bars.{Barring, Bars};
+ghost use Rattle.sok_bar.specs.Bars.{Barring};
 ghost use Rattle.sok_bar.specs.Reached.{Reaches, IsReachedBy, HasReached};
-ghost use Rattle.sok_bar.specs.Rests.{IsBarred};
 
 use crate::bar::Bar;
 use crate::members::are_members;
@@ -26,6 +24,8 @@ pub struct Crowd<'a> {
 }
 
 impl Bar for Crowd<'_> {
+    ghost says = { λ bar. Barring.crowd bar.members.now };
+
     /// True where the members are rising indices of boxes that are a crowd, whatever is to be
     /// shown. It takes no memory.
     fn holds(
@@ -36,17 +36,7 @@ impl Bar for Crowd<'_> {
         boxes: &BoxSet,
         player: Sq,
         rest: Rest,
-    ) -> Result<bool, Memory>
-        requires tables { tables.now.board ≡ board.now }
-        requires boxes_exist { All (λ square. square < length board.now.area) boxes.now }
-        requires player_exists { player < length board.now.area }
-        requires player_free { Contains boxes.now player → ⊥ }
-        ensures law { IfOk result
-            (λ holds. IsTrue holds → IsBarred board.now player boxes.now rest) }
-        ensures exact { IsOkAnd result
-            (λ holds. IsTrue holds
-            ↔ Bars board.now player boxes.now (Barring.crowd self.now.members.now) rest) }
-    {
+    ) -> Result<bool, Memory> {
         let boxes = boxes.list();
         if !are_members(boxes, self.members) {
             return Ok(false);

@@ -1,12 +1,11 @@
 //! Boxes that hold each other for ever.
 
-ghost use Rattle.std.specs.Prelude.{ℕ, List, ◌≡◌, ◌<◌, ◌≤◌, ◌↔◌, IsTrue, IsOkAnd, IfOk, IfNone};
+ghost use Rattle.std.specs.Prelude.{ℕ, List, ◌≡◌, ◌<◌, ◌≤◌, ◌↔◌, IsTrue, IfOk, IfNone};
 ghost use Rattle.std.specs.Prelude.{IfSome, All, Contains, length, vec_len};
 ghost use Rattle.sok_board.specs.Limits.{box_limit};
 ghost use Rattle.sok_price.specs.Prices.{AreMembers, IsMember};
-ghost use Rattle.sok_bar.specs.Bars.{Barring, Bars};
+ghost use Rattle.sok_bar.specs.Bars.{Barring};
 ghost use Rattle.sok_bar.specs.Jam.{AreHeld, HasJams, HasOneOffGoal, IsJam};
-ghost use Rattle.sok_bar.specs.Rests.{IsBarred};
 ghost use Rattle.sok_bar.specs.Settings.{AreAllMembers, IsSetting};
 
 use crate::bar::Bar;
@@ -28,6 +27,8 @@ pub struct Frozen<'a> {
 }
 
 impl Bar for Frozen<'_> {
+    ghost says = { λ bar. Barring.frozen bar.members.now };
+
     /// True where the members are rising indices of boxes that are a jam, whatever is to be shown.
     /// It takes no memory.
     fn holds(
@@ -38,17 +39,7 @@ impl Bar for Frozen<'_> {
         boxes: &BoxSet,
         player: Sq,
         rest: Rest,
-    ) -> Result<bool, Memory>
-        requires tables { tables.now.board ≡ board.now }
-        requires boxes_exist { All (λ square. square < length board.now.area) boxes.now }
-        requires player_exists { player < length board.now.area }
-        requires player_free { Contains boxes.now player → ⊥ }
-        ensures law { IfOk result
-            (λ holds. IsTrue holds → IsBarred board.now player boxes.now rest) }
-        ensures exact { IsOkAnd result
-            (λ holds. IsTrue holds
-            ↔ Bars board.now player boxes.now (Barring.frozen self.now.members.now) rest) }
-    {
+    ) -> Result<bool, Memory> {
         let boxes = boxes.list();
         if !are_members(boxes, self.members) {
             return Ok(false);

@@ -1,10 +1,18 @@
 //! Lists of positions of some boxes alone: whether two are the same, and copies.
 
 ghost use Rattle.std.specs.Prelude.{◌≡◌, ◌↔◌, IfOk, IsTrue};
+ghost use Rattle.sok_bar.specs.Patterns.{is_expanded};
 
 use sok_entry::entry::{Inner, InnerReason, Inners, Numbers};
 use sok_rules::fault::Memory;
 use std::alloc::Global;
+
+/// Whether the reason of a position is that every push leads to another one of the list.
+pub fn is_expanded(reason: &InnerReason) -> bool
+    ensures { result ≡ is_expanded reason.now }
+{
+    matches!(reason, InnerReason::Expanded)
+}
 
 /// Whether two lists have the same positions.
 pub(crate) fn are_same(inner: &[Inner], other: &[Inner]) -> bool

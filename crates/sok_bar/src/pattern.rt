@@ -1,13 +1,13 @@
 //! Boxes that are never solved, taken alone.
 
-ghost use Rattle.std.specs.Prelude.{◌≡◌, ◌<◌, ◌≤◌, ◌↔◌, IsTrue, IfOk, All, Contains, length};
+ghost use Rattle.std.specs.Prelude.{◌≡◌, ◌≤◌, ◌↔◌, IsTrue, IfOk, length};
 ghost use Rattle.std.specs.List.Sorted.{IsStrictlyIncreasing};
 ghost use Rattle.sok_board.specs.Limits.{box_limit};
 ghost use Rattle.sok_price.specs.Prices.{AreMembers};
-ghost use Rattle.sok_bar.specs.Bars.{Barring, Bars};
+ghost use Rattle.sok_region.specs.Regions.{IsPlaced};
+ghost use Rattle.sok_bar.specs.Bars.{Barring};
 ghost use Rattle.sok_bar.specs.Memos.{KeepsClosed};
 ghost use Rattle.sok_bar.specs.Patterns.{IsPattern, squares_at};
-ghost use Rattle.sok_bar.specs.Rests.{IsBarred};
 
 use crate::bar::Bar;
 use crate::members::are_members;
@@ -31,6 +31,8 @@ pub struct Pattern<'a> {
 }
 
 impl Bar for Pattern<'_> {
+    ghost says = { λ bar. Barring.pattern bar.members.now bar.inner.now };
+
     /// True where the members are rising indices of boxes, and the positions are closed under
     /// pushes, that of the player and of these boxes among them at depth 0, whatever is to be
     /// shown. It refuses only for want of memory.
@@ -42,20 +44,9 @@ impl Bar for Pattern<'_> {
         boxes: &BoxSet,
         player: Sq,
         rest: Rest,
-    ) -> Result<bool, Memory>
-        requires tables { tables.now.board ≡ board.now }
-        requires boxes_exist { All (λ square. square < length board.now.area) boxes.now }
-        requires player_exists { player < length board.now.area }
-        requires player_free { Contains boxes.now player → ⊥ }
-        ensures law { IfOk result
-            (λ holds. IsTrue holds → IsBarred board.now player boxes.now rest) }
-        ensures exact { IfOk result (λ holds. IsTrue holds
-            ↔ Bars board.now player boxes.now
-            (Barring.pattern self.now.members.now self.now.inner.now) rest) }
-    {
-        // A board is of an accepted level and boxes rise, and of such the law speaks.
+    ) -> Result<bool, Memory> {
+        // A board is of an accepted level, of which the law speaks.
         let _squares = board.squares();
-        let _boxes = boxes.list();
         let mut memo = Memo::new(alloc);
         self.holds_by(alloc, board, tables, boxes, player, &mut memo)
     }
@@ -74,9 +65,7 @@ impl Pattern<'_> {
         memo: &mut Memo,
     ) -> Result<bool, Memory>
         requires tables { tables.now.board ≡ board.now }
-        requires boxes_exist { All (λ square. square < length board.now.area) boxes.now }
-        requires player_exists { player < length board.now.area }
-        requires player_free { Contains boxes.now player → ⊥ }
+        requires placed { IsPlaced board.now boxes.now player }
         requires memo { KeepsClosed board.now memo.old }
         ensures exact { IfOk result (λ holds. IsTrue holds
             ↔ IsPattern board.now player boxes.now self.now.members.now self.now.inner.now) }

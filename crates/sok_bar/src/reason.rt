@@ -1,7 +1,7 @@
 //! Whether the reason of an entry holds.
 
-ghost use Rattle.std.specs.Prelude.{◌≡◌, ◌<◌, ◌↔◌, IsTrue, IfOk, IsSomeAnd, All, Contains};
-ghost use Rattle.std.specs.Prelude.{OnErr, length};
+ghost use Rattle.std.specs.Prelude.{◌≡◌, ◌↔◌, IsTrue, IfOk, IsSomeAnd, OnErr};
+ghost use Rattle.sok_region.specs.Regions.{IsPlaced};
 ghost use Rattle.sok_entry.specs.Text.{is_pattern};
 ghost use Rattle.sok_bar.specs.Bars.{Bars, barring};
 ghost use Rattle.sok_bar.specs.Memos.{KeepsClosed};
@@ -36,9 +36,7 @@ pub fn reason_holds(
     memo: &mut Memo,
 ) -> Result<bool, Memory>
     requires tables { tables.now.board ≡ board.now }
-    requires boxes_exist { All (λ square. square < length board.now.area) boxes.now }
-    requires player_exists { player < length board.now.area }
-    requires player_free { Contains boxes.now player → ⊥ }
+    requires placed { IsPlaced board.now boxes.now player }
     requires memo { KeepsClosed board.now memo.old }
     ensures exact { IfOk result (λ holds. IsTrue holds
         ↔ IsSomeAnd (barring reason.now) (λ one. Bars board.now player boxes.now one rest)) }

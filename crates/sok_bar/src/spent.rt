@@ -1,7 +1,7 @@
 //! The reason that no more pushes are asked for.
 
-ghost use Rattle.std.specs.Prelude.{◌↔◌, IfOk, IsOkAnd, IsTrue};
-ghost use Rattle.sok_bar.specs.Bars.{Barring, Bars};
+ghost use Rattle.std.specs.Prelude.{IfOk, IsTrue};
+ghost use Rattle.sok_bar.specs.Bars.{Barring, IsJudged};
 ghost use Rattle.sok_bar.specs.Rests.{IsBarred};
 
 use crate::bar::Bar;
@@ -18,7 +18,9 @@ use std::alloc::Global;
 pub struct Spent;
 
 impl Bar for Spent {
-    /// True for at least 0 pushes, and for nothing else. It takes no memory.
+    ghost says = { λ _. Barring.spent };
+
+    /// True for at least 0 pushes, and for nothing else, of any position. It takes no memory.
     fn holds(
         &self,
         _alloc: Global,
@@ -30,8 +32,7 @@ impl Bar for Spent {
     ) -> Result<bool, Memory>
         ensures law { IfOk result
             (λ holds. IsTrue holds → IsBarred board.now player boxes.now rest) }
-        ensures exact { IsOkAnd result
-            (λ holds. IsTrue holds ↔ Bars board.now player boxes.now Barring.spent rest) }
+        ensures exact { IsJudged board.now player boxes.now Barring.spent rest result }
     {
         Ok(matches!(rest, Rest::AtLeast(0)))
     }

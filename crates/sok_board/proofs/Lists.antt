@@ -22,6 +22,10 @@ AllPairs-append {X} R (x ∷ xs) ys first second across =
 pub Contains-at : {X : Type 0} (xs : List X) (x : X) (i : ℕ) → slice_get xs i ≡ Some x → Contains xs x
 Contains-at xs x i at = (i, slice_get_within xs i x at, get_or_from_slice_get xs i x x at)
 
+-- what holds of all holds of what stands at a place
+pub All-at : {X : Type 0} (P : X → Type 0) (xs : List X) → All P xs → (i : ℕ) (x : X) → slice_get xs i ≡ Some x → P x
+All-at P xs all i x there = All-contains P xs x all (Contains-at xs x i there)
+
 -- the last element stands behind the others
 pub slice_get-push : {X : Type 0} (xs : List X) (x : X) → slice_get (xs ++ x ∷ []) (length xs) ≡ Some x
 slice_get-push xs x =

@@ -116,6 +116,10 @@ IsRefused-one rows f g ample enough refused also = ByLeaks-one rows f g (by_orde
 pub IsRefused-acceptable : (rows : Rows) (f : BoardFault) → f ≢ fault.Memory → IsRefused rows f → IsAcceptable rows → ⊥
 IsRefused-acceptable rows f ample refused (area, accepted) = ample (refused-accepted rows f refused area accepted)
 
+-- a level with an accepted board can be accepted
+pub IsAcceptable-accepted : (rows : Rows) (b : Numbered) → b.rows ≡ rows → IsAccepted b → IsAcceptable rows
+IsAcceptable-accepted rows b same accepted = subst IsAcceptable same (b.area, accepted)
+
 -- an accepted level has one area
 pub IsAccepted-one : (b c : Numbered) → b.rows ≡ c.rows → IsAccepted b → IsAccepted c → b ≡ c
 IsAccepted-one b c same accepted also =

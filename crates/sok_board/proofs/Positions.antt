@@ -1,7 +1,8 @@
 -- The position for which the numbers of a board's player and boxes stand.
-use Rattle.std.proofs.Common.{ℕ, ◌≡◌, ◌<◌, inl, inr, refl, sym, ap, ◌∙◌, List, Bool, true, false, true≢false, Some, All, Contains, arith, length, get_or, map}
+use Rattle.std.proofs.Common.{ℕ, ◌≡◌, ◌<◌, inl, inr, sym, ap, ◌∙◌, List, Bool, true, false, true≢false, Some, All, Contains, arith, length, get_or, map}
 use Rattle.std.proofs.Common.{not, ◌&&◌, ◌||◌}
 use Rattle.std.specs.List.{range_with_len}
+use Rattle.std.proofs.Math.Bool.{or-true}
 use Rattle.std.proofs.lemmas.Bool.{cases_Bool}
 use Rattle.std.proofs.lemmas.List.{length-map, get_or-map}
 use Rattle.std.proofs.lemmas.List.Elements.{filter_passes}
@@ -38,10 +39,6 @@ among_boxes b area s inside box =
     ap (is_among (map (spot_of b) (boxes_of b))) (sym there) ∙ among_numbers b (boxes_of b) n
     (Contains-boxes_of b n within (ap (holds is_box b.rows) there ∙ box))
 
-or_true : (p : Bool) → (p || true) ≡ true
-or_true true = refl
-or_true false = refl
-
 -- the boxes of the area and the decorations are all boxes
 all_boxes : (b : Numbered) → IsArea b.rows b.area → (s : Spot) → (is_among (map (spot_of b) (boxes_of b)) s || is_decoration b s) ≡ holds is_box b.rows s
 all_boxes b area s =
@@ -49,7 +46,7 @@ all_boxes b area s =
     elim (cases_Bool (holds is_box b.rows s)) [
       | inl box ↦ elim (cases_Bool (is_among b.area s)) [
         | inl among ↦ ap (λ p. p || is_decoration b s) (among_boxes b area s (InArea-is_among b area s among) box) ∙ sym box
-        | inr apart ↦ (λ i. listed || (box i && not (apart i))) ∙ or_true listed ∙ sym box
+        | inr apart ↦ (λ i. listed || (box i && not (apart i))) ∙ or-true listed ∙ sym box
       ]
       | inr none ↦ elim (cases_Bool listed) [
         | inl among ↦ absurd (true≢false (sym (box_among b s among) ∙ none))

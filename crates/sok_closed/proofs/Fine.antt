@@ -4,14 +4,13 @@ use Rattle.std.proofs.Common.{◌↔◌, MatchBool, arith, length, get_or, slice
 use Rattle.std.specs.Map.{keys_of}
 use Rattle.std.proofs.lemmas.Bool.{cases_eq, cases_lt}
 use Rattle.std.proofs.lemmas.List.{length_push}
-use Rattle.std.proofs.lemmas.List.Elements.{All-contains}
 use Rattle.std.proofs.lemmas.Option.{slice_get_within, slice_get-get_or}
 use Rattle.sok_rules.specs.Play.{AllOnGoals, Position}
 use Rattle.sok_rules.specs.States.{Same}
 use Rattle.sok_rules.proofs.Walking.{Same-sym}
 use Rattle.sok_board.specs.Area.{Numbered, IsAccepted}
 use Rattle.sok_board.specs.Limits.{box_limit}
-use Rattle.sok_board.proofs.Lists.{Contains-at, slice_get-push}
+use Rattle.sok_board.proofs.Lists.{All-at, slice_get-push}
 use Rattle.sok_region.proofs.Floods.{slice_get-append}
 use Rattle.sok_state.specs.declared.key.Key.{Key}
 use Rattle.sok_state.specs.declared.push.Push.{Push}
@@ -26,9 +25,6 @@ use Rattle.sok_closed.proofs.Entered.{absent-new, before-append, before_more, fo
 use Rattle.sok_closed.proofs.Followed.{followed-closed}
 use Rattle.sok_closed.proofs.Looking.{node-stands, slice_get-front}
 use Rattle.sok_closed.proofs.Missed.{rolled-closed, rolled-open}
-
-at : {X : Type 0} (P : X → Type 0) (xs : List X) → All P xs → (i : ℕ) (x : X) → slice_get xs i ≡ Some x → P x
-at P xs all i x there = All-contains P xs x all (Contains-at xs x i there)
 
 -- a choice between two facts, where it is known what is chosen
 pub chosen : (P Q : Type 0) (t is : Bool) → t ≡ is → MatchBool t P Q → MatchBool is P Q
@@ -95,11 +91,11 @@ module _ {E : Type 0} (node : E → Node) (b : Numbered) (count : ℕ) (IsBarred
   pub closed-fine : (from : Position) (entries : List E) → IsClosed node b count from IsBarred entries
       → AreFine node b count IsBarred entries (length entries)
   closed-fine from entries closed i e within there = record {
-    position = at (λ f. IsPosition b count (node f)) entries closed.rolled.positions i e there;
+    position = All-at (λ f. IsPosition b count (node f)) entries closed.rolled.positions i e there;
     new = λ j f before f_there same. let equal = closed.rolled.apart j i f e f_there there same in absurd (omega (arith, equal, before));
     reasoned = by_cases (AllOnGoals b.rows (node_position b (node e)) → ⊥) (IsBarred e) (node e).expanded
-        (at (λ f. (node f).expanded ≡ true → AllOnGoals b.rows (node_position b (node f)) → ⊥) entries closed.rolled.unsolved i e there)
-        (at (λ f. (node f).expanded ≡ false → IsBarred f) entries closed.barred i e there);
+        (All-at (λ f. (node f).expanded ≡ true → AllOnGoals b.rows (node_position b (node f)) → ⊥) entries closed.rolled.unsolved i e there)
+        (All-at (λ f. (node f).expanded ≡ false → IsBarred f) entries closed.barred i e there);
   }
 
   -- so they are where no push is missed in their roll, if one starts
@@ -115,7 +111,7 @@ module _ {E : Type 0} (node : E → Node) (b : Numbered) (count : ℕ) (IsBarred
     λ wrong. absurd (true≢false (sym wrong)),
     λ closed.
         let first = rolled-open node b count entries roll (IsLooking-fine entries roll accepted few known) known.rolled i push missed in
-        absurd (followed-closed node b entries first.entry push (at (IsClosedAt node b entries) entries closed.rolled.followed i first.entry first.there)
+        absurd (followed-closed node b entries first.entry push (All-at (IsClosedAt node b entries) entries closed.rolled.followed i first.entry first.there)
         first.is_open),
   )
 

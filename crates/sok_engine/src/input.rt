@@ -6,7 +6,7 @@ ghost use Rattle.sok_engine.specs.declared.input.InputFault.TheVariants as fault
 
 use sok_rules::fault::Memory;
 use std::alloc::{AllocError, Global};
-use std::io::Read;
+use std::io::{self, Read};
 use thiserror::Error;
 
 /// The most bytes of an input other than a certificate.
@@ -45,6 +45,14 @@ impl From<Memory> for InputFault {
     }
 }
 
+impl From<io::Error> for InputFault {
+    ghost from_gives = { λ _ e. e ≡ fault.ReadFailed };
+
+    fn from(_error: io::Error) -> InputFault {
+        InputFault::ReadFailed
+    }
+}
+
 /// Reads to the end of an input other than a certificate. A read that fails, for any cause, is
 /// `ReadFailed` at once. A byte past the limit is `TooMuch`, after which some more bytes may have
 /// been read.
@@ -77,10 +85,7 @@ fn read_at_most<R: Read>(alloc: Global, reader: &mut R, limit: usize) -> Result<
     let mut bytes = Vec::new(alloc);
     let mut buffer = [0u8; 4096];
     'input: while bytes.len() <= limit {
-        let count = match reader.read(&mut buffer) {
-            Ok(count) => count,
-            Err(_) => return Err(InputFault::ReadFailed),
-        };
+        let count = reader.read(&mut buffer)?;
         if count == 0 {
             return Ok(bytes);
         }

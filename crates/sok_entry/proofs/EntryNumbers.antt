@@ -4,12 +4,13 @@ use Rattle.std.proofs.Common.{true≢false, drop, option_map, sym, ap, ◌∙◌
 use Rattle.std.proofs.lemmas.Bool.{eqb-true}
 use Rattle.std.proofs.lemmas.Bool.Decides.{nat_tests}
 use Rattle.std.proofs.lemmas.List.{take_at, drop_at, take-append-drop, length-take, length-append}
-use Rattle.std.proofs.lemmas.Option.{none-some, same_Some, cond_some}
+use Rattle.std.specs.Option.{option_and_then}
+use Rattle.std.proofs.lemmas.Option.{none-some, option_and_then_some, same_Some, cond_some}
 use Rattle.sok_entry.specs.declared.entry.Entry.{Entry}
 use Rattle.sok_entry.specs.declared.entry.Reason.{Reason}
 use Rattle.sok_entry.specs.declared.entry.Reason.TheVariants.{Expanded, Spent, Bound, Crowd, Frozen, Pattern}
 use Rattle.sok_entry.specs.Text.{is_pattern, letter_of, numbers_of_reason, numbers_of, PricesEachBox}
-use Rattle.sok_entry.specs.Entries.{members_of, bare, bound_of, reason_of, entry_of}
+use Rattle.sok_entry.specs.Entries.{Front, bare, bound_of, entry_behind, entry_of, front_of, members_of, reason_of}
 
 -- which way a choice went
 pub if_cases : {X : Type 0} (b : Bool) (x y z : X) → (if b then x else y) ≡ z → ((b ≡ true) × (x ≡ z)) ⊎ ((b ≡ false) × (y ≡ z))
@@ -97,41 +98,52 @@ reason_of-numbers (Crowd members) boxes priced simple = ap (option_map Crowd) (c
 reason_of-numbers (Frozen members) boxes priced simple = ap (option_map Frozen) (counted members)
 reason_of-numbers (Pattern members inner) boxes priced simple = absurd (true≢false simple)
 
+-- what stands in front, as numbers
+abbrev pub numbers_of_front : Front → List ℕ
+numbers_of_front front = front.depth ∷ front.player ∷ length front.boxes ∷ front.boxes ++ front.more
+
+pub front_of-numbers : (front : Front) → front_of (numbers_of_front front) ≡ Some front
+unfolding front_of
+front_of-numbers front =
+    let count = length front.boxes in
+    let more = front.boxes ++ front.more in
+    let long : nat_lt (length more) count ≡ false = grind (arith, nat_tests, length-append front.boxes front.more) in
+    let make : List ℕ → List ℕ → Front = λ boxes rest. record { depth = front.depth; player = front.player; boxes = boxes; more = rest } in
+    ap (λ b. if b then None else Some (make (take count more) (drop count more))) long
+    ∙ (λ i. Some (make (take_at front.boxes front.more count refl i) (drop_at front.boxes front.more count refl i)))
+
+pub front_of-some : (ns : List ℕ) (front : Front) → front_of ns ≡ Some front → ns ≡ numbers_of_front front
+unfolding front_of
+front_of-some [] front same = absurd (none-some front same)
+front_of-some (depth ∷ []) front same = absurd (none-some front same)
+front_of-some (depth ∷ player ∷ []) front same = absurd (none-some front same)
+front_of-some (depth ∷ player ∷ count ∷ more) front same =
+    let made : Front = record { depth = depth; player = player; boxes = take count more; more = drop count more } in
+    let (long, is) = if_none (nat_lt (length more) count) made front same in
+    let enough : count ≤ length more = grind (arith, nat_tests, long) in
+    let counts : length (take count more) ≡ count = omega (arith, enough, length-take count more) in
+    subst (λ f. ◌≡◌ {A = List ℕ} (depth ∷ player ∷ count ∷ more) (numbers_of_front f)) is
+    (λ i. depth ∷ player ∷ sym counts i ∷ sym (take-append-drop count more) i)
+
 -- the entry that an entry's letter and numbers make is the entry itself, unless it is a pattern
 pub entry_of-numbers : (e : Entry) → PricesEachBox (length e.boxes) e.reason → is_pattern e.reason ≡ false → entry_of (letter_of e.reason) (numbers_of e) ≡ Some e
 unfolding entry_of
 entry_of-numbers e priced simple =
-    let count = length e.boxes in
-    let more = e.boxes ++ numbers_of_reason e.reason in
-    let long : nat_lt (length more) count ≡ false = grind (arith, nat_tests, length-append e.boxes (numbers_of_reason e.reason)) in
-    let boxes : take count more ≡ e.boxes = take_at e.boxes (numbers_of_reason e.reason) count refl in
-    let rest : drop count more ≡ numbers_of_reason e.reason = drop_at e.boxes (numbers_of_reason e.reason) count refl in
-    let make : List ℕ → Reason → Entry = λ bs reason. record { depth = e.depth; player = e.player; boxes = bs; reason = reason } in
-    ap (λ b. if b then None else option_map (make (take count more)) (reason_of (letter_of e.reason) count (drop count more))) long
-    ∙ (λ i. option_map (make (boxes i)) (reason_of (letter_of e.reason) count (rest i)))
-    ∙ ap (option_map (make e.boxes)) (reason_of-numbers e.reason count priced simple)
+    let front : Front = record { depth = e.depth; player = e.player; boxes = e.boxes; more = numbers_of_reason e.reason } in
+    let make : Reason → Entry = λ reason. record { depth = e.depth; player = e.player; boxes = e.boxes; reason = reason } in
+    ap (option_and_then (entry_behind (letter_of e.reason))) (front_of-numbers front)
+    ∙ ap (option_map make) (reason_of-numbers e.reason (length e.boxes) priced simple)
 
 -- and no other letter or numbers make it
 pub entry_of-some : (letter : ℕ) (ns : List ℕ) (e : Entry) → entry_of letter ns ≡ Some e → (letter ≡ letter_of e.reason) × (ns ≡ numbers_of e)
     × PricesEachBox (length e.boxes) e.reason
     × (is_pattern e.reason ≡ false)
 unfolding entry_of
-entry_of-some letter [] e same = absurd (none-some e same)
-entry_of-some letter (depth ∷ []) e same = absurd (none-some e same)
-entry_of-some letter (depth ∷ player ∷ []) e same = absurd (none-some e same)
-entry_of-some letter (depth ∷ player ∷ count ∷ more) e same =
-    let make : Reason → Entry = λ reason. record { depth = depth; player = player; boxes = take count more; reason = reason } in
-    let made = reason_of letter count (drop count more) in
-    elim (if_cases (nat_lt (length more) count) None (option_map make made) (Some e) same) [
-      | inl short ↦ absurd (none-some e short.1)
-      | inr long ↦
-          let found = mapped make made e long.1 in
-          let reason = found.0 in
-          let makes = reason_of-some letter count (drop count more) reason found.1 in
-          let enough : count ≤ length more = grind (arith, nat_tests, long.0) in
-          let counts : length (take count more) ≡ count = omega (arith, length-take count more) in
-          let numbers : more ≡ take count more ++ numbers_of_reason reason = sym (take-append-drop count more) ∙ ap (λ rest. take count more ++ rest) makes.1 in
-          let Is : Entry → Type 0 = λ x. (letter ≡ letter_of x.reason) × (◌≡◌ {A =
-          List ℕ} (depth ∷ player ∷ count ∷ more) (numbers_of x)) × PricesEachBox (length x.boxes) x.reason × (is_pattern x.reason ≡ false) in
-          subst Is found.2 (makes.0, (λ i. depth ∷ player ∷ sym counts i ∷ numbers i), subst (λ n. PricesEachBox n reason) (sym counts) makes.2, makes.3)
-    ]
+entry_of-some letter ns e same = option_and_then_some (entry_behind letter) (front_of ns) e same (λ front is made.
+    let make : Reason → Entry = λ reason. record { depth = front.depth; player = front.player; boxes = front.boxes; reason = reason } in
+    let found = mapped make (reason_of letter (length front.boxes) front.more) e made in
+    let makes = reason_of-some letter (length front.boxes) front.more found.0 found.1 in
+    let numbers : ns ≡ numbers_of (make found.0) = front_of-some ns front is
+    ∙ ap (λ rest. front.depth ∷ front.player ∷ length front.boxes ∷ front.boxes ++ rest) makes.1 in
+    let Is : Entry → Type 0 = λ x. (letter ≡ letter_of x.reason) × (ns ≡ numbers_of x) × PricesEachBox (length x.boxes) x.reason × (is_pattern x.reason ≡ false) in
+    subst Is found.2 (makes.0, numbers, makes.2, makes.3))

@@ -1,14 +1,15 @@
 -- The first line of a pattern that numbers make, and back.
-use Rattle.std.proofs.Common.{ℕ, ◌≡◌, ◌≤◌, ◌+◌, List, [], ◌∷◌, ◌++◌, Some, None, true, false, ◌==◌, nat_lt, if◌then◌else◌, inl, inr}
-use Rattle.std.proofs.Common.{drop, length, option_map, slice_index, suc, zero, take, sym, ap, ◌∙◌, refl, subst, arith}
+use Rattle.std.proofs.Common.{ℕ, ◌≡◌, ◌+◌, List, [], ◌∷◌, ◌++◌, Some, None, true, ◌==◌, if◌then◌else◌}
+use Rattle.std.proofs.Common.{length, option_map, slice_index, suc, zero, take, sym, ap, ◌∙◌, refl, subst, arith}
 use Rattle.std.proofs.lemmas.Bool.{eqb-true}
 use Rattle.std.proofs.lemmas.Bool.Decides.{nat_tests}
-use Rattle.std.proofs.lemmas.List.{take_at, drop_at, get_or_push, take-append-drop, length-take, length-append, length_push}
-use Rattle.std.proofs.lemmas.Option.{none-some, cond_some}
+use Rattle.std.proofs.lemmas.List.{take_at, get_or_push, length-take, length_push}
+use Rattle.std.specs.Option.{option_and_then}
+use Rattle.std.proofs.lemmas.Option.{none-some, option_and_then_some, cond_some}
 use Rattle.sok_entry.specs.declared.head.Head.{Head}
 use Rattle.sok_entry.specs.Text.{numbers_of_head}
-use Rattle.sok_entry.specs.Entries.{counts_of, head_of}
-use Rattle.sok_entry.proofs.EntryNumbers.{if_cases, mapped}
+use Rattle.sok_entry.specs.Entries.{Front, counts_of, front_of, head_behind, head_of}
+use Rattle.sok_entry.proofs.EntryNumbers.{front_of-numbers, front_of-some, mapped}
 
 -- the counts behind the boxes
 abbrev numbers_of_counts : List ℕ × ℕ → List ℕ
@@ -43,33 +44,16 @@ counts_of-some (count ∷ more) counts same =
 pub head_of-numbers : (h : Head) → head_of (numbers_of_head h) ≡ Some h
 unfolding head_of
 head_of-numbers h =
-    let count = length h.boxes in
-    let behind = numbers_of_counts (h.members, h.count) in
-    let more = h.boxes ++ behind in
-    let long : nat_lt (length more) count ≡ false = grind (arith, nat_tests, length-append h.boxes behind) in
-    let boxes : take count more ≡ h.boxes = take_at h.boxes behind count refl in
-    let rest : drop count more ≡ behind = drop_at h.boxes behind count refl in
-    let make : List ℕ → List ℕ × ℕ → Head = λ bs counts. record { depth = h.depth; player = h.player; boxes = bs; members = counts.0; count = counts.1 } in
-    ap (λ b. if b then None else option_map (make (take count more)) (counts_of (drop count more))) long
-    ∙ (λ i. option_map (make (boxes i)) (counts_of (rest i)))
-    ∙ ap (option_map (make h.boxes)) (counts_of-numbers (h.members, h.count))
+    let front : Front = record { depth = h.depth; player = h.player; boxes = h.boxes; more = numbers_of_counts (h.members, h.count) } in
+    let make : List ℕ × ℕ → Head = λ counts. record { depth = h.depth; player = h.player; boxes = h.boxes; members = counts.0; count = counts.1 } in
+    ap (option_and_then head_behind) (front_of-numbers front) ∙ ap (option_map make) (counts_of-numbers (h.members, h.count))
 
 -- and no other numbers make it
 pub head_of-some : (ns : List ℕ) (h : Head) → head_of ns ≡ Some h → ns ≡ numbers_of_head h
 unfolding head_of
-head_of-some [] h same = absurd (none-some h same)
-head_of-some (depth ∷ []) h same = absurd (none-some h same)
-head_of-some (depth ∷ player ∷ []) h same = absurd (none-some h same)
-head_of-some (depth ∷ player ∷ count ∷ more) h same =
-    let make : List ℕ × ℕ → Head = λ counts. record { depth = depth; player = player; boxes = take count more; members = counts.0; count = counts.1 } in
-    elim (if_cases (nat_lt (length more) count) None (option_map make (counts_of (drop count more))) (Some h) same) [
-      | inl short ↦ absurd (none-some h short.1)
-      | inr long ↦
-          let found = mapped make (counts_of (drop count more)) h long.1 in
-          let enough : count ≤ length more = grind (arith, nat_tests, long.0) in
-          let counted : length (take count more) ≡ count = omega (arith, length-take count more) in
-          let numbers : more ≡ take count more ++ numbers_of_counts found.0 =
-          sym (take-append-drop count more) ∙ ap (λ rest. take count more ++ rest) (counts_of-some (drop count more) found.0 found.1) in
-          let made : depth ∷ player ∷ count ∷ more ≡ numbers_of_head (make found.0) = (λ i. depth ∷ player ∷ sym counted i ∷ numbers i) in
-          subst (λ x. depth ∷ player ∷ count ∷ more ≡ numbers_of_head x) found.2 made
-    ]
+head_of-some ns h same = option_and_then_some head_behind (front_of ns) h same (λ front is made.
+    let make : List ℕ × ℕ → Head = λ counts. record { depth = front.depth; player = front.player; boxes = front.boxes; members = counts.0; count = counts.1 } in
+    let found = mapped make (counts_of front.more) h made in
+    let numbers : ns ≡ numbers_of_head (make found.0) = front_of-some ns front is
+    ∙ ap (λ rest. front.depth ∷ front.player ∷ length front.boxes ∷ front.boxes ++ rest) (counts_of-some front.more found.0 found.1) in
+    subst (λ x. ns ≡ numbers_of_head x) found.2 numbers)

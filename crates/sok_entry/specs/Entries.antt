@@ -1,5 +1,5 @@
 -- The entry that a letter and numbers make, and the first line of a pattern.
-use Rattle.std.specs.Prelude.{ℕ, ◌+◌, List, [], ◌∷◌, Option, Some, None, ◌==◌, codes, nat_lt, if◌then◌else◌, drop, length, option_map, slice_index, take}
+use Rattle.std.specs.Prelude.{ℕ, ◌+◌, List, [], ◌∷◌, Option, Some, None, ◌==◌, codes, nat_lt, if◌then◌else◌, drop, length, option_and_then, option_map, slice_index, take}
 use Rattle.sok_entry.specs.declared.entry.Entry.{Entry}
 use Rattle.sok_entry.specs.declared.entry.Reason.{Reason}
 use Rattle.sok_entry.specs.declared.entry.Reason.TheVariants.{Expanded, Spent, Bound, Crowd, Frozen}
@@ -29,21 +29,38 @@ reason_of letter boxes more =
     else if letter == code (codes "f") then option_map Frozen (members_of more)
     else None
 
--- depth, player, and boxes behind their count, before the numbers of the reason
+-- the numbers of a position, and what stands behind them
+pub record Front : Type 0 where
+  pub depth : ℕ
+  pub player : ℕ
+  pub boxes : List ℕ
+  pub more : List ℕ
+
+-- depth, player, and boxes behind their count
+unfoldable pub front_of : List ℕ → Option Front
+front_of (depth ∷ player ∷ boxes ∷ more) =
+    if nat_lt (length more) boxes then None else Some (record { depth = depth; player = player; boxes = take boxes more; more = drop boxes more })
+front_of _ = None
+
+-- a position before the numbers of its reason
+abbrev pub entry_behind : ℕ → Front → Option Entry
+entry_behind letter front =
+    option_map (λ reason. record { depth = front.depth; player = front.player; boxes = front.boxes; reason = reason })
+    (reason_of letter (length front.boxes) front.more)
+
 unfoldable pub entry_of : ℕ → List ℕ → Option Entry
-entry_of letter (depth ∷ player ∷ boxes ∷ more) =
-    if nat_lt (length more) boxes then None
-    else option_map (λ reason. record { depth = depth; player = player; boxes = take boxes more; reason = reason }) (reason_of letter boxes (drop boxes more))
-entry_of letter _ = None
+entry_of letter numbers = option_and_then (entry_behind letter) (front_of numbers)
 
 -- the members behind their count, and how many inner positions there are
 unfoldable pub counts_of : List ℕ → Option (List ℕ × ℕ)
 counts_of [] = None
 counts_of (count ∷ more) = if length more == count + 1 then Some (take count more, slice_index more count) else None
 
--- depth, player, boxes and members behind their counts, and how many inner positions there are
+-- a position before the members, and how many inner positions there are
+abbrev pub head_behind : Front → Option Head
+head_behind front =
+    option_map (λ (counts : List ℕ × ℕ). record { depth = front.depth; player = front.player; boxes = front.boxes; members = counts.0; count = counts.1 })
+    (counts_of front.more)
+
 unfoldable pub head_of : List ℕ → Option Head
-head_of (depth ∷ player ∷ boxes ∷ more) =
-    if nat_lt (length more) boxes then None
-    else option_map (λ (counts : List ℕ × ℕ). record { depth = depth; player = player; boxes = take boxes more; members = counts.0; count = counts.1 }) (counts_of (drop boxes more))
-head_of _ = None
+head_of numbers = option_and_then head_behind (front_of numbers)

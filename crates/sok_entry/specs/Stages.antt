@@ -1,5 +1,6 @@
 -- How far a certificate is read, line by line.
-use Rattle.std.specs.Prelude.{ℕ, ◌≡◌, ◌≤◌, ◌+◌, List, [], ◌∷◌, ◌++◌, All, length}
+use Rattle.std.specs.Prelude.{ℕ, ◌≡◌, ◌≤◌, ◌+◌, List, [], ◌∷◌, ◌++◌, All, IfOk, Result, length}
+use Rattle.std.specs.declared.alloc.AllocError.{AllocError}
 use Rattle.std.specs.List.{flat_map}
 use Rattle.std.specs.Str.Lines.{lines}
 use Rattle.sok_text.specs.Lines.{IsUnended}
@@ -52,3 +53,7 @@ abbrev pub IsRead : List (List ℕ) → List Entry → Stage → LineRead → Ty
 IsRead ls es stage (Listed claim e next) = MayClaim stage claim × IsStage ls (es ++ e ∷ []) next × ((other : Claim) → MayClaim next other → other ≡ claim)
 IsRead ls es stage (Passed next) = IsStage ls es next × ((claim : Claim) → MayClaim next claim → MayClaim stage claim)
 IsRead ls es stage (Wrong fault) = AreWrong ls fault
+
+-- what the next line is, behind so many lines that brought a certificate as far as a stage
+abbrev pub ReadsOn : Stage → ℕ → List ℕ → Result LineRead AllocError → Type 0
+ReadsOn stage count line result = (ls : List (List ℕ)) (es : List Entry) → length ls ≡ count → IsStage ls es stage → IfOk result (IsRead (ls ++ line ∷ []) es stage)

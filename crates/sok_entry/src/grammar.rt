@@ -1,8 +1,8 @@
 //! The lines of a certificate, read.
 
-ghost use Rattle.std.specs.Prelude.{◌≡◌, ◌++◌, IfOk, codes};
+ghost use Rattle.std.specs.Prelude.{◌≡◌, ◌++◌, IfOk, MatchOption, codes};
 ghost use Rattle.sok_entry.specs.Entries.{bare, bound_of, counts_of, members_of, reason_of};
-ghost use Rattle.sok_entry.specs.Entries.{entry_of, head_of};
+ghost use Rattle.sok_entry.specs.Entries.{entry_of, front_of, head_of};
 ghost use Rattle.sok_entry.specs.Text.{entry_alike, header, reason_alike};
 ghost use Rattle.sok_entry.specs.Reading.{Begins, Tells, IsClaimLine, IsEntryLine, IsHeadLine};
 ghost use Rattle.sok_entry.specs.Reading.{IsInnerLine};
@@ -149,26 +149,57 @@ fn entry_of_line(alloc: Global, line: &[u8]) -> Result<Option<Entry>, AllocError
     }
 }
 
+/// The numbers of a position, and those that stand behind them.
+#[derive(Clone, Copy)]
+struct Front<'a> {
+    depth: u32,
+    player: u32,
+    boxes: &'a [u32],
+    more: &'a [u32],
+}
+
+/// The depth, the player and the boxes behind their count, if there are as many.
+#[tactic(auto, unfolding(crate::specs::Entries::front_of))]
+fn front_of(numbers: &[u32]) -> Option<Front<'_>>
+    ensures { MatchOption result (front_of numbers.now ≡ None) (λ front.
+        front_of numbers.now ≡ Some (record {
+          depth = front.depth;
+          player = front.player;
+          boxes = front.boxes.now;
+          more = front.more.now;
+        })) }
+{
+    let [depth, player, count, more @ ..] = numbers else {
+        return None;
+    };
+    let count = *count as usize;
+    if more.len() < count {
+        return None;
+    }
+    let (boxes, more) = more.split_at(count);
+    Some(Front {
+        depth: *depth,
+        player: *player,
+        boxes,
+        more,
+    })
+}
+
 /// The entry that a letter and numbers make.
 #[tactic(auto, unfolding(crate::specs::Entries::entry_of))]
 fn entry_of(alloc: Global, letter: u8, numbers: &[u32]) -> Result<Option<Entry>, AllocError>
     ensures { IfOk result (λ entry. entry ≡ entry_of letter numbers.now) }
 {
-    let [depth, player, count, more @ ..] = numbers else {
+    let Some(front) = front_of(numbers) else {
         return Ok(None);
     };
-    let count = *count as usize;
-    if more.len() < count {
-        return Ok(None);
-    }
-    let (boxes, more) = more.split_at(count);
-    let Some(reason) = reason_of(alloc, letter, count, more)? else {
+    let Some(reason) = reason_of(alloc, letter, front.boxes.len(), front.more)? else {
         return Ok(None);
     };
     Ok(Some(Entry {
-        depth: *depth,
-        player: *player,
-        boxes: Numbers::copied(alloc, boxes)?,
+        depth: front.depth,
+        player: front.player,
+        boxes: Numbers::copied(alloc, front.boxes)?,
         reason,
     }))
 }
@@ -231,21 +262,16 @@ fn members_of(alloc: Global, numbers: &[u32]) -> Result<Option<Numbers>, AllocEr
 fn head_of(alloc: Global, numbers: &[u32]) -> Result<Option<Head>, AllocError>
     ensures { IfOk result (λ head. head ≡ head_of numbers.now) }
 {
-    let [depth, player, count, more @ ..] = numbers else {
+    let Some(front) = front_of(numbers) else {
         return Ok(None);
     };
-    let count = *count as usize;
-    if more.len() < count {
-        return Ok(None);
-    }
-    let (boxes, more) = more.split_at(count);
-    let Some((members, count)) = counts_of(alloc, more)? else {
+    let Some((members, count)) = counts_of(alloc, front.more)? else {
         return Ok(None);
     };
     Ok(Some(Head {
-        depth: *depth,
-        player: *player,
-        boxes: Numbers::copied(alloc, boxes)?,
+        depth: front.depth,
+        player: front.player,
+        boxes: Numbers::copied(alloc, front.boxes)?,
         members,
         count,
     }))

@@ -1,8 +1,8 @@
 //! How far a certificate is read, line by line.
 
-ghost use Rattle.std.specs.Prelude.{ℕ, ◌≡◌, ◌<◌, ◌≤◌, ◌^◌, ◌++◌, ◌∷◌, [], List, All, IfOk, MatchResult, length};
+ghost use Rattle.std.specs.Prelude.{ℕ, ◌≡◌, ◌<◌, ◌≤◌, ◌^◌, ◌++◌, ◌∷◌, [], List, All, MatchResult, length};
 ghost use Rattle.sok_entry.specs.Reading.{FitsHead, GoesWrong, unfinished_lines};
-ghost use Rattle.sok_entry.specs.Stages.{AreRead, IsRead, IsSplit, IsStage, MayClaim};
+ghost use Rattle.sok_entry.specs.Stages.{AreRead, IsRead, IsSplit, IsStage, MayClaim, ReadsOn};
 ghost use Rattle.sok_entry.specs.Text.{FitsInner, Spells};
 ghost use Rattle.sok_entry.specs.declared.entry.Entry.{Entry};
 ghost use Rattle.sok_entry.specs.declared.stage.Stage.TheVariants as at;
@@ -51,9 +51,7 @@ impl Stage {
     /// memory, and then the stage is gone.
     pub fn line(self, alloc: Global, line: &[u8], lines: usize) -> Result<LineRead, AllocError>
         requires { lines < 2 ^ 63 }
-        ensures { (ls : List (List ℕ)) (es : List Entry)
-            → length ls ≡ lines → IsStage ls es self
-            → IfOk result (IsRead (ls ++ line.now ∷ []) es self) }
+        ensures { ReadsOn self lines line.now result }
     {
         match self {
             Stage::AtHeader => Ok(at_header(line)),
@@ -126,9 +124,7 @@ fn at_entries(
     lines: usize,
 ) -> Result<LineRead, AllocError>
     requires { lines < 2 ^ 63 }
-    ensures { (ls : List (List ℕ)) (es : List Entry)
-        → length ls ≡ lines → IsStage ls es (at.AtEntries version claim)
-        → IfOk result (IsRead (ls ++ line.now ∷ []) es (at.AtEntries version claim)) }
+    ensures { ReadsOn (at.AtEntries version claim) lines line.now result }
 {
     if line == END {
         return Ok(LineRead::Passed(Stage::AtEnd(claim)));
@@ -151,9 +147,7 @@ fn at_inner(
     lines: usize,
 ) -> Result<LineRead, AllocError>
     requires { lines < 2 ^ 63 }
-    ensures { (ls : List (List ℕ)) (es : List Entry)
-        → length ls ≡ lines → IsStage ls es (at.AtInner claim head inner)
-        → IfOk result (IsRead (ls ++ line.now ∷ []) es (at.AtInner claim head inner)) }
+    ensures { ReadsOn (at.AtInner claim head inner) lines line.now result }
 {
     let mut inner = inner;
     match inner_of_line(alloc, line)? {

@@ -26,10 +26,7 @@ pub(crate) fn stream_of<'a, R: Read>(
     let mut total: usize = 0;
     let mut buffer = [0u8; 4096];
     'input: while total <= CERT_LIMIT {
-        let count = match reader.read(&mut buffer) {
-            Ok(count) => count,
-            Err(_) => return Err(InputFault::ReadFailed),
-        };
+        let count = reader.read(&mut buffer)?;
         if count == 0 {
             return Ok(stream);
         }

@@ -7,18 +7,10 @@ use crate::telling::Told;
 use sok_rules::cell::{Dir, Spot};
 use sok_rules::fault::{LevelFault, PlayFault};
 use sok_rules::session::Session;
+use sok_sketch::acts::{Act, answer};
 use sok_sketch::sketch;
 use sok_text::xsb::cell_of;
 use std::alloc::Global;
-
-/// What is done in a session.
-#[derive(Clone, Copy)]
-enum Act {
-    Play(Dir),
-    Undo,
-    Redo,
-    Reset,
-}
 
 /// What a session shows: the letters played, how many of them push, and the middle row.
 #[derive(Clone, Copy)]
@@ -92,30 +84,17 @@ fn acts(
     session: &mut Session,
     act: Act,
     before: Shown,
-    answer: Result<bool, PlayFault>,
+    told: Result<bool, PlayFault>,
     after: Shown,
     place: usize,
 ) -> Told {
-    match answered(session, act) {
+    match answer(session, act) {
         Err(PlayFault::Memory) => {
             let stayed = shows(session, before) && !session.redo();
-            let again = answered(session, act);
-            Told::Refused.checked(stayed && again == answer && shows(session, after), place)
+            let again = answer(session, act);
+            Told::Refused.checked(stayed && again == told && shows(session, after), place)
         }
-        first => Told::Same.checked(first == answer && shows(session, after), place),
-    }
-}
-
-/// What a session answers: whether a letter pushes, and whether one was undone or played again.
-fn answered(session: &mut Session, act: Act) -> Result<bool, PlayFault> {
-    match act {
-        Act::Play(dir) => session.step(dir),
-        Act::Undo => Ok(session.undo()),
-        Act::Redo => Ok(session.redo()),
-        Act::Reset => {
-            session.reset();
-            Ok(true)
-        }
+        first => Told::Same.checked(first == told && shows(session, after), place),
     }
 }
 

@@ -20,50 +20,47 @@ pub(crate) fn told_of(alloc: Global, squares: usize) -> Told
     requires few { squares ≤ square_limit }
 {
     let mut table = Table::new(alloc, squares);
-    match all_told(alloc, squares, &mut table) {
+    match all_told(alloc, &mut table) {
         Ok(told) => told,
         Err(_) => Told::Refused,
     }
 }
 
 /// What comes of all states, which are entered one after another.
-fn all_told(alloc: Global, squares: usize, table: &mut Table) -> Result<Told, Memory>
-    requires many { 64 ≤ squares }
-    requires wide { squares ≤ table.old.room }
+fn all_told(alloc: Global, table: &mut Table) -> Result<Told, Memory>
+    requires { 64 ≤ table.old.room }
 {
     let mut told = Told::Same;
     for place in 0..COUNT {
-        told = told.then(one_told(alloc, squares, table, place)?);
-        let stays = stays(alloc, squares, table, place)?;
+        told = told.then(one_told(alloc, table, place)?);
+        let stays = stays(alloc, table, place)?;
         told = told.checked(stays, place);
     }
     Ok(told)
 }
 
 /// What comes of the state at a place, which is entered once more where memory is refused to it.
-fn one_told(alloc: Global, squares: usize, table: &mut Table, place: usize) -> Result<Told, Memory>
-    requires many { 64 ≤ squares }
-    requires wide { squares ≤ table.old.room }
+fn one_told(alloc: Global, table: &mut Table, place: usize) -> Result<Told, Memory>
+    requires wide { 64 ≤ table.old.room }
     requires few { place < 80 }
-    ensures { OnOk result (squares ≤ table.new.room) }
+    ensures { OnOk result (64 ≤ table.new.room) }
 {
-    let key = key(alloc, squares, place)?;
+    let key = key(alloc, place)?;
     let mut told = Told::Same;
-    let mut answer = enter(squares, table, &key, place);
+    let mut answer = enter(table, &key, place);
     if answer.is_err() {
-        let stayed = has_first(alloc, squares, table, place)? && lacks(squares, table, &key);
+        let stayed = has_first(alloc, table, place)? && lacks(table, &key);
         told = Told::Refused.checked(stayed, place);
-        answer = enter(squares, table, &key, place);
+        answer = enter(table, &key, place);
     }
-    let entered = answer == Ok((place, true)) && has_first(alloc, squares, table, place + 1)?;
+    let entered = answer == Ok((place, true)) && has_first(alloc, table, place + 1)?;
     Ok(told.checked(entered, place))
 }
 
 /// The state at a place: two of each box but for the first, with the player on either side of it.
-fn key(alloc: Global, squares: usize, place: usize) -> Result<Key, Memory>
-    requires many { 64 ≤ squares }
+fn key(alloc: Global, place: usize) -> Result<Key, Memory>
     requires few { place < 80 }
-    ensures { IfOk result (λ key. All (λ square. square < squares) key.boxes) }
+    ensures { IfOk result (λ key. All (λ square. square < 64) key.boxes) }
 {
     let boxes = BoxSet::of(alloc, &[square(place)])?;
     let least = (place % 2) as Sq;
@@ -79,17 +76,11 @@ fn square(place: usize) -> Sq
 }
 
 /// Enters the state at a place: by its key, or as the one to which a push from the first leads.
-fn enter(
-    squares: usize,
-    table: &mut Table,
-    key: &Key,
-    place: usize,
-) -> Result<(usize, bool), Memory>
-    requires many { 64 ≤ squares }
-    requires wide { squares ≤ table.old.room }
-    requires exist { All (λ square. square < squares) key.now.boxes }
+fn enter(table: &mut Table, key: &Key, place: usize) -> Result<(usize, bool), Memory>
+    requires wide { 64 ≤ table.old.room }
+    requires exist { All (λ square. square < 64) key.now.boxes }
     requires few { place < 80 }
-    ensures { squares ≤ table.new.room }
+    ensures { 64 ≤ table.new.room }
 {
     let depth = place as u32;
     if place % 2 == 0 || table.len() == 0 {
@@ -100,26 +91,24 @@ fn enter(
 
 /// Whether the first state, which is there, keeps its place and its depth where it is entered once
 /// more, which needs no memory.
-fn stays(alloc: Global, squares: usize, table: &mut Table, place: usize) -> Result<bool, Memory>
-    requires many { 64 ≤ squares }
-    requires wide { squares ≤ table.old.room }
+fn stays(alloc: Global, table: &mut Table, place: usize) -> Result<bool, Memory>
+    requires wide { 64 ≤ table.old.room }
     requires few { place < 80 }
-    ensures { OnOk result (squares ≤ table.new.room) }
+    ensures { OnOk result (64 ≤ table.new.room) }
 {
-    let first = key(alloc, squares, 0)?;
+    let first = key(alloc, 0)?;
     let answer = table.insert(&first, 1_000);
-    Ok(answer == Ok((0, false)) && has_first(alloc, squares, table, place + 1)?)
+    Ok(answer == Ok((0, false)) && has_first(alloc, table, place + 1)?)
 }
 
 /// Whether a table has the first states, so many, and no others.
-fn has_first(alloc: Global, squares: usize, table: &Table, count: usize) -> Result<bool, Memory>
-    requires many { 64 ≤ squares }
-    requires wide { squares ≤ table.now.room }
+fn has_first(alloc: Global, table: &Table, count: usize) -> Result<bool, Memory>
+    requires wide { 64 ≤ table.now.room }
     requires few { count ≤ 80 }
 {
     for place in 0..count {
-        let key = key(alloc, squares, place)?;
-        if !has(squares, table, &key, place) {
+        let key = key(alloc, place)?;
+        if !has(table, &key, place) {
             return Ok(false);
         }
     }
@@ -127,9 +116,9 @@ fn has_first(alloc: Global, squares: usize, table: &Table, count: usize) -> Resu
 }
 
 /// Whether a table has a key at a place, with this depth.
-fn has(squares: usize, table: &Table, key: &Key, place: usize) -> bool
-    requires wide { squares ≤ table.now.room }
-    requires exist { All (λ square. square < squares) key.now.boxes }
+fn has(table: &Table, key: &Key, place: usize) -> bool
+    requires wide { 64 ≤ table.now.room }
+    requires exist { All (λ square. square < 64) key.now.boxes }
 {
     let Some(at) = table.get(key) else {
         return false;
@@ -138,9 +127,9 @@ fn has(squares: usize, table: &Table, key: &Key, place: usize) -> bool
 }
 
 /// Whether a table has no such key.
-fn lacks(squares: usize, table: &Table, key: &Key) -> bool
-    requires wide { squares ≤ table.now.room }
-    requires exist { All (λ square. square < squares) key.now.boxes }
+fn lacks(table: &Table, key: &Key) -> bool
+    requires wide { 64 ≤ table.now.room }
+    requires exist { All (λ square. square < 64) key.now.boxes }
 {
     table.get(key).is_none()
 }

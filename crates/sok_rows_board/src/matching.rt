@@ -1,7 +1,8 @@
 //! A matching that is kept from one set of boxes to the next, beside one found from nothing.
 
-ghost use Rattle.std.specs.Prelude.{◌≡◌, ◌<◌, All, Contains, IfOk, IfSome, OnOk, length};
+ghost use Rattle.std.specs.Prelude.{◌≡◌, ◌<◌, All, IfOk, IfSome, OnOk, length};
 ghost use Rattle.sok_price.specs.Matched.{Serves};
+ghost use Rattle.sok_alone.specs.Losses.{ArePushed};
 
 use crate::positions::boxes_on;
 use crate::setting::{board, tables};
@@ -65,11 +66,8 @@ fn moved_total(
     from: Sq,
     to: Sq,
 ) -> Option<Option<u32>>
-    requires boxes { All (λ square. square < length board.now.area) boxes.now }
     requires serves { Serves board.now matching.old }
-    requires there { Contains boxes.now from }
-    requires free { Contains boxes.now to → ⊥ }
-    requires within { to < length board.now.area }
+    requires moves { ArePushed board.now boxes.now from to }
     ensures { Serves board.now matching.new }
 {
     match matching.set(boxes) {
@@ -87,8 +85,7 @@ fn moved(
     from: Sq,
     to: Sq,
 ) -> Result<BoxSet, Fail>
-    requires there { Contains boxes.now from }
-    requires free { Contains boxes.now to → ⊥ }
+    requires { ArePushed board.now boxes.now from to }
     ensures { IfOk result (All (λ square. square < length board.now.area)) }
 {
     let after = boxes.moved(alloc, from, to)?;
@@ -108,11 +105,8 @@ fn assert_bound(
     after: &BoxSet,
 ) -> Result<(), Fail>
     requires tables { tables.now.board ≡ board.now }
-    requires boxes { All (λ square. square < length board.now.area) boxes.now }
     requires serves { Serves board.now matching.old }
-    requires there { Contains boxes.now from }
-    requires free { Contains boxes.now to → ⊥ }
-    requires within { to < length board.now.area }
+    requires moves { ArePushed board.now boxes.now from to }
     requires after { All (λ square. square < length board.now.area) after.now }
     ensures { OnOk result (Serves board.now matching.new) }
 {
@@ -137,11 +131,8 @@ fn step_to(
     to: Sq,
 ) -> Result<Option<BoxSet>, Fail>
     requires tables { tables.now.board ≡ board.now }
-    requires boxes { All (λ square. square < length board.now.area) boxes.now }
     requires serves { Serves board.now matching.old }
-    requires there { Contains boxes.now from }
-    requires free { Contains boxes.now to → ⊥ }
-    requires within { to < length board.now.area }
+    requires moves { ArePushed board.now boxes.now from to }
     ensures boxes { IfOk result (λ after. IfSome after
         (All (λ square. square < length board.now.area))) }
     ensures serves { OnOk result (Serves board.now matching.new) }

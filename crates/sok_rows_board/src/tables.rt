@@ -45,32 +45,35 @@ fn has_key(
     Ok(at == index && table.depth(at) == depth && found == *key)
 }
 
+/// Inserts a key: by itself, or as the one after a push from the first key, with 0 as its least
+/// square.
+fn insert(
+    rt: &impl Abort,
+    squares: usize,
+    table: &mut Table,
+    push: Option<(Sq, Sq)>,
+    key: &Key,
+    depth: u32,
+) -> Result<(usize, bool), Fail>
+    requires wide { squares ≤ table.old.room }
+    requires exist { All (λ square. square < squares) key.now.boxes }
+    ensures { OnOk result (squares ≤ table.new.room) }
+{
+    let Some((from, to)) = push else {
+        return Ok(table.insert(key, depth)?);
+    };
+    assert!(rt; (from as usize) < squares && (to as usize) < squares && table.len() > 0);
+    Ok(table.insert_next(0, from, to, 0, depth)?)
+}
+
 /// Whether an insertion tells an index and whether the key is new, and the table then has the key
 /// there with a depth.
 fn inserts(
-    alloc: Global,
-    squares: usize,
-    table: &mut Table,
-    key: &Key,
-    depth: u32,
-    told: (usize, bool),
-    kept: u32,
-) -> Result<bool, Fail>
-    requires wide { squares ≤ table.old.room }
-    requires exist { All (λ square. square < squares) key.now.boxes }
-    ensures wide { OnOk result (squares ≤ table.new.room) }
-{
-    let found = table.insert(key, depth)?;
-    Ok(found == told && has_key(alloc, squares, table, key, told.0, kept)?)
-}
-
-/// The same of the key after a push from the first one, with 0 as its least square.
-fn inserts_next(
     rt: &impl Abort,
     alloc: Global,
     squares: usize,
     table: &mut Table,
-    push: (Sq, Sq),
+    push: Option<(Sq, Sq)>,
     key: &Key,
     depth: u32,
     told: (usize, bool),
@@ -78,11 +81,9 @@ fn inserts_next(
 ) -> Result<bool, Fail>
     requires wide { squares ≤ table.old.room }
     requires exist { All (λ square. square < squares) key.now.boxes }
-    ensures wide { OnOk result (squares ≤ table.new.room) }
+    ensures { OnOk result (squares ≤ table.new.room) }
 {
-    let (from, to) = push;
-    assert!(rt; (from as usize) < squares && (to as usize) < squares && table.len() > 0);
-    let found = table.insert_next(0, from, to, 0, depth)?;
+    let found = insert(rt, squares, table, push, key, depth)?;
     Ok(found == told && has_key(alloc, squares, table, key, told.0, kept)?)
 }
 
@@ -110,11 +111,11 @@ fn assert_apart(
     ensures { OnOk result (squares ≤ table.new.room) }
 {
     assert!(rt; !has_key(alloc, squares, table, first, 0, 2)?);
-    assert!(rt; inserts(alloc, squares, table, first, 2, (0, true), 2)?);
+    assert!(rt; inserts(rt, alloc, squares, table, None, first, 2, (0, true), 2)?);
     assert!(rt; !has_key(alloc, squares, table, second, 0, 2)?);
-    assert!(rt; inserts(alloc, squares, table, second, 7, (1, true), 7)?);
-    assert!(rt; inserts(alloc, squares, table, first, 9, (0, false), 2)?);
-    assert!(rt; inserts(alloc, squares, table, second, 1, (1, false), 7)?);
+    assert!(rt; inserts(rt, alloc, squares, table, None, second, 7, (1, true), 7)?);
+    assert!(rt; inserts(rt, alloc, squares, table, None, first, 9, (0, false), 2)?);
+    assert!(rt; inserts(rt, alloc, squares, table, None, second, 1, (1, false), 7)?);
     Ok(())
 }
 
@@ -147,9 +148,10 @@ fn assert_pushed(
     requires after { All (λ square. square < squares) after.now.boxes }
 {
     assert!(rt; !has_key(alloc, squares, table, after, 2, 3)?);
-    assert!(rt; inserts_next(rt, alloc, squares, table, push, after, 3, (2, true), 3)?);
-    assert!(rt; inserts_next(rt, alloc, squares, table, push, after, 8, (2, false), 3)?);
-    assert!(rt; inserts(alloc, squares, table, after, 1, (2, false), 3)?);
+    let push = Some(push);
+    assert!(rt; inserts(rt, alloc, squares, table, push, after, 3, (2, true), 3)?);
+    assert!(rt; inserts(rt, alloc, squares, table, push, after, 8, (2, false), 3)?);
+    assert!(rt; inserts(rt, alloc, squares, table, None, after, 1, (2, false), 3)?);
     Ok(())
 }
 

@@ -4,6 +4,7 @@ use sok_rules::cell::{Dir, Spot};
 use sok_rules::fault::PlayFault;
 use sok_rules::play::{Tally, replay};
 use sok_rules::session::Session;
+use sok_sketch::acts::{Act, answer};
 use sok_sketch::sketch;
 use sok_text::lurd::read_lurd;
 use sok_text::xsb::cell_of;
@@ -130,28 +131,6 @@ fn texts_on_boards(rt: HostRuntime) -> Result<(), Fail> {
         assert_told(&rt, rt.alloc(), board, text, told)?;
     }
     Ok(())
-}
-
-/// What is done in a session.
-#[derive(Clone, Copy)]
-enum Act {
-    Play(Dir),
-    Undo,
-    Redo,
-    Reset,
-}
-
-/// What a session answers: whether a letter pushes, and whether one was undone or played again.
-fn answer(session: &mut Session, act: Act) -> Result<bool, PlayFault> {
-    match act {
-        Act::Play(dir) => session.step(dir),
-        Act::Undo => Ok(session.undo()),
-        Act::Redo => Ok(session.redo()),
-        Act::Reset => {
-            session.reset();
-            Ok(true)
-        }
-    }
 }
 
 /// Whether a session tells these pushes and moves, and shows this middle row, in which a box off

@@ -3,14 +3,17 @@
 use Rattle.std.proofs.Common.{◌≡◌, refl, sym, ap, ◌∙◌, inl, inr, subst, List, [], ◌∷◌, true, false, true≢false, Some, IsSomeAnd}
 use Rattle.std.specs.Option.{option_and_then}
 use Rattle.std.proofs.lemmas.Bool.{cases_Bool}
+use Rattle.std.proofs.lemmas.Option.{same_Some}
 use Rattle.sok_rules.specs.declared.cell.Dir.{Dir}
 use Rattle.sok_rules.specs.declared.cell.Spot.{Spot}
 use Rattle.sok_rules.specs.Squares.{Rows, next, same_spot}
-use Rattle.sok_rules.specs.Play.{After, AllOnGoals, NeverFrom, Position, SolvesFrom, moved, run, step}
+use Rattle.sok_rules.specs.Play.{After, AllOnGoals, NeverFrom, Position, SolvesFrom, moved, pushes, run, step}
+use Rattle.sok_rules.specs.States.{Same}
 use Rattle.sok_rules.proofs.Moved.{moved-come, moved-kept, moved-left, moved-other}
 use Rattle.sok_rules.proofs.Runs.{solves_on}
 use Rattle.sok_rules.proofs.Spots.{same_spot-is}
-use Rattle.sok_rules.proofs.Steps.{step-box, step-walk, step_cases}
+use Rattle.sok_rules.proofs.Steps.{step-box, step-walk, step_cases, walk_step}
+use Rattle.sok_rules.proofs.Walking.{Same-refl, Same-step, Same-trans, quiet_step}
 
 -- the player of another position, and some of its boxes
 pub record IsThinner (y x : Position) : Type 0 where
@@ -77,3 +80,15 @@ thinner-solves rows (d ∷ w) y x thin = λ solves. solves_on rows d w x solves 
 -- so what is never solved with fewer boxes is never solved
 pub NeverFrom-thinner : (rows : Rows) (y x : Position) → IsThinner y x → NeverFrom rows y → NeverFrom rows x
 NeverFrom-thinner rows y x thin never w solves = never w (thinner-solves rows w y x thin solves)
+
+-- a walk stays one
+pub walk-thinner : (rows : Rows) (w : List Dir) (y x z : Position) → IsThinner y x → run rows x w ≡ Some z → pushes rows x w ≡ 0 → Same rows y (record y { man = z.man })
+walk-thinner rows [] y x z thin e quiet = subst (λ man. Same rows y (record y { man = man })) (thin.man ∙ ap (λ (p : Position). p.man) (same_Some x z e))
+    (Same-refl rows y)
+walk-thinner rows (d ∷ w) y x z thin e quiet = quiet_step rows d w x z e quiet (λ a steps unpushed runs none.
+    let walk = walk_step rows d x a steps unpushed in
+    let c : After = record { position = record y { man = walk.to }; pushed = false } in
+    let so : step rows d y ≡ Some c = step-walk rows d y walk.to (ap (next d) thin.man ∙ walk.ahead) walk.to_open (thinner-free y x walk.to thin walk.to_free) in
+    let thin_on : IsThinner c.position a.position = subst (λ (after : After). IsThinner c.position after.position) (sym walk.leads)
+    (record { man = refl; among = thin.among }) in
+    Same-trans rows y c.position (record y { man = z.man }) (Same-step rows d y c so refl) (walk-thinner rows w c.position a.position z thin_on runs none))

@@ -1,2 +1,3 @@
 -- words of public contracts
+pub mod Acts
 pub mod Sketches

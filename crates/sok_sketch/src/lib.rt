@@ -3,6 +3,7 @@
 //!
 //! | Module | What it holds |
 //! |---|---|
+//! | `acts` | what is done in a session of play |
 //! | `chance` | numbers by chance, the same in each run |
 //! | `rooms` | large rooms, of which one row repeats |
 //! | `sets` | the board of a drawn level, and sets of boxes |
@@ -11,6 +12,7 @@
 //! | `tutorial` | the session of the tutorial |
 #![tactic(auto)]
 
+pub mod acts;
 pub mod chance;
 pub mod rooms;
 pub mod sets;

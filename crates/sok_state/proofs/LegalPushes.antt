@@ -21,9 +21,9 @@ use Rattle.sok_board.specs.BoxSets.{IsMoved}
 use Rattle.sok_region.specs.Regions.{IsPlaced, IsRegion}
 use Rattle.sok_state.specs.declared.key.Key.{Key}
 use Rattle.sok_state.specs.declared.push.Push.{Push}
-use Rattle.sok_state.specs.Keys.{IsKeyOf, key_position}
+use Rattle.sok_state.specs.Keys.{IsKey, IsKeyOf, key_position}
 use Rattle.sok_state.specs.Listing.{IsClear}
-use Rattle.sok_state.specs.Pushes.{LeadsTo, IsLegal}
+use Rattle.sok_state.specs.Pushes.{IsKeyAfter, IsLegal, LeadsTo}
 use Rattle.sok_state.proofs.Moves.{boxes_moved, IsPlaced-moved}
 
 -- the square beside a numbered one
@@ -163,7 +163,11 @@ key_after b next push boxes after is of_numbers = subst (λ x. IsKeyOf b x next)
 
 -- and so of each
 pub keys_after : {E : Type 0} (b : Numbered) (key : Key) (push : Push) (boxes : List ℕ) (r : Result Key E) → IfOk r (IsKeyOf b (position_of b push.from boxes))
-    → ((after : Position) → LeadsTo b key push after → position_of b push.from boxes ≡ after)
-    → IfOk r (λ next. (after : Position) → LeadsTo b key push after → IsKeyOf b after next)
-keys_after b key push boxes (Ok next) is leads = λ after led. key_after b next push boxes after (leads after led) is
-keys_after b key push boxes (Err fault) is leads = tt
+    → IfOk r (IsKey b) → IfOk r (λ next. next.boxes ≡ boxes) → ((after : Position) → LeadsTo b key push after → position_of b push.from boxes ≡ after)
+    → length boxes ≡ length key.boxes → IfOk r (IsKeyAfter b key push)
+keys_after b key push boxes (Ok next) is of_board same leads as_many = record {
+  exact = λ after led. key_after b next push boxes after (leads after led) is;
+  of_board = of_board;
+  as_many = ap length same ∙ as_many;
+}
+keys_after b key push boxes (Err fault) is of_board same leads as_many = tt

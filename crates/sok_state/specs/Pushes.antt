@@ -7,6 +7,7 @@ use Rattle.sok_rules.specs.States.{Same}
 use Rattle.sok_board.specs.Area.{Numbered, spot_of, position_of}
 use Rattle.sok_state.specs.declared.key.Key.{Key}
 use Rattle.sok_state.specs.declared.push.Push.{Push}
+use Rattle.sok_state.specs.Keys.{IsKey, IsKeyOf}
 
 -- the push is legal from a position of the state and leads to another: the man ends where the box stood
 pub record LeadsTo (b : Numbered) (key : Key) (push : Push) (after : Position) : Type 0 where
@@ -20,6 +21,12 @@ pub record LeadsTo (b : Numbered) (key : Key) (push : Push) (after : Position) :
 pub record IsLegal (b : Numbered) (key : Key) (push : Push) : Type 0 where
   pub after : Position
   pub leads : LeadsTo b key push after
+
+-- the key of each position to which the push leads from the state, with as many boxes
+pub record IsKeyAfter (b : Numbered) (key : Key) (push : Push) (next : Key) : Type 0 where
+  pub exact : (after : Position) → LeadsTo b key push after → IsKeyOf b after next
+  pub of_board : IsKey b next
+  pub as_many : length next.boxes ≡ length key.boxes
 
 -- left, up, right, down
 abbrev pub rank : Dir → ℕ

@@ -6,9 +6,9 @@ ghost use Rattle.sok_rules.specs.Play.{Position};
 ghost use Rattle.sok_board.specs.Area.{IsAccepted, position_of};
 ghost use Rattle.sok_region.specs.Regions.{IsPlaced, IsRegion};
 ghost use Rattle.sok_state.specs.declared.push.Push.{Push};
-ghost use Rattle.sok_state.specs.Keys.{IsKey, IsKeyOf};
+ghost use Rattle.sok_state.specs.Keys.{IsKey};
 ghost use Rattle.sok_state.specs.Listing.{IsClear, Lists, place};
-ghost use Rattle.sok_state.specs.Pushes.{IsLegal, LeadsTo, Precedes};
+ghost use Rattle.sok_state.specs.Pushes.{IsKeyAfter, IsLegal, LeadsTo, Precedes};
 
 use crate::key::{Key, key_of};
 use crate::push::Push;
@@ -65,10 +65,7 @@ pub fn list_pushes(
 pub fn after(alloc: Global, board: &Board, key: &Key, push: Push) -> Result<Key, Memory>
     requires key { IsKey board.now key.now }
     requires legal { IsLegal board.now key.now push }
-    ensures exact { IfOk result (λ next. (after : Position)
-        → LeadsTo board.now key.now push after → IsKeyOf board.now after next) }
-    ensures of_board { IfOk result (IsKey board.now) }
-    ensures as_many { IfOk result (λ next. length next.boxes ≡ length key.now.boxes) }
+    ensures { IfOk result (IsKeyAfter board.now key.now push) }
 {
     let boxes = boxes_after(alloc, board, key, push)?;
     key_of(alloc, board, boxes, push.from)
@@ -85,10 +82,7 @@ pub fn follow(
 ) -> Result<Key, Memory>
     requires key { IsKey board.now key.now }
     requires legal { IsLegal board.now key.now push }
-    ensures exact { IfOk result (λ next. (after : Position)
-        → LeadsTo board.now key.now push after → IsKeyOf board.now after next) }
-    ensures of_board { IfOk result (IsKey board.now) }
-    ensures as_many { IfOk result (λ next. length next.boxes ≡ length key.now.boxes) }
+    ensures next { IfOk result (IsKeyAfter board.now key.now push) }
     ensures region { IfOk result (λ next. IsRegion board.now next.boxes next.least region.new) }
     ensures refused { OnErr result (region.new ≡ region.old) }
 {

@@ -3,10 +3,9 @@
 ghost use Rattle.std.specs.Prelude.{ℕ, ◌≡◌, ◌<◌, ◌≤◌, ◌+◌, ◌*◌, ◌^◌, [], Some, All, Contains, IfOk};
 ghost use Rattle.std.specs.Prelude.{IsOk, OnErr, MatchOption, length, slice_get, slice_index};
 ghost use Rattle.std.specs.Map.{keys_of, values_of};
-ghost use Rattle.sok_board.specs.Limits.{box_limit};
-ghost use Rattle.sok_state.specs.declared.key.Key.{Key};
 ghost use Rattle.sok_state.specs.PackedKeys.{state_of};
-ghost use Rattle.sok_state.specs.Tables.{Enters, EntersNext, HasDistinctKeys, IsAt, LacksNext, Lowers};
+ghost use Rattle.sok_state.specs.Tables.{Enters, EntersNext, HasDistinctKeys, HasFewBoxes, IsAt};
+ghost use Rattle.sok_state.specs.Tables.{LacksNext, Lowers};
 
 use crate::key::Key;
 use crate::packed::PackedKey;
@@ -147,8 +146,7 @@ impl<const N: usize> PackedTable<N> {
     ) -> Result<Key, Memory>
         requires small { N ≤ 16 }
         requires exists { index < length self.now.entries }
-        requires few { (key : Key) → IsAt self.now.entries key index
-            → length key.boxes ≤ box_limit }
+        requires few { HasFewBoxes self.now.entries index }
         ensures { IfOk result (λ key. IsAt self.now.entries key index) }
     {
         let packed = self.packed(index);

@@ -3,9 +3,9 @@
 ghost use Rattle.std.specs.Prelude.{◌≡◌, ◌<◌, ◌≤◌, ◌+◌, [], Some, All, Contains, IfOk, IsOk};
 ghost use Rattle.std.specs.Prelude.{OnErr, MatchOption, length, slice_get};
 ghost use Rattle.std.specs.Map.{keys_of, values_of};
-ghost use Rattle.sok_board.specs.Limits.{box_limit, square_limit};
-ghost use Rattle.sok_state.specs.declared.key.Key.{Key};
-ghost use Rattle.sok_state.specs.Tables.{Enters, EntersNext, HasDistinctKeys, IsAt, LacksNext, Lowers};
+ghost use Rattle.sok_board.specs.Limits.{square_limit};
+ghost use Rattle.sok_state.specs.Tables.{Enters, EntersNext, HasDistinctKeys, HasFewBoxes, IsAt};
+ghost use Rattle.sok_state.specs.Tables.{LacksNext, Lowers};
 
 use crate::key::Key;
 use crate::packed_table::PackedTable;
@@ -29,6 +29,18 @@ enum Store {
     Two(PackedTable<2>),
     Four(PackedTable<4>),
     Sixteen(PackedTable<16>),
+}
+
+/// What a table of packed keys answers, whatever their width.
+macro_rules! packed {
+    ($store:expr, $table:ident => $answer:expr) => {
+        match $store {
+            Store::One($table) => $answer,
+            Store::Two($table) => $answer,
+            Store::Four($table) => $answer,
+            Store::Sixteen($table) => $answer,
+        }
+    };
 }
 
 impl Model for Table {
@@ -69,12 +81,7 @@ impl Table {
         ensures count { result ≡ length self.now.entries }
         ensures distinct { HasDistinctKeys self.now.entries }
     {
-        match &self.store {
-            Store::One(table) => table.len(),
-            Store::Two(table) => table.len(),
-            Store::Four(table) => table.len(),
-            Store::Sixteen(table) => table.len(),
-        }
+        packed!(&self.store, table => table.len())
     }
 
     /// Inserts a key, and tells its index and whether it is new: a new key goes last, with the
@@ -90,12 +97,7 @@ impl Table {
         ensures succeeds { 0 < self.old.spare → IsOk result }
         ensures spare { self.old.spare ≤ self.new.spare + 1 }
     {
-        match &mut self.store {
-            Store::One(table) => table.insert(key, depth),
-            Store::Two(table) => table.insert(key, depth),
-            Store::Four(table) => table.insert(key, depth),
-            Store::Sixteen(table) => table.insert(key, depth),
-        }
+        packed!(&mut self.store, table => table.insert(key, depth))
     }
 
     /// Inserts the key after a push from the one at an index, as `insert` does: a box has left one
@@ -119,12 +121,7 @@ impl Table {
         ensures succeeds { 0 < self.old.spare → IsOk result }
         ensures spare { self.old.spare ≤ self.new.spare + 1 }
     {
-        match &mut self.store {
-            Store::One(table) => table.insert_next(index, from, to, least, depth),
-            Store::Two(table) => table.insert_next(index, from, to, least, depth),
-            Store::Four(table) => table.insert_next(index, from, to, least, depth),
-            Store::Sixteen(table) => table.insert_next(index, from, to, least, depth),
-        }
+        packed!(&mut self.store, table => table.insert_next(index, from, to, least, depth))
     }
 
     /// The index of a key, counted from 0, and None where the table lacks it.
@@ -133,28 +130,17 @@ impl Table {
         ensures { MatchOption result
             (Contains (keys_of self.now.entries) key.now → ⊥) (IsAt self.now.entries key.now) }
     {
-        match &self.store {
-            Store::One(table) => table.get(key),
-            Store::Two(table) => table.get(key),
-            Store::Four(table) => table.get(key),
-            Store::Sixteen(table) => table.get(key),
-        }
+        packed!(&self.store, table => table.get(key))
     }
 
     /// The key at an index. Its boxes are listed in a place for squares first. It refuses only for
     /// want of memory.
     pub fn key(&self, alloc: Global, squares: &mut Vec<Sq>, index: usize) -> Result<Key, Memory>
         requires exists { index < length self.now.entries }
-        requires few { (key : Key) → IsAt self.now.entries key index
-            → length key.boxes ≤ box_limit }
+        requires few { HasFewBoxes self.now.entries index }
         ensures { IfOk result (λ key. IsAt self.now.entries key index) }
     {
-        match &self.store {
-            Store::One(table) => table.key(alloc, squares, index),
-            Store::Two(table) => table.key(alloc, squares, index),
-            Store::Four(table) => table.key(alloc, squares, index),
-            Store::Sixteen(table) => table.key(alloc, squares, index),
-        }
+        packed!(&self.store, table => table.key(alloc, squares, index))
     }
 
     /// The depth of the key at an index.
@@ -162,12 +148,7 @@ impl Table {
         requires { index < length self.now.entries }
         ensures { slice_get (values_of self.now.entries) index ≡ Some result }
     {
-        match &self.store {
-            Store::One(table) => table.depth(index),
-            Store::Two(table) => table.depth(index),
-            Store::Four(table) => table.depth(index),
-            Store::Sixteen(table) => table.depth(index),
-        }
+        packed!(&self.store, table => table.depth(index))
     }
 
     /// Lowers the depth of the key at an index. False, and no change, where the depth there is no
@@ -178,11 +159,6 @@ impl Table {
         ensures room { self.new.room ≡ self.old.room }
         ensures spare { self.new.spare ≡ self.old.spare }
     {
-        match &mut self.store {
-            Store::One(table) => table.lower_depth(index, depth),
-            Store::Two(table) => table.lower_depth(index, depth),
-            Store::Four(table) => table.lower_depth(index, depth),
-            Store::Sixteen(table) => table.lower_depth(index, depth),
-        }
+        packed!(&mut self.store, table => table.lower_depth(index, depth))
     }
 }

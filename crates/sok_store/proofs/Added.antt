@@ -9,7 +9,6 @@ use Rattle.sok_rules.specs.Squares.{Rows}
 use Rattle.sok_rules.specs.Levels.{IsLevel}
 use Rattle.sok_board.specs.declared.fault.BoardFault.{BoardFault}
 use Rattle.sok_board.specs.declared.fault.BoardFault.TheVariants as board
-use Rattle.sok_board.specs.Area.{IsAccepted, Numbered}
 use Rattle.sok_board.specs.Refusals.{IsAcceptable, IsRefused}
 use Rattle.sok_board.proofs.Lists.{slice_get-push}
 use Rattle.sok_text.specs.Canonical.{level_text}
@@ -57,10 +56,7 @@ module _ (book : Book) (text : List ℕ) (title : Option (List ℕ)) (page : Pag
   pub pushed_leaves : leaves_of book ++ new_leaf text title ∷ [] ≡ leaves_of (book ++ page ∷ [])
   pushed_leaves = ap (λ leaf. leaves_of book ++ leaf ∷ []) (sym new.leaf) ∙ sym (leaves_of-push book page)
 
--- a level of which a board can be made, or cannot
-pub acceptable : (rows : Rows) (b : Numbered) → b.rows ≡ rows → IsAccepted b → IsAcceptable rows
-acceptable rows b same is = subst IsAcceptable same (b.area, is)
-
+-- a level of which no board can be made
 pub board_refused : (book : Book) (rows : Rows) (fault : BoardFault) → IsRefused rows fault → IsOutside (of_board fault) ⊎ IsNotAdded book rows (of_board fault)
 board_refused book rows board.Memory is = inl (inl refl)
 board_refused book rows fault is = inr ((λ e. cc), is)

@@ -3,6 +3,7 @@ use Rattle.std.proofs.lemmas.List.Elements.{All-cons, All-nil}
 use Rattle.sok_board.specs.Area.{position_of}
 use Rattle.sok_bar.specs.Patterns.{AreClosedAlone}
 use Rattle.sok_alone.specs.GivenUp.{IsGivenUp}
+use Rattle.sok_alone.specs.Meeting.{AreClosedWithin}
 use Rattle.sok_alone.proofs.Members.{members-as, pattern-of}
 use Rattle.sok_alone.proofs.finding.find_pattern.Goals as goal
 
@@ -30,9 +31,9 @@ returns-clause-holds c =
     let b = c.args.board.now in
     let player = c.args.player in
     let inner = c.in-Some.inner in
-    let closed : AreClosedAlone b player c.in_ok-pair.pair inner =
-    subst (λ o. IfSome o (AreClosedAlone b player c.in_ok-pair.pair)) c.in-Some.is c.in_ok-inner.ensures.closed in
+    let within : AreClosedWithin b player c.in_ok-pair.pair c.args.limit inner =
+    subst (λ o. IfSome o (AreClosedWithin b player c.in_ok-pair.pair c.args.limit)) c.in-Some.is c.in_ok-inner.ensures.closed in
     pattern-of b player c.args.boxes.now (c.args.first ∷ c.args.second ∷ []) c.in_ok-members.members inner
     (members-as c.args.boxes.now c.list.result.now c.list-2.result.now (c.args.first ∷ c.args.second ∷ []) c.in_ok-members.members
     c.list.ensures.list (c.list-2.ensures.list ∙ c.in_ok-pair.ensures.list) c.in_ok-members.ensures)
-    (subst (λ (pair : List ℕ). AreClosedAlone b player pair inner) c.in_ok-pair.ensures.list closed)
+    (subst (λ (pair : List ℕ). AreClosedAlone b player pair inner) c.in_ok-pair.ensures.list within.closed)

@@ -8,9 +8,9 @@ input-init g c = ReadSo-start _ c.args.board.now c.in_ok-stream.stream c.in_ok-s
 
 pub input-preserved : goal.input-preserved
 input-preserved g c =
-    let read = c.in-Ok.ensures in
+    let read = c.in_ok-count.ensures in
     let next = c.in_ok-stream-2 in
-    ReadSo-more _ _ _ c.args.board.now c.input.stream next.stream c.input.total c.in-Ok.count (take c.in-Ok.count c.read.new.buf) c.input.invariant
+    ReadSo-more _ _ _ c.args.board.now c.input.stream next.stream c.input.total c.in_ok-count.count (take c.in_ok-count.count c.read.new.buf) c.input.invariant
     read.bytes.0 (sym read.bound.1) next.ensures.board next.ensures.stands
 
 pub returns-clause-much : goal.returns-clause-much

@@ -12,13 +12,14 @@ key_is c =
     IsKeyOf-region c.args.board.now accepted.numbered accepted.proper c.args.push.from c.in_ok-boxes.boxes c.again.new.self c.least-least.result
     c.again.ensures.region c.least-least.ensures.among c.least-least.ensures.least
 
-pub returns-clause-of_board : goal.returns-clause-of_board
-returns-clause-of_board c = record { player = c.args.push.from; boxes = c.in_ok-boxes.boxes; placed = c.in_ok-boxes.ensures.placed; is = key_is c }
-
-pub returns-clause-exact : goal.returns-clause-exact
-returns-clause-exact c = λ after leads.
-    key_after c.args.board.now (record { boxes = c.in_ok-boxes.boxes; least = c.least-least.result }) c.args.push c.in_ok-boxes.boxes after
-    (c.in_ok-boxes.ensures.leads after leads) (key_is c)
+pub returns-clause-next : goal.returns-clause-next
+returns-clause-next c = record {
+  exact = λ after leads.
+      key_after c.args.board.now (record { boxes = c.in_ok-boxes.boxes; least = c.least-least.result }) c.args.push c.in_ok-boxes.boxes after
+      (c.in_ok-boxes.ensures.leads after leads) (key_is c);
+  of_board = record { player = c.args.push.from; boxes = c.in_ok-boxes.boxes; placed = c.in_ok-boxes.ensures.placed; is = key_is c };
+  as_many = c.in_ok-boxes.ensures.as_many;
+}
 
 pub returns-clause-region : goal.returns-clause-region
 returns-clause-region c =

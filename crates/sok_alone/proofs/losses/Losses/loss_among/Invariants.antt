@@ -1,14 +1,8 @@
-use Rattle.sok_alone.specs.Losses.{KeepsLosses, KeepsPlaces, losses_of}
+use Rattle.sok_alone.specs.Losses.{AddsLosses}
 use Rattle.sok_alone.proofs.losses.Losses.loss_among.Given as goal
 
 abbrev pub invariant-loop-one : goal.invariant-loop-one
-invariant-loop-one l = record {
-  losses : KeepsLosses l.board l.self;
-  kept : KeepsPlaces (losses_of l.initial.self) (losses_of l.self);
-}
+invariant-loop-one l = AddsLosses l.board l.initial.self l.self
 
 abbrev pub invariant-loop-other : goal.invariant-loop-other
-invariant-loop-other l = record {
-  losses : KeepsLosses l.board l.self;
-  kept : KeepsPlaces (losses_of l.initial.self) (losses_of l.self);
-}
+invariant-loop-other l = AddsLosses l.board l.initial.self l.self

@@ -64,7 +64,7 @@ pub returns-in-Some-clause-law : goal.returns-in-Some-clause-law
 returns-in-Some-clause-law c = λ leaves.
     let accepted : IsAccepted c.args.board.now = subst IsAccepted c.requires.tables c.goals.ensures.accepted in
     reasons-bar c.args.board.now accepted c.args.player c.args.boxes.now (Barring.bound c.args.self.now.u.now c.args.self.now.v.now) c.args.rest
-    (assumption (c.requires, c.list-boxes.ensures)) (priced c leaves)
+    c.requires.placed (priced c leaves)
 
 pub returns-in-Some-clause-exact : goal.returns-in-Some-clause-exact
 returns-in-Some-clause-exact c = (

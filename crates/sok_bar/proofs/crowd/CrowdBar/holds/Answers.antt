@@ -38,4 +38,4 @@ pub returns-clause-law : goal.returns-clause-law
 returns-clause-law c = λ fewer.
     let accepted : IsAccepted c.args.board.now = subst IsAccepted c.requires.tables c.reached_goals.ensures.accepted in
     reasons-bar c.args.board.now accepted c.args.player c.args.boxes.now (Barring.crowd c.args.self.now.members.now) c.args.rest
-    (assumption (c.requires, c.list-boxes.ensures)) (crowd c fewer)
+    c.requires.placed (crowd c fewer)

@@ -22,4 +22,4 @@ returns-clause-exact c = (
 pub returns-clause-law : goal.returns-clause-law
 returns-clause-law c = λ held.
     reasons-bar c.args.board.now c.squares.ensures.accepted c.args.player c.args.boxes.now (Barring.frozen c.args.self.now.members.now) c.args.rest
-    (assumption (c.requires, c.list-boxes.ensures)) (jam c held)
+    c.requires.placed (jam c held)

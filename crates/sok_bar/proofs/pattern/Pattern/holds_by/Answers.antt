@@ -11,6 +11,5 @@ are_closed_alone-requires-clause-placed c =
     let boxes = c.args.boxes.now in
     let members = c.args.self.now.members.now in
     let listed : AreMembers boxes members = subst (λ bs. AreMembers bs members) c.list-boxes.ensures.list (c.are_members.ensures.0 c.if-not-are_members.false) in
-    let placed : IsPlaced b boxes c.args.player = assumption (c.requires, c.list-boxes.ensures) in
     subst (λ alone. IsPlaced b alone c.args.player) (sym (c.in_ok-alone.ensures ∙ ap (λ bs. squares_at bs members) c.list-boxes.ensures.list))
-    (IsPlaced-alone b c.args.player boxes members placed listed)
+    (IsPlaced-alone b c.args.player boxes members c.requires.placed listed)

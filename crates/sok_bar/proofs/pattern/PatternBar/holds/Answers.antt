@@ -23,6 +23,5 @@ holds_by-requires-clause-memo c = c.new-memo.ensures c.args.board.now
 
 pub returns-clause-law : goal.returns-clause-law
 returns-clause-law c =
-    let placed : IsPlaced c.args.board.now c.args.boxes.now c.args.player = assumption (c.requires, c.list-boxes.ensures) in
-    bars c.args.board.now c.squares-squares.ensures.accepted c.args.player c.args.boxes.now c.args.self.now.members.now c.args.self.now.inner.now c.args.rest placed
+    bars c.args.board.now c.squares-squares.ensures.accepted c.args.player c.args.boxes.now c.args.self.now.members.now c.args.self.now.inner.now c.args.rest c.requires.placed
     c.holds_by.result c.holds_by.ensures.exact
