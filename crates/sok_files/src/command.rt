@@ -6,6 +6,7 @@ ghost use Rattle.sok_engine.specs.Inputs.{Within};
 ghost use Rattle.sok_engine.specs.Limits.{cert_limit, input_limit};
 ghost use Rattle.sok_engine.specs.Written.{Writes};
 ghost use Rattle.sok_judge.specs.Checks.{IsCheck};
+ghost use Rattle.sok_play.specs.Drawings.{IsDrawing};
 ghost use Rattle.sok_play.specs.Listing.{IsListing};
 ghost use Rattle.sok_play.specs.Plays.{IsReplay};
 ghost use Rattle.sok_solve.specs.Solves.{IsFind, IsSolve};
@@ -16,6 +17,7 @@ use crate::file::{create, open};
 use crate::folder::Folder;
 use sok_engine::fault::ToolFault;
 use sok_judge::check::check_bytes;
+use sok_play::drawing::draw_bytes;
 use sok_play::listing::list_bytes;
 use sok_play::play::replay_bytes;
 use sok_solve::find::find_bytes;
@@ -48,6 +50,21 @@ pub fn replay<F: Folder + AllocGlobal, W: Write>(
 {
     let mut input = open(rt, path)?;
     replay_bytes(rt.alloc(), &mut input, n as usize, text.as_bytes(), out)
+}
+
+/// Draws the n-th level of a collection as it stands after a text of letters.
+pub fn draw<F: Folder + AllocGlobal, W: Write>(
+    rt: &F,
+    path: &str,
+    n: u32,
+    text: &str,
+    out: &mut W,
+) -> Result<u8, ToolFault>
+    ensures { Writes (OfFile (F.reads rt.now path.now) (Within input_limit (IsDrawing n text.now)))
+        (W.contents out.old) (W.contents out.new) result }
+{
+    let mut input = open(rt, path)?;
+    draw_bytes(rt.alloc(), &mut input, n as usize, text.as_bytes(), out)
 }
 
 /// Judges a certificate for the n-th level of a collection. It is read only where the level has a

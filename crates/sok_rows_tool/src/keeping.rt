@@ -10,8 +10,17 @@ use std::test::Fail;
 /// What is told of a database that can't be opened.
 const NO_DATABASE: &str = "fault 32 Database\n";
 
-const COMMANDS: [Row; 21] = [
-    // the file is made
+/// Commands on a book that is not there, of which none makes one.
+const ABSENT: [Row; 4] = [
+    ("sok export books/book", "", NO_DATABASE, 5),
+    ("sok show books/book 1", "", NO_DATABASE, 5),
+    ("sok offer books/book 1 R", "", NO_DATABASE, 5),
+    ("sok prove books/book 1 books/cert", "", NO_DATABASE, 5),
+];
+
+const COMMANDS: [Row; 22] = [
+    // the file is made, of a collection without levels
+    ("sok add books/book books/cert", "", "", 0),
     ("sok export books/book", "", "", 0),
     ("sok show books/book 1", "", "fault 30 NoLevel\n", 3),
     ("sok show books/book 0", "", "fault 30 NoLevel\n", 3),
@@ -81,6 +90,11 @@ const COMMANDS: [Row; 21] = [
 #[test]
 fn a_book_in_a_file(rt: HostRuntime) -> Result<(), Fail> {
     prepare(&rt, "books")?;
+    let other = first_other(&rt, &ABSENT)?;
+    assert_eq!(rt; other, None);
+    for path in ["books/book", "books/book-wal"] {
+        assert!(rt; fs::open(&rt, path).is_err(), "{path}");
+    }
     let other = first_other(&rt, &COMMANDS)?;
     assert_eq!(rt; other, None);
     // a file that is no database gets no log beside it

@@ -19,8 +19,8 @@
 //! | `plays` | the replay of a text, its words and its streams |
 //! | `printing` | the line of each fault |
 //! | `reads` | readers that fail, for the commands on a book |
-//! | `refusing` | help, and words that ask for nothing |
-//! | `replaying` | `replay` on files |
+//! | `refusing` | help, the version, and words that ask for nothing |
+//! | `replaying` | `replay` and `draw` on files |
 //! | `rows` | command lines on the files of a folder (no test) |
 //! | `solving` | `solve` on files |
 //! | `statements` | each statement once, with ample memory |

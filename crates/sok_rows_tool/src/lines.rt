@@ -24,6 +24,8 @@ fn reads_each_form(rt: HostRuntime) -> Result<(), Fail> {
     for (line, asked) in [
         ("sok list F", "List(\"F\")"),
         ("sok replay F 2 uR", "Replay(\"F\", 2, \"uR\")"),
+        ("sok draw F 2", "Draw(\"F\", 2, \"\")"),
+        ("sok draw F 2 uR", "Draw(\"F\", 2, \"uR\")"),
         ("sok solve F 1", "Solve(\"F\", 1, 100000, None)"),
         (
             "sok solve F 1 --limit 5 --cert P",

@@ -1,17 +1,22 @@
-//! Help, and words that ask for nothing.
+//! Help, the version, and words that ask for nothing.
 
 use crate::devices::{Failure, Sink};
 use crate::rows::{ran, run_on, words};
 use std::test::Fail;
 
+/// The name, the version, and what proved it, as README tells it.
+const VERSION: &str = "sok 1.0\nproved with rattle-kit-13f logic dac8208d650f15bf\n";
+
 /// A line, a part of what is written to the output, or where the status is 2 to the error stream,
 /// and the status.
-const REFUSALS: [(&str, &str, u8); 23] = [
+const REFUSALS: [(&str, &str, u8); 25] = [
     ("sok --help", "Exit status:", 0),
+    ("sok --version", VERSION, 0),
     ("sok help solve", "limit S", 0),
     ("sok solve --help", "[default: 100000]", 0),
     ("sok list --help", "N ROWS COLS BOXES GOALS TITLE", 0),
     ("sok replay --help", "open PUSHES MOVES", 0),
+    ("sok draw --help", "Example: sok draw small.xsb 1 ulld", 0),
     ("sok check --help", "accepted at least K pushes", 0),
     ("sok add --help", "N id ID", 0),
     ("sok offer --help", "kept PUSHES MOVES", 0),
@@ -41,7 +46,7 @@ const REFUSALS: [(&str, &str, u8); 23] = [
 ];
 
 #[test]
-fn help_and_words_that_ask_for_nothing(rt: HostRuntime) -> Result<(), Fail> {
+fn help_the_version_and_words_that_ask_for_nothing(rt: HostRuntime) -> Result<(), Fail> {
     for (line, part, status) in REFUSALS {
         let told = is_told(&rt, line, part, status)?;
         assert!(rt; told, "{line}");

@@ -1,4 +1,4 @@
-//! `replay` on files.
+//! `replay` and `draw` on files.
 
 use crate::rows::{OPEN_FAILED, first_other, prepare};
 use sok_sketch::tutorial::Row;
@@ -41,6 +41,46 @@ const REPLAYS: [Row; 9] = [
     ),
     ("sok replay plays/none 1 R", "", OPEN_FAILED, 5),
 ];
+
+const DRAWINGS: [Row; 10] = [
+    (
+        "sok draw draws/levels 4",
+        "######\n#    #\n# $@.#\n######\n",
+        "",
+        0,
+    ),
+    // the player on floor, and the box on the goal
+    (
+        "sok draw draws/levels 4 ulldRR",
+        "######\n#    #\n#  @*#\n######\n",
+        "",
+        0,
+    ),
+    ("sok draw draws/levels 1 R", "#####\n# @*#\n#####\n", "", 0),
+    // the player on the goal
+    (
+        "sok draw draws/levels 4 r",
+        "######\n#    #\n# $ +#\n######\n",
+        "",
+        0,
+    ),
+    ("sok draw draws/levels 4 uu", "", "fault 12 Blocked 1\n", 3),
+    ("sok draw draws/levels 1 x", "", "fault 11 BadLetter 0\n", 3),
+    ("sok draw draws/levels 2", "", "fault 4 ManyPlayers\n", 3),
+    ("sok draw draws/levels 0", "", "fault 15 NoSuchLevel\n", 3),
+    // the level is at fault, and so is the text
+    ("sok draw draws/levels 5 x", "", "fault 15 NoSuchLevel\n", 3),
+    ("sok draw draws/none 1", "", OPEN_FAILED, 5),
+];
+
+#[test]
+fn drawings_of_files(rt: HostRuntime) -> Result<(), Fail> {
+    prepare(&rt, "draws")?;
+    let other = first_other(&rt, &DRAWINGS)?;
+    assert_eq!(rt; other, None);
+    fs::remove_dir_all(&rt, "draws")?;
+    Ok(())
+}
 
 #[test]
 fn replays_on_files(rt: HostRuntime) -> Result<(), Fail> {

@@ -5,13 +5,15 @@ use Rattle.std.proofs.lemmas.List.{length-map}
 use Rattle.std.specs.Str.Parse.{digits_value}
 use Rattle.sok_engine.specs.declared.fault.ToolFault.TheVariants as tool
 use Rattle.sok_engine.specs.Certified.{Bytes, Stays}
+use Rattle.sok_play.specs.Drawings.{IsDrawing}
+use Rattle.sok_play.specs.Plays.{IsReplay}
 use Rattle.sok_keep.specs.Shows.{IsExport, IsShow}
 use Rattle.sok_keep.proofs.Ids.{fits, of_passed, passed}
 use Rattle.sok_words.specs.declared.job.Job.TheVariants as job
-use Rattle.sok_words.specs.Forms.{Form, IsId, IsPlain, Means, add, check, export, limit_of, list, offer, prove, replay, show, solve, words_of}
+use Rattle.sok_words.specs.Forms.{Form, IsId, IsPlain, Means, add, check, draw, export, limit_of, list, offer, prove, replay, show, solve, words_of}
 use Rattle.sok_files.specs.Endings.{Ends}
 use Rattle.sok_files.specs.Files.{Files}
-use Rattle.sok_tool.specs.Commands.{RunsAdd, RunsCheck, RunsOffer, RunsProve, RunsReplay, RunsShowing, RunsSolve, Serves}
+use Rattle.sok_tool.specs.Commands.{RunsAdd, RunsCheck, RunsOffer, RunsPlay, RunsProve, RunsShowing, RunsSolve, Serves}
 use Rattle.sok_tool.specs.Databases.{Databases, refused, unread}
 
 -- where memory was refused, nothing is written
@@ -19,6 +21,7 @@ pub Serves-memory : (files : Files) (databases : Databases) (form : Form) (out e
     → Stays out → Serves files databases form out err exit
 Serves-memory files databases (list file) out err exit ends kept = (Err tool.Memory, kept, ends)
 Serves-memory files databases (replay file number text) out err exit ends kept = (Err tool.Memory, kept, ends)
+Serves-memory files databases (draw file number text) out err exit ends kept = (Err tool.Memory, kept, ends)
 Serves-memory files databases (check file number cert) out err exit ends kept = (Err tool.Memory, kept, ends)
 Serves-memory files databases (solve file number limit None) out err exit ends kept = (Err tool.Memory, kept, ends)
 Serves-memory files databases (solve file number limit (Some cert)) out err exit ends kept = (Err tool.Memory, inl (inl refl, kept), ends)
@@ -28,6 +31,7 @@ Serves-memory files databases _ out err exit ends kept = (Err tool.Memory, refus
 asks : (form : Form) → 1 ≤ length (words_of form)
 asks (list file) = omega arith
 asks (replay file number text) = omega arith
+asks (draw file number text) = omega arith
 asks (solve file number limit cert) = omega arith
 asks (check file number cert) = omega arith
 asks (add db file) = omega arith
@@ -41,27 +45,35 @@ pub too_few : (words : List (String Global)) (program : List ℕ) (form : Form) 
     → map (λ word. string_bytes word) words ≡ program ∷ words_of form → ⊥
 too_few words program form few is = omega (arith, asks form, simp length-map at (ap (λ l. length l) is))
 
+-- what is answered to values is answered to those that are the same
+same_three : {A B C : Type 0} (P : A → B → C → Type 0) (a a' : A) (b b' : B) (c c' : C) → a ≡ a' → b ≡ b' → c ≡ c' → P a b c → P a' b' c'
+same_three P a a' b b' c c' same_a same_b same_c holds = subst (λ z. P a' b' z) same_c (subst (λ y. P a' y c) same_b (subst (λ x. P x b c) same_a holds))
+
 -- a job of replaying serves its form
 pub Serves-replay : (files : Files) (databases : Databases) (form : Form) (file : String Global) (n : ℕ) (text : String Global) (name letters : List ℕ)
     (out err : Bytes) (exit : ℕ) → Means form (job.Replay file n text) → name ≡ string_bytes file → letters ≡ string_bytes text
-    → RunsReplay files name n letters out err exit → Serves files databases form out err exit
+    → RunsPlay IsReplay files name n letters out err exit → Serves files databases form out err exit
 Serves-replay files databases (replay of number spelled) file n text name letters out err exit (file_is, number_is, text_is) named spelt runs =
-    subst (λ t. RunsReplay files of (digits_value 10 number) t out err exit) (spelt ∙ text_is)
-    (subst (λ k. RunsReplay files of k letters out err exit) number_is
-    (subst (λ f. RunsReplay files f n letters out err exit) (named ∙ file_is) runs))
+    same_three (λ f k t. RunsPlay IsReplay files f k t out err exit) _ _ _ _ _ _ (named ∙ file_is) number_is (spelt ∙ text_is) runs
 Serves-replay files databases _ file n text name letters out err exit means named spelt runs = absurd means
 
--- and so does one of judging
+-- and so does one of drawing
+pub Serves-draw : (files : Files) (databases : Databases) (form : Form) (file : String Global) (n : ℕ) (text : String Global) (name letters : List ℕ)
+    (out err : Bytes) (exit : ℕ) → Means form (job.Draw file n text) → name ≡ string_bytes file → letters ≡ string_bytes text
+    → RunsPlay IsDrawing files name n letters out err exit → Serves files databases form out err exit
+Serves-draw files databases (draw of number spelled) file n text name letters out err exit (file_is, number_is, text_is) named spelt runs =
+    same_three (λ f k t. RunsPlay IsDrawing files f k t out err exit) _ _ _ _ _ _ (named ∙ file_is) number_is (spelt ∙ text_is) runs
+Serves-draw files databases _ file n text name letters out err exit means named spelt runs = absurd means
+
+-- and one of judging
 pub Serves-check : (files : Files) (databases : Databases) (form : Form) (file : String Global) (n : ℕ) (cert : String Global) (name cert_name : List ℕ)
     (out err : Bytes) (exit : ℕ) → Means form (job.Check file n cert) → name ≡ string_bytes file → cert_name ≡ string_bytes cert
     → RunsCheck files name n cert_name out err exit → Serves files databases form out err exit
 Serves-check files databases (check of number place) file n cert name cert_name out err exit (file_is, number_is, cert_is) named cert_named runs =
-    subst (λ p. RunsCheck files of (digits_value 10 number) p out err exit) (cert_named ∙ cert_is)
-    (subst (λ k. RunsCheck files of k cert_name out err exit) number_is
-    (subst (λ f. RunsCheck files f n cert_name out err exit) (named ∙ file_is) runs))
+    same_three (λ f k p. RunsCheck files f k p out err exit) _ _ _ _ _ _ (named ∙ file_is) number_is (cert_named ∙ cert_is) runs
 Serves-check files databases _ file n cert name cert_name out err exit means named cert_named runs = absurd means
 
--- and so does one of solving
+-- and one of solving
 pub Serves-solve : (files : Files) (databases : Databases) (form : Form) (file : String Global) (name : List ℕ) (n most : ℕ) (path : Option (String Global))
     (out err : Bytes) (exit : ℕ) → Means form (job.Solve file n most path) → name ≡ string_bytes file
     → RunsSolve files name n most (option_map (λ s. string_bytes s) path) out err exit → Serves files databases form out err exit
@@ -90,20 +102,16 @@ pub Serves-offer : (files : Files) (databases : Databases) (form : Form) (db : S
     (out err : Bytes) (exit : ℕ) → IsPlain form → Means form (job.Offer db id text) → db_name ≡ string_bytes db → letters ≡ string_bytes text
     → RunsOffer databases db_name (passed id) letters out err exit → Serves files databases form out err exit
 Serves-offer files databases (offer of number spelled) db id text db_name letters out err exit plain (db_is, id_is, text_is) db_named named runs =
-    subst (λ t. RunsOffer databases of (pos (digits_value 10 number)) t out err exit) (named ∙ text_is)
-    (subst (λ i. RunsOffer databases of i letters out err exit) id_is
-    (subst (λ d. RunsOffer databases d id letters out err exit) (db_named ∙ db_is)
-    (of_passed (λ i. RunsOffer databases db_name i letters out err exit) id (plain_id id number plain.1 id_is) runs)))
+    same_three (λ d i t. RunsOffer databases d i t out err exit) _ _ _ _ _ _ (db_named ∙ db_is) id_is (named ∙ text_is)
+    (of_passed (λ i. RunsOffer databases db_name i letters out err exit) id (plain_id id number plain.1 id_is) runs)
 Serves-offer files databases _ db id text db_name letters out err exit plain means db_named named runs = absurd means
 
 pub Serves-prove : (files : Files) (databases : Databases) (form : Form) (db : String Global) (id : ℤ) (cert : String Global) (db_name name : List ℕ)
     (out err : Bytes) (exit : ℕ) → IsPlain form → Means form (job.Prove db id cert) → db_name ≡ string_bytes db → name ≡ string_bytes cert
     → RunsProve files databases db_name (passed id) name out err exit → Serves files databases form out err exit
 Serves-prove files databases (prove of number place) db id cert db_name name out err exit plain (db_is, id_is, cert_is) db_named named runs =
-    subst (λ f. RunsProve files databases of (pos (digits_value 10 number)) f out err exit) (named ∙ cert_is)
-    (subst (λ i. RunsProve files databases of i name out err exit) id_is
-    (subst (λ d. RunsProve files databases d id name out err exit) (db_named ∙ db_is)
-    (of_passed (λ i. RunsProve files databases db_name i name out err exit) id (plain_id id number plain.1 id_is) runs)))
+    same_three (λ d i f. RunsProve files databases d i f out err exit) _ _ _ _ _ _ (db_named ∙ db_is) id_is (named ∙ cert_is)
+    (of_passed (λ i. RunsProve files databases db_name i name out err exit) id (plain_id id number plain.1 id_is) runs)
 Serves-prove files databases _ db id cert db_name name out err exit plain means db_named named runs = absurd means
 
 pub Serves-show : (files : Files) (databases : Databases) (form : Form) (db : String Global) (id : ℤ) (db_name : List ℕ) (out err : Bytes) (exit : ℕ)

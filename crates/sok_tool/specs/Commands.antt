@@ -1,5 +1,5 @@
 -- What the program does for a command line.
-use Rattle.std.specs.Prelude.{ℕ, ℤ, ◌≡◌, List, Option, Result, pos}
+use Rattle.std.specs.Prelude.{ℕ, ℤ, ◌≡◌, List, [], Option, Result, pos, unwrap_or}
 use Rattle.std.specs.Str.Parse.{digits_value}
 use Rattle.sok_book.specs.Books.{Book}
 use Rattle.sok_engine.specs.declared.fault.ToolFault.{ToolFault}
@@ -15,15 +15,16 @@ use Rattle.sok_keep.specs.Adds.{AddsBytes, WritesAdding}
 use Rattle.sok_keep.specs.Offers.{OffersText, WritesOffer}
 use Rattle.sok_keep.specs.Proves.{ProvesBytes, WritesProof}
 use Rattle.sok_keep.specs.Shows.{IsExport, IsShow}
+use Rattle.sok_play.specs.Drawings.{IsDrawing}
 use Rattle.sok_play.specs.Listing.{IsListing}
 use Rattle.sok_play.specs.Plays.{IsReplay}
 use Rattle.sok_store.specs.Calls.{MakesNone}
-use Rattle.sok_words.specs.Forms.{Form, add, check, export, limit_of, list, offer, prove, replay, show, solve}
-use Rattle.sok_tool.specs.Databases.{Databases, OfOpened, Place, WorksOn, at}
+use Rattle.sok_words.specs.Forms.{Form, add, check, draw, export, limit_of, list, offer, prove, replay, show, solve}
+use Rattle.sok_tool.specs.Databases.{Databases, OfOpened, Place, WorksOn, at, made_at}
 
--- what is answered to the job of replaying
-abbrev pub RunsReplay : Files → List ℕ → ℕ → List ℕ → Bytes → Bytes → ℕ → Type 0
-RunsReplay files file n text out err exit = Runs (OfFile (files.reads file) (Within input_limit (IsReplay n text))) out.old out.new err.old err.new exit
+-- what is answered to the job of playing a text: of replaying it, or of drawing the level behind it
+abbrev pub RunsPlay : (ℕ → List ℕ → List ℕ → Answers) → Files → List ℕ → ℕ → List ℕ → Bytes → Bytes → ℕ → Type 0
+RunsPlay P files file n text out err exit = Runs (OfFile (files.reads file) (Within input_limit (P n text))) out.old out.new err.old err.new exit
 
 -- what is answered to the job of judging
 abbrev pub RunsCheck : Files → List ℕ → ℕ → List ℕ → Bytes → Bytes → ℕ → Type 0
@@ -43,7 +44,7 @@ RunsOn db lacks MayMake Makes out err exit =
 -- the levels of a file are added
 abbrev pub RunsAdd : Files → Databases → List ℕ → List ℕ → Bytes → Bytes → ℕ → Type 0
 RunsAdd files databases db file out err exit =
-    RunsOn (at databases db) (files.lacks file) (λ book after. OfOpened (files.reads file) (λ known. AddsBytes known book after))
+    RunsOn (made_at databases db) (files.lacks file) (λ book after. OfOpened (files.reads file) (λ known. AddsBytes known book after))
     (λ book after result. OfOpened (files.reads file) (λ known. WritesAdding book known after out.old out.new result)) out err exit
 
 -- a text is offered to the level with an id
@@ -65,7 +66,8 @@ RunsShowing databases db P out err exit =
 -- what becomes of the output, of the files and of the book that a form names, with its values
 abbrev pub Serves : Files → Databases → Form → Bytes → Bytes → ℕ → Type 0
 Serves files databases (list file) out err exit = Runs (OfFile (files.reads file) (Within input_limit IsListing)) out.old out.new err.old err.new exit
-Serves files databases (replay file number text) out err exit = RunsReplay files file (digits_value 10 number) text out err exit
+Serves files databases (replay file number text) out err exit = RunsPlay IsReplay files file (digits_value 10 number) text out err exit
+Serves files databases (draw file number text) out err exit = RunsPlay IsDrawing files file (digits_value 10 number) (unwrap_or text []) out err exit
 Serves files databases (check file number cert) out err exit = RunsCheck files file (digits_value 10 number) cert out err exit
 Serves files databases (solve file number limit cert) out err exit = RunsSolve files file (digits_value 10 number) (limit_of limit) cert out err exit
 Serves files databases (add db file) out err exit = RunsAdd files databases db file out err exit

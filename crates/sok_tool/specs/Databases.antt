@@ -24,16 +24,22 @@ pub record Place : Type 1 where
 abbrev pub place : {C : Type 0} → (C → State) → (C → Type 0) → (ToolFault → Type 0) → (C → Type 0) → Place
 place {C} shows keeps refuses leaves = record { Connection = C; shows = shows; keeps = keeps; refuses = refuses; leaves = leaves }
 
--- of the databases at all paths
+-- of the databases at all paths: `keeps` of those that are there, and `makes` also of those that are made
 pub record Databases : Type 1 where
   pub Connection : Type 0
   pub shows : Connection → State
   pub keeps : List ℕ → Connection → Type 0
+  pub makes : List ℕ → Connection → Type 0
   pub refuses : List ℕ → ToolFault → Type 0
   pub leaves : List ℕ → Connection → Type 0
 
+-- of the one that is at a path
 abbrev pub at : Databases → List ℕ → Place
 at databases path = place databases.shows (databases.keeps path) (databases.refuses path) (databases.leaves path)
+
+-- of the one that is there, or is made
+abbrev pub made_at : Databases → List ℕ → Place
+made_at databases path = place databases.shows (databases.makes path) (databases.refuses path) (databases.leaves path)
 
 -- this is true of what a file has left that may be opened
 abbrev pub OfOpened : (Option (List ℕ) → Type 0) → (Option (List ℕ) → Type 0) → Type 0

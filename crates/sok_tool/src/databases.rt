@@ -4,6 +4,7 @@ ghost use Rattle.std.specs.Prelude.{◌≡◌, ◌⊎◌, ℕ, List, IfErr, IfOk
 ghost use Rattle.sok_book.specs.declared.fault.BookFault.TheVariants as refusal;
 ghost use Rattle.sok_engine.specs.declared.fault.ToolFault.{ToolFault};
 ghost use Rattle.sok_engine.specs.declared.fault.ToolFault.TheVariants as tool;
+ghost use Rattle.sok_tool.specs.declared.databases.IfAbsent.{IfAbsent};
 
 use sok_book::fault::BookFault;
 use sok_engine::fault::ToolFault;
@@ -12,12 +13,22 @@ use sqlite::{Connection, File, FileStore};
 use std::fs;
 use std::io::Read;
 
+/// What becomes of a database that is not there.
+#[derive(Clone, Copy, Debug, PartialEq, Eq)]
+pub enum IfAbsent {
+    /// An empty one is made.
+    Make,
+    /// It is refused, and none is made.
+    Refuse,
+}
+
 /// Databases by their paths, as those in files of the machine.
 pub trait Databases {
     type Opened: Drop;
 
-    // The database at this path may be opened as this connection.
-    ghost keeps: { Self → List ℕ → Self.Opened → Type 0 };
+    // The database at this path may be opened as this connection: one that is there, or one that is
+    // made.
+    ghost keeps: { Self → IfAbsent → List ℕ → Self.Opened → Type 0 };
 
     // The database at this path may be refused, and this is told.
     ghost refuses: { Self → List ℕ → ToolFault → Type 0 };
@@ -25,10 +36,10 @@ pub trait Databases {
     // This connection to the database at this path was given back.
     ghost leaves: { Self → List ℕ → Self.Opened → Type 0 };
 
-    /// Opens the database at a path, or makes an empty one. Where it can't be opened, for another
-    /// cause than memory, that is `Database`.
-    fn database(&self, path: &str) -> Result<Self::Opened, ToolFault>
-        ensures kept { IfOk result (keeps self.now path.now) }
+    /// Opens the database at a path, or makes an empty one where none is there and one may be made.
+    /// Where it can't be opened, for another cause than memory, that is `Database`.
+    fn database(&self, path: &str, absent: IfAbsent) -> Result<Self::Opened, ToolFault>
+        ensures kept { IfOk result (keeps self.now absent path.now) }
         ensures refuses { IfErr result (refuses self.now path.now) }
         ensures refused { IfErr result
             (λ fault. (fault ≡ tool.Memory) ⊎ (fault ≡ tool.Book refusal.Database)) };
@@ -42,14 +53,23 @@ pub trait Databases {
 impl Databases for HostRuntime {
     type Opened = Connection<FileStore<File>>;
 
-    ghost keeps = { λ _ _ _. ⊤ };
+    ghost keeps = { λ _ _ _ _. ⊤ };
 
     ghost refuses = { λ _ _ _. ⊤ };
 
     ghost leaves = { λ _ _ _. ⊤ };
 
-    fn database(&self, path: &str) -> Result<Connection<FileStore<File>>, ToolFault> {
-        if is_other_file(self, path) {
+    fn database(
+        &self,
+        path: &str,
+        absent: IfAbsent,
+    ) -> Result<Connection<FileStore<File>>, ToolFault> {
+        let may_open = match found_at(self, path) {
+            Found::Nothing => absent == IfAbsent::Make,
+            Found::Database => true,
+            Found::Other => false,
+        };
+        if !may_open {
             return Err(ToolFault::Book(BookFault::Database));
         }
         match Connection::open(self, path) {
@@ -66,19 +86,29 @@ impl Databases for HostRuntime {
     }
 }
 
+/// What stands at a path.
+#[derive(Clone, Copy)]
+enum Found {
+    /// No file that can be opened.
+    Nothing,
+    /// What may be a database: also an empty file, and one that can't be read.
+    Database,
+    /// A file that begins as no database does. Opened as one it would keep an empty log beside it.
+    Other,
+}
+
 /// What a database begins with, where its file is not empty. While one is made its first byte is 0,
 /// and so it stays where that was cut off: the next open makes it anew.
 const FRONT: [u8; 16] = *b"SQLite format 3\0";
 
-/// Whether there is a file that begins as no database does. Opened as one it would keep an empty
-/// log beside it.
-fn is_other_file(rt: &HostRuntime, path: &str) -> bool {
+fn found_at(rt: &HostRuntime, path: &str) -> Found {
     let Ok(mut file) = fs::open(rt, path) else {
-        return false;
+        return Found::Nothing;
     };
     let mut front = [0; 16];
     match file.read(&mut front) {
-        Ok(0) | Err(_) => false,
-        Ok(_) => front[0] != 0 && front != FRONT,
+        Ok(0) | Err(_) => Found::Database,
+        Ok(_) if front[0] == 0 || front == FRONT => Found::Database,
+        Ok(_) => Found::Other,
     }
 }

@@ -1,5 +1,5 @@
 //! Each command on a book. The database is opened first, then the file that the command names, and
-//! then the book.
+//! then the book. Only `add` makes a database that is not there.
 
 ghost use Rattle.std.specs.Prelude.{◌≡◌, IfErr, IfOk};
 ghost use Rattle.sqlite.specs.Held.{state};
@@ -10,8 +10,10 @@ ghost use Rattle.sok_keep.specs.Offers.{OffersText, WritesOffer};
 ghost use Rattle.sok_keep.specs.Proves.{ProvesBytes, WritesProof};
 ghost use Rattle.sok_keep.specs.Shows.{IsExport, IsShow};
 ghost use Rattle.sok_tool.specs.Databases.{IsWithoutBook, OfOpened, OpensFound, WorksOn, place};
+ghost use Rattle.sok_tool.specs.declared.databases.IfAbsent.{IfAbsent};
+ghost use Rattle.sok_tool.specs.declared.databases.IfAbsent.TheVariants as if_absent;
 
-use crate::databases::Databases;
+use crate::databases::{Databases, IfAbsent};
 use sok_book::fault::BookFault;
 use sok_engine::fault::ToolFault;
 use sok_files::file::open;
@@ -31,13 +33,13 @@ pub(crate) fn add<
     W: Write,
 >(rt: &F, db: &str, path: &str, out: &mut W) -> Result<u8, ToolFault>
     ensures { WorksOn (place (state S.Store)
-        (F.keeps rt.now db.now) (F.refuses rt.now db.now) (F.leaves rt.now db.now)) (F.lacks rt.now path.now)
+        (F.keeps rt.now if_absent.Make db.now) (F.refuses rt.now db.now) (F.leaves rt.now db.now)) (F.lacks rt.now path.now)
         (λ book after. OfOpened (F.reads rt.now path.now) (λ known. AddsBytes known book after))
         (λ book after. OfOpened (F.reads rt.now path.now) (λ known.
         WritesAdding book known after (W.contents out.old) (W.contents out.new) result))
         (record { old = W.contents out.old; new = W.contents out.new }) result }
 {
-    let (mut book, mut input) = book_and_file(rt, db, path)?;
+    let (mut book, mut input) = book_and_file(rt, db, IfAbsent::Make, path)?;
     let told = add_bytes(rt.alloc(), &mut book, &mut input, out);
     rt.close(db, book.into_connection());
     told
@@ -52,7 +54,7 @@ pub(crate) fn offer<S: Alter + Drop, F: Databases<Opened = Connection<S>> + Allo
     out: &mut W,
 ) -> Result<u8, ToolFault>
     ensures { WorksOn (place (state S.Store)
-        (F.keeps rt.now db.now) (F.refuses rt.now db.now) (F.leaves rt.now db.now)) ⊥
+        (F.keeps rt.now if_absent.Refuse db.now) (F.refuses rt.now db.now) (F.leaves rt.now db.now)) ⊥
         (OffersText id text.now)
         (λ book after.
         WritesOffer book id text.now after (W.contents out.old) (W.contents out.new) result)
@@ -71,13 +73,13 @@ pub(crate) fn prove<
     W: Write,
 >(rt: &F, db: &str, id: i64, path: &str, out: &mut W) -> Result<u8, ToolFault>
     ensures { WorksOn (place (state S.Store)
-        (F.keeps rt.now db.now) (F.refuses rt.now db.now) (F.leaves rt.now db.now)) (F.lacks rt.now path.now)
+        (F.keeps rt.now if_absent.Refuse db.now) (F.refuses rt.now db.now) (F.leaves rt.now db.now)) (F.lacks rt.now path.now)
         (λ book after. OfOpened (F.reads rt.now path.now) (λ known. ProvesBytes id known book after))
         (λ book after. OfOpened (F.reads rt.now path.now) (λ known.
         WritesProof book id known after (W.contents out.old) (W.contents out.new) result))
         (record { old = W.contents out.old; new = W.contents out.new }) result }
 {
-    let (mut book, mut cert_input) = book_and_file(rt, db, path)?;
+    let (mut book, mut cert_input) = book_and_file(rt, db, IfAbsent::Refuse, path)?;
     let told = prove_bytes(rt.alloc(), &mut book, id, &mut cert_input, out);
     rt.close(db, book.into_connection());
     told
@@ -91,7 +93,7 @@ pub(crate) fn show<S: Alter + Drop, F: Databases<Opened = Connection<S>> + Alloc
     out: &mut W,
 ) -> Result<u8, ToolFault>
     ensures { WorksOn (place (state S.Store)
-        (F.keeps rt.now db.now) (F.refuses rt.now db.now) (F.leaves rt.now db.now)) ⊥ MakesNone
+        (F.keeps rt.now if_absent.Refuse db.now) (F.refuses rt.now db.now) (F.leaves rt.now db.now)) ⊥ MakesNone
         (λ book after. (after ≡ book)
         × Writes (IsShow book id) (W.contents out.old) (W.contents out.new) result)
         (record { old = W.contents out.old; new = W.contents out.new }) result }
@@ -109,7 +111,7 @@ pub(crate) fn export<S: Alter + Drop, F: Databases<Opened = Connection<S>> + All
     out: &mut W,
 ) -> Result<u8, ToolFault>
     ensures { WorksOn (place (state S.Store)
-        (F.keeps rt.now db.now) (F.refuses rt.now db.now) (F.leaves rt.now db.now)) ⊥ MakesNone
+        (F.keeps rt.now if_absent.Refuse db.now) (F.refuses rt.now db.now) (F.leaves rt.now db.now)) ⊥ MakesNone
         (λ book after. (after ≡ book)
         × Writes (IsExport book) (W.contents out.old) (W.contents out.new) result)
         (record { old = W.contents out.old; new = W.contents out.new }) result }
@@ -120,18 +122,18 @@ pub(crate) fn export<S: Alter + Drop, F: Databases<Opened = Connection<S>> + All
     told
 }
 
-/// Opens the database at a path as a book.
+/// Opens the database that is at a path as a book.
 fn book_of<S: Alter + Drop, F: Databases<Opened = Connection<S>> + AllocGlobal>(
     rt: &F,
     db: &str,
 ) -> Result<Book<S>, ToolFault>
     ensures opens { IfOk result (OpensFound (place (state S.Store)
-        (F.keeps rt.now db.now) (F.refuses rt.now db.now) (F.leaves rt.now db.now))) }
+        (F.keeps rt.now if_absent.Refuse db.now) (F.refuses rt.now db.now) (F.leaves rt.now db.now))) }
     ensures refused { IfErr result
         (IsWithoutBook (place (state S.Store)
-        (F.keeps rt.now db.now) (F.refuses rt.now db.now) (F.leaves rt.now db.now)) ⊥) }
+        (F.keeps rt.now if_absent.Refuse db.now) (F.refuses rt.now db.now) (F.leaves rt.now db.now)) ⊥) }
 {
-    let connection = rt.database(db)?;
+    let connection = rt.database(db, IfAbsent::Refuse)?;
     opened(rt, db, connection)
 }
 
@@ -139,16 +141,17 @@ fn book_of<S: Alter + Drop, F: Databases<Opened = Connection<S>> + AllocGlobal>(
 fn book_and_file<S: Alter + Drop, F: Folder + Databases<Opened = Connection<S>> + AllocGlobal>(
     rt: &F,
     db: &str,
+    absent: IfAbsent,
     path: &str,
 ) -> Result<(Book<S>, F::Input), ToolFault>
     ensures opens { IfOk result (λ both. OpensFound (place (state S.Store)
-        (F.keeps rt.now db.now) (F.refuses rt.now db.now) (F.leaves rt.now db.now)) both.0) }
+        (F.keeps rt.now absent db.now) (F.refuses rt.now db.now) (F.leaves rt.now db.now)) both.0) }
     ensures reads { IfOk result (λ both. F.reads rt.now path.now (F.Input.remaining both.1)) }
     ensures refused { IfErr result
         (IsWithoutBook (place (state S.Store)
-        (F.keeps rt.now db.now) (F.refuses rt.now db.now) (F.leaves rt.now db.now)) (F.lacks rt.now path.now)) }
+        (F.keeps rt.now absent db.now) (F.refuses rt.now db.now) (F.leaves rt.now db.now)) (F.lacks rt.now path.now)) }
 {
-    let connection = rt.database(db)?;
+    let connection = rt.database(db, absent)?;
     match open(rt, path) {
         Ok(input) => Ok((opened(rt, db, connection)?, input)),
         Err(fault) => {
@@ -165,11 +168,12 @@ fn opened<S: Alter + Drop, F: Databases<Opened = Connection<S>> + AllocGlobal>(
     db: &str,
     connection: Connection<S>,
 ) -> Result<Book<S>, ToolFault>
-    requires { F.keeps rt.now db.now connection }
-    ensures opens { IfOk result (OpensFound (place (state S.Store)
-        (F.keeps rt.now db.now) (F.refuses rt.now db.now) (F.leaves rt.now db.now))) }
-    ensures refused { IfErr result (IsWithoutBook (place (state S.Store)
-        (F.keeps rt.now db.now) (F.refuses rt.now db.now) (F.leaves rt.now db.now)) ⊥) }
+    ensures opens { (absent : IfAbsent) → F.keeps rt.now absent db.now connection
+        → IfOk result (OpensFound (place (state S.Store)
+        (F.keeps rt.now absent db.now) (F.refuses rt.now db.now) (F.leaves rt.now db.now))) }
+    ensures refused { (absent : IfAbsent) → F.keeps rt.now absent db.now connection
+        → IfErr result (IsWithoutBook (place (state S.Store)
+        (F.keeps rt.now absent db.now) (F.refuses rt.now db.now) (F.leaves rt.now db.now)) ⊥) }
 {
     if !connection.is_autocommit() {
         rt.close(db, connection);

@@ -9,10 +9,11 @@ ghost use Rattle.sok_files.specs.Endings.{Runs};
 ghost use Rattle.sok_files.specs.Files.{IsMade};
 ghost use Rattle.sqlite.specs.Held.{Held, state};
 ghost use Rattle.sok_tool.specs.Commands.{Serves};
+ghost use Rattle.sok_tool.specs.declared.databases.IfAbsent.TheVariants as if_absent;
 
 use crate::databases::Databases;
 use crate::keeping::{add, export, offer, prove, show};
-use sok_files::command::{check, list, replay, solve};
+use sok_files::command::{check, draw, list, replay, solve};
 use sok_files::ending::{ended, refused};
 use sok_files::folder::Folder;
 use sok_play::play::play_bytes;
@@ -29,8 +30,9 @@ use std::io::{Read, Write};
 ///
 /// A fault is told as one line on the error stream. A file that can't be opened or read is
 /// `ReadFailed`, one that can't be made or written `WriteFailed`, and a database that can't be
-/// opened `Database`. Words that ask for nothing are told there too, at status 2, and a request
-/// for help on the output, at status 0.
+/// opened `Database`, also where it is not there and the command is another than `add`. Words that
+/// ask for nothing are told there too, at status 2, and a request for help or for the version on
+/// the output, at status 0.
 pub fn run<
     S: Alter + Drop,
     F: Folder + Databases<Opened = Connection<S>> + AllocGlobal,
@@ -50,7 +52,8 @@ pub fn run<
         }) (record {
           Connection = Held S;
           shows = state S.Store;
-          keeps = F.keeps rt.now;
+          keeps = F.keeps rt.now if_absent.Refuse;
+          makes = F.keeps rt.now if_absent.Make;
           refuses = F.refuses rt.now;
           leaves = F.leaves rt.now;
         }) form
@@ -81,7 +84,8 @@ fn served<
         }) (record {
           Connection = Held S;
           shows = state S.Store;
-          keeps = F.keeps rt.now;
+          keeps = F.keeps rt.now if_absent.Refuse;
+          makes = F.keeps rt.now if_absent.Make;
           refuses = F.refuses rt.now;
           leaves = F.leaves rt.now;
         }) form
@@ -93,6 +97,7 @@ fn served<
         Job::Replay(file, n, text) => {
             ended(replay(rt, file.as_str(), n, text.as_str(), out), err)
         }
+        Job::Draw(file, n, text) => ended(draw(rt, file.as_str(), n, text.as_str(), out), err),
         Job::Check(file, n, cert) => { ended(check(rt, file.as_str(), n, cert.as_str(), out), err) }
         Job::Solve(file, n, limit, cert) => {
             ended(solve(rt, file.as_str(), n, limit, cert, out), err)

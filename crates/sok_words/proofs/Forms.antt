@@ -1,14 +1,17 @@
 -- What the command makes of a form.
-use Rattle.std.proofs.Common.{◌≡◌, ◌&&◌, ◌∙◌, sym, true≢false, false, true, refl, ap, List, [], ◌∷◌, map, Option, Some, None, codes, lit<}
+use Rattle.std.proofs.Common.{◌≡◌, ◌&&◌, ◌||◌, ◌∙◌, sym, true≢false, Bool, false, true, ℕ, refl, ap, List, [], ◌∷◌, map, Option, Some, None, codes, lit<}
+use Rattle.std.proofs.Common.{Result, Ok, Err, IsErrAnd, Global, String, option_map, string_bytes, unwrap_or}
 use Rattle.std.specs.Str.{bytes_eq}
 use Rattle.std.specs.Str.Parse.{IsNumeral}
 use Rattle.clap.specs.Walk.{Row, Text, walked}
+use Rattle.clap.specs.Words.{first_of}
 use Rattle.clap.specs.Simple.{subcommand_of}
 use Rattle.clap.specs.Takes.{takes}
-use Rattle.sok_words.specs.Forms.{Form, IsNumber, IsPlain, Means, list, replay, solve, check, add, offer, prove, show, export, words_of}
-use Rattle.sok_words.specs.Rows.{HasValues}
+use Rattle.sok_words.specs.Forms.{Answers, Form, IsNumber, IsPlain, Means, list, replay, draw, solve, check, add, offer, prove, show, export, words_of}
+use Rattle.sok_words.specs.Rows.{HasId, HasNumber, HasValues}
 use Rattle.sok_words.specs.Shapes.{sok_app}
 use Rattle.sok_words.specs.declared.job.Job.{Job}
+use Rattle.sok_words.specs.declared.job.JobRefused.{JobRefused}
 use Rattle.sok_words.proofs.WordSteps.{AllPass, Said, named, number_is_value, value, word_of}
 use Rattle.sok_words.proofs.Lines.{IsSub, id_passes, number_passes, TakesSaid, rows_said, runs}
 
@@ -44,6 +47,13 @@ reads program (list file) is =
     by program (list file) (codes "list") (value file is ∷ []) refl refl (record { passes = (refl, tt); ends = refl }) (refl, refl)
 reads program (replay file number text) (f, n, t) =
     by program (replay file number text) (codes "replay") (value file f ∷ digits number n.0 ∷ value text t ∷ []) refl refl
+    (record { passes = (refl, (refl, (rw (number_passes (codes "N") number n) refl, tt))); ends = refl }) (refl, refl, (n, refl, refl), refl)
+reads program (draw file number None) (f, n, t) =
+    by program (draw file number None) (codes "draw") (value file f ∷ digits number n.0 ∷ []) refl refl
+    (record { passes = (refl, (refl, tt)); ends = ap (λ b. (b && true) && true) (number_passes (codes "N") number n) })
+    (refl, refl, (n, refl, refl), refl)
+reads program (draw file number (Some text)) (f, n, t) =
+    by program (draw file number (Some text)) (codes "draw") (value file f ∷ digits number n.0 ∷ value text t ∷ []) refl refl
     (record { passes = (refl, (refl, (rw (number_passes (codes "N") number n) refl, tt))); ends = refl }) (refl, refl, (n, refl, refl), refl)
 reads program (check file number cert) (f, n, c) =
     by program (check file number cert) (codes "check") (value file f ∷ digits number n.0 ∷ value cert c ∷ []) refl refl
@@ -91,8 +101,56 @@ another : (a b : Text) → a ≡ b → bytes_eq b a ≡ false → bytes_eq a a �
 another a b e apart same = true≢false (sym same ∙ ap (λ (w : Text). bytes_eq w a) e ∙ apart)
 
 -- what has the values of each such form has those of a form under the name of solve
-pub means_solve : (made : Job) (form : Form) (rows : List Row) → HasValues form (codes "solve") rows
-    → ((file number : Text) (limit cert : Option Text) → HasValues (solve file number limit cert) (codes "solve") rows
+pub means_solve : (made : Job) (form : Form) (name : Text) (rows : List Row) → name ≡ codes "solve" → HasValues form name rows
+    → ((file number : Text) (limit cert : Option Text) → HasValues (solve file number limit cert) name rows
     → Means (solve file number limit cert) made) → Means form made
-means_solve made (solve file number limit cert) rows has means = means file number limit cert has
-means_solve made _ rows has means = absurd (another (codes "solve") _ has.0 refl refl)
+means_solve made (solve file number limit cert) name rows is has means = means file number limit cert has
+means_solve made _ name rows is has means = absurd (another (codes "solve") _ (sym is ∙ has.0) refl refl)
+
+-- and so under that of draw
+pub means_draw : (made : Job) (form : Form) (name : Text) (rows : List Row) → name ≡ codes "draw" → HasValues form name rows
+    → ((file number : Text) (text : Option Text) → HasValues (draw file number text) name rows → Means (draw file number text) made) → Means form made
+means_draw made (draw file number text) name rows is has means = means file number text has
+means_draw made _ name rows is has means = absurd (another (codes "draw") _ (sym is ∙ has.0) refl refl)
+
+-- the bytes of a text, or none where it is left out
+pub given_or_none : (given : Option (String Global)) (none made : String Global) (text : Option Text) → string_bytes none ≡ []
+    → option_map (λ s. string_bytes s) given ≡ text → made ≡ unwrap_or given none → string_bytes made ≡ unwrap_or text []
+given_or_none None none made text empty is same = ap (λ (s : String Global). string_bytes s) same ∙ empty ∙ ap (λ t. unwrap_or t []) is
+given_or_none (Some s) none made text empty is same = ap (λ (s : String Global). string_bytes s) same ∙ ap (λ t. unwrap_or t []) is
+
+-- memory was refused
+pub refuses : (form : Form) (made : Result Job JobRefused) (e : JobRefused) → IsErrAnd made (λ told. told ≡ e) → e.status ≡ 6 → Answers form made
+refuses form (Ok job) e none memory = absurd none
+refuses form (Err told) e is memory = ap (λ (r : JobRefused). r.status) is ∙ memory
+
+abbrev pub is_level_name : Text → Bool
+is_level_name name = bytes_eq name (codes "replay") || bytes_eq name (codes "draw") || bytes_eq name (codes "solve") || bytes_eq name (codes "check")
+
+-- so it was where the level of a form under such a name is not given
+pub refuses_level : (form : Form) (name : Text) (rows : List Row) (made : Result Job JobRefused) (e : JobRefused) → is_level_name name ≡ true
+    → HasValues form name rows → IsErrAnd made (λ told. told ≡ e)
+    → ((file digits : Text) (number : ℕ) → first_of (codes "FILE") rows ≡ Some file → HasNumber rows (codes "N") digits number → e.status ≡ 6)
+    → Answers form made
+refuses_level (replay file number text) name rows made e level has is memory =
+    refuses (replay file number text) made e is (memory file number _ has.1 has.2)
+refuses_level (draw file number text) name rows made e level has is memory =
+    refuses (draw file number text) made e is (memory file number _ has.1 has.2)
+refuses_level (solve file number limit cert) name rows made e level has is memory =
+    refuses (solve file number limit cert) made e is (memory file number _ has.1 has.2)
+refuses_level (check file number cert) name rows made e level has is memory =
+    refuses (check file number cert) made e is (memory file number _ has.1 has.2)
+refuses_level _ name rows made e level has is memory = absurd (true≢false (sym level ∙ ap is_level_name has.0))
+
+abbrev pub is_entry_name : Text → Bool
+is_entry_name name = bytes_eq name (codes "offer") || bytes_eq name (codes "prove") || bytes_eq name (codes "show")
+
+-- and where the entry is not
+pub refuses_entry : (form : Form) (name : Text) (rows : List Row) (made : Result Job JobRefused) (e : JobRefused) → is_entry_name name ≡ true
+    → HasValues form name rows → IsErrAnd made (λ told. told ≡ e)
+    → ((db digits : Text) → first_of (codes "DB") rows ≡ Some db → HasId rows (codes "ID") digits → e.status ≡ 6)
+    → Answers form made
+refuses_entry (offer db id text) name rows made e entry has is memory = refuses (offer db id text) made e is (memory db id has.1 has.2)
+refuses_entry (prove db id cert) name rows made e entry has is memory = refuses (prove db id cert) made e is (memory db id has.1 has.2)
+refuses_entry (show db id) name rows made e entry has is memory = refuses (show db id) made e is (memory db id has.1 has.2)
+refuses_entry _ name rows made e entry has is memory = absurd (true≢false (sym entry ∙ ap is_entry_name has.0))

@@ -1,5 +1,5 @@
 -- The command lines of which `job` knows the answer, and what it answers.
-use Rattle.std.specs.Prelude.{◌≡◌, ◌≢◌, ◌<◌, ◌^◌, ℕ, List, [], ◌∷◌, ◌++◌, Option, Some, None, IfSome, Result, Ok, Err, codes, pos, option_map, string_bytes}
+use Rattle.std.specs.Prelude.{◌≡◌, ◌≢◌, ◌<◌, ◌^◌, ℕ, List, [], ◌∷◌, ◌++◌, Option, Some, None, IfSome, Result, Ok, Err, codes, pos, option_map, option_to_list, string_bytes, unwrap_or}
 use Rattle.std.specs.Str.Parse.{IsNumeral, digits_value}
 use Rattle.sok_words.specs.declared.job.Job.{Job}
 use Rattle.sok_words.specs.declared.job.Job.TheVariants as job
@@ -22,6 +22,7 @@ IsId text = IsNumeral 10 text × (digits_value 10 text < 2 ^ 63)
 pub data Form : Type 0 where
   list : List ℕ → Form
   replay : List ℕ → List ℕ → List ℕ → Form
+  draw : List ℕ → List ℕ → Option (List ℕ) → Form
   solve : List ℕ → List ℕ → Option (List ℕ) → Option (List ℕ) → Form
   check : List ℕ → List ℕ → List ℕ → Form
   add : List ℕ → List ℕ → Form
@@ -33,6 +34,7 @@ pub data Form : Type 0 where
 abbrev pub IsPlain : Form → Type 0
 IsPlain (list file) = IsValue file
 IsPlain (replay file number text) = IsValue file × IsNumber number × IsValue text
+IsPlain (draw file number text) = IsValue file × IsNumber number × IfSome text IsValue
 IsPlain (solve file number limit cert) =
     IsValue file × IsNumber number × IfSome limit IsNumber × IfSome cert IsValue
 IsPlain (check file number cert) = IsValue file × IsNumber number × IsValue cert
@@ -51,6 +53,7 @@ option_words name (Some value) = name ∷ value ∷ []
 abbrev pub words_of : Form → List (List ℕ)
 words_of (list file) = codes "list" ∷ file ∷ []
 words_of (replay file number text) = codes "replay" ∷ file ∷ number ∷ text ∷ []
+words_of (draw file number text) = codes "draw" ∷ file ∷ number ∷ option_to_list text
 words_of (solve file number limit cert) = codes "solve" ∷ file ∷ number
     ∷ (option_words (codes "--limit") limit ++ option_words (codes "--cert") cert)
 words_of (check file number cert) = codes "check" ∷ file ∷ number ∷ cert ∷ []
@@ -64,10 +67,12 @@ abbrev pub limit_of : Option (List ℕ) → ℕ
 limit_of None = 100000
 limit_of (Some text) = digits_value 10 text
 
--- the job has the values of the form
+-- the job has the values of the form; of letters that are left out it has none
 abbrev pub Means : Form → Job → Type 0
 Means (list file) (job.List a) = (string_bytes a ≡ file)
 Means (replay file number text) (job.Replay a b c) = (string_bytes a ≡ file) × (b ≡ digits_value 10 number) × (string_bytes c ≡ text)
+Means (draw file number text) (job.Draw a b c) =
+    (string_bytes a ≡ file) × (b ≡ digits_value 10 number) × (string_bytes c ≡ unwrap_or text [])
 Means (solve file number limit cert) (job.Solve a n most path) =
     (string_bytes a ≡ file) × (n ≡ digits_value 10 number) × (most ≡ limit_of limit)
     × (option_map (λ s. string_bytes s) path ≡ cert)

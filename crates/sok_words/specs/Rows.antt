@@ -3,7 +3,7 @@ use Rattle.std.specs.Prelude.{◌≡◌, ℕ, List, Option, Some, None, codes}
 use Rattle.std.specs.Str.Parse.{digits_value}
 use Rattle.clap.specs.Words.{Row, Text, first_of, one_of}
 use Rattle.clap.specs.Lexer.{without_minus}
-use Rattle.sok_words.specs.Forms.{Form, IsId, IsNumber, limit_of, list, replay, solve, check, add, offer, prove, show, export}
+use Rattle.sok_words.specs.Forms.{Form, IsId, IsNumber, limit_of, list, replay, draw, solve, check, add, offer, prove, show, export}
 
 -- under the name stand the digits of the number
 abbrev pub HasNumber : List Row → Text → Text → ℕ → Type 0
@@ -23,6 +23,10 @@ HasValues (replay file number text) name rows = (name ≡ codes "replay")
     × (first_of (codes "FILE") rows ≡ Some file)
     × HasNumber rows (codes "N") number (digits_value 10 number)
     × (first_of (codes "TEXT") rows ≡ Some text)
+HasValues (draw file number text) name rows = (name ≡ codes "draw")
+    × (first_of (codes "FILE") rows ≡ Some file)
+    × HasNumber rows (codes "N") number (digits_value 10 number)
+    × (first_of (codes "TEXT") rows ≡ text)
 HasValues (solve file number limit cert) name rows = (name ≡ codes "solve")
     × (first_of (codes "FILE") rows ≡ Some file)
     × HasNumber rows (codes "N") number (digits_value 10 number)

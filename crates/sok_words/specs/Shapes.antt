@@ -44,6 +44,7 @@ pub record Builds (app : App) (command : Command) : Type 0 where
 -- the rule of a place of the kind with that name
 abbrev pub rule_of_kind : Kind → Text → Rule
 rule_of_kind kind.Text name = required_rule name
+rule_of_kind kind.Optional name = new_rule name
 rule_of_kind kind.Number name = number_rule name
 rule_of_kind kind.Id name = id_rule name
 rule_of_kind kind.Limit name = limit_rule name
@@ -59,9 +60,9 @@ own_app name places = fold with_place (new_app name) places
 abbrev pub with_own : App → Subcommand → App
 with_own app subcommand = with_subcommand app (own_app subcommand.name.now subcommand.places.now).top
 
--- the program's command before its subcommands, of which one has to be given
+-- the program's command before its subcommands, of which one has to be given; it has a version
 abbrev pub sok_top : App
-sok_top = on_top (λ s. record s { subcommand_required = true }) (new_app (codes "sok"))
+sok_top = on_top (λ s. record s { subcommand_required = true; has_version = true }) (new_app (codes "sok"))
 
 abbrev pub file_rule : Rule
 file_rule = required_rule (codes "FILE")
@@ -71,6 +72,9 @@ level_rule = number_rule (codes "N")
 
 abbrev pub text_rule : Rule
 text_rule = required_rule (codes "TEXT")
+
+abbrev pub letters_rule : Rule
+letters_rule = new_rule (codes "TEXT")
 
 abbrev pub cert_rule : Rule
 cert_rule = required_rule (codes "CERT")
@@ -85,6 +89,7 @@ entry_rule = id_rule (codes "ID")
 abbrev pub subcommand_rules : List (Text × List Rule)
 subcommand_rules = (codes "list", file_rule ∷ [])
     ∷ (codes "replay", file_rule ∷ level_rule ∷ text_rule ∷ [])
+    ∷ (codes "draw", file_rule ∷ level_rule ∷ letters_rule ∷ [])
     ∷ (codes "solve", file_rule ∷ level_rule ∷ limit_rule (codes "limit") ∷ path_rule (codes "cert") ∷ [])
     ∷ (codes "check", file_rule ∷ level_rule ∷ cert_rule ∷ [])
     ∷ (codes "add", book_rule ∷ file_rule ∷ [])

@@ -13,6 +13,9 @@ Plays, solves and proves levels of Sokoban: what it answers is proved.
 Without a command it reads a line of letters from standard input, and behind it a collection, and
 plays the letters on the first level.";
 
+/// The version, and what proved it.
+const VERSION: &str = "1.0\nproved with rattle-kit-13f logic dac8208d650f15bf";
+
 const AFTER_HELP: &str = "\
 Exit status:
   0  done
@@ -44,6 +47,7 @@ fn top_command<'a>(alloc: Global) -> Command<'a>
     Command::new(alloc, "sok")
         .about("Plays, solves and proves levels of Sokoban: what it answers is proved")
         .long_about(LONG_ABOUT)
+        .version(VERSION)
         .after_help(AFTER_HELP)
         .subcommand_required(true)
 }

@@ -9,6 +9,9 @@ pub enum Job {
     List(String),
     /// The path of a collection, the number of a level, from 1, and a text of letters.
     Replay(String, u32, String),
+    /// The path of a collection, the number of a level, from 1, and a text of letters, which is
+    /// empty where none is given.
+    Draw(String, u32, String),
     /// The path of a collection, the number of a level, from 1, the most states to keep, and the
     /// path for the certificate.
     Solve(String, u32, u32, Option<String>),

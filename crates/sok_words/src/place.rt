@@ -9,6 +9,8 @@ use std::alloc::Global;
 #[derive(Clone, Copy)]
 pub(crate) enum Kind {
     Text,
+    /// A text that may be left out.
+    Optional,
     Number,
     Id,
     Limit,
@@ -31,6 +33,7 @@ impl Place {
         let arg = Arg::new(alloc, self.name).help(self.help);
         match self.kind {
             Kind::Text => arg.required(true),
+            Kind::Optional => arg,
             Kind::Number => arg.required(true).value_parser(value_parser!(u32)),
             Kind::Id => arg.required(true).value_parser(value_parser!(i64)),
             Kind::Limit => arg
@@ -61,6 +64,12 @@ pub(crate) const TEXT: Place = Place {
     help: "The letters l, u, r and d in either case, at most 1,000,000; blanks are skipped",
 };
 
+pub(crate) const LETTERS: Place = Place {
+    name: "TEXT",
+    kind: Kind::Optional,
+    help: "The letters to play first, as for replay; without them the start is drawn",
+};
+
 pub(crate) const LIMIT: Place = Place {
     name: "limit",
     kind: Kind::Limit,
@@ -82,7 +91,7 @@ pub(crate) const CERT: Place = Place {
 pub(crate) const DB: Place = Place {
     name: "DB",
     kind: Kind::Text,
-    help: "The database file of a book of levels, made where there is none",
+    help: "The database file of a book of levels, which add makes where there is none",
 };
 
 pub(crate) const ID: Place = Place {

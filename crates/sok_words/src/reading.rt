@@ -1,9 +1,10 @@
 //! The job of each subcommand.
 
-ghost use Rattle.std.specs.Prelude.{◌≡◌, List, ℕ, Some, codes};
-ghost use Rattle.clap.specs.Words.{Row, found_of, rows_of, subcommand_rows_of};
+ghost use Rattle.std.specs.Prelude.{◌≡◌, List, ℕ, IfErr, IfOk, Some, codes, pos, string_bytes};
+ghost use Rattle.std.specs.Str.Parse.{digits_value};
+ghost use Rattle.clap.specs.Words.{Row, first_of, found_of, rows_of, subcommand_rows_of};
 ghost use Rattle.sok_words.specs.Forms.{Answers, Form};
-ghost use Rattle.sok_words.specs.Rows.{HasValues};
+ghost use Rattle.sok_words.specs.Rows.{HasId, HasNumber, HasValues};
 
 use crate::job::{Job, JobRefused};
 use crate::values::{id_of, missing, number_of, option_of, text_of};
@@ -27,91 +28,75 @@ fn job_of(alloc: Global, name: &str, values: &ArgMatches<'_>) -> Result<Job, Job
     ensures { (form : Form) → HasValues form name.now (rows_of (found_of values.now)) → Answers form result }
 {
     match name {
-        "list" => list_job(alloc, values),
-        "replay" => replay_job(alloc, values),
-        "solve" => solve_job(alloc, values),
-        "check" => check_job(alloc, values),
-        "add" => add_job(alloc, values),
-        "offer" => offer_job(alloc, values),
-        "prove" => prove_job(alloc, values),
-        "show" => show_job(alloc, values),
-        "export" => export_job(alloc, values),
+        "list" => Ok(Job::List(text_of(alloc, values, "FILE")?)),
+        "replay" => {
+            let (file, number) = level_of(alloc, values)?;
+            Ok(Job::Replay(file, number, text_of(alloc, values, "TEXT")?))
+        }
+        "draw" => {
+            let (file, number) = level_of(alloc, values)?;
+            let text = option_of(alloc, values, "TEXT")?;
+            Ok(Job::Draw(file, number, text.unwrap_or(String::new(alloc))))
+        }
+        "solve" => {
+            let (file, number) = level_of(alloc, values)?;
+            let limit = number_of(alloc, values, "limit")?;
+            Ok(Job::Solve(file, number, limit, option_of(alloc, values, "cert")?))
+        }
+        "check" => {
+            let (file, number) = level_of(alloc, values)?;
+            Ok(Job::Check(file, number, text_of(alloc, values, "CERT")?))
+        }
+        "add" => {
+            let db = text_of(alloc, values, "DB")?;
+            Ok(Job::Add(db, text_of(alloc, values, "FILE")?))
+        }
+        "offer" => {
+            let (db, id) = entry_of(alloc, values)?;
+            Ok(Job::Offer(db, id, text_of(alloc, values, "TEXT")?))
+        }
+        "prove" => {
+            let (db, id) = entry_of(alloc, values)?;
+            Ok(Job::Prove(db, id, text_of(alloc, values, "CERT")?))
+        }
+        "show" => {
+            let (db, id) = entry_of(alloc, values)?;
+            Ok(Job::Show(db, id))
+        }
+        "export" => Ok(Job::Export(text_of(alloc, values, "DB")?)),
         _ => Err(missing(alloc)),
     }
 }
 
-fn list_job(alloc: Global, values: &ArgMatches<'_>) -> Result<Job, JobRefused>
-    ensures { (form : Form) → HasValues form (codes "list") (rows_of (found_of values.now)) → Answers form result }
-{
-    let file = text_of(alloc, values, "FILE")?;
-    Ok(Job::List(file))
-}
-
-fn replay_job(alloc: Global, values: &ArgMatches<'_>) -> Result<Job, JobRefused>
-    ensures { (form : Form) → HasValues form (codes "replay") (rows_of (found_of values.now)) → Answers form result }
-{
-    let file = text_of(alloc, values, "FILE")?;
-    let number = number_of(alloc, values, "N")?;
-    let text = text_of(alloc, values, "TEXT")?;
-    Ok(Job::Replay(file, number, text))
-}
-
-fn solve_job(alloc: Global, values: &ArgMatches<'_>) -> Result<Job, JobRefused>
-    ensures { (form : Form) → HasValues form (codes "solve") (rows_of (found_of values.now)) → Answers form result }
+/// A collection, and the number of a level in it.
+fn level_of(alloc: Global, values: &ArgMatches<'_>) -> Result<(String, u32), JobRefused>
+    ensures file { (file : List ℕ) → first_of (codes "FILE") (rows_of (found_of values.now)) ≡ Some file
+        → IfOk result (λ level. string_bytes level.0 ≡ file) }
+    ensures number { (digits : List ℕ) (number : ℕ)
+        → HasNumber (rows_of (found_of values.now)) (codes "N") digits number
+        → IfOk result (λ level. level.1 ≡ number) }
+    ensures memory { (file digits : List ℕ) (number : ℕ)
+        → first_of (codes "FILE") (rows_of (found_of values.now)) ≡ Some file
+        → HasNumber (rows_of (found_of values.now)) (codes "N") digits number
+        → IfErr result (λ e. e.status ≡ 6) }
 {
     let file = text_of(alloc, values, "FILE")?;
     let number = number_of(alloc, values, "N")?;
-    let limit = number_of(alloc, values, "limit")?;
-    let path = option_of(alloc, values, "cert")?;
-    Ok(Job::Solve(file, number, limit, path))
+    Ok((file, number))
 }
 
-fn check_job(alloc: Global, values: &ArgMatches<'_>) -> Result<Job, JobRefused>
-    ensures { (form : Form) → HasValues form (codes "check") (rows_of (found_of values.now)) → Answers form result }
-{
-    let file = text_of(alloc, values, "FILE")?;
-    let number = number_of(alloc, values, "N")?;
-    let cert = text_of(alloc, values, "CERT")?;
-    Ok(Job::Check(file, number, cert))
-}
-
-fn add_job(alloc: Global, values: &ArgMatches<'_>) -> Result<Job, JobRefused>
-    ensures { (form : Form) → HasValues form (codes "add") (rows_of (found_of values.now)) → Answers form result }
-{
-    let db = text_of(alloc, values, "DB")?;
-    let file = text_of(alloc, values, "FILE")?;
-    Ok(Job::Add(db, file))
-}
-
-fn offer_job(alloc: Global, values: &ArgMatches<'_>) -> Result<Job, JobRefused>
-    ensures { (form : Form) → HasValues form (codes "offer") (rows_of (found_of values.now)) → Answers form result }
+/// A book, and the id of a level in it.
+fn entry_of(alloc: Global, values: &ArgMatches<'_>) -> Result<(String, i64), JobRefused>
+    ensures db { (db : List ℕ) → first_of (codes "DB") (rows_of (found_of values.now)) ≡ Some db
+        → IfOk result (λ entry. string_bytes entry.0 ≡ db) }
+    ensures id { (digits : List ℕ) → HasId (rows_of (found_of values.now)) (codes "ID") digits
+        → IfOk result (λ entry. entry.1 ≡ pos (digits_value 10 digits)) }
+    ensures memory { (db digits : List ℕ)
+        → first_of (codes "DB") (rows_of (found_of values.now)) ≡ Some db
+        → HasId (rows_of (found_of values.now)) (codes "ID") digits
+        → IfErr result (λ e. e.status ≡ 6) }
 {
     let db = text_of(alloc, values, "DB")?;
     let id = id_of(alloc, values, "ID")?;
-    let text = text_of(alloc, values, "TEXT")?;
-    Ok(Job::Offer(db, id, text))
-}
-
-fn prove_job(alloc: Global, values: &ArgMatches<'_>) -> Result<Job, JobRefused>
-    ensures { (form : Form) → HasValues form (codes "prove") (rows_of (found_of values.now)) → Answers form result }
-{
-    let db = text_of(alloc, values, "DB")?;
-    let id = id_of(alloc, values, "ID")?;
-    let cert = text_of(alloc, values, "CERT")?;
-    Ok(Job::Prove(db, id, cert))
-}
-
-fn show_job(alloc: Global, values: &ArgMatches<'_>) -> Result<Job, JobRefused>
-    ensures { (form : Form) → HasValues form (codes "show") (rows_of (found_of values.now)) → Answers form result }
-{
-    let db = text_of(alloc, values, "DB")?;
-    let id = id_of(alloc, values, "ID")?;
-    Ok(Job::Show(db, id))
-}
-
-fn export_job(alloc: Global, values: &ArgMatches<'_>) -> Result<Job, JobRefused>
-    ensures { (form : Form) → HasValues form (codes "export") (rows_of (found_of values.now)) → Answers form result }
-{
-    let db = text_of(alloc, values, "DB")?;
-    Ok(Job::Export(db))
+    Ok((db, id))
 }

@@ -3,7 +3,7 @@
 ghost use Rattle.std.specs.Prelude.{◌≡◌, IfOk, fold};
 ghost use Rattle.sok_words.specs.Shapes.{Builds, own_app, sok_app, sok_top, with_own};
 
-use crate::place::{CERT, DB, FILE, ID, LIMIT, N, OUTPUT, Place, TEXT};
+use crate::place::{CERT, DB, FILE, ID, LETTERS, LIMIT, N, OUTPUT, Place, TEXT};
 use clap::Command;
 use std::alloc::{AllocError, Global};
 
@@ -32,7 +32,7 @@ impl Subcommand {
 }
 
 /// The subcommands in the order of the help.
-pub(crate) fn subcommands() -> [Subcommand; 9]
+pub(crate) fn subcommands() -> [Subcommand; 10]
     ensures { fold with_own sok_top result ≡ sok_app }
 {
     [
@@ -40,9 +40,12 @@ pub(crate) fn subcommands() -> [Subcommand; 9]
             name: "list",
             about: "Tells the size, the boxes, the goals and the title of each level",
             writes: "\
-Writes a line for each level:
+Writes a line for each level (status 0, also where levels are faulty):
   N ROWS COLS BOXES GOALS TITLE  floor at row ends is not counted, boxes and goals outside are
-  N fault NUMBER NAME ..         the level's fault; the levels behind it are told all the same",
+  N fault NUMBER NAME ..         the level's fault; the levels behind it are told all the same
+A fault of the file itself is status 3 or 5, and of memory 6.
+
+Example: sok list small.xsb",
             places: &[FILE],
         },
         Subcommand {
@@ -52,8 +55,22 @@ Writes a line for each level:
 Writes one line:
   solved PUSHES MOVES  all boxes stand on goals after the last letter (status 0)
   open PUSHES MOVES    some box does not (status 1)
-MOVES counts all letters. A letter that is not legal is fault 12 Blocked (status 3).",
+MOVES counts all letters. A letter that is not legal is fault 12 Blocked (status 3). Another fault
+is status 3 or 5, and of memory 6.
+
+Example: sok replay small.xsb 1 ulldRR",
             places: &[FILE, N, TEXT],
+        },
+        Subcommand {
+            name: "draw",
+            about: "Draws a level as it stands after a text of letters",
+            writes: "\
+Writes the rows of the level as they stand then (status 0), floor as a space and none at row ends:
+a collection of that one level. Nothing is drawn where a letter is not legal, which is fault 12
+Blocked (status 3). Another fault is status 3 or 5, and of memory 6.
+
+Example: sok draw small.xsb 1 ulld",
+            places: &[FILE, N, LETTERS],
         },
         Subcommand {
             name: "solve",
@@ -64,7 +81,11 @@ Writes one of these:
                        no letters solve the level with fewer pushes (status 0)
   unsolvable           no letters solve the level (status 0)
   limit S              more than S states can be reached; nothing else is known (status 4)
-The certificate shows the first two to whoever checks it. With limit it stays empty.",
+The certificate shows the first two to whoever checks it. With limit it stays empty. With --cert
+more states are kept than without, so a limit may be met that suffices without. A fault is status 3
+or 5, and of memory 6.
+
+Example: sok solve small.xsb 1 --cert first.cert",
             places: &[FILE, N, LIMIT, OUTPUT],
         },
         Subcommand {
@@ -74,16 +95,22 @@ The certificate shows the first two to whoever checks it. With limit it stays em
 Writes one line:
   accepted at least K pushes  no letters solve the level with fewer than K pushes (status 0)
   accepted unsolvable         no letters solve the level (status 0)
-  refused NUMBER NAME ..      the first fault of the certificate, which shows nothing (status 1)",
+  refused NUMBER NAME ..      the first fault of the certificate, which shows nothing (status 1)
+A fault of the level or of a file is status 3 or 5, and of memory 6.
+
+Example: sok check small.xsb 1 first.cert",
             places: &[FILE, N, CERT],
         },
         Subcommand {
             name: "add",
             about: "Adds the levels of a collection to a book",
             writes: "\
-Writes a line for each level:
+Writes a line for each level (status 0, also where levels are faulty):
   N id ID                 its id in the book: that of the same level, if it is there already
-  N fault NUMBER NAME ..  the level's fault: it is not added; the levels behind it are",
+  N fault NUMBER NAME ..  the level's fault: it is not added; the levels behind it are
+A fault of the file or of the book is status 3 or 5, and of memory 6.
+
+Example: sok add small.db small.xsb",
             places: &[DB, FILE],
         },
         Subcommand {
@@ -93,7 +120,10 @@ Writes a line for each level:
 Writes one line:
   stored PUSHES MOVES  the book had no solution of the level, or one with more pushes (status 0)
   kept PUSHES MOVES    it keeps this one, which has no more pushes (status 1)
-Letters that do not solve the level are fault 13 NotSolved (status 1).",
+Letters that do not solve the level are fault 13 NotSolved (status 1). Another fault is status 3 or
+5, and of memory 6.
+
+Example: sok offer small.db 1 ulldRR",
             places: &[DB, ID, TEXT],
         },
         Subcommand {
@@ -104,24 +134,33 @@ Writes one line:
   proved optimal K        no letters solve the level with fewer pushes than its best, K (status 0)
   proved unsolvable       no letters solve the level (status 0)
   refused NUMBER NAME ..  the first fault of the certificate, which shows nothing (status 1)
-A claim that is not about the best is fault 31 NoBest or 33 ClaimDiffers (status 3).",
+A claim that is not about the best is fault 31 NoBest or 33 ClaimDiffers (status 3). Another fault
+is status 3 or 5, and of memory 6.
+
+Example: sok prove small.db 1 first.cert",
             places: &[DB, ID, CERT],
         },
         Subcommand {
             name: "show",
             about: "Shows a level of a book: its rows, title, best solution and verdict",
             writes: "\
-Writes the level's rows, and behind them:
+Writes the level's rows, and behind them (status 0):
   title TITLE                       if it has one
   best PUSHES MOVES LETTERS         or best none
-  verdict untested                  or verdict optimal, or verdict unsolvable",
+  verdict untested                  or verdict optimal, or verdict unsolvable
+A fault is status 3 or 5, and of memory 6.
+
+Example: sok show small.db 1",
             places: &[DB, ID],
         },
         Subcommand {
             name: "export",
             about: "Writes the levels of a book as a collection",
             writes: "\
-Writes for each level, in order of ids, ; TITLE if it has one, its rows, and an empty line.",
+Writes for each level, in order of ids, ; TITLE if it has one, its rows, and an empty line (status
+0). A fault is status 5, and of memory 6.
+
+Example: sok export small.db > small.xsb",
             places: &[DB],
         },
     ]

@@ -16,7 +16,8 @@ use std::alloc::Global;
 /// subcommand, its places and its options:
 ///
 /// ```text
-/// list FILE · replay FILE N TEXT · solve FILE N [--limit S] [--cert PATH] · check FILE N CERT
+/// list FILE · replay FILE N TEXT · draw FILE N [TEXT]
+/// solve FILE N [--limit S] [--cert PATH] · check FILE N CERT
 /// add DB FILE · offer DB ID TEXT · prove DB ID CERT · show DB ID · export DB
 /// ```
 ///
@@ -38,7 +39,7 @@ pub fn job(alloc: Global, words: &[String]) -> Result<Job, JobRefused>
     }
 }
 
-/// The text of an error, or of the help that was asked for.
+/// The text of an error, or of the help or the version that was asked for.
 fn refused(alloc: Global, error: &Error) -> JobRefused
     ensures { kind_of error.now ≡ ErrorKind.OutOfMemory → result.status ≡ 6 }
 {

@@ -1,7 +1,7 @@
 use Rattle.std.proofs.Common.{subst}
 use Rattle.sok_words.specs.declared.job.Job.TheVariants as job
 use Rattle.sok_words.specs.Forms.{Means}
-use Rattle.sok_tool.proofs.Serving.{Serves-add, Serves-check, Serves-export, Serves-offer, Serves-prove, Serves-replay, Serves-show, Serves-solve}
+use Rattle.sok_tool.proofs.Serving.{Serves-add, Serves-check, Serves-draw, Serves-export, Serves-offer, Serves-prove, Serves-replay, Serves-show, Serves-solve}
 use Rattle.sok_tool.proofs.program.served.Goals as goal
 
 pub returns-in-Replay : goal.returns-in-Replay
@@ -10,6 +10,13 @@ returns-in-Replay g c = λ form plain means.
     let meant : Means form (job.Replay s.file s.n s.text) = subst (Means form) s.is means in
     Serves-replay _ _ form s.file s.n s.text c.as_str-in-Replay.result.now c.as_str-in-Replay-2.result.now _ _ _ meant c.as_str-in-Replay.ensures.value
     c.as_str-in-Replay-2.ensures.value (c.replay.result, c.replay.ensures, c.ended-in-Replay.ensures)
+
+pub returns-in-Draw : goal.returns-in-Draw
+returns-in-Draw g c = λ form plain means.
+    let s = c.in-Draw in
+    let meant : Means form (job.Draw s.file s.n s.text) = subst (Means form) s.is means in
+    Serves-draw _ _ form s.file s.n s.text c.as_str-in-Draw.result.now c.as_str-in-Draw-2.result.now _ _ _ meant c.as_str-in-Draw.ensures.value
+    c.as_str-in-Draw-2.ensures.value (c.draw.result, c.draw.ensures, c.ended-in-Draw.ensures)
 
 pub returns-in-Check : goal.returns-in-Check
 returns-in-Check g c = λ form plain means.

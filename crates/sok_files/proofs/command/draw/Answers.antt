@@ -1,0 +1,18 @@
+use Rattle.std.proofs.lemmas.Result.{err_from_is_err_and}
+use Rattle.sok_engine.specs.Inputs.{Within}
+use Rattle.sok_engine.specs.Limits.{input_limit}
+use Rattle.sok_play.specs.Drawings.{IsDrawing}
+use Rattle.sok_files.specs.Files.{OfFile}
+use Rattle.sok_files.proofs.Filing.{Writes-file_text, Writes-unopened}
+use Rattle.sok_files.proofs.command.draw.Goals as goal
+
+pub returns-in_err-input : goal.returns-in_err-input
+returns-in_err-input g c =
+    let p = err_from_is_err_and c.from_residual.result c.from_residual.ensures.1 in
+    let draw = Within input_limit (IsDrawing c.args.n c.args.text.now) in
+    rw (p.1, p.2) (Writes-unopened (OfFile (g.F.Folder.reads c.args.rt.now c.args.path.now) draw) _ _ c.in_err-input.ensures.opened)
+
+pub returns : goal.returns
+returns g c =
+    Writes-file_text (g.F.Folder.reads c.args.rt.now c.args.path.now) (λ text. Within input_limit (IsDrawing c.args.n text)) _ _ _ c.draw_bytes.result _ _
+    c.as_bytes.ensures.value c.in_ok-input.ensures.opened c.draw_bytes.ensures
