@@ -1,5 +1,5 @@
 -- What an output holds after a call that opens a file and solves a level of it, with a certificate in another file, or alone.
-use Rattle.std.specs.Prelude.{ℕ, ◌≡◌, ◌⊎◌, List, Option, Some, None, Result, Err}
+use Rattle.std.specs.Prelude.{ℕ, ◌≡◌, ◌⊎◌, Bool, List, Option, Some, None, Result, Err}
 use Rattle.sok_engine.specs.declared.fault.ToolFault.{ToolFault}
 use Rattle.sok_engine.specs.declared.fault.ToolFault.TheVariants as tool
 use Rattle.sok_engine.specs.Certified.{Bytes, CertifiedAnswers, Stays, WritesBoth}
@@ -17,7 +17,8 @@ IsUnbegun result = (result ≡ Err tool.Memory) ⊎ (result ≡ Err tool.ReadFai
 abbrev pub SolvesTo : CertifiedAnswers → (Bytes → Type 0) → Bytes → Result ℕ ToolFault → Type 0
 SolvesTo P IsPlace out result = (IsUnbegun result × Stays out) ⊎ ((cert : Bytes) × IsPlace cert × WritesBoth P cert out result)
 
--- A level of a file is solved within a limit. With a path the certificate goes to the file that is made there; with none there is no certificate.
-abbrev pub SolvesLevel : (Option (List ℕ) → Type 0) → (List ℕ → Bytes → Type 0) → ℕ → ℕ → Option (List ℕ) → Bytes → Result ℕ ToolFault → Type 0
-SolvesLevel reads makes n limit (Some path) out result = SolvesTo (OfFile reads (Within input_limit (IsSolve n limit))) (makes path) out result
-SolvesLevel reads makes n limit None out result = Writes (OfFile reads (Within input_limit (IsFind n limit))) out.old out.new result
+-- A level of a file is solved within a limit, with a bound where the limit is met, or without. With a path the certificate goes to the file that is made there; with none there is no certificate.
+abbrev pub SolvesLevel : (Option (List ℕ) → Type 0) → (List ℕ → Bytes → Type 0) → ℕ → ℕ → Bool → Option (List ℕ) → Bytes → Result ℕ ToolFault → Type 0
+SolvesLevel reads makes n limit bound (Some path) out result =
+    SolvesTo (OfFile reads (Within input_limit (IsSolve n limit bound))) (makes path) out result
+SolvesLevel reads makes n limit bound None out result = Writes (OfFile reads (Within input_limit (IsFind n limit bound))) out.old out.new result

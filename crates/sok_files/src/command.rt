@@ -92,17 +92,18 @@ pub fn solve<F: Folder + AllocGlobal, W: Write>(
     path: &str,
     n: u32,
     limit: u32,
+    bound: bool,
     cert_path: Option<String>,
     out: &mut W,
 ) -> Result<u8, ToolFault>
     ensures { SolvesLevel (F.reads rt.now path.now)
-        (λ place. IsMade F.Output.contents (F.makes rt.now place)) n limit
+        (λ place. IsMade F.Output.contents (F.makes rt.now place)) n limit bound
         (option_map (λ s. string_bytes s) cert_path)
         (record { old = W.contents out.old; new = W.contents out.new }) result }
 {
     match cert_path {
-        Some(cert_path) => solve_with_file(rt, path, n, limit, cert_path.as_str(), out),
-        None => find(rt, path, n, limit, out),
+        Some(cert_path) => { solve_with_file(rt, path, n, limit, bound, cert_path.as_str(), out) }
+        None => find(rt, path, n, limit, bound, out),
     }
 }
 
@@ -112,13 +113,15 @@ fn find<F: Folder + AllocGlobal, W: Write>(
     path: &str,
     n: u32,
     limit: u32,
+    bound: bool,
     out: &mut W,
 ) -> Result<u8, ToolFault>
-    ensures { Writes (OfFile (F.reads rt.now path.now) (Within input_limit (IsFind n limit)))
+    ensures { Writes
+        (OfFile (F.reads rt.now path.now) (Within input_limit (IsFind n limit bound)))
         (W.contents out.old) (W.contents out.new) result }
 {
     let mut input = open(rt, path)?;
-    find_bytes(rt.alloc(), &mut input, n as usize, limit, out)
+    find_bytes(rt.alloc(), &mut input, n as usize, limit, bound, out)
 }
 
 /// Solves a level, and writes the certificate to a file that is made for it.
@@ -127,10 +130,12 @@ fn solve_with_file<F: Folder + AllocGlobal, W: Write>(
     path: &str,
     n: u32,
     limit: u32,
+    bound: bool,
     cert_path: &str,
     out: &mut W,
 ) -> Result<u8, ToolFault>
-    ensures { SolvesTo (OfFile (F.reads rt.now path.now) (Within input_limit (IsSolve n limit)))
+    ensures { SolvesTo
+        (OfFile (F.reads rt.now path.now) (Within input_limit (IsSolve n limit bound)))
         (IsMade F.Output.contents (F.makes rt.now cert_path.now))
         (record { old = W.contents out.old; new = W.contents out.new }) result }
 {
@@ -141,6 +146,7 @@ fn solve_with_file<F: Folder + AllocGlobal, W: Write>(
         &mut input,
         n as usize,
         limit,
+        bound,
         out,
         &mut cert_out,
     )

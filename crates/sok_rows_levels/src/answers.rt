@@ -29,7 +29,7 @@ pub(crate) fn answered(alloc: Global, board: &str, limit: u32) -> Result<Reply, 
     let mut out = Vec::new(alloc);
     let mut cert = Vec::new(alloc);
     let mut input = boards.as_bytes();
-    let status = solve_bytes(alloc, &mut input, 2, limit, &mut out, &mut cert)?;
+    let status = solve_bytes(alloc, &mut input, 2, limit, false, &mut out, &mut cert)?;
     Ok(Reply { status, out, cert })
 }
 
@@ -43,7 +43,7 @@ fn assert_found(
 ) -> Result<(), Fail> {
     let boards = second(alloc, board)?;
     let mut out = Vec::new(alloc);
-    let status = find_bytes(alloc, &mut boards.as_bytes(), 2, limit, &mut out)?;
+    let status = find_bytes(alloc, &mut boards.as_bytes(), 2, limit, false, &mut out)?;
     assert_eq!(rt; out.as_slice(), reply.out.as_slice());
     assert_eq!(rt; status, reply.status);
     Ok(())
@@ -267,6 +267,43 @@ fn whole_answers(rt: HostRuntime) -> Result<(), Fail> {
         (sketch::CORRIDOR_OF_SIX_PUSHES, 2, "limit 2\n", 4),
     ] {
         assert_answered(&rt, rt.alloc(), board, limit, text, status)?;
+    }
+    Ok(())
+}
+
+/// Asserts what is told of a limit that is met where a bound is asked for: with a certificate, which
+/// is accepted for as many pushes, and without.
+fn assert_bounded(
+    rt: &impl Abort,
+    alloc: Global,
+    limit: u32,
+    line: &str,
+    accepted: &str,
+) -> Result<(), Fail> {
+    let board = sketch::CORRIDOR_OF_SIX_PUSHES;
+    let mut out = Vec::new(alloc);
+    let mut cert = Vec::new(alloc);
+    let mut input = board.as_bytes();
+    let status = solve_bytes(alloc, &mut input, 1, limit, true, &mut out, &mut cert)?;
+    assert!(rt; status == 4 && out.as_slice() == line.as_bytes(), "{line}");
+    let mut alone = Vec::new(alloc);
+    let status = find_bytes(alloc, &mut board.as_bytes(), 1, limit, true, &mut alone)?;
+    assert!(rt;
+        status == 4 && alone.as_slice() == line.as_bytes(),
+        "{line}"
+    );
+    assert_accepted(rt, alloc, board, limit, cert.as_slice(), accepted)
+}
+
+/// The start alone waits, whose box is two pushes from the goal; or it was pushed once, and then it
+/// is three pushes away.
+#[test]
+fn bounds_are_told(rt: HostRuntime) -> Result<(), Fail> {
+    for (limit, line, accepted) in [
+        (1, "limit 1 at least 2\n", "accepted at least 2 pushes\n"),
+        (2, "limit 2 at least 4\n", "accepted at least 4 pushes\n"),
+    ] {
+        assert_bounded(&rt, rt.alloc(), limit, line, accepted)?;
     }
     Ok(())
 }

@@ -40,8 +40,8 @@ fn work<R: Read>(
         Engine::Play => play_bytes(alloc, input, out),
         Engine::List => list_bytes(alloc, input, out),
         Engine::Replay => replay_bytes(alloc, input, 1, b"ulldRR", out),
-        Engine::Find => find_bytes(alloc, input, 1, 100, out),
-        Engine::Solve => solve_bytes(alloc, input, 1, 100, out, &mut Vec::new(alloc)),
+        Engine::Find => find_bytes(alloc, input, 1, 100, false, out),
+        Engine::Solve => solve_bytes(alloc, input, 1, 100, false, out, &mut Vec::new(alloc)),
         Engine::CheckLevel => check_bytes(alloc, input, 1, &mut CERT.as_bytes(), out),
         Engine::CheckCert => {
             let mut level = CORRIDOR_OF_SIX_PUSHES.as_bytes();

@@ -10,10 +10,11 @@ pub(crate) fn solve_bytes<R: Read, W: Write, C: Write>(
     input: &mut R,
     n: usize,
     limit: u32,
+    bound: bool,
     out: &mut W,
     cert: &mut C,
 ) -> Result<u8, ToolFault> {
-    sok_solve::solve::solve_bytes(alloc, input, n, limit, out, cert)
+    sok_solve::solve::solve_bytes(alloc, input, n, limit, bound, out, cert)
 }
 
 pub(crate) fn find_bytes<R: Read, W: Write>(
@@ -21,9 +22,10 @@ pub(crate) fn find_bytes<R: Read, W: Write>(
     input: &mut R,
     n: usize,
     limit: u32,
+    bound: bool,
     out: &mut W,
 ) -> Result<u8, ToolFault> {
-    sok_solve::find::find_bytes(alloc, input, n, limit, out)
+    sok_solve::find::find_bytes(alloc, input, n, limit, bound, out)
 }
 
 pub(crate) fn check_bytes<R: Read, C: Read, W: Write>(

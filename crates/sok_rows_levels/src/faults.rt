@@ -58,8 +58,16 @@ impl Write for Full {
 fn refuses(alloc: Global, board: &str, n: usize, limit: u32, fault: ToolFault) -> bool {
     let mut out = Vec::new(alloc);
     let mut cert = Vec::new(alloc);
-    let solved = solve_bytes(alloc, &mut board.as_bytes(), n, limit, &mut out, &mut cert);
-    let found = find_bytes(alloc, &mut board.as_bytes(), n, limit, &mut out);
+    let solved = solve_bytes(
+        alloc,
+        &mut board.as_bytes(),
+        n,
+        limit,
+        false,
+        &mut out,
+        &mut cert,
+    );
+    let found = find_bytes(alloc, &mut board.as_bytes(), n, limit, false, &mut out);
     solved == Err(fault) && found == Err(fault) && out.is_empty() && cert.is_empty()
 }
 
@@ -116,7 +124,15 @@ fn refusals(rt: HostRuntime) {
 fn is_full(alloc: Global, board: &str, limit: u32, whole: &[u8], room: usize) -> bool {
     let mut cert = Full::new(alloc, room);
     let mut out = Vec::new(alloc);
-    let told = solve_bytes(alloc, &mut board.as_bytes(), 1, limit, &mut out, &mut cert);
+    let told = solve_bytes(
+        alloc,
+        &mut board.as_bytes(),
+        1,
+        limit,
+        false,
+        &mut out,
+        &mut cert,
+    );
     told == Err(ToolFault::WriteFailed) && cert.has(whole) && out.is_empty()
 }
 
@@ -125,7 +141,15 @@ fn is_full(alloc: Global, board: &str, limit: u32, whole: &[u8], room: usize) ->
 fn is_full_behind(alloc: Global, board: &str, limit: u32, whole: &Reply, room: usize) -> bool {
     let mut cert = Vec::new(alloc);
     let mut out = Full::new(alloc, room);
-    let told = solve_bytes(alloc, &mut board.as_bytes(), 1, limit, &mut out, &mut cert);
+    let told = solve_bytes(
+        alloc,
+        &mut board.as_bytes(),
+        1,
+        limit,
+        false,
+        &mut out,
+        &mut cert,
+    );
     told == Err(ToolFault::WriteFailed)
         && cert.as_slice() == whole.cert.as_slice()
         && out.has(&whole.out)

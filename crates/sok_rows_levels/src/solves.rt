@@ -12,7 +12,7 @@ use sok_rules::play::replay;
 use sok_search::fault::SolveFault;
 use sok_search::found::Found;
 use sok_search::outcome::Outcome;
-use sok_search::solve::{find, solve};
+use sok_search::solve::{bound, find, solve};
 use sok_sketch::rooms::{ROOM_OF_1024, Room};
 use sok_sketch::sketch::{self, level};
 use std::alloc::Global;
@@ -60,7 +60,7 @@ fn pushes_in(
             assert_certified(rt, alloc, level, limit, &Claim::Unsolvable, cert)?;
             Ok(None)
         }
-        Outcome::Limit { states: _ } => {
+        Outcome::Limit { .. } => {
             assert!(rt; false);
             Ok(None)
         }
@@ -96,7 +96,7 @@ fn found_pushes(
 fn meets(alloc: Global, board: &str, limit: u32) -> Result<bool, Fail> {
     let level = level(alloc, board)?;
     match solve(alloc, &level, limit)? {
-        Outcome::Limit { states } => Ok(states == limit),
+        Outcome::Limit { states, cert, .. } => Ok(states == limit && cert.is_none()),
         _ => Ok(false),
     }
 }
@@ -206,6 +206,61 @@ fn limits(rt: HostRuntime) -> Result<(), Fail> {
     }
     let pushes = pushes_of(&rt, rt.alloc(), sketch::CORRIDOR_OF_SIX_PUSHES, least)?;
     assert_eq!(rt; pushes, Some(6));
+    Ok(())
+}
+
+/// How many pushes a level needs at least, as a certificate shows that has no more entries than the
+/// limit, and None where there is no solution.
+fn bound_of(rt: &impl Abort, alloc: Global, board: &str, limit: u32) -> Result<Option<u32>, Fail> {
+    let level = level(alloc, board)?;
+    let outcome = bound(alloc, &level, limit)?;
+    if let Outcome::Limit {
+        states,
+        at_least,
+        cert: Some(cert),
+    } = &outcome
+    {
+        assert_eq!(rt; *states, limit);
+        assert_certified(rt, alloc, &level, limit, &Claim::Pushes(*at_least), cert)?;
+        return Ok(Some(*at_least));
+    }
+    pushes_in(rt, alloc, &level, limit, &outcome)
+}
+
+/// How many pushes a search shows at least that is cut off, without a certificate, and None where it
+/// is not cut off.
+fn found_bound(alloc: Global, board: &str, limit: u32) -> Result<Option<u32>, Fail> {
+    let level = level(alloc, board)?;
+    match find(alloc, &level, limit)? {
+        Found::Limit { at_least, .. } => Ok(Some(at_least)),
+        _ => Ok(None),
+    }
+}
+
+/// A search that is cut off shows what the start's prices do where the start alone waits, and the
+/// fewest pushes in the end.
+#[test]
+fn bounds(rt: HostRuntime) -> Result<(), Fail> {
+    for (board, limit, pushes) in [
+        (sketch::CORRIDOR_OF_SIX_PUSHES, 1, Some(2)),
+        (sketch::CORRIDOR_OF_SIX_PUSHES, 14, Some(6)),
+        // nothing waits where the start is barred
+        (sketch::TWO_IN_A_ROW, 1, None),
+        (sketch::PAIR_THAT_IS_LOST, 1, None),
+    ] {
+        assert_eq!(rt; bound_of(&rt, rt.alloc(), board, limit)?, pushes);
+    }
+    assert_eq!(rt;
+        found_bound(rt.alloc(), sketch::CORRIDOR_OF_SIX_PUSHES, 1)?,
+        Some(2)
+    );
+    let mut last = Some(0);
+    for limit in [1, 2, 4, 8, 16, 32, 64] {
+        let pushes = bound_of(&rt, rt.alloc(), LOWERED, limit)?;
+        assert!(rt; last <= pushes && pushes <= Some(7));
+        last = pushes;
+    }
+    assert_eq!(rt; last, Some(7));
     Ok(())
 }
 

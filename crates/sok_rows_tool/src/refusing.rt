@@ -5,7 +5,7 @@ use crate::rows::{ran, run_on, words};
 use std::test::Fail;
 
 /// The name, the version, and what proved it, as README tells it.
-const VERSION: &str = "sok 1.0\nproved with rattle-kit-13f logic dac8208d650f15bf\n";
+const VERSION: &str = "sok 1.0\nproved with rattle-kit-13b logic dac8208d650f15bf\n";
 
 /// A line, a part of what is written to the output, or where the status is 2 to the error stream,
 /// and the status.

@@ -1,4 +1,4 @@
--- Entries of the states of a finished search.
+-- Entries of the states of a search, where each of them is done with.
 use Rattle.std.proofs.Common.{ℕ, ◌≡◌, ◌<◌, ◌≤◌, ◌+◌, ◌∙◌, inl, inr, refl, sym, ap, subst, List, [], ◌∷◌, ◌++◌, Option, Some, None, All}
 use Rattle.std.proofs.Common.{Contains, arith, length, slice_get}
 use Rattle.std.proofs.lemmas.List.{length-append}
@@ -6,6 +6,7 @@ use Rattle.std.proofs.lemmas.List.Elements.{All-append, All-cons, All-weaker}
 use Rattle.std.proofs.lemmas.Option.{same_Some, slice_get_within}
 use Rattle.sok_board.specs.Area.{Numbered, IsAccepted}
 use Rattle.sok_cert.specs.Claim.{Claim}
+use Rattle.sok_cert.specs.Claim.TheVariants.{Pushes}
 use Rattle.sok_cert.specs.Entry.{Entry}
 use Rattle.sok_cert.specs.Text.{FitsEntry, FitsReason, IsSmall, numbers_of_position, numbers_of_reason}
 use Rattle.sok_region.proofs.Floods.{slice_get-push_cases}
@@ -14,7 +15,8 @@ use Rattle.sok_alone.specs.Losses.{losses_of}
 use Rattle.sok_search.specs.declared.note.Note.{Note}
 use Rattle.sok_search.specs.declared.note.Standing.{Standing}
 use Rattle.sok_search.specs.declared.note.Standing.TheVariants.{Open, Expanded, Dead, Lost}
-use Rattle.sok_search.specs.Finished.{AreFirstEntries, HasText, IsAtMost, IsDone, IsEntryAt, IsEntryOf, claim_of}
+use Rattle.sok_search.specs.Finished.{AreDone, AreFirstEntries, HasText, IsAtMost, IsDone, IsEntryAt, IsEntryOf, claim_of}
+use Rattle.sok_search.specs.Halted.{IsLeastOpen}
 use Rattle.sok_search.specs.Limits.{state_limit}
 use Rattle.sok_search.specs.Searches.{Progress, IsBeaten, IsSearch, IsState, Stands}
 use Rattle.sok_search.proofs.Knowing.{key-within}
@@ -27,7 +29,7 @@ beaten-at_most None n none = none
 beaten-at_most (Some k) n beaten = beaten
 
 -- where nothing waits, each state is done with
-pub stands-done : (b : Numbered) (p : Progress) (i : ℕ) (key : Key) (depth : ℕ) → p.queue ≡ [] → (s : Standing) → Stands b p i key depth s
+stands-done : (b : Numbered) (p : Progress) (i : ℕ) (key : Key) (depth : ℕ) → p.queue ≡ [] → (s : Standing) → Stands b p i key depth s
     → IsDone b (claim_of p.best) (losses_of p.frame.losses) key.least key.boxes depth s
 stands-done b p i key depth none (Open bound) (prices, inl waits) = absurd (none_waits p.queue i none waits)
 stands-done b p i key depth none (Open bound) (prices, inr beaten) = (bound, prices, beaten-at_most p.best (depth + bound) beaten)
@@ -35,12 +37,26 @@ stands-done b p i key depth none (Expanded bound) stands = tt
 stands-done b p i key depth none Dead dead = dead
 stands-done b p i key depth none (Lost place) lost = lost
 
-pub is-done : (b : Numbered) (limit : ℕ) (p : Progress) (i : ℕ) (key : Key) (depth : ℕ) (note : Note) (claim : Claim) → IsSearch b limit p → p.queue ≡ []
-    → claim ≡ claim_of p.best → IsState p i key depth note
-    → IsDone b claim (losses_of p.frame.losses) key.least key.boxes depth note.standing
-is-done b limit p i key depth note claim search none is state =
+pub done-finished : (b : Numbered) (limit : ℕ) (p : Progress) (claim : Claim) → IsSearch b limit p → p.queue ≡ [] → claim ≡ claim_of p.best
+    → AreDone b claim p
+done-finished b limit p claim search none is i key depth note state =
     subst (λ c. IsDone b c (losses_of p.frame.losses) key.least key.boxes depth note.standing) (sym is)
     (stands-done b p i key depth none note.standing (search.noted i key depth note state).stands)
+
+-- so it is for what no open state needs less of
+stands-least : (b : Numbered) (p : Progress) (i : ℕ) (key : Key) (depth least : ℕ) (s : Standing)
+    → ((bound : ℕ) → s ≡ Open bound → least ≤ depth + bound) → Stands b p i key depth s
+    → IsDone b (Pushes least) (losses_of p.frame.losses) key.least key.boxes depth s
+stands-least b p i key depth least (Open bound) enough (prices, stands) = (bound, prices, enough bound refl)
+stands-least b p i key depth least (Expanded bound) enough stands = tt
+stands-least b p i key depth least Dead enough dead = dead
+stands-least b p i key depth least (Lost place) enough lost = lost
+
+pub done-least : (b : Numbered) (limit : ℕ) (p : Progress) (least : ℕ) → IsSearch b limit p → IsLeastOpen p least → AreDone b (Pushes least) p
+done-least b limit p least search of_all i key depth note state =
+    stands-least b p i key depth least note.standing (λ bound is. of_all.below i (depth + bound) (key-within p i key state.there)
+    (record { key = key; depth = depth; note = note; state = state; bound = bound; is_open = is; needs = refl }))
+    (search.noted i key depth note state).stands
 
 -- what stands at an index is one state alone
 entry-along : (b : Numbered) (claim : Claim) (p : Progress) (i : ℕ) (key other : Key) (depth deep : ℕ) (note noted : Note) (e : Entry)

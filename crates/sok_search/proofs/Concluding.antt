@@ -1,20 +1,25 @@
--- What a finished search answers.
-use Rattle.std.proofs.Common.{ℕ, ◌≡◌, ◌<◌, ◌≤◌, refl, sym, subst, true, List, [], Option, Some, None, All, arith, length}
+-- What a search answers, finished or cut off.
+use Rattle.std.proofs.Common.{ℕ, ◌≡◌, ◌<◌, ◌≤◌, refl, sym, ap, subst, Bool, true, false, true≢false, List, [], Option, Some, None, All, arith, length}
 use Rattle.sok_rules.specs.declared.cell.Dir.{Dir}
 use Rattle.sok_rules.specs.Play.{AtLeast, IsUnsolvable}
+use Rattle.sok_rules.specs.States.{MoreStatesThan}
+use Rattle.sok_rules.specs.Squares.{Rows}
 use Rattle.sok_board.specs.Area.{Numbered, IsAccepted}
 use Rattle.sok_board.proofs.OneRefusal.{IsAccepted-one}
 use Rattle.sok_cert.specs.Claim.{Claim}
 use Rattle.sok_cert.specs.Claim.TheVariants as claim
+use Rattle.sok_cert.specs.Cert.{Cert}
 use Rattle.sok_cert.specs.Entry.{Entry}
 use Rattle.sok_cert.specs.Text.{FitsClaim, FitsEntry}
 use Rattle.sok_state.specs.declared.push.Push.{Push}
 use Rattle.sok_cert.specs.Closed.{IsClosed, IsTrueOf}
 use Rattle.sok_search.specs.Finished.{AreFirstEntries, claim_of}
+use Rattle.sok_search.specs.Halted.{IsLeastOpen}
 use Rattle.sok_search.specs.Limits.{state_limit}
-use Rattle.sok_search.specs.Outcomes.{Certifies, HasSearched, IsLeastSolution, IsShownSolved, IsShownUnsolvable}
+use Rattle.sok_search.specs.Outcomes.{Certifies, HasSearched, IsCutShort, IsLeastSolution, IsShownSolved, IsShownUnsolvable, ShowsLeast}
 use Rattle.sok_search.specs.Searches.{Progress, IsSearch}
 use Rattle.sok_search.specs.Trails.{IsSolvedAt, IsSolvedWith, IsSolvedWithin, IsSolvingTrace, TracesBack}
+use Rattle.sok_search.proofs.Certified.{done-finished, done-least}
 use Rattle.sok_search.proofs.Finishing.{entries-closed}
 use Rattle.sok_search.proofs.Knowing.{key-within, noted-at}
 use Rattle.sok_search.proofs.Showing.{shows}
@@ -55,50 +60,75 @@ solved-within b limit p k index trace w search solved traces with_pushes =
     let less = less-deep b limit p k index search solved in
     record { n = length trace; solved = with_pushes; near = omega (arith, few, shallow); small = omega (arith, few, less) }
 
-module _ (b : Numbered) (accepted : IsAccepted b) (limit : ℕ) (p : Progress) (search : IsSearch b limit p) (none : p.queue ≡ []) where
-  shows-best : (best : Option ℕ) → p.best ≡ best → IsTrueOf b.rows (claim_of best)
-  shows-best best is = subst (λ o. IsTrueOf b.rows (claim_of o)) is (shows b accepted limit p search none)
-
-  pub unsolvable : p.best ≡ None → IsUnsolvable b.rows
-  unsolvable is = shows-best None is
-
-  -- the letters have no more pushes than the best, and the list says that none have fewer
-  pub least-solution : (k : ℕ) (w : List Dir) → p.best ≡ Some k → IsSolvedWithin b (length p.table) k w → IsLeastSolution b.rows w k
-  least-solution k w is within =
-      let least : AtLeast b.rows k = shows-best (Some k) is in
-      let solves = within.solved.solves in
-      let above = least w solves in
-      let counted = within.solved.counted in
-      let near = within.near in
+module _ (b : Numbered) (accepted : IsAccepted b) (limit : ℕ) (p : Progress) (search : IsSearch b limit p) where
+  -- a whole search gives a closed list
+  certifies : p.frame.whole ≡ true → (shown : Claim) (entries : List Entry) → FitsClaim shown → AreFirstEntries b shown p (length p.table) entries
+      → All FitsEntry entries → Certifies b.rows limit shown entries
+  certifies whole shown entries fits are fit =
+      let closed = entries-closed b accepted limit shown p entries search whole are in
       record {
-        solves = solves;
-        counted = omega (arith, above, counted, near);
-        fewest = record { least = least; reached = (w, solves, omega (arith, above, counted, near)) };
-        ends = within.solved.ends;
+        fits = record { claim_fits = fits; entries_fit = fit };
+        closed = λ c rows other. subst (λ board. IsClosed board shown entries) (IsAccepted-one b c (sym rows) accepted other) closed;
+        few = let few = search.few in let count = are.as_many in omega (arith, few, count);
       }
 
-  -- a whole search gives a closed list
-  module _ (whole : p.frame.whole ≡ true) where
-    certifies : (shown : Claim) (entries : List Entry) → FitsClaim shown → AreFirstEntries b shown p (length p.table) entries → All FitsEntry entries
-        → Certifies b.rows limit shown entries
-    certifies shown entries fits are fit =
-        let closed = entries-closed b accepted limit shown p entries search whole are in
+  -- nothing waits
+  module _ (none : p.queue ≡ []) where
+    shows-best : (best : Option ℕ) → p.best ≡ best → IsTrueOf b.rows (claim_of best)
+    shows-best best is = shows b accepted limit p search (claim_of best) (done-finished b limit p (claim_of best) search none (ap claim_of (sym is)))
+
+    pub unsolvable : p.best ≡ None → IsUnsolvable b.rows
+    unsolvable is = shows-best None is
+
+    -- the letters have no more pushes than the best, and the list says that none have fewer
+    pub least-solution : (k : ℕ) (w : List Dir) → p.best ≡ Some k → IsSolvedWithin b (length p.table) k w → IsLeastSolution b.rows w k
+    least-solution k w is within =
+        let least : AtLeast b.rows k = shows-best (Some k) is in
+        let solves = within.solved.solves in
+        let above = least w solves in
+        let counted = within.solved.counted in
+        let near = within.near in
         record {
-          fits = record { claim_fits = fits; entries_fit = fit };
-          closed = λ c rows other. subst (λ board. IsClosed board shown entries) (IsAccepted-one b c (sym rows) accepted other) closed;
-          few = let few = search.few in let count = are.as_many in omega (arith, few, count);
+          solves = solves;
+          counted = omega (arith, above, counted, near);
+          fewest = record { least = least; reached = (w, solves, omega (arith, above, counted, near)) };
+          ends = within.solved.ends;
         }
 
-    pub shown-unsolvable : (entries : List Entry) → p.best ≡ None → AreFirstEntries b claim.Unsolvable p (length p.table) entries → All FitsEntry entries
-        → IsShownUnsolvable b.rows limit entries
-    shown-unsolvable entries is are fit = record { unsolvable = unsolvable is; certified = certifies claim.Unsolvable entries tt are fit }
+    pub shown-unsolvable : p.frame.whole ≡ true → (entries : List Entry) → p.best ≡ None
+        → AreFirstEntries b claim.Unsolvable p (length p.table) entries → All FitsEntry entries → IsShownUnsolvable b.rows limit entries
+    shown-unsolvable whole entries is are fit =
+        record { unsolvable = unsolvable is; certified = certifies whole claim.Unsolvable entries tt are fit }
 
-    pub shown-solved : length p.table ≤ state_limit → (k : ℕ) (w : List Dir) (entries : List Entry) → p.best ≡ Some k
+    pub shown-solved : p.frame.whole ≡ true → length p.table ≤ state_limit → (k : ℕ) (w : List Dir) (entries : List Entry) → p.best ≡ Some k
         → AreFirstEntries b (claim.Pushes k) p (length p.table) entries → All FitsEntry entries → IsSolvedWithin b (length p.table) k w
         → IsShownSolved b.rows limit w k entries
-    shown-solved small k w entries is are fit within =
+    shown-solved whole small k w entries is are fit within =
         let solution = least-solution k w is within in
         let above = solution.fewest.least w solution.solves in
         let counted = within.solved.counted in
         let below = within.small in
-        record { solution = solution; certified = certifies (claim.Pushes k) entries (omega (arith, above, counted, below, small)) are fit }
+        record { solution = solution; certified = certifies whole (claim.Pushes k) entries (omega (arith, above, counted, below, small)) are fit }
+
+  -- it was cut off, and so much is needed in each open state
+  module _ (more : MoreStatesThan b.rows limit) (least : ℕ) (of_all : IsLeastOpen p least) where
+    pub cut-short : IsCutShort b.rows limit limit least
+    cut-short = record {
+      past = record { more = more; is = refl };
+      at_least = shows b accepted limit p search (claim.Pushes least) (done-least b limit p least search of_all);
+      halted = record { board = b; rows_are = refl; known = p; search = search; least_is = of_all };
+    }
+
+    pub shown-least : p.frame.whole ≡ true → (entries : List Entry) → AreFirstEntries b (claim.Pushes least) p (length p.table) entries
+        → All FitsEntry entries → Certifies b.rows limit (claim.Pushes least) entries
+    shown-least whole entries are fit = certifies whole (claim.Pushes least) entries of_all.small are fit
+
+-- a certificate of it, where one is wanted, and none where it is not
+pub shows-none : (rows : Rows) (limit : ℕ) (wanted : Bool) (least : ℕ) → wanted ≡ false → ShowsLeast rows limit wanted least None
+shows-none rows limit true least is = absurd (true≢false is)
+shows-none rows limit false least is = refl
+
+pub shows-some : (rows : Rows) (limit : ℕ) (wanted : Bool) (least : ℕ) (cert : Cert) → wanted ≡ true
+    → Certifies rows limit (claim.Pushes least) cert.entries.items → ShowsLeast rows limit wanted least (Some cert)
+shows-some rows limit true least cert is certified = certified
+shows-some rows limit false least cert is certified = absurd (true≢false (sym is))

@@ -8,6 +8,7 @@ pub mod Concluding
 pub mod Doing
 pub mod Filling
 pub mod Finishing
+pub mod Halting
 pub mod Keeping
 pub mod Knowing
 pub mod LeavingOut

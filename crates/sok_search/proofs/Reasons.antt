@@ -1,12 +1,14 @@
 -- The reason of a state that is found again bars as far as before.
-use Rattle.std.proofs.Common.{ℕ, ◌≡◌, ◌≤◌, ◌+◌, List, [], ◌∷◌, ◌++◌, zero, suc, All}
-use Rattle.std.proofs.Common.{arith, length}
+use Rattle.std.proofs.Common.{ℕ, ◌≡◌, ◌<◌, ◌≤◌, ◌+◌, ◌∙◌, List, [], ◌∷◌, ◌++◌, zero, suc, All, Contains, Some}
+use Rattle.std.proofs.Common.{arith, ap, get_or, length, slice_get, subst, sym}
 use Rattle.std.proofs.lemmas.List.Elements.{All-append, All-nil, All-weaker}
+use Rattle.std.proofs.lemmas.Option.{same_Some, slice_get-get_or, slice_get_within}
 use Rattle.sok_board.specs.Area.{Numbered}
 use Rattle.sok_board.specs.Limits.{box_limit}
 use Rattle.sok_price.specs.Limits.{price_limit}
 use Rattle.sok_price.specs.Matches.{ArePrices}
-use Rattle.sok_price.specs.Prices.{AreMembers, Priced}
+use Rattle.sok_price.specs.Prices.{AreMembers, IsCrowd, Priced}
+use Rattle.sok_push.specs.Pushing.{Chain, IsStuck}
 use Rattle.sok_price.proofs.AssignmentLaws.{AtLeast-IsAssignment}
 use Rattle.sok_bar.specs.declared.rest.Rest.{Rest}
 use Rattle.sok_bar.specs.declared.rest.Rest.TheVariants.{Never}
@@ -19,7 +21,7 @@ use Rattle.sok_cert.specs.Reason.{Reason}
 use Rattle.sok_cert.specs.Reason.TheVariants as reason
 use Rattle.sok_cert.specs.Text.{FitsInner, IsSmall}
 use Rattle.sok_cert.specs.Closed.{rest_of}
-use Rattle.sok_search.specs.Finished.{CostsEnough, IsAssigned, ReasonBars}
+use Rattle.sok_search.specs.Finished.{CostsEnough, HasText, IsAssigned, IsLoneCrowd, IsStuckAt, ReasonBars}
 use Rattle.sok_search.specs.Searches.{IsDead}
 
 -- prices of a bound that is enough
@@ -88,3 +90,33 @@ prices-fit b boxes u v goal_of total are = (
 pub members-fit : (boxes members : List ℕ) → length boxes ≤ box_limit → AreMembers boxes members → All IsSmall (length members ∷ members)
 members-fit boxes members few are zero d within = let some = few-rising members (length boxes) are.rising are.within in omega (arith, some, few)
 members-fit boxes members few are (suc k) d within = let exists = are.within k d (omega (arith, within)) in omega (arith, exists, few)
+
+-- a box that reaches no goal is a crowd by itself
+pub stuck-crowd : (b : Numbered) (boxes : List ℕ) (place : ℕ) → IsStuckAt b boxes place → IsCrowd b boxes (place ∷ [])
+stuck-crowd b boxes place (square, there, stuck) = record {
+  listed = record { rising = λ k within. absurd (omega (arith, within)); within = λ k d below. first k d (omega (arith, below)) };
+  goals = [];
+  all_reached = λ x g n (i, (k, below, at), is) goal chain.
+      let first : i ≡ place = sym (only k i (omega (arith, below)) at) in
+      let same : square ≡ x = same_Some square x (sym there ∙ ap (slice_get boxes) (sym first) ∙ is) in
+      absurd (stuck g n goal (subst (λ s. Chain b s g n) (sym same) chain));
+  fewer = omega arith;
+}
+  where
+    first : (k d : ℕ) → k ≡ 0 → get_or (place ∷ []) k d < length boxes
+    first k d same = subst (λ j. get_or (place ∷ []) j d < length boxes) (sym same) (slice_get_within boxes place square there)
+
+    only : (k i : ℕ) → k ≡ 0 → get_or (place ∷ []) k i ≡ i → place ≡ i
+    only k i same at = subst (λ j. get_or (place ∷ []) j i ≡ i) same at
+
+-- among boxes
+pub stuck-among : (b : Numbered) (boxes : List ℕ) (square : ℕ) → Contains boxes square → IsStuck b square → (place : ℕ) × IsStuckAt b boxes place
+stuck-among b boxes square (k, within, is) stuck = (k, (square, slice_get-get_or boxes k square within ∙ ap Some is, stuck))
+
+-- it bars, whatever is to be shown, and has a text
+module _ (b : Numbered) (boxes : List ℕ) (place : ℕ) (at : IsStuckAt b boxes place) (why : Reason) (is : IsLoneCrowd place why) where
+  pub lone-bars : (player : ℕ) (rest : Rest) → ReasonBars b player boxes why rest
+  lone-bars player rest = subst (λ r. ReasonBars b player boxes r rest) (sym is) (stuck-crowd b boxes place at)
+
+  pub lone-fits : length boxes ≤ box_limit → HasText boxes why
+  lone-fits few = subst (HasText boxes) (sym is) (tt, members-fit boxes (place ∷ []) few (stuck-crowd b boxes place at).listed, none-inside)

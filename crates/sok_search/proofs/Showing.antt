@@ -1,5 +1,5 @@
--- What a finished search shows, whole or not: its states are known, and nothing solves from those that it left out.
-use Rattle.std.proofs.Common.{ℕ, ◌≡◌, ◌≤◌, ◌+◌, ◌⊎◌, inl, inr, [], Some, true, false, arith, slice_get}
+-- What a search shows whose states are done with, whole or not: they are known, and nothing solves from those that it left out.
+use Rattle.std.proofs.Common.{ℕ, ◌≡◌, ◌≤◌, ◌+◌, ◌⊎◌, inl, inr, Some, true, false, arith, slice_get}
 use Rattle.std.specs.Map.{values_of}
 use Rattle.sok_rules.specs.declared.cell.Dir.{Dir}
 use Rattle.sok_rules.specs.Play.{After, NeverFrom, Position, start, step}
@@ -29,9 +29,8 @@ use Rattle.sok_state.specs.Tables.{IsAt}
 use Rattle.sok_state.specs.Keys.{key_position}
 use Rattle.sok_search.specs.declared.note.Standing.{Standing}
 use Rattle.sok_search.specs.declared.note.Standing.TheVariants.{Open, Expanded, Dead, Lost}
-use Rattle.sok_search.specs.Finished.{CostsEnough, claim_of}
+use Rattle.sok_search.specs.Finished.{AreDone, CostsEnough, IsDone}
 use Rattle.sok_search.specs.Searches.{Progress, IsDead, IsMet, IsSearch, Stands}
-use Rattle.sok_search.proofs.Certified.{stands-done}
 use Rattle.sok_search.proofs.Knowing.{noted-at}
 
 -- a known state at most so deep, of a position
@@ -63,7 +62,7 @@ agree-open b accepted (Pushes k) key depth deep x placed same near (n, (u, v, ba
     let more = (reasons-bar b accepted key.least key.boxes (Barring.bound u v) (AtLeast n) placed (bars key.least)).each x same w solves in
     omega (arith, more, enough, near)
 
-module _ (b : Numbered) (accepted : IsAccepted b) (limit : ℕ) (p : Progress) (search : IsSearch b limit p) (none : p.queue ≡ []) where
+module _ (b : Numbered) (accepted : IsAccepted b) (limit : ℕ) (p : Progress) (search : IsSearch b limit p) (claim : Claim) (done : AreDone b claim p) where
   -- a push from an expanded state leads to what is known
   known-met : (key : Key) (deep depth : ℕ) (push : Push) (after : Position) → LeadsTo b key push after → deep + 1 ≤ depth → IsMet b p key deep push
       → IsKnown b p depth after
@@ -104,31 +103,31 @@ module _ (b : Numbered) (accepted : IsAccepted b) (limit : ℕ) (p : Progress) (
 
     -- by the standing of the state
     standing-known : (s : Standing) → Stands b p at.index at.key at.deep s
-        → AllAgree b.rows (claim_of p.best) depth x ⊎ LeadsOn b.rows (IsKnown b p) depth x
-    standing-known (Open bound) stands =
-        inl (agree-open b accepted (claim_of p.best) at.key depth at.deep x placed at.same at.near
-        (stands-done b p at.index at.key at.deep none (Open bound) stands))
-    standing-known (Expanded bound) (prices, unsolved, met) = inr (record {
+        → IsDone b claim (losses_of p.frame.losses) at.key.least at.key.boxes at.deep s
+        → AllAgree b.rows claim depth x ⊎ LeadsOn b.rows (IsKnown b p) depth x
+    standing-known (Open bound) stands enough = inl (agree-open b accepted claim at.key depth at.deep x placed at.same at.near enough)
+    standing-known (Expanded bound) (prices, unsolved, met) expanded = inr (record {
       unsolved = λ solved. unsolved (solved-Same b.rows (key_position b at.key) x at.same solved);
       walked = walked;
       pushed = pushed met;
     })
-    standing-known Dead dead = inl (agree-dead b accepted (claim_of p.best) at.key depth at.deep x placed at.same at.near dead)
-    standing-known (Lost place) lost = inl (λ w solves. absurd
+    standing-known Dead stands dead = inl (agree-dead b accepted claim at.key depth at.deep x placed at.same at.near dead)
+    standing-known (Lost place) stands lost = inl (λ w solves. absurd
         (NeverFrom-Same b.rows (key_position b at.key) x at.same
         (lost-never b at.key.least at.key.boxes (losses_of p.frame.losses) place lost accepted placed) w solves))
 
-  known : (depth : ℕ) (x : Position) → IsKnown b p depth x → AllAgree b.rows (claim_of p.best) depth x ⊎ LeadsOn b.rows (IsKnown b p) depth x
+  known : (depth : ℕ) (x : Position) → IsKnown b p depth x → AllAgree b.rows claim depth x ⊎ LeadsOn b.rows (IsKnown b p) depth x
   known depth x (inr never) = inl (λ w solves. absurd (never w solves))
   known depth x (inl at) =
       let (note, note_is, noted) = noted-at b limit p search at.index at.key at.deep at.there at.depth_is in
       standing-known depth x at noted.state.is.placed note.standing noted.stands
+      (done at.index at.key at.deep note (record { there = at.there; depth_is = at.depth_is; note_is = note_is }))
 
   -- the start is known, so the claim is true
-  pub shows : IsTrueOf b.rows (claim_of p.best)
+  pub shows : IsTrueOf b.rows claim
   shows =
       let begun = search.begun in
-      IsTrueOf-known b.rows (claim_of p.best) (IsKnown b p) known (inl (record {
+      IsTrueOf-known b.rows claim (IsKnown b p) known (inl (record {
         index = 0;
         key = begun.key;
         there = begun.there;

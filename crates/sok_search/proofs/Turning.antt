@@ -1,5 +1,5 @@
 -- A turn keeps all that is known, and less work remains.
-use Rattle.std.proofs.Common.{ℕ, ◌≡◌, ◌<◌, ◌≤◌, ◌+◌, ◌-◌, ◌*◌, ◌∙◌, inl, inr, refl, sym, ap, subst, List, ◌∷◌, Option, Some, None, Contains, arith}
+use Rattle.std.proofs.Common.{ℕ, ◌≡◌, ◌<◌, ◌≤◌, ◌+◌, ◌-◌, ◌*◌, ◌∙◌, inl, inr, refl, sym, ap, subst, Bool, List, ◌∷◌, Option, Some, None, Contains, arith}
 use Rattle.std.proofs.Common.{length, set, slice_get, sum_by}
 use Rattle.std.specs.Map.{values_of}
 use Rattle.std.proofs.lemmas.Bool.{cases_lt}
@@ -11,10 +11,11 @@ use Rattle.sok_state.specs.Pushes.{IsLegal}
 use Rattle.sok_search.specs.declared.note.Note.{Note}
 use Rattle.sok_search.specs.declared.reaching.Reached.{Reached}
 use Rattle.sok_search.specs.declared.reaching.Reached.TheVariants.{On}
+use Rattle.sok_search.specs.declared.note.Standing.{Standing}
 use Rattle.sok_search.specs.declared.note.Standing.TheVariants.{Open, Expanded, Dead, Lost}
 use Rattle.sok_search.specs.Searches.{Progress, IsBeaten, IsSearch, IsSolved, IsState, Stands}
-use Rattle.sok_search.specs.Steps.{HasOneMore, done, holding, work}
-use Rattle.sok_search.specs.Views.{HasFollowed, IsTurned, TellsTurned}
+use Rattle.sok_search.specs.Steps.{HasOneMore, Queues, done, holding, work}
+use Rattle.sok_search.specs.Views.{HasFollowed, IsCutOff, IsTurned, TellsTurned}
 use Rattle.sok_search.proofs.Doing.{keeps-dropped, keeps-expanded, keeps-solved}
 use Rattle.sok_search.proofs.Keeping.{keeps-queue}
 use Rattle.sok_search.proofs.Knowing.{known-at}
@@ -52,6 +53,28 @@ held-search b limit index p rest search taken =
       | inl same ↦ search.queued i ((taken.exact i).1 (inl (sym same)))
       | inr later ↦ search.queued i ((taken.exact i).1 (inr later))
     ]) (λ i key depth note state. inl (member i))
+
+-- an index that is held waits again
+pub waits-still : (b : Numbered) (limit index : ℕ) (p : Progress) (queue : List ℕ) → IsSearch b limit (holding index p) → HasOneMore p.queue index queue
+    → IsSearch b limit (record p { queue = queue })
+waits-still b limit index p queue search more =
+    keeps-queue b limit (holding index p) queue search (λ i waits. elim ((more.exact i).0 waits) [
+      | inl same ↦ search.queued i (subst (Contains (index ∷ p.queue)) (sym same) (0, omega arith, refl))
+      | inr later ↦ search.queued i (Contains-cons index i p.queue later)
+    ]) (λ i key depth note state. inl (λ waits. elim (Contains-cons_cases index i p.queue waits) [
+      | inl same ↦ (more.exact i).1 (inl (sym same))
+      | inr later ↦ (more.exact i).1 (inr later)
+    ]))
+
+-- so a search that is cut off waits for no index less
+pub cut-waits : (b : Numbered) (limit index bound : ℕ) (whole : Bool) (p : Progress) (queue : List ℕ) (s : Standing) → s ≡ Open bound
+    → IsCutOff b limit whole (holding index p) → Queues s index p.queue queue → IsCutOff b limit whole (record p { queue = queue })
+cut-waits b limit index bound whole p queue s is cut queues =
+    record {
+      more = cut.more;
+      search = waits-still b limit index p queue cut.search (subst (λ standing. Queues standing index p.queue queue) is queues);
+      kept = cut.kept;
+    }
 
 pub work-taken : (limit index : ℕ) (p : Progress) (rest : List ℕ) → HasOneMore rest index p.queue
     → work limit (holding index (record p { queue = rest })) ≡ work limit p

@@ -1,5 +1,5 @@
--- What a search shows that is finished: nothing waits.
-use Rattle.std.specs.Prelude.{ℕ, ◌≡◌, ◌≤◌, ◌+◌, List, Option, Some, None, IsSomeAnd, length, slice_get}
+-- What a search shows, finished or cut off, where each of its states is done with for what is claimed.
+use Rattle.std.specs.Prelude.{ℕ, ◌≡◌, ◌≤◌, ◌+◌, List, [], ◌∷◌, Option, Some, None, IsSomeAnd, length, slice_get}
 use Rattle.sok_board.specs.Area.{Numbered}
 use Rattle.sok_cert.specs.Claim.{Claim}
 use Rattle.sok_cert.specs.Claim.TheVariants.{Pushes, Unsolvable}
@@ -7,6 +7,7 @@ use Rattle.sok_cert.specs.Entry.{Entry}
 use Rattle.sok_cert.specs.Reason.{Reason}
 use Rattle.sok_cert.specs.Reason.TheVariants as reason
 use Rattle.sok_cert.specs.Text.{FitsReason}
+use Rattle.sok_push.specs.Pushing.{IsStuck}
 use Rattle.sok_price.specs.Matches.{ArePrices}
 use Rattle.sok_price.specs.Prices.{IsCrowd}
 use Rattle.sok_bar.specs.declared.rest.Rest.{Rest}
@@ -14,7 +15,7 @@ use Rattle.sok_bar.specs.Bars.{Bars}
 use Rattle.sok_state.specs.declared.key.Key.{Key}
 use Rattle.sok_cert.specs.Closed.{barring, rest_of}
 use Rattle.sok_alone.specs.declared.losses.Loss.{Loss}
-use Rattle.sok_alone.specs.Losses.{IsLostBy}
+use Rattle.sok_alone.specs.Losses.{IsLostBy, losses_of}
 use Rattle.sok_search.specs.declared.note.Note.{Note}
 use Rattle.sok_search.specs.declared.note.Standing.{Standing}
 use Rattle.sok_search.specs.declared.note.Standing.TheVariants as standing
@@ -68,6 +69,19 @@ IsDone b claim losses player boxes depth (standing.Open bound) = CostsEnough b c
 IsDone b claim losses player boxes depth (standing.Expanded bound) = Unit {0}
 IsDone b claim losses player boxes depth standing.Dead = IsDead b boxes
 IsDone b claim losses player boxes depth (standing.Lost place) = IsLostBy b player boxes losses place
+
+-- each state that is known is done with
+abbrev pub AreDone : Numbered → Claim → Progress → Type 0
+AreDone b claim p = (i : ℕ) (key : Key) (depth : ℕ) (note : Note) → IsState p i key depth note
+    → IsDone b claim (losses_of p.frame.losses) key.least key.boxes depth note.standing
+
+-- the box at a place reaches no goal
+abbrev pub IsStuckAt : Numbered → List ℕ → ℕ → Type 0
+IsStuckAt b boxes place = (square : ℕ) × (slice_get boxes place ≡ Some square) × IsStuck b square
+
+-- a crowd of the box at a place alone
+abbrev pub IsLoneCrowd : ℕ → Reason → Type 0
+IsLoneCrowd place why = why ≡ reason.Crowd (place ∷ [])
 
 -- prices of a least assignment, or a crowd
 abbrev pub IsAssigned : Numbered → List ℕ → Reason → Type 0

@@ -5,6 +5,7 @@ pub mod Outcomes
 -- Words of the proofs alone
 pub mod Buckets
 pub mod Finished
+pub mod Halted
 pub mod Searches
 pub mod Steps
 pub mod Trails

@@ -1,12 +1,13 @@
 -- What is answered of a level.
-use Rattle.std.specs.Prelude.{ℕ, ◌≡◌, ◌≤◌, ◌+◌, ◌⊎◌, ◌++◌, ◌∷◌, List, [], Option, Some, None, length}
+use Rattle.std.specs.Prelude.{ℕ, ◌≡◌, ◌≤◌, ◌+◌, ◌⊎◌, ◌++◌, ◌∷◌, Bool, true, false, MatchBool, List, [], Option, Some, None, IsSomeAnd, length}
 use Rattle.sok_rules.specs.declared.cell.Dir.{Dir}
 use Rattle.sok_rules.specs.Squares.{Rows}
-use Rattle.sok_rules.specs.Play.{start, pushes, Solves, IsFewest, IsUnsolvable}
+use Rattle.sok_rules.specs.Play.{start, pushes, Solves, AtLeast, IsFewest, IsUnsolvable}
 use Rattle.sok_rules.specs.States.{MoreStatesThan}
 use Rattle.sok_board.specs.Area.{Numbered, IsAccepted}
 use Rattle.sok_cert.specs.Claim.{Claim}
 use Rattle.sok_cert.specs.Claim.TheVariants as claim
+use Rattle.sok_cert.specs.Cert.{Cert}
 use Rattle.sok_cert.specs.Entry.{Entry}
 use Rattle.sok_cert.specs.Text.{Fits}
 use Rattle.sok_cert.specs.Closed.{IsClosed}
@@ -14,6 +15,7 @@ use Rattle.sok_search.specs.declared.found.Found.{Found}
 use Rattle.sok_search.specs.declared.found.Found.TheVariants as found
 use Rattle.sok_search.specs.declared.outcome.Outcome.{Outcome}
 use Rattle.sok_search.specs.declared.outcome.Outcome.TheVariants.{Solved, Unsolvable, Limit}
+use Rattle.sok_search.specs.Halted.{IsLeastOpen}
 use Rattle.sok_search.specs.Searches.{Progress, IsSearch}
 
 -- the last letter of a list pushes
@@ -65,14 +67,40 @@ pub record HasSearched (rows : Rows) (limit : ℕ) (best : Option ℕ) : Type 0 
   pub finished : known.queue ≡ []
   pub best_is : known.best ≡ best
 
+-- A search of the level that knows at most so many states was cut off, and so many pushes, at the least, are needed in one of its open states: those that
+-- were made, and those that its bound says are to come.
+pub record HasHalted (rows : Rows) (limit least : ℕ) : Type 0 where
+  pub board : Numbered
+  pub rows_are : board.rows ≡ rows
+  pub known : Progress
+  pub search : IsSearch board limit known
+  pub least_is : IsLeastOpen known least
+
+-- there are more states than a limit allows; and no list solves with fewer pushes than the search of as many shows
+pub record IsCutShort (rows : Rows) (limit states least : ℕ) : Type 0 where
+  pub past : IsPastLimit rows limit states
+  pub at_least : AtLeast rows least
+  pub halted : HasHalted rows limit least
+
 -- what is found of a level within a limit
 abbrev pub IsFound : Rows → ℕ → Found → Type 0
 IsFound rows limit (found.Solved dirs pushes) = IsLeastSolution rows dirs.items pushes × HasSearched rows limit (Some pushes)
 IsFound rows limit found.Unsolvable = IsUnsolvable rows × HasSearched rows limit None
-IsFound rows limit (found.Limit states) = IsPastLimit rows limit states
+IsFound rows limit (found.Limit states at_least) = IsCutShort rows limit states at_least
 
--- what is answered of a level within a limit
+-- a certificate shows the least, where one is wanted
+abbrev pub ShowsLeast : Rows → ℕ → Bool → ℕ → Option Cert → Type 0
+ShowsLeast rows limit wanted least cert =
+    MatchBool wanted (IsSomeAnd cert (λ c. Certifies rows limit (claim.Pushes least) c.entries.items)) (cert ≡ None)
+
+-- what is answered of a level within a limit, where a certificate is wanted of what a search shows that was cut off, or not
+abbrev pub IsOutcome : Rows → ℕ → Bool → Outcome → Type 0
+IsOutcome rows limit wanted (Solved dirs pushes cert) = IsShownSolved rows limit dirs.items pushes cert.entries.items
+IsOutcome rows limit wanted (Unsolvable cert) = IsShownUnsolvable rows limit cert.entries.items
+IsOutcome rows limit wanted (Limit states at_least cert) = IsCutShort rows limit states at_least × ShowsLeast rows limit wanted at_least cert
+
 abbrev pub IsAnswer : Rows → ℕ → Outcome → Type 0
-IsAnswer rows limit (Solved dirs pushes cert) = IsShownSolved rows limit dirs.items pushes cert.entries.items
-IsAnswer rows limit (Unsolvable cert) = IsShownUnsolvable rows limit cert.entries.items
-IsAnswer rows limit (Limit states) = IsPastLimit rows limit states
+IsAnswer rows limit = IsOutcome rows limit false
+
+abbrev pub IsBounded : Rows → ℕ → Outcome → Type 0
+IsBounded rows limit = IsOutcome rows limit true

@@ -1,6 +1,6 @@
 //! The reasons of a certificate, found again from the boxes of a state.
 
-ghost use Rattle.std.specs.Prelude.{ℕ, ◌≡◌, ◌<◌, ◌↔◌, IfOk, IsTrue, All, length};
+ghost use Rattle.std.specs.Prelude.{ℕ, ◌≡◌, ◌<◌, ◌↔◌, IfOk, IfSome, IsTrue, All, length};
 ghost use Rattle.sok_alone.specs.Losses.{IsLostBy, losses_of};
 ghost use Rattle.sok_board.specs.Area.{Numbered};
 ghost use Rattle.sok_price.specs.Matched.{Serves};
@@ -8,7 +8,7 @@ ghost use Rattle.sok_bar.specs.declared.rest.Rest.{Rest};
 ghost use Rattle.sok_cert.specs.Closed.{rest_of};
 ghost use Rattle.sok_search.specs.Searches.{IsDead};
 ghost use Rattle.sok_search.specs.Finished.{CostsEnough, HasText, IsAssigned, IsAtMost, IsDone};
-ghost use Rattle.sok_search.specs.Finished.{IsReasonOf, ReasonBars};
+ghost use Rattle.sok_search.specs.Finished.{IsLoneCrowd, IsReasonOf, IsStuckAt, ReasonBars};
 
 use crate::note::Standing;
 use sok_alone::found::FoundPattern;
@@ -90,7 +90,8 @@ fn is_spent(claim: Claim, depth: u32) -> bool
     }
 }
 
-/// The reason why nothing solves from a dead state: a jam, or else a crowd.
+/// The reason why nothing solves from a dead state: a box that reaches no goal, which is a crowd by
+/// itself, or else a jam, or else a crowd.
 fn dead_reason(
     alloc: Global,
     board: &Board,
@@ -108,7 +109,9 @@ fn dead_reason(
     ensures fits { IfOk result (HasText boxes.now) }
 {
     // There are few boxes, so their indices have a text.
-    let _list = boxes.list();
+    if let Some(place) = stuck_place(tables, boxes.list()) {
+        return stuck_reason(alloc, place as u32);
+    }
     match find_jam(alloc, board, tables, boxes)? {
         Some(members) => {
             let members = Numbers::from(members);
@@ -116,6 +119,29 @@ fn dead_reason(
         }
         None => assigned_reason(alloc, board, matching, boxes),
     }
+}
+
+/// The place of the first box that reaches no goal from its square, wherever the others are.
+fn stuck_place(tables: &Tables, squares: &[Sq]) -> Option<usize>
+    requires { All (λ square. square < length tables.now.board.area) squares.now }
+    ensures { IfSome result (IsStuckAt tables.now.board squares.now) }
+{
+    for (place, square) in squares.iter().enumerate() {
+        if tables.stuck(*square) {
+            return Some(place);
+        }
+    }
+    None
+}
+
+/// The box at a place, as a crowd.
+fn stuck_reason(alloc: Global, place: u32) -> Result<Reason, Memory>
+    ensures { IfOk result (IsLoneCrowd place) }
+{
+    let mut members = Vec::new(alloc);
+    members.push(place)?;
+    let members = Numbers::from(members);
+    Ok(Reason::Crowd { members })
 }
 
 /// The reason why nothing solves from a lost state: the loss at a place, as a pattern of its boxes.

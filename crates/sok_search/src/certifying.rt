@@ -1,10 +1,10 @@
-//! The certificate of a finished search.
+//! The certificate of a search whose states are all done with.
 
-ghost use Rattle.std.specs.Prelude.{◌≡◌, ◌<◌, [], All, IfOk, OnOk, length};
+ghost use Rattle.std.specs.Prelude.{◌≡◌, ◌<◌, All, IfOk, OnOk, length};
 ghost use Rattle.sok_board.specs.Area.{IsAccepted, Numbered};
 ghost use Rattle.sok_cert.specs.Text.{FitsEntry};
 ghost use Rattle.sok_price.specs.Matched.{Serves};
-ghost use Rattle.sok_search.specs.Finished.{claim_of, AreFirstEntries, IsEntryAt};
+ghost use Rattle.sok_search.specs.Finished.{AreDone, AreFirstEntries, IsEntryAt};
 ghost use Rattle.sok_search.specs.Searches.{IsSearching, IsSmallSearch, IsState};
 ghost use Rattle.sok_search.specs.Views.{progress_of};
 
@@ -32,8 +32,7 @@ pub(crate) fn certificate(
     requires accepted { IsAccepted board.now }
     requires tables { tables.now.board ≡ board.now }
     requires search { IsSmallSearch board.now (progress_of search.now) }
-    requires finished { search.now.queue ≡ [] }
-    requires claim { claim ≡ claim_of search.now.best }
+    requires done { AreDone board.now claim (progress_of search.now) }
     ensures entries { IfOk result (λ cert. AreFirstEntries board.now claim (progress_of search.now)
         (length search.now.table.entries) cert.entries.items) }
     ensures fit { IfOk result (λ cert. All FitsEntry cert.entries.items) }
@@ -72,8 +71,7 @@ fn entry_at(
     requires tables { tables.now.board ≡ board.now }
     requires serves { Serves board.now matching.old }
     requires search { IsSmallSearch board.now (progress_of search.now) }
-    requires finished { search.now.queue ≡ [] }
-    requires claim { claim ≡ claim_of search.now.best }
+    requires done { AreDone board.now claim (progress_of search.now) }
     requires within { index < length search.now.table.entries }
     ensures serves { OnOk result (Serves board.now matching.new) }
     ensures entry { IfOk result (IsEntryAt board.now claim (progress_of search.now) index) }

@@ -9,6 +9,7 @@ pub enum Found {
     Solved { dirs: Vec<Dir>, pushes: u32 },
     /// No letters solve the level.
     Unsolvable,
-    /// More states can be reached than the limit, which is told, and they were too few to answer.
-    Limit { states: u32 },
+    /// More states can be reached than the limit, which is told, and they were too few to answer. No
+    /// letters solve the level with fewer pushes than `at_least`, which is at most 1,000,000.
+    Limit { states: u32, at_least: u32 },
 }

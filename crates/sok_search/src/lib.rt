@@ -10,8 +10,9 @@
 //! | `barring` | the reasons of a certificate, found again (private) |
 //! | `beginning` | a search that knows the start alone (private) |
 //! | `buckets` | indices that wait, in buckets by rank (private) |
-//! | `certifying` | the certificate of a finished search (private) |
+//! | `certifying` | the certificate of a search (private) |
 //! | `expanding` | a state is expanded (private) |
+//! | `halted` | what a search shows that was cut off (private) |
 //! | `judging` | how a new state stands, and whether a state is solved (private) |
 //! | `note` | what a search notes of a state (private) |
 //! | `queue` | states that wait, by the pushes that they need at least (private) |
@@ -31,6 +32,7 @@ mod certifying;
 mod expanding;
 pub mod fault;
 pub mod found;
+mod halted;
 mod judging;
 mod note;
 pub mod outcome;

@@ -17,8 +17,12 @@ pub enum Outcome {
     Unsolvable {
         cert: Cert,
     },
-    /// More states can be reached than the limit, which is told, and they were too few to answer.
+    /// More states can be reached than the limit, which is told, and they were too few to answer. No
+    /// letters solve the level with fewer pushes than `at_least`, which is at most 1,000,000; where
+    /// a certificate of this was asked for, it shows it.
     Limit {
         states: u32,
+        at_least: u32,
+        cert: Option<Cert>,
     },
 }

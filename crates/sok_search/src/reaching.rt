@@ -1,9 +1,10 @@
 //! A push is followed.
 
-ghost use Rattle.std.specs.Prelude.{◌≡◌, ◌<◌, ◌^◌, IfOk, IfSome, OnOk, Some, length};
+ghost use Rattle.std.specs.Prelude.{◌≡◌, ◌<◌, ◌≤◌, ◌^◌, IfOk, IfSome, OnOk, Some, length};
 ghost use Rattle.sok_alone.specs.Losses.{IsLostBy, KeepsLosses, KeepsPlaces, losses_of};
 ghost use Rattle.sok_board.specs.Area.{IsAccepted, beside};
 ghost use Rattle.sok_board.specs.BoxSets.{put_in_order};
+ghost use Rattle.sok_push.specs.Distances.{Distances};
 ghost use Rattle.sok_region.specs.Layouts.{IsLaidOut};
 ghost use Rattle.sok_state.specs.Keys.{IsKey};
 ghost use Rattle.sok_state.specs.Pushes.{IsLegal};
@@ -21,10 +22,12 @@ use sok_board::board::Board;
 use sok_push::tables::Tables;
 use sok_rules::fault::Memory;
 use sok_state::key::Key;
+use sok_state::legal::after;
 use sok_state::push::Push;
 use std::alloc::Global;
 
-/// That a search goes on, or that its table is full and lacks a state that is reached.
+/// That a search goes on, or that its table is full and lacks a state that is reached: then the
+/// search is cut off.
 #[derive(Clone, Copy, Debug)]
 pub(crate) enum Reached {
     On,
@@ -134,6 +137,39 @@ pub(crate) fn reach(
     )
 }
 
+/// Comes to the state behind a push where the table has no place for another one: it comes nearer
+/// or stays, where it is known.
+fn arrive_full(
+    alloc: Global,
+    board: &Board,
+    limit: u32,
+    search: &mut Search,
+    index: usize,
+    key: &Key,
+    depth: u32,
+    push: Push,
+) -> Result<Reached, Memory>
+    requires state { (t : Distances)
+        × HoldsState board.now t limit index key.now depth search.old }
+    requires full { limit ≤ length search.old.table.entries }
+    requires legal { IsLegal board.now key.now push }
+    ensures { IfOk result (TellsReached board.now limit (progress_of search.old) index key.now
+        depth push (progress_of search.new)) }
+{
+    let next = after(alloc, board, key, push)?;
+    match search.table.get(&next) {
+        Some(at) => {
+            let origin = Some(Origin {
+                parent: index as u32,
+                push,
+            });
+            approach(search, at, depth + 1, origin)?;
+            Ok(Reached::On)
+        }
+        None => Ok(Reached::Full),
+    }
+}
+
 /// Comes to the state behind a push to a square: it is added, comes nearer, or stays. A new one may
 /// be lost by a loss that is known.
 fn arrive(
@@ -163,6 +199,9 @@ fn arrive(
     ensures tells { IfOk result (TellsReached board.now limit (progress_of search.old) index
         key.now depth push (progress_of search.new)) }
 {
+    if search.table.len() >= limit as usize {
+        return arrive_full(alloc, board, limit, search, index, key, depth, push);
+    }
     let from = push.from;
     let least = step(board, push, to, &mut trial.layout, &mut trial.seen);
     let origin = Some(Origin {
@@ -174,9 +213,6 @@ fn arrive(
     if !is_new {
         approach(search, at, deeper, origin)?;
         return Ok(Reached::On);
-    }
-    if at >= limit as usize {
-        return Ok(Reached::Full);
     }
     let standing = judge_after(alloc, board, tables, trial, &key.boxes, from, to, lost)?;
     add(search, at, deeper, Note { origin, standing })?;

@@ -11,7 +11,7 @@ ghost use Rattle.sok_search.specs.declared.note.Standing.TheVariants.{Open};
 use crate::expanding::{Scratch, expand};
 use crate::note::{Note, Standing};
 use crate::reaching::Reached;
-use crate::search::Search;
+use crate::search::{Search, wait};
 use sok_board::board::Board;
 use sok_closed::solved::is_solved;
 use sok_push::tables::Tables;
@@ -75,7 +75,11 @@ fn visit(
             mark(search, index, Note { origin, standing });
             Ok(Reached::On)
         }
-        Reached::Full => Ok(Reached::Full),
+        Reached::Full => {
+            // It waits still.
+            wait(&mut search.queue, index as u32, depth, note.standing)?;
+            Ok(Reached::Full)
+        }
     }
 }
 
@@ -106,7 +110,7 @@ fn turn(
     }
 }
 
-/// Takes one index after another, until none waits or the table is full.
+/// Takes one index after another, until none waits or a new state has no place in the table.
 pub(crate) fn run(
     alloc: Global,
     board: &Board,

@@ -26,7 +26,12 @@ pub(crate) struct Search {
 }
 
 /// Lets an index wait, if its standing is open.
-fn wait(queue: &mut Queue, index: u32, depth: u32, standing: Standing) -> Result<(), Memory>
+pub(crate) fn wait(
+    queue: &mut Queue,
+    index: u32,
+    depth: u32,
+    standing: Standing,
+) -> Result<(), Memory>
     ensures { IfOk result (λ _. Queues standing index queue.old queue.new) }
 {
     match standing {

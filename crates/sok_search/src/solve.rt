@@ -1,15 +1,16 @@
 //! The solver.
 
-ghost use Rattle.std.specs.Prelude.{ℕ, ◌≡◌, ◌<◌, ◌≤◌, ◌↔◌, [], Err, IfOk, IfErr, IsOk};
+ghost use Rattle.std.specs.Prelude.{ℕ, ◌≡◌, ◌<◌, ◌≤◌, ◌↔◌, [], Bool, Err, IfOk, IfErr, IsOk};
 ghost use Rattle.std.specs.Prelude.{IsTrue, length, true};
 ghost use Rattle.sok_board.specs.Area.{IsAccepted};
 ghost use Rattle.sok_board.specs.Refusals.{IsAcceptable};
 ghost use Rattle.sok_search.specs.Faults.{IsAcceptedWithin, IsBadLimit, IsRefusal, TellsFault};
 ghost use Rattle.sok_search.specs.Limits.{state_limit};
-ghost use Rattle.sok_search.specs.Outcomes.{IsAnswer, IsFound};
+ghost use Rattle.sok_search.specs.Outcomes.{IsAnswer, IsBounded, IsFound, IsOutcome};
 ghost use Rattle.sok_search.specs.Searches.{IsSearch, IsSearching, IsSmallSearch};
 ghost use Rattle.sok_search.specs.Trails.{IsSolvedWithin};
-ghost use Rattle.sok_search.specs.Views.{progress_of, IsEmpty, IsRunning, TellsFinished, TellsSearched};
+ghost use Rattle.sok_search.specs.Views.{progress_of, IsCutOff, IsEmpty, IsRunning, TellsFinished};
+ghost use Rattle.sok_search.specs.Views.{TellsSearched};
 ghost use Rattle.sok_search.specs.declared.fault.SolveFault.TheVariants as fault;
 
 use crate::beginning::{empty, enter_start};
@@ -17,6 +18,7 @@ use crate::certifying::certificate;
 use crate::expanding::Scratch;
 use crate::fault::SolveFault;
 use crate::found::Found;
+use crate::halted::least_open;
 use crate::outcome::Outcome;
 use crate::reaching::Reached;
 use crate::running::run;
@@ -46,7 +48,22 @@ pub fn solve(alloc: Global, level: &Level, limit: u32) -> Result<Outcome, SolveF
         → (IsOk result ↔ IsAcceptable level.now) }
 {
     let board = accept(alloc, level, limit)?;
-    let outcome = answer(alloc, &board, limit)?;
+    let outcome = answer(alloc, &board, limit, false)?;
+    Ok(outcome)
+}
+
+/// What `solve` answers. Where it tells of a limit, there is a certificate, too, which shows that no
+/// letters solve the level with fewer pushes than are told: its entries are the states that were
+/// found, and those that still waited are barred by their prices.
+pub fn bound(alloc: Global, level: &Level, limit: u32) -> Result<Outcome, SolveFault>
+    ensures bounded { IfOk result (IsBounded level.now limit) }
+    ensures bad_limit { (result ≡ Err fault.BadLimit) ↔ IsBadLimit limit }
+    ensures refused { IfErr result (IsRefusal level.now limit) }
+    ensures exact { (result ≡ Err fault.Memory → ⊥) → (result ≡ Err fault.BadLimit → ⊥)
+        → (IsOk result ↔ IsAcceptable level.now) }
+{
+    let board = accept(alloc, level, limit)?;
+    let outcome = answer(alloc, &board, limit, true)?;
     Ok(outcome)
 }
 
@@ -85,17 +102,18 @@ fn accept(alloc: Global, level: &Level, limit: u32) -> Result<Board, SolveFault>
     Ok(board)
 }
 
-/// The answer of a board within a limit.
-fn answer(alloc: Global, board: &Board, limit: u32) -> Result<Outcome, Memory>
+/// The answer of a board within a limit, where a certificate of a limit that is met is wanted, or
+/// not.
+fn answer(alloc: Global, board: &Board, limit: u32, wanted: bool) -> Result<Outcome, Memory>
     requires positive { 0 < limit }
     requires small { limit ≤ state_limit }
-    ensures { IfOk result (IsAnswer board.now.rows limit) }
+    ensures { IfOk result (IsOutcome board.now.rows limit wanted) }
 {
     // Its clauses tell that the level is accepted.
     let _level = board.level();
     let tables = Tables::new(alloc, board)?;
     let mut search = empty(alloc, board, true)?;
-    answer_by(alloc, board, &tables, limit, &mut search)
+    answer_by(alloc, board, &tables, limit, wanted, &mut search)
 }
 
 /// The same, by a search that knows nothing.
@@ -104,6 +122,7 @@ fn answer_by(
     board: &Board,
     tables: &Tables,
     limit: u32,
+    wanted: bool,
     search: &mut Search,
 ) -> Result<Outcome, Memory>
     requires accepted { IsAccepted board.now }
@@ -112,11 +131,11 @@ fn answer_by(
     requires small { limit ≤ state_limit }
     requires empty { IsEmpty board.now search.old }
     requires whole { search.old.whole ≡ true }
-    ensures { IfOk result (IsAnswer board.now.rows limit) }
+    ensures { IfOk result (IsOutcome board.now.rows limit wanted) }
 {
     match search_all(alloc, board, tables, limit, search)? {
         Reached::On => conclude(alloc, board, tables, search),
-        Reached::Full => Ok(Outcome::Limit { states: limit }),
+        Reached::Full => halt(alloc, board, tables, limit, wanted, search),
     }
 }
 
@@ -148,8 +167,46 @@ fn find_by(
 {
     match search_all(alloc, board, tables, limit, search)? {
         Reached::On => find_in(alloc, board, search),
-        Reached::Full => Ok(Found::Limit { states: limit }),
+        Reached::Full => Ok(Found::Limit {
+            states: limit,
+            at_least: least_open(search),
+        }),
     }
+}
+
+/// The answer of a search that was cut off, with a certificate of what it shows where one is wanted.
+fn halt(
+    alloc: Global,
+    board: &Board,
+    tables: &Tables,
+    limit: u32,
+    wanted: bool,
+    search: &Search,
+) -> Result<Outcome, Memory>
+    requires accepted { IsAccepted board.now }
+    requires tables { tables.now.board ≡ board.now }
+    requires small { limit ≤ state_limit }
+    requires cut { IsCutOff board.now limit true (progress_of search.now) }
+    ensures { IfOk result (IsOutcome board.now.rows limit wanted) }
+{
+    let at_least = least_open(search);
+    let states = limit;
+    if !wanted {
+        let cert = None;
+        return Ok(Outcome::Limit {
+            states,
+            at_least,
+            cert,
+        });
+    }
+    let claim = Claim::Pushes(at_least);
+    let cert = certificate(alloc, board, tables, claim, search)?;
+    let cert = Some(cert);
+    Ok(Outcome::Limit {
+        states,
+        at_least,
+        cert,
+    })
 }
 
 /// Searches from the start until no state waits, or the table is full before.
@@ -219,8 +276,8 @@ fn conclude(
     requires search { IsSmallSearch board.now (progress_of search.now) }
     requires whole { search.now.whole ≡ true }
     requires finished { search.now.queue ≡ [] }
-    ensures { (limit : ℕ) → IsSearch board.now limit (progress_of search.now)
-        → IfOk result (IsAnswer board.now.rows limit) }
+    ensures { (limit : ℕ) (wanted : Bool) → IsSearch board.now limit (progress_of search.now)
+        → IfOk result (IsOutcome board.now.rows limit wanted) }
 {
     match search.best {
         Some(pushes) => {

@@ -93,8 +93,9 @@ fn is_jammed(board: &Board, tables: &Tables, layout: &mut Layout, from: Sq, to: 
     jammed
 }
 
-/// How a new state with some boxes stands, of which one was pushed: dead, by a jam with that box or
-/// by a crowd, lost, by a loss that is known, or open, with prices of a total.
+/// How a new state with some boxes stands, of which one was pushed: dead, where that box reaches no
+/// goal, by a jam with it or by a crowd, lost, by a loss that is known, or open, with prices of a
+/// total.
 pub(crate) fn judge_after(
     alloc: Global,
     board: &Board,
@@ -117,6 +118,9 @@ pub(crate) fn judge_after(
         → IfSome lost (IsLostBy board.now player (put_in_order from to before.now) losses)
         → IfOk result (IsJudged board.now losses player (put_in_order from to before.now)) }
 {
+    if tables.stuck(to) {
+        return Ok(Standing::Dead);
+    }
     if is_jammed(board, tables, &mut trial.layout, from, to) {
         return Ok(Standing::Dead);
     }

@@ -1,10 +1,10 @@
--- What is answered to a level that is to be solved within a limit of states, alone or with a certificate.
-use Rattle.std.specs.Prelude.{ℕ, ◌≡◌, ◌≢◌, List, [], ◌++◌, Some, None, Result, Ok, Err, codes, length}
+-- What is answered to a level that is to be solved within a limit of states, alone or with a certificate, and where the limit is met, with what the search
+-- shows till then or without.
+use Rattle.std.specs.Prelude.{ℕ, ◌≡◌, ◌≢◌, Bool, true, false, List, [], ◌++◌, Some, None, Result, Ok, Err, codes, length}
 use Rattle.std.specs.Fmt.{decimal}
 use Rattle.sok_rules.specs.declared.cell.Dir.{Dir}
 use Rattle.sok_rules.specs.Squares.{Rows}
 use Rattle.sok_rules.specs.Play.{start, IsUnsolvable}
-use Rattle.sok_rules.specs.States.{MoreStatesThan}
 use Rattle.sok_text.specs.Collections.{blocks_of, level_at}
 use Rattle.sok_text.specs.Marked.{marked_text}
 use Rattle.sok_board.specs.declared.fault.BoardFault.{BoardFault}
@@ -14,7 +14,7 @@ use Rattle.sok_cert.specs.Claim.TheVariants as claim
 use Rattle.sok_cert.specs.Entry.{Entry}
 use Rattle.sok_cert.specs.Text.{text_of}
 use Rattle.sok_search.specs.Faults.{IsBadLimit}
-use Rattle.sok_search.specs.Outcomes.{HasSearched, IsLeastSolution, IsShownSolved, IsShownUnsolvable}
+use Rattle.sok_search.specs.Outcomes.{Certifies, HasSearched, IsCutShort, IsLeastSolution, IsShownSolved, IsShownUnsolvable}
 use Rattle.sok_engine.specs.declared.fault.ToolFault.{ToolFault}
 use Rattle.sok_engine.specs.declared.fault.ToolFault.TheVariants as tool
 use Rattle.sok_engine.specs.Certified.{Certified, CertifiedAnswers}
@@ -37,12 +37,18 @@ unsolvable_answer = record { text = codes "unsolvable\n"; status = 0 }
 abbrev pub limit_answer : ℕ → Answer
 limit_answer limit = record { text = codes "limit " ++ decimal limit ++ codes "\n"; status = 4 }
 
+-- and the fewest pushes that the search shows
+abbrev pub bound_answer : ℕ → ℕ → Answer
+bound_answer limit least = record { text = codes "limit " ++ decimal limit ++ codes " at least " ++ decimal least ++ codes "\n"; status = 4 }
+
 -- what is told without a certificate, after a search within the limit: a list that solves with the fewest pushes, or that none solves; or that there are
--- too many states
-pub data TellsFound (limit : ℕ) (rows : Rows) (told : Answer) : Type 0 where
-  is_solution : (w : List Dir) (pushes : ℕ) → IsLeastSolution rows w pushes → HasSearched rows limit (Some pushes) → told ≡ solution_answer rows w pushes → TellsFound limit rows told
-  has_none : IsUnsolvable rows → HasSearched rows limit None → told ≡ unsolvable_answer → TellsFound limit rows told
-  is_past_limit : MoreStatesThan rows limit → told ≡ limit_answer limit → TellsFound limit rows told
+-- too many states, and where a bound is asked for, that none solves with fewer pushes
+pub data TellsFound (limit : ℕ) (bound : Bool) (rows : Rows) (told : Answer) : Type 0 where
+  is_solution : (w : List Dir) (pushes : ℕ) → IsLeastSolution rows w pushes → HasSearched rows limit (Some pushes)
+      → told ≡ solution_answer rows w pushes → TellsFound limit bound rows told
+  has_none : IsUnsolvable rows → HasSearched rows limit None → told ≡ unsolvable_answer → TellsFound limit bound rows told
+  is_past_limit : (least : ℕ) → IsCutShort rows limit limit least → bound ≡ false → told ≡ limit_answer limit → TellsFound limit bound rows told
+  has_bound : (least : ℕ) → IsCutShort rows limit limit least → bound ≡ true → told ≡ bound_answer limit least → TellsFound limit bound rows told
 
 -- with the certificate that none solves with fewer pushes
 abbrev pub certified_solution : Rows → List Dir → ℕ → List Entry → Certified
@@ -56,12 +62,19 @@ certified_unsolvable entries = record { cert = text_of claim.Unsolvable entries;
 abbrev pub uncertified_limit : ℕ → Certified
 uncertified_limit limit = record { cert = []; answer = limit_answer limit }
 
--- what is told: a list that solves with the fewest pushes, or that none solves, each with a closed certificate; or that there are too many states
-pub data TellsOutcome (limit : ℕ) (rows : Rows) (told : Certified) : Type 0 where
+-- with the certificate that none solves with fewer pushes than the search shows
+abbrev pub certified_bound : ℕ → ℕ → List Entry → Certified
+certified_bound limit least entries = record { cert = text_of (claim.Pushes least) entries; answer = bound_answer limit least }
+
+-- what is told: a list that solves with the fewest pushes, or that none solves, each with a closed certificate; or that there are too many states, and where a
+-- bound is asked for, that none solves with fewer pushes, with a closed certificate too
+pub data TellsOutcome (limit : ℕ) (bound : Bool) (rows : Rows) (told : Certified) : Type 0 where
   is_solved : (w : List Dir) (pushes : ℕ) (entries : List Entry) → IsShownSolved rows limit w pushes entries
-      → told ≡ certified_solution rows w pushes entries → TellsOutcome limit rows told
-  is_unsolvable : (entries : List Entry) → IsShownUnsolvable rows limit entries → told ≡ certified_unsolvable entries → TellsOutcome limit rows told
-  is_limited : MoreStatesThan rows limit → told ≡ uncertified_limit limit → TellsOutcome limit rows told
+      → told ≡ certified_solution rows w pushes entries → TellsOutcome limit bound rows told
+  is_unsolvable : (entries : List Entry) → IsShownUnsolvable rows limit entries → told ≡ certified_unsolvable entries → TellsOutcome limit bound rows told
+  is_limited : (least : ℕ) → IsCutShort rows limit limit least → bound ≡ false → told ≡ uncertified_limit limit → TellsOutcome limit bound rows told
+  is_bounded : (least : ℕ) (entries : List Entry) → IsCutShort rows limit limit least → Certifies rows limit (claim.Pushes least) entries → bound ≡ true
+      → told ≡ certified_bound limit least entries → TellsOutcome limit bound rows told
 
 -- the limit is refused, or else the level, or else something is told of it
 pub data IsAnswered {A : Type 0} (Tells : A → Type 0) (limit : ℕ) (rows : Rows) (answer : Result A ToolFault) : Type 0 where
@@ -71,16 +84,16 @@ pub data IsAnswered {A : Type 0} (Tells : A → Type 0) (limit : ℕ) (rows : Ro
   is_told : ¬ (IsBadLimit limit) → IsAcceptable rows → (told : A) → Tells told → answer ≡ Ok told → IsAnswered Tells limit rows answer
 
 -- with a certificate, and alone
-abbrev pub IsSolveAnswer : ℕ → Rows → CertifiedAnswers
-IsSolveAnswer limit rows = IsAnswered (TellsOutcome limit rows) limit rows
+abbrev pub IsSolveAnswer : ℕ → Bool → Rows → CertifiedAnswers
+IsSolveAnswer limit bound rows = IsAnswered (TellsOutcome limit bound rows) limit rows
 
-abbrev pub IsFindAnswer : ℕ → Rows → Answers
-IsFindAnswer limit rows = IsAnswered (TellsFound limit rows) limit rows
+abbrev pub IsFindAnswer : ℕ → Bool → Rows → Answers
+IsFindAnswer limit bound rows = IsAnswered (TellsFound limit bound rows) limit rows
 
 -- the answer to the n-th level of a collection, counted from 1
-abbrev pub IsSolve : ℕ → ℕ → List ℕ → CertifiedAnswers
-IsSolve n limit bytes = OnLevel (IsSolveAnswer limit) (level_at (blocks_of bytes) n)
+abbrev pub IsSolve : ℕ → ℕ → Bool → List ℕ → CertifiedAnswers
+IsSolve n limit bound bytes = OnLevel (IsSolveAnswer limit bound) (level_at (blocks_of bytes) n)
 
 -- the same, alone
-abbrev pub IsFind : ℕ → ℕ → List ℕ → Answers
-IsFind n limit bytes = OnLevel (IsFindAnswer limit) (level_at (blocks_of bytes) n)
+abbrev pub IsFind : ℕ → ℕ → Bool → List ℕ → Answers
+IsFind n limit bound bytes = OnLevel (IsFindAnswer limit bound) (level_at (blocks_of bytes) n)

@@ -8,7 +8,7 @@ ghost use Rattle.sok_engine.specs.declared.fault.ToolFault.TheVariants as tool;
 ghost use Rattle.sok_search.specs.Outcomes.{IsFound};
 ghost use Rattle.sok_solve.specs.Solves.{IsFind, IsFindAnswer, TellsFound};
 
-use crate::solve::{solution_text, tool_fault};
+use crate::solve::{bound_text, limit_text, solution_text, tool_fault};
 use sok_engine::answer::Answer;
 use sok_engine::fault::ToolFault;
 use sok_engine::input::read_input;
@@ -21,44 +21,59 @@ use std::io::{Read, Write};
 
 /// Solves the n-th level of a collection as `solve_bytes` does, with the same lines and faults, but
 /// makes no certificate, which takes time and most of the memory. A limit at which `solve_bytes`
-/// tells that more states can be reached may suffice here.
+/// tells that more states can be reached may suffice here, and the bound that is told of a limit may
+/// be another one.
 pub fn find_bytes<R: Read, W: Write>(
     alloc: Global,
     input: &mut R,
     n: usize,
     limit: u32,
+    bound: bool,
     out: &mut W,
 ) -> Result<u8, ToolFault>
-    ensures { Writes (OfReader (R.remaining input.old) (Within input_limit (IsFind n limit)))
+    ensures { Writes (OfReader (R.remaining input.old) (Within input_limit (IsFind n limit bound)))
         (W.contents out.old) (W.contents out.new) result }
 {
     let bytes = read_input(alloc, input)?;
-    let answer = found(alloc, bytes.as_slice(), n, limit)?;
+    let answer = found(alloc, bytes.as_slice(), n, limit, bound)?;
     answer.write(out)
 }
 
 /// The answer to a level of a collection.
-fn found(alloc: Global, collection: &[u8], n: usize, limit: u32) -> Result<Answer, ToolFault>
-    ensures { Gives (IsFind n limit collection.now) result }
+fn found(
+    alloc: Global,
+    collection: &[u8],
+    n: usize,
+    limit: u32,
+    bound: bool,
+) -> Result<Answer, ToolFault>
+    ensures { Gives (IsFind n limit bound collection.now) result }
 {
     let level = Collection::read(alloc, collection)?.level(alloc, n)?;
-    answer(alloc, &level, limit)
+    answer(alloc, &level, limit, bound)
 }
 
 /// The answer to a level.
-fn answer(alloc: Global, level: &Level, limit: u32) -> Result<Answer, ToolFault>
-    ensures { Gives (IsFindAnswer limit level.now) result }
+fn answer(alloc: Global, level: &Level, limit: u32, bound: bool) -> Result<Answer, ToolFault>
+    ensures { Gives (IsFindAnswer limit bound level.now) result }
 {
     match find(alloc, level, limit) {
-        Ok(found) => told(alloc, level, limit, found),
+        Ok(found) => told(alloc, level, limit, bound, found),
         Err(fault) => Err(tool_fault(fault)),
     }
 }
 
 /// What is told of what is found.
-fn told(alloc: Global, level: &Level, limit: u32, found: Found) -> Result<Answer, ToolFault>
+fn told(
+    alloc: Global,
+    level: &Level,
+    limit: u32,
+    bound: bool,
+    found: Found,
+) -> Result<Answer, ToolFault>
     requires { IsFound level.now limit found }
-    ensures { MatchResult result (TellsFound limit level.now) (λ fault. fault ≡ tool.Memory) }
+    ensures { MatchResult result (TellsFound limit bound level.now)
+        (λ fault. fault ≡ tool.Memory) }
 {
     match found {
         Found::Solved { dirs, pushes } => {
@@ -69,9 +84,13 @@ fn told(alloc: Global, level: &Level, limit: u32, found: Found) -> Result<Answer
             let text = String::from_str(alloc, "unsolvable\n")?;
             Ok(Answer::new(text.into_bytes(), 0))
         }
-        Found::Limit { states } => {
-            let text = format!(in alloc; "limit {states}\n")?;
-            Ok(Answer::new(text.into_bytes(), 4))
+        Found::Limit { states, at_least } => {
+            if bound {
+                let text = bound_text(alloc, states, at_least)?;
+                return Ok(Answer::new(text, 4));
+            }
+            let text = limit_text(alloc, states)?;
+            Ok(Answer::new(text, 4))
         }
     }
 }

@@ -1,15 +1,20 @@
 //! A solution with the fewest pushes, with its certificate.
 
-ghost use Rattle.std.specs.Prelude.{◌≡◌, IfOk, MatchResult, Ok, string_bytes};
+ghost use Rattle.std.specs.Prelude.{◌≡◌, ◌↔◌, Err, IfErr, IfOk, IsOk, MatchResult, Ok};
+ghost use Rattle.std.specs.Prelude.{string_bytes};
 ghost use Rattle.sok_engine.specs.Certified.{WritesBoth};
 ghost use Rattle.sok_engine.specs.Inputs.{OfReader, Within};
 ghost use Rattle.sok_engine.specs.Limits.{input_limit};
 ghost use Rattle.sok_engine.specs.Written.{Gives};
 ghost use Rattle.sok_engine.specs.declared.fault.ToolFault.TheVariants as tool;
 ghost use Rattle.sok_rules.specs.Play.{Solves};
-ghost use Rattle.sok_search.specs.Outcomes.{IsAnswer};
+ghost use Rattle.sok_board.specs.Refusals.{IsAcceptable};
+ghost use Rattle.sok_search.specs.Faults.{IsBadLimit, IsRefusal};
+ghost use Rattle.sok_search.specs.Outcomes.{IsOutcome};
+ghost use Rattle.sok_search.specs.declared.fault.SolveFault.TheVariants as fault;
 ghost use Rattle.sok_solve.specs.Faults.{of_solve};
-ghost use Rattle.sok_solve.specs.Solves.{IsSolve, IsSolveAnswer, TellsOutcome, solution_text};
+ghost use Rattle.sok_solve.specs.Solves.{IsSolve, IsSolveAnswer, TellsOutcome, bound_answer};
+ghost use Rattle.sok_solve.specs.Solves.{limit_answer, solution_text};
 
 use crate::certificate::ReadyCert;
 use sok_cert::claim::Claim;
@@ -23,7 +28,7 @@ use sok_search::outcome::Outcome;
 use sok_search::solve::solve;
 use sok_text::collection::Collection;
 use sok_text::lurd::print_lurd;
-use std::alloc::Global;
+use std::alloc::{AllocError, Global};
 use std::io::{Read, Write};
 use std::marker::Model;
 
@@ -32,7 +37,8 @@ use std::marker::Model;
 /// upper case where it pushes; then no text of letters solves the level with fewer pushes. Or it is
 /// `unsolvable`; then none solves it. Before either its certificate is written to `cert_out`. Or it
 /// is `limit S`, at status 4, where more states than the limit can be reached; then there is no
-/// certificate.
+/// certificate. Where a bound is asked for, it is `limit S at least K` in its place, with a
+/// certificate: no text of letters solves the level with fewer than K pushes.
 ///
 /// Where there is no such answer nothing is written, and the fault is the first of these:
 /// `ReadFailed` or `TooMuch`; `NoSuchLevel` or another fault of the level; `BadLimit`; one of its
@@ -44,16 +50,17 @@ pub fn solve_bytes<R: Read, W: Write, C: Write>(
     input: &mut R,
     n: usize,
     limit: u32,
+    bound: bool,
     out: &mut W,
     cert_out: &mut C,
 ) -> Result<u8, ToolFault>
     ensures { WritesBoth
-        (OfReader (R.remaining input.old) (Within input_limit (IsSolve n limit)))
+        (OfReader (R.remaining input.old) (Within input_limit (IsSolve n limit bound)))
         (record { old = C.contents cert_out.old; new = C.contents cert_out.new })
         (record { old = W.contents out.old; new = W.contents out.new }) result }
 {
     let bytes = read_input(alloc, input)?;
-    let told = solved(alloc, bytes.as_slice(), n, limit)?;
+    let told = solved(alloc, bytes.as_slice(), n, limit, bound)?;
     told.write(cert_out, out)
 }
 
@@ -96,20 +103,41 @@ fn solved(
     collection: &[u8],
     n: usize,
     limit: u32,
+    bound: bool,
 ) -> Result<CertifiedAnswer, ToolFault>
-    ensures { Gives (IsSolve n limit collection.now) result }
+    ensures { Gives (IsSolve n limit bound collection.now) result }
 {
     let level = Collection::read(alloc, collection)?.level(alloc, n)?;
-    answer(alloc, &level, limit)
+    answer(alloc, &level, limit, bound)
 }
 
 /// The answer to a level.
-fn answer(alloc: Global, level: &Level, limit: u32) -> Result<CertifiedAnswer, ToolFault>
-    ensures { Gives (IsSolveAnswer limit level.now) result }
+fn answer(
+    alloc: Global,
+    level: &Level,
+    limit: u32,
+    bound: bool,
+) -> Result<CertifiedAnswer, ToolFault>
+    ensures { Gives (IsSolveAnswer limit bound level.now) result }
 {
-    match solve(alloc, level, limit) {
-        Ok(outcome) => told(alloc, level, limit, outcome),
+    match outcome(alloc, level, limit, bound) {
+        Ok(outcome) => told(alloc, level, limit, bound, outcome),
         Err(fault) => Err(tool_fault(fault)),
+    }
+}
+
+/// The outcome of a level, with a certificate of a limit that is met where a bound is asked for.
+fn outcome(alloc: Global, level: &Level, limit: u32, bound: bool) -> Result<Outcome, SolveFault>
+    ensures answer { IfOk result (IsOutcome level.now limit bound) }
+    ensures bad_limit { (result ≡ Err fault.BadLimit) ↔ IsBadLimit limit }
+    ensures refused { IfErr result (IsRefusal level.now limit) }
+    ensures exact { (result ≡ Err fault.Memory → ⊥) → (result ≡ Err fault.BadLimit → ⊥)
+        → (IsOk result ↔ IsAcceptable level.now) }
+{
+    if bound {
+        sok_search::solve::bound(alloc, level, limit)
+    } else {
+        solve(alloc, level, limit)
     }
 }
 
@@ -128,10 +156,12 @@ fn told(
     alloc: Global,
     level: &Level,
     limit: u32,
+    bound: bool,
     outcome: Outcome,
 ) -> Result<CertifiedAnswer, ToolFault>
-    requires { IsAnswer level.now limit outcome }
-    ensures { MatchResult result (TellsOutcome limit level.now) (λ fault. fault ≡ tool.Memory) }
+    requires { IsOutcome level.now limit bound outcome }
+    ensures { MatchResult result (TellsOutcome limit bound level.now)
+        (λ fault. fault ≡ tool.Memory) }
 {
     match outcome {
         Outcome::Solved { dirs, pushes, cert } => {
@@ -152,12 +182,43 @@ fn told(
                 answer,
             })
         }
-        Outcome::Limit { states } => {
-            let text = format!(in alloc; "limit {states}\n")?;
-            let answer = Answer::new(text.into_bytes(), 4);
-            Ok(CertifiedAnswer { cert: None, answer })
-        }
+        Outcome::Limit {
+            states,
+            at_least,
+            cert,
+        } => match cert {
+            Some(cert) => {
+                let cert = ReadyCert::new(alloc, &Claim::Pushes(at_least), cert)?;
+                let text = bound_text(alloc, states, at_least)?;
+                let answer = Answer::new(text, 4);
+                Ok(CertifiedAnswer {
+                    cert: Some(cert),
+                    answer,
+                })
+            }
+            None => {
+                let text = limit_text(alloc, states)?;
+                let answer = Answer::new(text, 4);
+                Ok(CertifiedAnswer { cert: None, answer })
+            }
+        },
     }
+}
+
+/// The line of a limit that is met.
+pub(crate) fn limit_text(alloc: Global, states: u32) -> Result<Vec<u8>, AllocError>
+    ensures { IfOk result (λ text. text.items ≡ (limit_answer states).text) }
+{
+    let line = format!(in alloc; "limit {states}\n")?;
+    Ok(line.into_bytes())
+}
+
+/// The same, with the fewest pushes that the search shows.
+pub(crate) fn bound_text(alloc: Global, states: u32, at_least: u32) -> Result<Vec<u8>, AllocError>
+    ensures { IfOk result (λ text. text.items ≡ (bound_answer states at_least).text) }
+{
+    let line = format!(in alloc; "limit {states} at least {at_least}\n")?;
+    Ok(line.into_bytes())
 }
 
 /// The line of a solution, and its marked text on a line of its own.

@@ -1,5 +1,5 @@
 -- What is answered to a job is what serves its form.
-use Rattle.std.proofs.Common.{ℕ, ℤ, ◌≡◌, ◌∙◌, inl, FitsSigned, Global, String, List, Option, Some, None, Err, option_map, pos, refl}
+use Rattle.std.proofs.Common.{ℕ, ℤ, ◌≡◌, ◌∙◌, inl, Bool, FitsSigned, Global, String, List, Option, Some, None, Err, option_map, pos, refl}
 use Rattle.std.proofs.Common.{◌≤◌, ◌∷◌, ap, arith, length, map, string_bytes, subst, sym, w64}
 use Rattle.std.proofs.lemmas.List.{length-map}
 use Rattle.std.specs.Str.Parse.{digits_value}
@@ -23,8 +23,8 @@ Serves-memory files databases (list file) out err exit ends kept = (Err tool.Mem
 Serves-memory files databases (replay file number text) out err exit ends kept = (Err tool.Memory, kept, ends)
 Serves-memory files databases (draw file number text) out err exit ends kept = (Err tool.Memory, kept, ends)
 Serves-memory files databases (check file number cert) out err exit ends kept = (Err tool.Memory, kept, ends)
-Serves-memory files databases (solve file number limit None) out err exit ends kept = (Err tool.Memory, kept, ends)
-Serves-memory files databases (solve file number limit (Some cert)) out err exit ends kept = (Err tool.Memory, inl (inl refl, kept), ends)
+Serves-memory files databases (solve file number limit bound None) out err exit ends kept = (Err tool.Memory, kept, ends)
+Serves-memory files databases (solve file number limit bound (Some cert)) out err exit ends kept = (Err tool.Memory, inl (inl refl, kept), ends)
 Serves-memory files databases _ out err exit ends kept = (Err tool.Memory, refused tool.Memory (unread refl) refl kept, ends)
 
 -- a form has a word after the program's name
@@ -32,7 +32,7 @@ asks : (form : Form) → 1 ≤ length (words_of form)
 asks (list file) = omega arith
 asks (replay file number text) = omega arith
 asks (draw file number text) = omega arith
-asks (solve file number limit cert) = omega arith
+asks (solve file number limit bound cert) = omega arith
 asks (check file number cert) = omega arith
 asks (add db file) = omega arith
 asks (offer db id text) = omega arith
@@ -74,15 +74,17 @@ Serves-check files databases (check of number place) file n cert name cert_name 
 Serves-check files databases _ file n cert name cert_name out err exit means named cert_named runs = absurd means
 
 -- and one of solving
-pub Serves-solve : (files : Files) (databases : Databases) (form : Form) (file : String Global) (name : List ℕ) (n most : ℕ) (path : Option (String Global))
-    (out err : Bytes) (exit : ℕ) → Means form (job.Solve file n most path) → name ≡ string_bytes file
-    → RunsSolve files name n most (option_map (λ s. string_bytes s) path) out err exit → Serves files databases form out err exit
-Serves-solve files databases (solve of number limit cert) file name n most path out err exit (file_is, number_is, limit_is, path_is) named runs =
-    subst (λ p. RunsSolve files of (digits_value 10 number) (limit_of limit) p out err exit) path_is
-    (subst (λ m. RunsSolve files of (digits_value 10 number) m (option_map (λ s. string_bytes s) path) out err exit) limit_is
-    (subst (λ k. RunsSolve files of k most (option_map (λ s. string_bytes s) path) out err exit) number_is
-    (subst (λ f. RunsSolve files f n most (option_map (λ s. string_bytes s) path) out err exit) (named ∙ file_is) runs)))
-Serves-solve files databases _ file name n most path out err exit means named runs = absurd means
+pub Serves-solve : (files : Files) (databases : Databases) (form : Form) (file : String Global) (name : List ℕ) (n most : ℕ) (bounds : Bool)
+    (path : Option (String Global)) (out err : Bytes) (exit : ℕ) → Means form (job.Solve file n most bounds path) → name ≡ string_bytes file
+    → RunsSolve files name n most bounds (option_map (λ s. string_bytes s) path) out err exit → Serves files databases form out err exit
+Serves-solve files databases (solve of number limit bound cert) file name n most bounds path out err exit (file_is, number_is, limit_is, bound_is, path_is)
+    named runs =
+    subst (λ p. RunsSolve files of (digits_value 10 number) (limit_of limit) bound p out err exit) path_is
+    (subst (λ b. RunsSolve files of (digits_value 10 number) (limit_of limit) b (option_map (λ s. string_bytes s) path) out err exit) bound_is
+    (subst (λ m. RunsSolve files of (digits_value 10 number) m bounds (option_map (λ s. string_bytes s) path) out err exit) limit_is
+    (subst (λ k. RunsSolve files of k most bounds (option_map (λ s. string_bytes s) path) out err exit) number_is
+    (subst (λ f. RunsSolve files f n most bounds (option_map (λ s. string_bytes s) path) out err exit) (named ∙ file_is) runs))))
+Serves-solve files databases _ file name n most bounds path out err exit means named runs = absurd means
 
 -- ---- on a book
 

@@ -1,5 +1,5 @@
 -- What the program does for a command line.
-use Rattle.std.specs.Prelude.{ℕ, ℤ, ◌≡◌, List, [], Option, Result, pos, unwrap_or}
+use Rattle.std.specs.Prelude.{ℕ, ℤ, ◌≡◌, Bool, List, [], Option, Result, pos, unwrap_or}
 use Rattle.std.specs.Str.Parse.{digits_value}
 use Rattle.sok_book.specs.Books.{Book}
 use Rattle.sok_engine.specs.declared.fault.ToolFault.{ToolFault}
@@ -32,9 +32,9 @@ RunsCheck files file n cert out err exit =
     Runs (OfFiles (files.reads file) (files.reads cert) (λ text. Within input_limit (IsCheck cert_limit n text))) out.old out.new err.old err.new exit
 
 -- what is answered to the job of solving, with a certificate where a path is given
-abbrev pub RunsSolve : Files → List ℕ → ℕ → ℕ → Option (List ℕ) → Bytes → Bytes → ℕ → Type 0
-RunsSolve files file n most path out err exit =
-    (result : Result ℕ ToolFault) × SolvesLevel (files.reads file) files.makes n most path out result × Ends result err.old err.new exit
+abbrev pub RunsSolve : Files → List ℕ → ℕ → ℕ → Bool → Option (List ℕ) → Bytes → Bytes → ℕ → Type 0
+RunsSolve files file n most bound path out err exit =
+    (result : Result ℕ ToolFault) × SolvesLevel (files.reads file) files.makes n most bound path out result × Ends result err.old err.new exit
 
 -- a command works on the book in a database, with a file that may be lacking, and the program ends with its status, or that of the fault
 abbrev pub RunsOn : Place → Type 0 → (Book → Book → Type 0) → (Book → Book → Result ℕ ToolFault → Type 0) → Bytes → Bytes → ℕ → Type 0
@@ -69,7 +69,8 @@ Serves files databases (list file) out err exit = Runs (OfFile (files.reads file
 Serves files databases (replay file number text) out err exit = RunsPlay IsReplay files file (digits_value 10 number) text out err exit
 Serves files databases (draw file number text) out err exit = RunsPlay IsDrawing files file (digits_value 10 number) (unwrap_or text []) out err exit
 Serves files databases (check file number cert) out err exit = RunsCheck files file (digits_value 10 number) cert out err exit
-Serves files databases (solve file number limit cert) out err exit = RunsSolve files file (digits_value 10 number) (limit_of limit) cert out err exit
+Serves files databases (solve file number limit bound cert) out err exit =
+    RunsSolve files file (digits_value 10 number) (limit_of limit) bound cert out err exit
 Serves files databases (add db file) out err exit = RunsAdd files databases db file out err exit
 Serves files databases (offer db id text) out err exit = RunsOffer databases db (pos (digits_value 10 id)) text out err exit
 Serves files databases (prove db id cert) out err exit = RunsProve files databases db (pos (digits_value 10 id)) cert out err exit

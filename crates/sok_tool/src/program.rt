@@ -99,8 +99,8 @@ fn served<
         }
         Job::Draw(file, n, text) => ended(draw(rt, file.as_str(), n, text.as_str(), out), err),
         Job::Check(file, n, cert) => { ended(check(rt, file.as_str(), n, cert.as_str(), out), err) }
-        Job::Solve(file, n, limit, cert) => {
-            ended(solve(rt, file.as_str(), n, limit, cert, out), err)
+        Job::Solve(file, n, limit, bound, cert) => {
+            ended(solve(rt, file.as_str(), n, limit, bound, cert, out), err)
         }
         Job::Add(db, file) => ended(add(rt, db.as_str(), file.as_str(), out), err),
         Job::Offer(db, id, text) => ended(offer(rt, db.as_str(), id, text.as_str(), out), err),

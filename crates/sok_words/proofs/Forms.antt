@@ -71,29 +71,54 @@ reads program (show db id) (d, i) =
     (record { passes = (refl, (refl, tt)); ends = ap (λ b. (b && true) && true) (id_passes (codes "ID") id i) }) (refl, refl, (i, refl))
 reads program (export db) is =
     by program (export db) (codes "export") (value db is ∷ []) refl refl (record { passes = (refl, tt); ends = refl }) (refl, refl)
-reads program (solve file number None None) (f, n, m, c) =
-    by program (solve file number None None) (codes "solve") (value file f ∷ digits number n.0 ∷ []) refl refl
-    (record { passes = (refl, (refl, tt)); ends = ap (λ b. (b && true) && true) (number_passes (codes "N") number n) })
-    (refl, refl, (n, refl, refl), (default_is_number, refl, refl), refl)
-reads program (solve file number (Some l) None) (f, n, m, c) =
-    by program (solve file number (Some l) None) (codes "solve")
-    (value file f ∷ digits number n.0 ∷ named (codes "--limit") ∷ digits l m.0 ∷ []) refl refl
+reads program (solve file number None false None) (f, n, m, c) =
+    by program (solve file number None false None) (codes "solve") (value file f ∷ digits number n.0 ∷ []) refl refl
+    (record {
+      passes = (refl, (refl, tt));
+      ends = ap (λ b. (b && true) && true) (number_passes (codes "N") number n);
+    }) (refl, refl, (n, refl, refl), (default_is_number, refl, refl), refl, refl)
+reads program (solve file number None false (Some path)) (f, n, m, c) =
+    by program (solve file number None false (Some path)) (codes "solve") (value file f ∷ digits number n.0 ∷ named (codes "--cert") ∷ value path c ∷ []) refl refl
+    (record {
+      passes = (refl, (refl, (rw (number_passes (codes "N") number n) refl, (refl, tt))));
+      ends = refl;
+    }) (refl, refl, (n, refl, refl), (default_is_number, refl, refl), refl, refl)
+reads program (solve file number (Some l) false None) (f, n, m, c) =
+    by program (solve file number (Some l) false None) (codes "solve") (value file f ∷ digits number n.0 ∷ named (codes "--limit") ∷ digits l m.0 ∷ []) refl refl
     (record {
       passes = (refl, (refl, (rw (number_passes (codes "N") number n) refl, (refl, tt))));
       ends = ap (λ b. (b && true) && true) (number_passes (codes "limit") l m);
-    }) (refl, refl, (n, refl, refl), (m, refl, refl), refl)
-reads program (solve file number None (Some path)) (f, n, m, c) =
-    by program (solve file number None (Some path)) (codes "solve")
-    (value file f ∷ digits number n.0 ∷ named (codes "--cert") ∷ value path c ∷ []) refl refl
-    (record { passes = (refl, (refl, (rw (number_passes (codes "N") number n) refl, (refl, tt)))); ends = refl })
-    (refl, refl, (n, refl, refl), (default_is_number, refl, refl), refl)
-reads program (solve file number (Some l) (Some path)) (f, n, m, c) =
-    by program (solve file number (Some l) (Some path)) (codes "solve")
-    (value file f ∷ digits number n.0 ∷ named (codes "--limit") ∷ digits l m.0 ∷ named (codes "--cert") ∷ value path c ∷ []) refl refl
+    }) (refl, refl, (n, refl, refl), (m, refl, refl), refl, refl)
+reads program (solve file number (Some l) false (Some path)) (f, n, m, c) =
+    by program (solve file number (Some l) false (Some path)) (codes "solve") (value file f ∷ digits number n.0 ∷ named (codes "--limit") ∷ digits l m.0 ∷ named (codes "--cert") ∷ value path c ∷ []) refl refl
     (record {
       passes = (refl, (refl, (rw (number_passes (codes "N") number n) refl, (refl, (rw (number_passes (codes "limit") l m) refl, (refl, tt))))));
       ends = refl;
-    }) (refl, refl, (n, refl, refl), (m, refl, refl), refl)
+    }) (refl, refl, (n, refl, refl), (m, refl, refl), refl, refl)
+reads program (solve file number None true None) (f, n, m, c) =
+    by program (solve file number None true None) (codes "solve") (value file f ∷ digits number n.0 ∷ named (codes "--bound") ∷ []) refl refl
+    (record {
+      passes = (refl, (refl, (rw (number_passes (codes "N") number n) refl, tt)));
+      ends = refl;
+    }) (refl, refl, (n, refl, refl), (default_is_number, refl, refl), refl, refl)
+reads program (solve file number None true (Some path)) (f, n, m, c) =
+    by program (solve file number None true (Some path)) (codes "solve") (value file f ∷ digits number n.0 ∷ named (codes "--bound") ∷ named (codes "--cert") ∷ value path c ∷ []) refl refl
+    (record {
+      passes = (refl, (refl, (rw (number_passes (codes "N") number n) refl, (refl, (refl, tt)))));
+      ends = refl;
+    }) (refl, refl, (n, refl, refl), (default_is_number, refl, refl), refl, refl)
+reads program (solve file number (Some l) true None) (f, n, m, c) =
+    by program (solve file number (Some l) true None) (codes "solve") (value file f ∷ digits number n.0 ∷ named (codes "--limit") ∷ digits l m.0 ∷ named (codes "--bound") ∷ []) refl refl
+    (record {
+      passes = (refl, (refl, (rw (number_passes (codes "N") number n) refl, (refl, (rw (number_passes (codes "limit") l m) refl, tt)))));
+      ends = refl;
+    }) (refl, refl, (n, refl, refl), (m, refl, refl), refl, refl)
+reads program (solve file number (Some l) true (Some path)) (f, n, m, c) =
+    by program (solve file number (Some l) true (Some path)) (codes "solve") (value file f ∷ digits number n.0 ∷ named (codes "--limit") ∷ digits l m.0 ∷ named (codes "--bound") ∷ named (codes "--cert") ∷ value path c ∷ []) refl refl
+    (record {
+      passes = (refl, (refl, (rw (number_passes (codes "N") number n) refl, (refl, (rw (number_passes (codes "limit") l m) refl, (refl, (refl, tt)))))));
+      ends = refl;
+    }) (refl, refl, (n, refl, refl), (m, refl, refl), refl, refl)
 
 -- ---- a job of the values
 
@@ -102,9 +127,9 @@ another a b e apart same = true≢false (sym same ∙ ap (λ (w : Text). bytes_e
 
 -- what has the values of each such form has those of a form under the name of solve
 pub means_solve : (made : Job) (form : Form) (name : Text) (rows : List Row) → name ≡ codes "solve" → HasValues form name rows
-    → ((file number : Text) (limit cert : Option Text) → HasValues (solve file number limit cert) name rows
-    → Means (solve file number limit cert) made) → Means form made
-means_solve made (solve file number limit cert) name rows is has means = means file number limit cert has
+    → ((file number : Text) (limit : Option Text) (bound : Bool) (cert : Option Text) → HasValues (solve file number limit bound cert) name rows
+    → Means (solve file number limit bound cert) made) → Means form made
+means_solve made (solve file number limit bound cert) name rows is has means = means file number limit bound cert has
 means_solve made _ name rows is has means = absurd (another (codes "solve") _ (sym is ∙ has.0) refl refl)
 
 -- and so under that of draw
@@ -136,8 +161,8 @@ refuses_level (replay file number text) name rows made e level has is memory =
     refuses (replay file number text) made e is (memory file number _ has.1 has.2)
 refuses_level (draw file number text) name rows made e level has is memory =
     refuses (draw file number text) made e is (memory file number _ has.1 has.2)
-refuses_level (solve file number limit cert) name rows made e level has is memory =
-    refuses (solve file number limit cert) made e is (memory file number _ has.1 has.2)
+refuses_level (solve file number limit bound cert) name rows made e level has is memory =
+    refuses (solve file number limit bound cert) made e is (memory file number _ has.1 has.2)
 refuses_level (check file number cert) name rows made e level has is memory =
     refuses (check file number cert) made e is (memory file number _ has.1 has.2)
 refuses_level _ name rows made e level has is memory = absurd (true≢false (sym level ∙ ap is_level_name has.0))

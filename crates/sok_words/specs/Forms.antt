@@ -1,5 +1,5 @@
 -- The command lines of which `job` knows the answer, and what it answers.
-use Rattle.std.specs.Prelude.{◌≡◌, ◌≢◌, ◌<◌, ◌^◌, ℕ, List, [], ◌∷◌, ◌++◌, Option, Some, None, IfSome, Result, Ok, Err, codes, pos, option_map, option_to_list, string_bytes, unwrap_or}
+use Rattle.std.specs.Prelude.{◌≡◌, ◌≢◌, ◌<◌, ◌^◌, ℕ, List, [], ◌∷◌, ◌++◌, Bool, true, false, Option, Some, None, IfSome, Result, Ok, Err, codes, pos, option_map, option_to_list, string_bytes, unwrap_or}
 use Rattle.std.specs.Str.Parse.{IsNumeral, digits_value}
 use Rattle.sok_words.specs.declared.job.Job.{Job}
 use Rattle.sok_words.specs.declared.job.Job.TheVariants as job
@@ -23,7 +23,7 @@ pub data Form : Type 0 where
   list : List ℕ → Form
   replay : List ℕ → List ℕ → List ℕ → Form
   draw : List ℕ → List ℕ → Option (List ℕ) → Form
-  solve : List ℕ → List ℕ → Option (List ℕ) → Option (List ℕ) → Form
+  solve : List ℕ → List ℕ → Option (List ℕ) → Bool → Option (List ℕ) → Form
   check : List ℕ → List ℕ → List ℕ → Form
   add : List ℕ → List ℕ → Form
   offer : List ℕ → List ℕ → List ℕ → Form
@@ -35,7 +35,7 @@ abbrev pub IsPlain : Form → Type 0
 IsPlain (list file) = IsValue file
 IsPlain (replay file number text) = IsValue file × IsNumber number × IsValue text
 IsPlain (draw file number text) = IsValue file × IsNumber number × IfSome text IsValue
-IsPlain (solve file number limit cert) =
+IsPlain (solve file number limit bound cert) =
     IsValue file × IsNumber number × IfSome limit IsNumber × IfSome cert IsValue
 IsPlain (check file number cert) = IsValue file × IsNumber number × IsValue cert
 IsPlain (add db file) = IsValue db × IsValue file
@@ -49,13 +49,18 @@ abbrev pub option_words : List ℕ → Option (List ℕ) → List (List ℕ)
 option_words name None = []
 option_words name (Some value) = name ∷ value ∷ []
 
+-- a flag, where it is given
+abbrev pub flag_words : List ℕ → Bool → List (List ℕ)
+flag_words name true = name ∷ []
+flag_words name false = []
+
 -- the words after the program's name
 abbrev pub words_of : Form → List (List ℕ)
 words_of (list file) = codes "list" ∷ file ∷ []
 words_of (replay file number text) = codes "replay" ∷ file ∷ number ∷ text ∷ []
 words_of (draw file number text) = codes "draw" ∷ file ∷ number ∷ option_to_list text
-words_of (solve file number limit cert) = codes "solve" ∷ file ∷ number
-    ∷ (option_words (codes "--limit") limit ++ option_words (codes "--cert") cert)
+words_of (solve file number limit bound cert) = codes "solve" ∷ file ∷ number
+    ∷ (option_words (codes "--limit") limit ++ flag_words (codes "--bound") bound ++ option_words (codes "--cert") cert)
 words_of (check file number cert) = codes "check" ∷ file ∷ number ∷ cert ∷ []
 words_of (add db file) = codes "add" ∷ db ∷ file ∷ []
 words_of (offer db id text) = codes "offer" ∷ db ∷ id ∷ text ∷ []
@@ -73,8 +78,8 @@ Means (list file) (job.List a) = (string_bytes a ≡ file)
 Means (replay file number text) (job.Replay a b c) = (string_bytes a ≡ file) × (b ≡ digits_value 10 number) × (string_bytes c ≡ text)
 Means (draw file number text) (job.Draw a b c) =
     (string_bytes a ≡ file) × (b ≡ digits_value 10 number) × (string_bytes c ≡ unwrap_or text [])
-Means (solve file number limit cert) (job.Solve a n most path) =
-    (string_bytes a ≡ file) × (n ≡ digits_value 10 number) × (most ≡ limit_of limit)
+Means (solve file number limit bound cert) (job.Solve a n most bounds path) =
+    (string_bytes a ≡ file) × (n ≡ digits_value 10 number) × (most ≡ limit_of limit) × (bounds ≡ bound)
     × (option_map (λ s. string_bytes s) path ≡ cert)
 Means (check file number cert) (job.Check a b c) = (string_bytes a ≡ file) × (b ≡ digits_value 10 number) × (string_bytes c ≡ cert)
 Means (add db file) (job.Add a b) = (string_bytes a ≡ db) × (string_bytes b ≡ file)

@@ -1,5 +1,5 @@
 -- What the matches of a form hold.
-use Rattle.std.specs.Prelude.{◌≡◌, ℕ, List, Option, Some, None, codes}
+use Rattle.std.specs.Prelude.{◌≡◌, ℕ, Bool, true, false, List, Option, Some, None, codes}
 use Rattle.std.specs.Str.Parse.{digits_value}
 use Rattle.clap.specs.Words.{Row, Text, first_of, one_of}
 use Rattle.clap.specs.Lexer.{without_minus}
@@ -12,6 +12,14 @@ HasNumber rows name digits number = IsNumber digits × (one_of name rows ≡ Som
 -- under the name stand the digits of an id
 abbrev pub HasId : List Row → Text → Text → Type 0
 HasId rows name digits = IsId digits × (one_of name rows ≡ Some digits)
+
+-- under the name stands whether the flag is given
+abbrev pub flag_text : Bool → Text
+flag_text true = codes "true"
+flag_text false = codes "false"
+
+abbrev pub HasFlag : List Row → Text → Bool → Type 0
+HasFlag rows name flag = one_of name rows ≡ Some (flag_text flag)
 
 abbrev pub limit_text : Option Text → Text
 limit_text None = codes "100000"
@@ -27,10 +35,11 @@ HasValues (draw file number text) name rows = (name ≡ codes "draw")
     × (first_of (codes "FILE") rows ≡ Some file)
     × HasNumber rows (codes "N") number (digits_value 10 number)
     × (first_of (codes "TEXT") rows ≡ text)
-HasValues (solve file number limit cert) name rows = (name ≡ codes "solve")
+HasValues (solve file number limit bound cert) name rows = (name ≡ codes "solve")
     × (first_of (codes "FILE") rows ≡ Some file)
     × HasNumber rows (codes "N") number (digits_value 10 number)
     × HasNumber rows (codes "limit") (limit_text limit) (limit_of limit)
+    × HasFlag rows (codes "bound") bound
     × (first_of (codes "cert") rows ≡ cert)
 HasValues (check file number cert) name rows = (name ≡ codes "check")
     × (first_of (codes "FILE") rows ≡ Some file)

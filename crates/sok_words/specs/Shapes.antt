@@ -5,6 +5,7 @@ use Rattle.clap.specs.Simple.{on_top}
 use Rattle.clap.specs.declared.builder.arg.Arg.{Arg}
 use Rattle.clap.specs.declared.builder.command.Command.{Command}
 use Rattle.clap.specs.declared.builder.command.Command.TheViews.{out-Command}
+use Rattle.clap.specs.declared.builder.action.ArgAction.TheVariants as action
 use Rattle.clap.specs.declared.builder.value_parser.ValueParser.TheVariants as vp
 use Rattle.sok_words.specs.declared.place.Kind.{Kind}
 use Rattle.sok_words.specs.declared.place.Kind.TheVariants as kind
@@ -28,6 +29,9 @@ limit_rule name = record (new_rule name) {
 abbrev pub path_rule : Text → Rule
 path_rule name = record (new_rule name) { long = Some name; value_names = 1 }
 
+abbrev pub flag_rule : Text → Rule
+flag_rule name = record (new_rule name) { long = Some name; action = Some action.SetTrue }
+
 abbrev pub id_rule : Text → Rule
 id_rule id = record (required_rule id) { parser = Some (vp.Signed (negsuc 9223372036854775807) (pos 9223372036854775807)) }
 
@@ -48,6 +52,7 @@ rule_of_kind kind.Optional name = new_rule name
 rule_of_kind kind.Number name = number_rule name
 rule_of_kind kind.Id name = id_rule name
 rule_of_kind kind.Limit name = limit_rule name
+rule_of_kind kind.Flag name = flag_rule name
 rule_of_kind kind.Path name = path_rule name
 
 abbrev pub with_place : App → Place → App
@@ -90,7 +95,11 @@ abbrev pub subcommand_rules : List (Text × List Rule)
 subcommand_rules = (codes "list", file_rule ∷ [])
     ∷ (codes "replay", file_rule ∷ level_rule ∷ text_rule ∷ [])
     ∷ (codes "draw", file_rule ∷ level_rule ∷ letters_rule ∷ [])
-    ∷ (codes "solve", file_rule ∷ level_rule ∷ limit_rule (codes "limit") ∷ path_rule (codes "cert") ∷ [])
+    ∷ (
+      codes "solve",
+      file_rule ∷ level_rule ∷ limit_rule (codes "limit") ∷ flag_rule (codes "bound")
+          ∷ path_rule (codes "cert") ∷ [],
+    )
     ∷ (codes "check", file_rule ∷ level_rule ∷ cert_rule ∷ [])
     ∷ (codes "add", book_rule ∷ file_rule ∷ [])
     ∷ (codes "offer", book_rule ∷ entry_rule ∷ text_rule ∷ [])

@@ -2,10 +2,10 @@
 
 ghost use Rattle.sok_words.specs.Shapes.{Follows, rule_of_kind};
 
-use clap::{Arg, value_parser};
+use clap::{Arg, ArgAction, value_parser};
 use std::alloc::Global;
 
-/// What is read in a place. One for a limit or a path is an option.
+/// What is read in a place. One for a limit, a flag or a path is an option.
 #[derive(Clone, Copy)]
 pub(crate) enum Kind {
     Text,
@@ -14,6 +14,7 @@ pub(crate) enum Kind {
     Number,
     Id,
     Limit,
+    Flag,
     Path,
 }
 
@@ -41,6 +42,7 @@ impl Place {
                 .value_parser(value_parser!(u32))
                 .default_value("100000")
                 .value_name("S"),
+            Kind::Flag => arg.long(self.name).action(ArgAction::SetTrue),
             Kind::Path => arg.long(self.name).value_name("PATH"),
         }
     }
@@ -74,6 +76,12 @@ pub(crate) const LIMIT: Place = Place {
     name: "limit",
     kind: Kind::Limit,
     help: "Give up where more than S states are reached, from 1 to 1,000,000",
+};
+
+pub(crate) const BOUND: Place = Place {
+    name: "bound",
+    kind: Kind::Flag,
+    help: "Where the limit is met, tell how many pushes are needed at least",
 };
 
 pub(crate) const OUTPUT: Place = Place {

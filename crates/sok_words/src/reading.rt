@@ -7,7 +7,7 @@ ghost use Rattle.sok_words.specs.Forms.{Answers, Form};
 ghost use Rattle.sok_words.specs.Rows.{HasId, HasNumber, HasValues};
 
 use crate::job::{Job, JobRefused};
-use crate::values::{id_of, missing, number_of, option_of, text_of};
+use crate::values::{flag_of, id_of, missing, number_of, option_of, text_of};
 use clap::ArgMatches;
 use std::alloc::Global;
 
@@ -41,7 +41,9 @@ fn job_of(alloc: Global, name: &str, values: &ArgMatches<'_>) -> Result<Job, Job
         "solve" => {
             let (file, number) = level_of(alloc, values)?;
             let limit = number_of(alloc, values, "limit")?;
-            Ok(Job::Solve(file, number, limit, option_of(alloc, values, "cert")?))
+            let bound = flag_of(values, "bound");
+            let path = option_of(alloc, values, "cert")?;
+            Ok(Job::Solve(file, number, limit, bound, path))
         }
         "check" => {
             let (file, number) = level_of(alloc, values)?;

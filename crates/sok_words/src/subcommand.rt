@@ -3,7 +3,7 @@
 ghost use Rattle.std.specs.Prelude.{◌≡◌, IfOk, fold};
 ghost use Rattle.sok_words.specs.Shapes.{Builds, own_app, sok_app, sok_top, with_own};
 
-use crate::place::{CERT, DB, FILE, ID, LETTERS, LIMIT, N, OUTPUT, Place, TEXT};
+use crate::place::{BOUND, CERT, DB, FILE, ID, LETTERS, LIMIT, N, OUTPUT, Place, TEXT};
 use clap::Command;
 use std::alloc::{AllocError, Global};
 
@@ -80,13 +80,15 @@ Writes one of these:
   solved PUSHES MOVES  and the letters on the next line, in upper case where a box is pushed:
                        no letters solve the level with fewer pushes (status 0)
   unsolvable           no letters solve the level (status 0)
-  limit S              more than S states can be reached; nothing else is known (status 4)
-The certificate shows the first two to whoever checks it. With limit it stays empty. With --cert
-more states are kept than without, so a limit may be met that suffices without. A fault is status 3
+  limit S              more than S states can be reached (status 4)
+  limit S at least K   the same, with --bound: no letters solve the level with fewer than K
+                       pushes (status 4)
+The certificate shows it to whoever checks it, but for limit S, with which it stays empty. With
+--cert more states are kept than without, so a limit may be met that suffices without. A fault is status 3
 or 5, and of memory 6.
 
 Example: sok solve small.xsb 1 --cert first.cert",
-            places: &[FILE, N, LIMIT, OUTPUT],
+            places: &[FILE, N, LIMIT, BOUND, OUTPUT],
         },
         Subcommand {
             name: "check",

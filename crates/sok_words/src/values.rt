@@ -1,10 +1,10 @@
 //! The values that were given.
 
-ghost use Rattle.std.specs.Prelude.{◌≡◌, ℕ, List, Option, Some, IsOkAnd, MatchResult, option_map};
+ghost use Rattle.std.specs.Prelude.{◌≡◌, ℕ, Bool, List, Option, Some, IsOkAnd, MatchResult, option_map};
 ghost use Rattle.std.specs.Prelude.{pos, string_bytes};
 ghost use Rattle.std.specs.Str.Parse.{digits_value};
 ghost use Rattle.clap.specs.Words.{first_of, found_of, rows_of};
-ghost use Rattle.sok_words.specs.Rows.{HasId, HasNumber};
+ghost use Rattle.sok_words.specs.Rows.{HasFlag, HasId, HasNumber};
 
 use crate::job::JobRefused;
 use clap::ArgMatches;
@@ -59,6 +59,13 @@ pub(crate) fn option_of(
         Ok(text) => Ok(Some(text)),
         Err(_) => Err(out_of_memory(alloc)),
     }
+}
+
+/// Whether the flag of this name is given.
+pub(crate) fn flag_of(values: &ArgMatches<'_>, name: &str) -> bool
+    ensures { (flag : Bool) → HasFlag (rows_of (found_of values.now)) name.now flag → result ≡ flag }
+{
+    values.get_flag(name)
 }
 
 /// The number under this name.

@@ -20,6 +20,6 @@ returns-in_err-cert_out g c =
 
 pub returns : goal.returns
 returns g c =
-    SolvesTo-file (g.F.Folder.reads c.args.rt.now c.args.path.now) (Within input_limit (IsSolve c.args.n c.args.limit))
+    SolvesTo-file (g.F.Folder.reads c.args.rt.now c.args.path.now) (Within input_limit (IsSolve c.args.n c.args.limit c.args.bound))
     (IsMade g.F.Output.Write.contents (g.F.Folder.makes c.args.rt.now c.args.cert_path.now)) _ _ _ c.solve_bytes.result c.in_ok-input.ensures.opened
     (c.in_ok-cert_out.cert_out, c.solve_bytes.new.cert_out, c.in_ok-cert_out.ensures, refl) c.solve_bytes.ensures

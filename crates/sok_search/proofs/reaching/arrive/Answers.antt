@@ -10,7 +10,6 @@ use Rattle.sok_search.specs.Steps.{holding}
 use Rattle.sok_search.specs.Trials.{IsPushable}
 use Rattle.sok_search.specs.Views.{progress_of}
 use Rattle.sok_search.proofs.Adding.{added-made, note-within, taken, taken-deep, taken-pushable}
-use Rattle.sok_search.proofs.Filling.{full-more}
 use Rattle.sok_search.proofs.Moving.{moved-next}
 use Rattle.sok_search.proofs.Asking.{lost-next}
 use Rattle.sok_search.proofs.Pushing.{pushed-added, pushed-known}
@@ -115,23 +114,17 @@ returns-then-not-is_new-clause-tells c =
     (progress_of c.approach.new.search) c.in_ok-approach.ensures
 
 -- it is new
-pub returns-then-at-limit-clause-laid : goal.returns-then-at-limit-clause-laid
-returns-then-at-limit-clause-laid c =
-    c.step-least.ensures.laid c.args.key.now (can_in ((goal.at.returns-then-at-limit-clause-laid c).After-step-least))
-
-pub returns-then-at-limit-clause-tells : goal.returns-then-at-limit-clause-tells
-returns-then-at-limit-clause-tells c =
-    let p = progress_of c.args.search.now in
-    let comes = comes_in ((goal.at.returns-then-at-limit-clause-tells c).After-step-least) in
+pub add-requires : goal.add-requires
+add-requires c =
+    let comes = comes_in ((goal.at.add-requires c).After-step-least) in
     let next = next_of c.args.key.now c.args.push.from c.args.to c.step-least.result in
-    let last : GoesLast p.table next (c.args.depth + 1) c.in_ok-at.at c.insert_next.new.self.entries = subst
-    (λ t. Enters p.table next (c.args.depth + 1) c.in_ok-at.at t c.insert_next.new.self.entries) c.if-not-is_new.false
+    let last : GoesLast c.args.search.now.table.entries next (c.args.depth + 1) c.in_ok-at.at c.insert_next.new.self.entries = subst
+    (λ t. Enters c.args.search.now.table.entries next (c.args.depth + 1) c.in_ok-at.at t c.insert_next.new.self.entries) c.if-not-is_new.false
     (c.in_ok-at.ensures.inserted.enters c.args.key.now next c.requires.state.there comes.is) in
-    let full = c.if-at-limit.true in
-    let count = last.last in
-    full-more c.args.board.now c.requires.state.running.accepted c.args.limit (holding c.args.index p) c.args.index c.args.key.now next c.args.push
-    c.requires.legal.after c.requires.state.running.search (omega (arith, full, count))
-    c.requires.state.there c.requires.legal.leads (comes.came.exact c.requires.legal.after c.requires.legal.leads) last.absent
+    let at = last.last in
+    let room = c.if-len-limit.false in
+    let length_is = c.len.ensures.count in
+    omega (arith, at, room, length_is, c.ranges.limit.fits)
 
 pub judge_after-requires-clause-laid : goal.judge_after-requires-clause-laid
 judge_after-requires-clause-laid c =
@@ -156,8 +149,8 @@ returns-clause-tells c =
     let last : GoesLast p.table next (c.args.depth + 1) at c.insert_next.new.self.entries = subst
     (λ t. Enters p.table next (c.args.depth + 1) at t c.insert_next.new.self.entries) c.if-not-is_new.false
     (c.in_ok-at.ensures.inserted.enters c.args.key.now next c.requires.state.there comes.is) in
-    let room = c.if-at-limit.false in
-    let count = last.last in
+    let room = c.if-len-limit.false in
+    let length_is = c.len.ensures.count in
     let here = (goal.at.returns-clause-tells c).After-step-least in
     let losses = losses_of c.args.search.now.losses in
     let judged = c.in_ok-standing.ensures.judged losses c.step-least.result
@@ -166,7 +159,7 @@ returns-clause-tells c =
     pushed-added c.args.board.now c.args.limit c.args.index p c.requires.state.running.search c.args.key.now
     c.args.depth c.requires.state.there c.requires.state.depth_is one.note one.note_is
     c.args.push c.requires.legal next comes.came.exact comes.came.state comes.as_many last.absent
-    (omega (arith, room, count)) _ refl judged q
+    (omega (arith, room, length_is)) _ refl judged q
     (added-made p (frame_in c.args.search.now c.insert_next.new.self) c.insert_next.new.self.entries q next (c.args.depth + 1) at _
     (same_frame c.args.search.now c.insert_next.new.self c.in_ok-at.ensures.room) last
     c.in_ok-add.ensures)

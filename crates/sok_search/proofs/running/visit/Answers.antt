@@ -1,10 +1,10 @@
 use Rattle.std.proofs.Common.{refl, sym, subst, true≢false}
-use Rattle.sok_search.specs.declared.reaching.Reached.TheVariants.{On}
+use Rattle.sok_search.specs.declared.reaching.Reached.TheVariants.{On, Full}
 use Rattle.sok_search.specs.Steps.{holding}
 use Rattle.sok_search.specs.Views.{TellsExpanded, progress_of}
 use Rattle.sok_search.proofs.Adding.{taken-key}
 use Rattle.sok_search.proofs.Knowing.{state-few}
-use Rattle.sok_search.proofs.Turning.{go-beaten, go-on, go-solved, held-noted, held-within}
+use Rattle.sok_search.proofs.Turning.{cut-waits, go-beaten, go-on, go-solved, held-noted, held-within}
 use Rattle.sok_search.proofs.running.visit.Goals as goal
 
 pub depth-depth-requires : goal.depth-depth-requires
@@ -51,3 +51,12 @@ returns-in-On-clause-tells c =
     go-on b c.args.limit c.args.index c.args.bound c.depth-depth.result key p (progress_of c.expand.new.search) c.args.note
     (assumption (c.in_ok-key.ensures, c.depth-depth.ensures, c.requires.noted)) c.requires.is_open
     (λ solved. true≢false (sym ((c.if-is_solved.ensures key.least).1 solved))) told (progress_of c.mark.new.search) c.mark.ensures
+
+pub returns-clause-tells : goal.returns-clause-tells
+returns-clause-tells c =
+    let b = c.args.board.now in
+    let p = progress_of c.args.search.now in
+    let q = progress_of c.expand.new.search in
+    let told : TellsExpanded b c.args.limit p c.args.index c.in_ok-key.key c.depth-depth.result q Full = subst
+    (TellsExpanded b c.args.limit p c.args.index c.in_ok-key.key c.depth-depth.result q) c.in-Full.is c.in_ok-expand.ensures.tells in
+    cut-waits b c.args.limit c.args.index c.args.bound p.frame.whole q c.wait.new.queue c.args.note.standing c.requires.is_open told c.in_ok-wait-in-Full.ensures

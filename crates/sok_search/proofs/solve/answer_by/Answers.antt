@@ -1,4 +1,4 @@
-use Rattle.std.proofs.Common.{refl, subst, true, ◌∙◌}
+use Rattle.std.proofs.Common.{subst, true, ◌∙◌}
 use Rattle.sok_search.specs.Views.{IsSearched, TellsSearched, progress_of}
 use Rattle.sok_search.proofs.solve.answer_by.Goals as goal
 use Rattle.sok_search.proofs.solve.answer_by.Goals.{In-On}
@@ -16,10 +16,9 @@ pub conclude-requires-clause-finished : goal.conclude-requires-clause-finished
 conclude-requires-clause-finished c = (told (goal.at.conclude-requires-clause-finished c).In-On).empty
 
 pub returns-in-On : goal.returns-in-On
-returns-in-On c = c.conclude.ensures c.args.limit (told (goal.at.returns-in-On c).In-On).search
+returns-in-On c = c.conclude.ensures c.args.limit c.args.wanted (told (goal.at.returns-in-On c).In-On).search
 
-pub returns-in-Full : goal.returns-in-Full
-returns-in-Full c = record {
-  more = subst (TellsSearched c.args.board.now c.args.limit c.args.search.now.whole (progress_of c.search_all.new.search)) c.in-Full.is c.in_ok-search_all.ensures;
-  is = refl;
-}
+pub halt-requires-clause-cut : goal.halt-requires-clause-cut
+halt-requires-clause-cut c =
+    let halted = subst (TellsSearched c.args.board.now c.args.limit c.args.search.now.whole (progress_of c.search_all.new.search)) c.in-Full.is c.in_ok-search_all.ensures in
+    record { more = halted.more; search = halted.search; kept = halted.kept ∙ c.requires.whole }

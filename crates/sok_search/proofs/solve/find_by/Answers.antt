@@ -1,7 +1,8 @@
-use Rattle.std.proofs.Common.{refl, subst}
-use Rattle.sok_search.specs.Views.{IsSearched, TellsSearched, progress_of}
+use Rattle.std.proofs.Common.{subst}
+use Rattle.sok_search.specs.Views.{IsCutOff, IsSearched, TellsSearched, progress_of}
+use Rattle.sok_search.proofs.Concluding.{cut-short}
 use Rattle.sok_search.proofs.solve.find_by.Goals as goal
-use Rattle.sok_search.proofs.solve.find_by.Goals.{In-On}
+use Rattle.sok_search.proofs.solve.find_by.Goals.{In-Full, In-On}
 
 told : (c : In-On) → IsSearched c.args.board.now c.args.limit c.args.search.now.whole (progress_of c.search_all.new.search)
 told c = subst (TellsSearched c.args.board.now c.args.limit c.args.search.now.whole (progress_of c.search_all.new.search)) c.in-On.is c.in_ok-search_all.ensures
@@ -15,8 +16,13 @@ find_in-requires-clause-finished c = (told (goal.at.find_in-requires-clause-fini
 pub returns-in-On : goal.returns-in-On
 returns-in-On c = c.find_in.ensures c.args.limit (told (goal.at.returns-in-On c).In-On).search
 
+cut : (c : In-Full) → IsCutOff c.args.board.now c.args.limit c.args.search.now.whole (progress_of c.search_all.new.search)
+cut c = subst (TellsSearched c.args.board.now c.args.limit c.args.search.now.whole (progress_of c.search_all.new.search)) c.in-Full.is c.in_ok-search_all.ensures
+
+pub least_open-requires : goal.least_open-requires
+least_open-requires c = (c.args.board.now, (c.args.limit, (cut (goal.at.least_open-requires c).In-Full).search))
+
 pub returns-in-Full : goal.returns-in-Full
-returns-in-Full c = record {
-  more = subst (TellsSearched c.args.board.now c.args.limit c.args.search.now.whole (progress_of c.search_all.new.search)) c.in-Full.is c.in_ok-search_all.ensures;
-  is = refl;
-}
+returns-in-Full c =
+    let halted = cut (goal.at.returns-in-Full c).In-Full in
+    cut-short c.args.board.now c.requires.accepted c.args.limit (progress_of c.search_all.new.search) halted.search halted.more _ c.least_open.ensures

@@ -1,9 +1,20 @@
-use Rattle.std.proofs.Common.{refl, subst, sym}
+use Rattle.std.proofs.Common.{[], ◌∷◌, inl, refl, subst, sym}
+use Rattle.sok_board.specs.Area.{Numbered}
+use Rattle.sok_push.specs.Pushing.{IsStuck}
+use Rattle.sok_search.proofs.Reasons.{stuck-among, stuck-crowd}
 use Rattle.sok_board.specs.BoxSets.{put_in_order}
 use Rattle.sok_region.specs.Layouts.{IsLaidOut}
 use Rattle.sok_price.specs.Matched.{TellsLeast}
 use Rattle.sok_bar.specs.Bars.{Barring}
 use Rattle.sok_search.proofs.trial.judge_after.Goals as goal
+
+pub returns-then-stuck-clause-judged : goal.returns-then-stuck-clause-judged
+returns-then-stuck-clause-judged c losses player lost =
+    let b = c.args.board.now in
+    let after = put_in_order c.args.from c.args.to c.args.before.now in
+    let stuck = subst (λ (board : Numbered). IsStuck board c.args.to) c.requires.tables (c.stuck.ensures.0 c.if-stuck.true) in
+    let (place, at) = stuck-among b after c.args.to ((c.requires.moved.moved c.args.to).1 (inl refl)) stuck in
+    (Barring.crowd (place ∷ []), tt, λ player rest. stuck-crowd b after place at)
 
 pub is_jammed-requires-clause-laid : goal.is_jammed-requires-clause-laid
 is_jammed-requires-clause-laid c = (c.args.before.now, (put_in_order c.args.from c.args.to c.args.before.now), c.requires.moved, c.requires.laid)

@@ -11,11 +11,11 @@ returns-in-Ok c =
     let found = c.in-Ok.found in
     let clauses = c.in-Ok.ensures in
     let acceptable = (clauses.exact (λ same. no-fault found _ same) (λ same. no-fault found _ same)).0 refl in
-    told_answer (TellsFound c.args.limit c.args.level.now) c.args.level.now c.args.limit c.told.result (λ bad. no-fault found _ (clauses.bad_limit.1 bad))
+    told_answer (TellsFound c.args.limit c.args.bound c.args.level.now) c.args.level.now c.args.limit c.told.result (λ bad. no-fault found _ (clauses.bad_limit.1 bad))
     acceptable c.told.ensures
 
 pub returns-in-Err : goal.returns-in-Err
 returns-in-Err c =
-    let answer = refused_answer Found (TellsFound c.args.limit c.args.level.now) c.args.level.now c.args.limit c.in-Err.fault c.in-Err.ensures.bad_limit
+    let answer = refused_answer Found (TellsFound c.args.limit c.args.bound c.args.level.now) c.args.level.now c.args.limit c.in-Err.fault c.in-Err.ensures.bad_limit
     c.in-Err.ensures.refused in
-    subst (IsFaultOf (IsFindAnswer c.args.limit c.args.level.now)) (sym c.tool_fault.ensures) answer
+    subst (IsFaultOf (IsFindAnswer c.args.limit c.args.bound c.args.level.now)) (sym c.tool_fault.ensures) answer

@@ -9,12 +9,12 @@ use Rattle.sok_solve.proofs.find.find_bytes.Goals as goal
 pub returns-in_err-bytes : goal.returns-in_err-bytes
 returns-in_err-bytes g c =
     let p = err_from_is_err_and c.from_residual.result c.from_residual.ensures.1 in
-    rw (p.1, p.2) (Writes-unread input_limit (IsFind c.args.n c.args.limit) _ _ c.in_err-bytes.field-0.0
+    rw (p.1, p.2) (Writes-unread input_limit (IsFind c.args.n c.args.limit c.args.bound) _ _ c.in_err-bytes.field-0.0
     (λ same. c.in_err-bytes.ensures.much (ap Err same)))
 
 pub returns-in_err-answer : goal.returns-in_err-answer
 returns-in_err-answer g c =
-    let find : List ℕ → Answers = IsFind c.args.n c.args.limit in
+    let find : List ℕ → Answers = IsFind c.args.n c.args.limit c.args.bound in
     let p = err_from_is_err_and c.from_residual-in_err-answer.result c.from_residual-in_err-answer.ensures.1 in
     let read = c.in_ok-bytes in
     let fault = c.in_err-answer.field-0.0 in
@@ -24,7 +24,7 @@ returns-in_err-answer g c =
 pub returns : goal.returns
 returns g c =
     let answer = c.in_ok-answer.answer in
-    let find : List ℕ → Answers = IsFind c.args.n c.args.limit in
+    let find : List ℕ → Answers = IsFind c.args.n c.args.limit c.args.bound in
     let answered : find c.in_ok-bytes.bytes.items (Ok answer) = subst (λ read. find read (Ok answer)) c.as_slice.ensures.value c.in_ok-answer.ensures in
     let read = c.in_ok-bytes in
     Writes-read input_limit find _ _ _ read.bytes.items answer c.write.result read.ensures.all read.ensures.within answered c.write.ensures

@@ -28,8 +28,8 @@ returns-in-Check g c = λ form plain means.
 pub returns-in-Solve : goal.returns-in-Solve
 returns-in-Solve g c = λ form plain means.
     let s = c.in-Solve in
-    let meant : Means form (job.Solve s.file s.n s.limit s.cert) = subst (Means form) s.is means in
-    Serves-solve _ _ form s.file c.as_str-in-Solve.result.now s.n s.limit s.cert _ _ _ meant c.as_str-in-Solve.ensures.value
+    let meant : Means form (job.Solve s.file s.n s.limit s.bound s.cert) = subst (Means form) s.is means in
+    Serves-solve _ _ form s.file c.as_str-in-Solve.result.now s.n s.limit s.bound s.cert _ _ _ meant c.as_str-in-Solve.ensures.value
     (c.solve.result, c.solve.ensures, c.ended-in-Solve.ensures)
 
 pub returns-in-Add : goal.returns-in-Add

@@ -41,8 +41,8 @@ returns-in_err-db-in-show c = λ form has.
 pub returns-in_err-text-in-draw : goal.returns-in_err-text-in-draw
 returns-in_err-text-in-draw c = λ form has. refuses form _ _ c.from_residual-in_err-text-in-draw.ensures.1 (c.in_err-text-in-draw.ensures _ refl)
 
-pub returns-in_err-option_of-in-solve : goal.returns-in_err-option_of-in-solve
-returns-in_err-option_of-in-solve c = λ form has. refuses form _ _ c.from_residual-in_err-option_of-in-solve.ensures.1 (c.in_err-option_of-in-solve.ensures _ refl)
+pub returns-in_err-path-in-solve : goal.returns-in_err-path-in-solve
+returns-in_err-path-in-solve c = λ form has. refuses form _ _ c.from_residual-in_err-path-in-solve.ensures.1 (c.in_err-path-in-solve.ensures _ refl)
 
 pub returns-in_ok-text-in-draw : goal.returns-in_ok-text-in-draw
 returns-in_ok-text-in-draw c = λ form has. means_draw _ form c.args.name.now (rows_of (found_of c.args.values.now)) c.in-draw.is has
@@ -52,11 +52,12 @@ returns-in_ok-text-in-draw c = λ form has. means_draw _ form c.args.name.now (r
       given_or_none _ _ _ _ c.new.ensures.bytes (c.in_ok-text-in-draw.ensures text has.3) c.unwrap_or.ensures,
     ))
 
-pub returns-in_ok-option_of-in-solve : goal.returns-in_ok-option_of-in-solve
-returns-in_ok-option_of-in-solve c = λ form has. means_solve _ form c.args.name.now (rows_of (found_of c.args.values.now)) c.in-solve.is has
-    (λ file number limit cert has. (
+pub returns-in_ok-path-in-solve : goal.returns-in_ok-path-in-solve
+returns-in_ok-path-in-solve c = λ form has. means_solve _ form c.args.name.now (rows_of (found_of c.args.values.now)) c.in-solve.is has
+    (λ file number limit bound cert has. (
       c.in_ok-file-in-solve.ensures.file file has.1,
       c.in_ok-file-in-solve.ensures.number number _ has.2,
       c.in_ok-limit-in-solve.ensures _ _ has.3,
-      c.in_ok-option_of-in-solve.ensures cert has.4,
+      c.flag_of-bound.ensures bound has.4,
+      c.in_ok-path-in-solve.ensures cert has.5,
     ))

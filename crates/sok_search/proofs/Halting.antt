@@ -1,0 +1,85 @@
+-- The least that open states need.
+use Rattle.std.proofs.Common.{ℕ, ◌≡◌, ◌<◌, ◌≤◌, ◌+◌, ◌∙◌, inl, inr, refl, sym, ap, subst, Some, min, arith, length, slice_get}
+use Rattle.std.proofs.Math.Nat.{min-eq_left, min-eq_right, min-le_left, min-le_right, le-min}
+use Rattle.std.proofs.lemmas.Bool.{cases_eq, cases_lt}
+use Rattle.std.proofs.lemmas.Option.{same_Some}
+use Rattle.std.specs.Map.{values_of}
+use Rattle.sok_board.specs.Area.{Numbered}
+use Rattle.sok_cert.specs.Text.{number_limit}
+use Rattle.sok_search.specs.declared.note.Note.{Note}
+use Rattle.sok_search.specs.declared.note.Standing.{Standing}
+use Rattle.sok_search.specs.declared.note.Standing.TheVariants.{Open}
+use Rattle.sok_search.specs.Halted.{IsLeastOfFirst, IsOpenAt}
+use Rattle.sok_search.specs.Searches.{IsSearch, Progress}
+use Rattle.sok_search.proofs.Knowing.{known-at}
+
+same_bound : (a b : ℕ) → Open a ≡ Open b → a ≡ b
+same_bound a b e = cc
+
+-- what stands at an index needs one number of pushes
+open-one : (p : Progress) (i m n : ℕ) → IsOpenAt p i m → IsOpenAt p i n → m ≡ n
+open-one p i m n one other =
+    let depths = same_Some one.depth other.depth (sym one.state.depth_is ∙ other.state.depth_is) in
+    let notes : one.note ≡ other.note = same_Some one.note other.note (sym one.state.note_is ∙ other.state.note_is) in
+    let bounds = same_bound one.bound other.bound (sym one.is_open ∙ ap (λ (note : Note). note.standing) notes ∙ other.is_open) in
+    let first = one.needs in
+    let second = other.needs in
+    omega (arith, first, second, depths, bounds)
+
+-- the note at an index tells whether the state is open
+pub open-at : (b : Numbered) (limit : ℕ) (p : Progress) → IsSearch b limit p → (i depth bound : ℕ) (note : Note) → i < length p.table
+    → slice_get (values_of p.table) i ≡ Some depth → slice_get p.notes i ≡ Some note → note.standing ≡ Open bound → IsOpenAt p i (depth + bound)
+open-at b limit p search i depth bound note within depth_is note_is is =
+    let (key, known) = known-at b limit p search i within in
+    record {
+      key = key;
+      depth = depth;
+      note = note;
+      state = record { there = known.state.there; depth_is = depth_is; note_is = note_is };
+      bound = bound;
+      is_open = is;
+      needs = refl;
+    }
+
+pub closed-at : (p : Progress) (i n : ℕ) (note : Note) → slice_get p.notes i ≡ Some note → ((bound : ℕ) → note.standing ≡ Open bound → ⊥)
+    → IsOpenAt p i n → ⊥
+closed-at p i n note note_is other at =
+    let same : note ≡ at.note = same_Some note at.note (sym note_is ∙ at.state.note_is) in
+    other at.bound (ap (λ (noted : Note). noted.standing) same ∙ at.is_open)
+
+pub least-none : (p : Progress) → IsLeastOfFirst p 0 number_limit
+least-none p = record { small = omega arith; below = λ i n none at. absurd (omega (arith, none)); reached = inl refl }
+
+-- one state more, which is open
+pub least-open : (p : Progress) (count least n : ℕ) → IsLeastOfFirst p count least → IsOpenAt p count n → IsLeastOfFirst p (count + 1) (min least n)
+least-open p count least n first at = record {
+  small = let near = min-le_left least n in let small = first.small in omega (arith, near, small);
+  below = λ i m within other. elim (cases_eq i count) [
+    | inl same ↦
+        let equal = open-one p count n m at (subst (λ k. IsOpenAt p k m) same other) in
+        let near = min-le_right least n in
+        omega (arith, equal, near)
+    | inr apart ↦
+        let before = first.below i m (omega (arith, within, apart)) other in
+        let near = min-le_left least n in
+        omega (arith, before, near)
+  ];
+  reached = elim (cases_lt n least) [
+    | inl less ↦ inr (count, subst (IsOpenAt p count) (sym (min-eq_right (omega (arith, less)))) at)
+    | inr low ↦ elim first.reached [
+      | inl greatest ↦ inl (min-eq_left low ∙ greatest)
+      | inr (i, one) ↦ inr (i, subst (IsOpenAt p i) (sym (min-eq_left low)) one)
+    ]
+  ];
+}
+
+-- or is not
+pub least-other : (p : Progress) (count least : ℕ) → IsLeastOfFirst p count least → ((n : ℕ) → IsOpenAt p count n → ⊥) → IsLeastOfFirst p (count + 1) least
+least-other p count least first closed = record {
+  small = first.small;
+  below = λ i m within other. elim (cases_eq i count) [
+    | inl same ↦ absurd (closed m (subst (λ k. IsOpenAt p k m) same other))
+    | inr apart ↦ first.below i m (omega (arith, within, apart)) other
+  ];
+  reached = first.reached;
+}

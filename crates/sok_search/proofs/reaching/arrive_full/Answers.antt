@@ -1,0 +1,63 @@
+use Rattle.std.proofs.Common.{refl, arith}
+use Rattle.sok_closed.proofs.Starting.{at-within}
+use Rattle.sok_search.specs.Steps.{holding}
+use Rattle.sok_search.specs.Views.{progress_of}
+use Rattle.sok_search.proofs.Adding.{note-within, taken, taken-deep, taken-key}
+use Rattle.sok_search.proofs.Filling.{full-more}
+use Rattle.sok_search.proofs.Pushing.{pushed-known}
+use Rattle.sok_search.proofs.reaching.arrive_full.Goals as goal
+
+pub after-requires-clause-key : goal.after-requires-clause-key
+after-requires-clause-key c =
+    let held = c.requires.state.1 in
+    taken-key c.args.board.now c.args.limit c.args.index (progress_of c.args.search.now) c.args.key.now c.args.depth held.running.search held.there held.depth_is
+
+pub overflow_cast-origin : goal.overflow_cast-origin
+overflow_cast-origin c =
+    let held = c.requires.state.1 in
+    let within = at-within c.args.search.now.table.entries c.args.key.now c.args.index held.there in
+    let few = held.running.search.few in
+    omega (arith, within, few, c.ranges.limit.fits)
+
+pub overflow_add-depth : goal.overflow_add-depth
+overflow_add-depth c =
+    let held = c.requires.state.1 in
+    let deep = taken-deep c.args.board.now c.args.limit c.args.index
+    (progress_of c.args.search.now) c.args.key.now c.args.depth held.running.search held.there held.depth_is in
+    omega (arith, deep, c.ranges.limit.fits)
+
+pub approach-requires-clause-exists : goal.approach-requires-clause-exists
+approach-requires-clause-exists c = at-within c.args.search.now.table.entries c.in_ok-next.next c.in-Some.at c.in-Some.ensures
+
+pub approach-requires-clause-small : goal.approach-requires-clause-small
+approach-requires-clause-small c =
+    let within = at-within c.args.search.now.table.entries c.in_ok-next.next c.in-Some.at c.in-Some.ensures in
+    let few = c.requires.state.1.running.search.few in
+    omega (arith, within, few, c.ranges.limit.fits)
+
+pub approach-requires-clause-noted : goal.approach-requires-clause-noted
+approach-requires-clause-noted c = note-within c.args.board.now c.args.limit c.args.index (progress_of c.args.search.now)
+    c.requires.state.1.running.search c.in-Some.at c.in_ok-next.next c.in-Some.ensures
+
+pub returns-in-Some : goal.returns-in-Some
+returns-in-Some c =
+    let held = c.requires.state.1 in
+    let p = progress_of c.args.search.now in
+    let one = taken c.args.board.now c.args.limit c.args.index p c.args.key.now c.args.depth held.running.search held.there held.depth_is in
+    let next = c.in_ok-next in
+    pushed-known c.args.board.now c.args.limit c.args.index p held.running.search c.args.key.now c.args.depth held.there held.depth_is one.note one.note_is
+    c.args.push c.requires.legal next.next next.ensures.exact next.ensures.of_board next.ensures.as_many c.in-Some.at p.frame p.table refl
+    (record { there = c.in-Some.ensures; unchanged = refl }) (progress_of c.approach.new.search) c.in_ok-approach-in-Some.ensures
+
+pub returns : goal.returns
+returns c =
+    let held = c.requires.state.1 in
+    let next = c.in_ok-next in
+    let legal = c.requires.legal in
+    record {
+      more = full-more c.args.board.now held.running.accepted c.args.limit (holding c.args.index (progress_of c.args.search.now)) c.args.index
+          c.args.key.now next.next c.args.push legal.after held.running.search c.requires.full held.there legal.leads (next.ensures.exact legal.after legal.leads)
+          c.in-None.ensures;
+      search = held.running.search;
+      kept = refl;
+    }
