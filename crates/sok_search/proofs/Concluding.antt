@@ -111,12 +111,12 @@ module _ (b : Numbered) (accepted : IsAccepted b) (limit : ℕ) (p : Progress) (
         record { solution = solution; certified = certifies whole (claim.Pushes k) entries (omega (arith, above, counted, below, small)) are fit }
 
   -- it was cut off, and so much is needed in each open state
-  module _ (more : MoreStatesThan b.rows limit) (least : ℕ) (of_all : IsLeastOpen p least) where
+  module _ (more : MoreStatesThan b.rows limit) (full : limit ≤ length p.table) (least : ℕ) (of_all : IsLeastOpen p least) where
     pub cut-short : IsCutShort b.rows limit limit least
     cut-short = record {
       past = record { more = more; is = refl };
       at_least = shows b accepted limit p search (claim.Pushes least) (done-least b limit p least search of_all);
-      halted = record { board = b; rows_are = refl; known = p; search = search; least_is = of_all };
+      halted = record { board = b; rows_are = refl; known = p; search = search; full = full; least_is = of_all };
     }
 
     pub shown-least : p.frame.whole ≡ true → (entries : List Entry) → AreFirstEntries b (claim.Pushes least) p (length p.table) entries

@@ -73,6 +73,7 @@ cut-waits b limit index bound whole p queue s is cut queues =
     record {
       more = cut.more;
       search = waits-still b limit index p queue cut.search (subst (λ standing. Queues standing index p.queue queue) is queues);
+      full = cut.full;
       kept = cut.kept;
     }
 

@@ -67,13 +67,14 @@ pub record HasSearched (rows : Rows) (limit : ℕ) (best : Option ℕ) : Type 0 
   pub finished : known.queue ≡ []
   pub best_is : known.best ≡ best
 
--- A search of the level that knows at most so many states was cut off, and so many pushes, at the least, are needed in one of its open states: those that
--- were made, and those that its bound says are to come.
+-- A search of the level that knows as many states as the limit was cut off, and so many pushes, at the least, are needed in one of its open states: those
+-- that were made, and those that its bound says are to come.
 pub record HasHalted (rows : Rows) (limit least : ℕ) : Type 0 where
   pub board : Numbered
   pub rows_are : board.rows ≡ rows
   pub known : Progress
   pub search : IsSearch board limit known
+  pub full : limit ≤ length known.table
   pub least_is : IsLeastOpen known least
 
 -- there are more states than a limit allows; and no list solves with fewer pushes than the search of as many shows
@@ -99,6 +100,7 @@ IsOutcome rows limit wanted (Solved dirs pushes cert) = IsShownSolved rows limit
 IsOutcome rows limit wanted (Unsolvable cert) = IsShownUnsolvable rows limit cert.entries.items
 IsOutcome rows limit wanted (Limit states at_least cert) = IsCutShort rows limit states at_least × ShowsLeast rows limit wanted at_least cert
 
+-- the same where it is not, and where it is
 abbrev pub IsAnswer : Rows → ℕ → Outcome → Type 0
 IsAnswer rows limit = IsOutcome rows limit false
 

@@ -108,7 +108,7 @@ fn dead_reason(
         → ReasonBars board.now player boxes.now why rest) }
     ensures fits { IfOk result (HasText boxes.now) }
 {
-    // There are few boxes, so their indices have a text.
+    // The list tells as well that there are few boxes, so that their indices have a text.
     if let Some(place) = stuck_place(tables, boxes.list()) {
         return stuck_reason(alloc, place as u32);
     }

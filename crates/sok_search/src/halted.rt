@@ -23,9 +23,7 @@ fn needed(search: &Search, index: usize) -> Option<u64>
             let depth = search.table.depth(index);
             Some(u64::from(depth) + u64::from(bound))
         }
-        Standing::Expanded(_) => None,
-        Standing::Dead => None,
-        Standing::Lost(_) => None,
+        _ => None,
     }
 }
 

@@ -1,17 +1,14 @@
 //! The solver.
 
-ghost use Rattle.std.specs.Prelude.{ℕ, ◌≡◌, ◌<◌, ◌≤◌, ◌↔◌, [], Bool, Err, IfOk, IfErr, IsOk};
-ghost use Rattle.std.specs.Prelude.{IsTrue, length, true};
+ghost use Rattle.std.specs.Prelude.{ℕ, ◌≡◌, ◌<◌, ◌≤◌, ◌↔◌, [], Bool, IfOk, IsTrue, length, true};
 ghost use Rattle.sok_board.specs.Area.{IsAccepted};
-ghost use Rattle.sok_board.specs.Refusals.{IsAcceptable};
-ghost use Rattle.sok_search.specs.Faults.{IsAcceptedWithin, IsBadLimit, IsRefusal, TellsFault};
+ghost use Rattle.sok_search.specs.Faults.{IsAcceptedWithin, IsBadLimit, TellsFault};
 ghost use Rattle.sok_search.specs.Limits.{state_limit};
 ghost use Rattle.sok_search.specs.Outcomes.{IsAnswer, IsBounded, IsFound, IsOutcome};
 ghost use Rattle.sok_search.specs.Searches.{IsSearch, IsSearching, IsSmallSearch};
 ghost use Rattle.sok_search.specs.Trails.{IsSolvedWithin};
 ghost use Rattle.sok_search.specs.Views.{progress_of, IsCutOff, IsEmpty, IsRunning, TellsFinished};
 ghost use Rattle.sok_search.specs.Views.{TellsSearched};
-ghost use Rattle.sok_search.specs.declared.fault.SolveFault.TheVariants as fault;
 
 use crate::beginning::{empty, enter_start};
 use crate::certifying::certificate;
@@ -42,14 +39,9 @@ pub const LIMIT: u32 = 1_000_000;
 /// (A*). Refused are, in this order, a limit of 0 or above 1,000,000, and what a board refuses.
 pub fn solve(alloc: Global, level: &Level, limit: u32) -> Result<Outcome, SolveFault>
     ensures answer { IfOk result (IsAnswer level.now limit) }
-    ensures bad_limit { (result ≡ Err fault.BadLimit) ↔ IsBadLimit limit }
-    ensures refused { IfErr result (IsRefusal level.now limit) }
-    ensures exact { (result ≡ Err fault.Memory → ⊥) → (result ≡ Err fault.BadLimit → ⊥)
-        → (IsOk result ↔ IsAcceptable level.now) }
+    ensures tells { TellsFault level.now limit result }
 {
-    let board = accept(alloc, level, limit)?;
-    let outcome = answer(alloc, &board, limit, false)?;
-    Ok(outcome)
+    outcome(alloc, level, limit, false)
 }
 
 /// What `solve` answers. Where it tells of a limit, there is a certificate, too, which shows that no
@@ -57,14 +49,9 @@ pub fn solve(alloc: Global, level: &Level, limit: u32) -> Result<Outcome, SolveF
 /// found, and those that still waited are barred by their prices.
 pub fn bound(alloc: Global, level: &Level, limit: u32) -> Result<Outcome, SolveFault>
     ensures bounded { IfOk result (IsBounded level.now limit) }
-    ensures bad_limit { (result ≡ Err fault.BadLimit) ↔ IsBadLimit limit }
-    ensures refused { IfErr result (IsRefusal level.now limit) }
-    ensures exact { (result ≡ Err fault.Memory → ⊥) → (result ≡ Err fault.BadLimit → ⊥)
-        → (IsOk result ↔ IsAcceptable level.now) }
+    ensures tells { TellsFault level.now limit result }
 {
-    let board = accept(alloc, level, limit)?;
-    let outcome = answer(alloc, &board, limit, true)?;
-    Ok(outcome)
+    outcome(alloc, level, limit, true)
 }
 
 /// What `solve` answers, without a certificate, which takes time and most of the memory. States in
@@ -73,14 +60,21 @@ pub fn bound(alloc: Global, level: &Level, limit: u32) -> Result<Outcome, SolveF
 /// that there are more states than the limit.
 pub fn find(alloc: Global, level: &Level, limit: u32) -> Result<Found, SolveFault>
     ensures found { IfOk result (IsFound level.now limit) }
-    ensures bad_limit { (result ≡ Err fault.BadLimit) ↔ IsBadLimit limit }
-    ensures refused { IfErr result (IsRefusal level.now limit) }
-    ensures exact { (result ≡ Err fault.Memory → ⊥) → (result ≡ Err fault.BadLimit → ⊥)
-        → (IsOk result ↔ IsAcceptable level.now) }
+    ensures tells { TellsFault level.now limit result }
 {
     let board = accept(alloc, level, limit)?;
     let found = find_on(alloc, &board, limit)?;
     Ok(found)
+}
+
+/// What is answered of a level, where a certificate of a limit that is met is wanted, or not.
+fn outcome(alloc: Global, level: &Level, limit: u32, wanted: bool) -> Result<Outcome, SolveFault>
+    ensures answer { IfOk result (IsOutcome level.now limit wanted) }
+    ensures tells { TellsFault level.now limit result }
+{
+    let board = accept(alloc, level, limit)?;
+    let outcome = answer(alloc, &board, limit, wanted)?;
+    Ok(outcome)
 }
 
 /// Whether a limit is refused.
@@ -102,8 +96,7 @@ fn accept(alloc: Global, level: &Level, limit: u32) -> Result<Board, SolveFault>
     Ok(board)
 }
 
-/// The answer of a board within a limit, where a certificate of a limit that is met is wanted, or
-/// not.
+/// The same of a board.
 fn answer(alloc: Global, board: &Board, limit: u32, wanted: bool) -> Result<Outcome, Memory>
     requires positive { 0 < limit }
     requires small { limit ≤ state_limit }
@@ -190,20 +183,14 @@ fn halt(
     ensures { IfOk result (IsOutcome board.now.rows limit wanted) }
 {
     let at_least = least_open(search);
-    let states = limit;
-    if !wanted {
-        let cert = None;
-        return Ok(Outcome::Limit {
-            states,
-            at_least,
-            cert,
-        });
-    }
-    let claim = Claim::Pushes(at_least);
-    let cert = certificate(alloc, board, tables, claim, search)?;
-    let cert = Some(cert);
+    let cert = if wanted {
+        let claim = Claim::Pushes(at_least);
+        Some(certificate(alloc, board, tables, claim, search)?)
+    } else {
+        None
+    };
     Ok(Outcome::Limit {
-        states,
+        states: limit,
         at_least,
         cert,
     })

@@ -1,17 +1,14 @@
 //! A solution with the fewest pushes, with its certificate.
 
-ghost use Rattle.std.specs.Prelude.{◌≡◌, ◌↔◌, Err, IfErr, IfOk, IsOk, MatchResult, Ok};
-ghost use Rattle.std.specs.Prelude.{string_bytes};
+ghost use Rattle.std.specs.Prelude.{◌≡◌, IfOk, MatchResult, Ok, string_bytes};
 ghost use Rattle.sok_engine.specs.Certified.{WritesBoth};
 ghost use Rattle.sok_engine.specs.Inputs.{OfReader, Within};
 ghost use Rattle.sok_engine.specs.Limits.{input_limit};
 ghost use Rattle.sok_engine.specs.Written.{Gives};
 ghost use Rattle.sok_engine.specs.declared.fault.ToolFault.TheVariants as tool;
 ghost use Rattle.sok_rules.specs.Play.{Solves};
-ghost use Rattle.sok_board.specs.Refusals.{IsAcceptable};
-ghost use Rattle.sok_search.specs.Faults.{IsBadLimit, IsRefusal};
+ghost use Rattle.sok_search.specs.Faults.{TellsFault};
 ghost use Rattle.sok_search.specs.Outcomes.{IsOutcome};
-ghost use Rattle.sok_search.specs.declared.fault.SolveFault.TheVariants as fault;
 ghost use Rattle.sok_solve.specs.Faults.{of_solve};
 ghost use Rattle.sok_solve.specs.Solves.{IsSolve, IsSolveAnswer, TellsOutcome, bound_answer};
 ghost use Rattle.sok_solve.specs.Solves.{limit_answer, solution_text};
@@ -129,10 +126,7 @@ fn answer(
 /// The outcome of a level, with a certificate of a limit that is met where a bound is asked for.
 fn outcome(alloc: Global, level: &Level, limit: u32, bound: bool) -> Result<Outcome, SolveFault>
     ensures answer { IfOk result (IsOutcome level.now limit bound) }
-    ensures bad_limit { (result ≡ Err fault.BadLimit) ↔ IsBadLimit limit }
-    ensures refused { IfErr result (IsRefusal level.now limit) }
-    ensures exact { (result ≡ Err fault.Memory → ⊥) → (result ≡ Err fault.BadLimit → ⊥)
-        → (IsOk result ↔ IsAcceptable level.now) }
+    ensures tells { TellsFault level.now limit result }
 {
     if bound {
         sok_search::solve::bound(alloc, level, limit)

@@ -6,8 +6,7 @@ ghost use Rattle.std.specs.List.{AllPass};
 ghost use Rattle.sok_rules.specs.Limits.{letter_limit};
 ghost use Rattle.sok_text.specs.Counts.{times, starts_with_digit};
 
-/// The largest number that is told apart.
-const LIMIT: usize = 1_000_000;
+use crate::lurd::LIMIT;
 
 /// The digits that a text begins with, and what stands behind them.
 pub(crate) fn cut_digits(text: &[u8]) -> (&[u8], &[u8])

@@ -24,14 +24,6 @@ returns-in-Open c =
     (open-at b limit (progress_of c.args.search.now) search c.args.index depth bound c.index.result.now c.requires.within c.depth-depth.ensures
     (noted ((goal.at.returns-in-Open c).After-index)) c.in-Open.is)
 
-pub returns-in-Expanded : goal.returns-in-Expanded
-returns-in-Expanded c n = closed-at (progress_of c.args.search.now) c.args.index n c.index.result.now
-    (noted ((goal.at.returns-in-Expanded c).After-index)) (λ bound is. let also = sym c.in-Expanded.is ∙ is in cc)
-
-pub returns-in-Dead : goal.returns-in-Dead
-returns-in-Dead c n = closed-at (progress_of c.args.search.now) c.args.index n c.index.result.now
-    (noted ((goal.at.returns-in-Dead c).After-index)) (λ bound is. let also = sym c.in-Dead.is ∙ is in cc)
-
-pub returns-in-Lost : goal.returns-in-Lost
-returns-in-Lost c n = closed-at (progress_of c.args.search.now) c.args.index n c.index.result.now
-    (noted ((goal.at.returns-in-Lost c).After-index)) (λ bound is. let also = sym c.in-Lost.is ∙ is in cc)
+pub returns-in_default : goal.returns-in_default
+returns-in_default c n = closed-at (progress_of c.args.search.now) c.args.index n c.index.result.now
+    (noted ((goal.at.returns-in_default c).After-index)) (λ bound is. c.in_default.not-Open bound is)

@@ -59,5 +59,6 @@ returns c =
           c.args.key.now next.next c.args.push legal.after held.running.search c.requires.full held.there legal.leads (next.ensures.exact legal.after legal.leads)
           c.in-None.ensures;
       search = held.running.search;
+      full = c.requires.full;
       kept = refl;
     }

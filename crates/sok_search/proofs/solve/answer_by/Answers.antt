@@ -21,4 +21,4 @@ returns-in-On c = c.conclude.ensures c.args.limit c.args.wanted (told (goal.at.r
 pub halt-requires-clause-cut : goal.halt-requires-clause-cut
 halt-requires-clause-cut c =
     let halted = subst (TellsSearched c.args.board.now c.args.limit c.args.search.now.whole (progress_of c.search_all.new.search)) c.in-Full.is c.in_ok-search_all.ensures in
-    record { more = halted.more; search = halted.search; kept = halted.kept ∙ c.requires.whole }
+    record { more = halted.more; search = halted.search; full = halted.full; kept = halted.kept ∙ c.requires.whole }

@@ -25,4 +25,4 @@ least_open-requires c = (c.args.board.now, (c.args.limit, (cut (goal.at.least_op
 pub returns-in-Full : goal.returns-in-Full
 returns-in-Full c =
     let halted = cut (goal.at.returns-in-Full c).In-Full in
-    cut-short c.args.board.now c.requires.accepted c.args.limit (progress_of c.search_all.new.search) halted.search halted.more _ c.least_open.ensures
+    cut-short c.args.board.now c.requires.accepted c.args.limit (progress_of c.search_all.new.search) halted.search halted.more halted.full _ c.least_open.ensures

@@ -11,7 +11,7 @@ use Rattle.sok_search.proofs.solve.search_all.Goals as goal
 searched-finished : (b : Numbered) (limit : ℕ) (whole : Bool) (p q : Progress) → p.frame.whole ≡ whole → (r : Reached) → TellsFinished b limit p q r
     → TellsSearched b limit whole q r
 searched-finished b limit whole p q began On told = record { search = told.search; kept = told.whole ∙ began; empty = told.empty }
-searched-finished b limit whole p q began Full told = record { more = told.more; search = told.search; kept = told.kept ∙ began }
+searched-finished b limit whole p q began Full told = record { more = told.more; search = told.search; full = told.full; kept = told.kept ∙ began }
 
 pub finish-requires : goal.finish-requires
 finish-requires c = record {

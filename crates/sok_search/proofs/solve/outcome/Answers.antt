@@ -1,24 +1,24 @@
 use Rattle.std.proofs.Common.{subst}
 use Rattle.sok_rules.specs.Squares.{Rows}
-use Rattle.sok_search.specs.Outcomes.{IsAnswer}
+use Rattle.sok_search.specs.Outcomes.{IsOutcome}
 use Rattle.sok_search.proofs.Refusing.{good-within, handed-on, no-answer, told-also, told-answer, told-memory}
-use Rattle.sok_search.proofs.solve.solve.Goals as goal
+use Rattle.sok_search.proofs.solve.outcome.Goals as goal
 
 pub returns-in_err-board : goal.returns-in_err-board
 returns-in_err-board c =
     let told = told-also _ _ c.args.level.now c.args.limit _ c.in_err-board.ensures.tells in
     let tells = handed-on _ _ _ c.from_residual.result c.from_residual.ensures.1 told in
-    assumption (tells, no-answer (IsAnswer c.args.level.now c.args.limit) _ c.from_residual.result c.from_residual.ensures.1)
+    assumption (tells, no-answer (IsOutcome c.args.level.now c.args.limit c.args.wanted) _ c.from_residual.result c.from_residual.ensures.1)
 
 pub returns-in_err-outcome : goal.returns-in_err-outcome
 returns-in_err-outcome c =
     let error = c.from_residual-in_err-outcome.ensures.1 in
     let told = told-memory _ c.args.level.now c.args.limit (good-within c.args.level.now c.args.limit c.in_ok-board.board c.in_ok-board.ensures.board) in
     let tells = handed-on _ _ _ c.from_residual-in_err-outcome.result error told in
-    assumption (tells, no-answer (IsAnswer c.args.level.now c.args.limit) _ c.from_residual-in_err-outcome.result error)
+    assumption (tells, no-answer (IsOutcome c.args.level.now c.args.limit c.args.wanted) _ c.from_residual-in_err-outcome.result error)
 
 pub returns : goal.returns
 returns c =
     let within = c.in_ok-board.ensures.board in
-    let answer = subst (λ (level : Rows). IsAnswer level c.args.limit c.in_ok-outcome.outcome) within.rows_are c.in_ok-outcome.ensures in
+    let answer = subst (λ (level : Rows). IsOutcome level c.args.limit c.args.wanted c.in_ok-outcome.outcome) within.rows_are c.in_ok-outcome.ensures in
     assumption (answer, told-answer c.args.level.now c.args.limit c.in_ok-board.board c.in_ok-outcome.outcome within)
