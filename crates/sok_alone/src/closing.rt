@@ -74,7 +74,7 @@ pub(crate) fn close_unless(
         inner
     };
     match met? {
-        Met::On => Ok(Some(Inners::from(inner))),
+        Met::On => Ok(Some(Inners::new(alloc, inner)?)),
         Met::Ended => Ok(None),
     }
 }

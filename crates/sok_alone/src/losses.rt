@@ -12,7 +12,6 @@ use crate::closing::close_unless;
 use crate::finding::members_of;
 use crate::found::FoundPattern;
 use crate::hints::Hints;
-use sok_bar::inners::copy_of;
 use sok_board::board::Board;
 use sok_board::box_set::BoxSet;
 use sok_entry::entry::Inners;
@@ -81,7 +80,7 @@ impl Losses {
     {
         let loss = &self.losses[place as usize];
         let members = members_of(alloc, boxes.list(), loss.key.boxes.list())?;
-        let inner = copy_of(alloc, loss.inner.as_slice())?;
+        let inner = loss.inner.share()?;
         Ok(FoundPattern { members, inner })
     }
 

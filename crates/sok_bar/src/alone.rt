@@ -20,7 +20,7 @@ use sok_board::box_set::BoxSet;
 use sok_closed::placing::{Located, locate};
 use sok_closed::roll::Roll;
 use sok_closed::solved::is_solved;
-use sok_entry::entry::{Inner, InnerReason};
+use sok_entry::entry::{Inner, InnerReason, Inners};
 use sok_push::tables::Tables;
 use sok_rules::fault::Memory;
 use sok_state::key::Key;
@@ -34,7 +34,7 @@ pub(crate) fn are_closed_alone(
     tables: &Tables,
     boxes: &BoxSet,
     player: Sq,
-    inner: &[Inner],
+    inner: &Inners,
 ) -> Result<bool, Memory>
     requires accepted { IsAccepted board.now }
     requires tables { tables.now.board ≡ board.now }
@@ -43,6 +43,7 @@ pub(crate) fn are_closed_alone(
         (λ closed. IsTrue closed ↔ AreClosedAlone board.now player boxes.now inner.now) }
 {
     let mut roll = Roll::new(alloc, board.squares());
+    let inner = inner.as_slice();
     are_closed_by(alloc, board, tables, boxes, player, inner, &mut roll)
 }
 

@@ -1,11 +1,9 @@
-//! Lists of positions of some boxes alone: whether two are the same, and copies.
+//! Lists of positions of some boxes alone: whether two are the same.
 
-ghost use Rattle.std.specs.Prelude.{◌≡◌, ◌↔◌, IfOk, IsTrue};
+ghost use Rattle.std.specs.Prelude.{◌≡◌, ◌↔◌, IsTrue};
 ghost use Rattle.sok_bar.specs.Patterns.{is_expanded};
 
-use sok_entry::entry::{Inner, InnerReason, Inners, Numbers};
-use sok_rules::fault::Memory;
-use std::alloc::Global;
+use sok_entry::entry::{Inner, InnerReason};
 
 /// Whether the reason of a position is that every push leads to another one of the list.
 pub fn is_expanded(reason: &InnerReason) -> bool
@@ -52,45 +50,5 @@ fn is_same_reason(one: &InnerReason, other: &InnerReason) -> bool
             members.as_slice() == others.as_slice()
         }
         _ => false,
-    }
-}
-
-/// A copy of a list.
-pub fn copy_of(alloc: Global, inner: &[Inner]) -> Result<Inners, Memory>
-    ensures { IfOk result (λ copy. copy ≡ inner.now) }
-{
-    let mut copies = Vec::with_capacity(alloc, inner.len())?;
-    for one in inner {
-        copies.push(copy_of_one(alloc, one)?)?;
-    }
-    Ok(Inners::from(copies))
-}
-
-/// A copy of a position.
-fn copy_of_one(alloc: Global, one: &Inner) -> Result<Inner, Memory>
-    ensures { IfOk result (λ copy. copy ≡ one.now) }
-{
-    Ok(Inner {
-        depth: one.depth,
-        player: one.player,
-        boxes: Numbers::copied(alloc, one.boxes.as_slice())?,
-        reason: copy_of_reason(alloc, &one.reason)?,
-    })
-}
-
-/// A copy of a reason.
-fn copy_of_reason(alloc: Global, reason: &InnerReason) -> Result<InnerReason, Memory>
-    ensures { IfOk result (λ copy. copy ≡ reason.now) }
-{
-    match reason {
-        InnerReason::Expanded => Ok(InnerReason::Expanded),
-        InnerReason::Crowd { members } => {
-            let members = Numbers::copied(alloc, members.as_slice())?;
-            Ok(InnerReason::Crowd { members })
-        }
-        InnerReason::Frozen { members } => {
-            let members = Numbers::copied(alloc, members.as_slice())?;
-            Ok(InnerReason::Frozen { members })
-        }
     }
 }

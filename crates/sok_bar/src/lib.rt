@@ -8,7 +8,7 @@
 //! | `crowd` | boxes that share too few goals |
 //! | `frozen` | boxes that hold each other for ever |
 //! | `held` | which boxes are held along both axes |
-//! | `inners` | positions of some boxes alone: which are expanded, and lists compared and copied |
+//! | `inners` | positions of some boxes alone: which are expanded, and lists compared |
 //! | `layout_jam` | whether the boxes of a layout have a jam |
 //! | `law` | what a reason says of a position bars it |
 //! | `members` | lists of members of a box list (private) |

@@ -7,11 +7,11 @@ ghost use Rattle.sok_bar.specs.Memos.{IsClosedKept, KeepsClosed};
 ghost use Rattle.sok_bar.specs.Patterns.{AreClosedAlone};
 
 use crate::alone::are_closed_alone;
-use crate::inners::{are_same, copy_of};
+use crate::inners::are_same;
 use sok_board::area::Sq;
 use sok_board::board::Board;
 use sok_board::box_set::BoxSet;
-use sok_entry::entry::{Inner, Inners};
+use sok_entry::entry::Inners;
 use sok_push::tables::Tables;
 use sok_rules::fault::Memory;
 use sok_state::key::Key;
@@ -32,10 +32,10 @@ struct Kept {
 
 impl Kept {
     /// Whether it is this list, kept for this state.
-    fn is(&self, key: &Key, inner: &[Inner]) -> bool
+    fn is(&self, key: &Key, inner: &Inners) -> bool
         ensures { IsTrue result ↔ (self.now ≡ record { key = key.now; inner = inner.now }) }
     {
-        self.key == *key && are_same(self.inner.as_slice(), inner)
+        self.key == *key && are_same(self.inner.as_slice(), inner.as_slice())
     }
 }
 
@@ -69,7 +69,7 @@ impl Memo {
         tables: &Tables,
         boxes: &BoxSet,
         player: Sq,
-        inner: &[Inner],
+        inner: &Inners,
     ) -> Result<bool, Memory>
         requires accepted { IsAccepted board.now }
         requires tables { tables.now.board ≡ board.now }
@@ -86,12 +86,12 @@ impl Memo {
         if !are_closed_alone(alloc, board, tables, boxes, player, inner)? {
             return Ok(false);
         }
-        self.keep(alloc, key, inner)?;
+        self.keep(key, inner)?;
         Ok(true)
     }
 
     /// Whether a list is kept for a state.
-    fn has(&self, key: &Key, inner: &[Inner]) -> bool
+    fn has(&self, key: &Key, inner: &Inners) -> bool
         ensures { IsTrue result
             ↔ Contains self.now.lists.items (record { key = key.now; inner = inner.now }) }
     {
@@ -104,17 +104,17 @@ impl Memo {
     }
 
     /// Keeps a list for a state, while there is room.
-    fn keep(&mut self, alloc: Global, key: Key, inner: &[Inner]) -> Result<(), Memory>
+    fn keep(&mut self, key: Key, inner: &Inners) -> Result<(), Memory>
         ensures { (b : Numbered) → IsClosedKept b (record { key = key; inner = inner.now })
             → KeepsClosed b self.old → KeepsClosed b self.new }
     {
-        let Some(room) = self.room.checked_sub(inner.len()) else {
+        let Some(room) = self.room.checked_sub(inner.as_slice().len()) else {
             return Ok(());
         };
         if self.lists.len() >= LISTS {
             return Ok(());
         }
-        let inner = copy_of(alloc, inner)?;
+        let inner = inner.share()?;
         self.lists.push(Kept { key, inner })?;
         self.room = room;
         Ok(())

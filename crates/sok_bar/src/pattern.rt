@@ -16,7 +16,7 @@ use crate::rest::Rest;
 use sok_board::area::Sq;
 use sok_board::board::Board;
 use sok_board::box_set::BoxSet;
-use sok_entry::entry::Inner;
+use sok_entry::entry::Inners;
 use sok_push::tables::Tables;
 use sok_rules::fault::Memory;
 use std::alloc::Global;
@@ -27,7 +27,7 @@ use std::alloc::Global;
 #[derive(Clone, Copy, Debug)]
 pub struct Pattern<'a> {
     pub members: &'a [u32],
-    pub inner: &'a [Inner],
+    pub inner: &'a Inners,
 }
 
 impl Bar for Pattern<'_> {

@@ -61,7 +61,6 @@ pub fn reason_holds(
         }
         Reason::Pattern { members, inner } => {
             let members = members.as_slice();
-            let inner = inner.as_slice();
             Pattern { members, inner }.holds_by(alloc, board, tables, boxes, player, memo)
         }
     }

@@ -4,6 +4,7 @@ ghost use Rattle.std.specs.Prelude.{◌≡◌, IfOk};
 
 use std::alloc::{AllocError, Global};
 use std::marker::Model;
+use std::rc::Rc;
 
 /// Positions with what shows that the claim holds from each of them.
 #[derive(Debug, Drop)]
@@ -63,10 +64,10 @@ pub enum InnerReason {
     Frozen { members: Numbers },
 }
 
-/// Positions of some boxes alone, in order. They are seen as a list.
+/// Positions of some boxes alone, in order, which many entries may share. They are seen as a list.
 #[derive(Debug, Drop)]
 pub struct Inners {
-    items: Vec<Inner>,
+    items: Rc<Vec<Inner>>,
 }
 
 impl Model for Inners {
@@ -75,23 +76,33 @@ impl Model for Inners {
 
     ghost Value = { List Inner };
 
-    ghost view = { λ inners. inners.items.items };
+    ghost view = { λ inners. inners.items.value.items };
 }
 
 impl Inners {
+    /// These positions, put where they can be shared.
+    pub fn new(alloc: Global, items: Vec<Inner>) -> Result<Inners, AllocError>
+        ensures { IfOk result (λ inners. inners ≡ items.items) }
+    {
+        match Rc::new(alloc, items) {
+            Ok(items) => Ok(Inners { items }),
+            Err(_) => Err(AllocError),
+        }
+    }
+
+    /// The same positions, with no copy made.
+    pub fn share(&self) -> Result<Inners, AllocError>
+        ensures { IfOk result (λ inners. inners ≡ self.now) }
+    {
+        let items = self.items.clone()?;
+        Ok(Inners { items })
+    }
+
     /// The positions, with no copy made.
     pub fn as_slice(&self) -> &[Inner]
         ensures { result.now ≡ self.now }
     {
         &self.items
-    }
-}
-
-impl From<Vec<Inner>> for Inners {
-    ghost from_gives = { λ items inners. inners ≡ items.items };
-
-    fn from(items: Vec<Inner>) -> Inners {
-        Inners { items }
     }
 }
 

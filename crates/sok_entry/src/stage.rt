@@ -1,6 +1,6 @@
 //! How far a certificate is read, line by line.
 
-ghost use Rattle.std.specs.Prelude.{ℕ, ◌≡◌, ◌<◌, ◌≤◌, ◌^◌, ◌++◌, ◌∷◌, [], List, All, MatchResult, length};
+ghost use Rattle.std.specs.Prelude.{ℕ, ◌≡◌, ◌<◌, ◌≤◌, ◌^◌, ◌++◌, ◌∷◌, [], List, All, IfOk, MatchResult, length};
 ghost use Rattle.sok_entry.specs.Reading.{FitsHead, GoesWrong, unfinished_lines};
 ghost use Rattle.sok_entry.specs.Stages.{AreRead, IsRead, IsSplit, IsStage, MayClaim, ReadsOn};
 ghost use Rattle.sok_entry.specs.Text.{FitsInner, Spells};
@@ -133,7 +133,7 @@ fn at_entries(
         Some(Opening::Whole(entry)) => {
             Ok(LineRead::Listed(claim, entry, Stage::AtEntries(version, claim)))
         }
-        Some(Opening::Begun(head)) => Ok(inside(claim, head, Vec::new(alloc))),
+        Some(Opening::Begun(head)) => inside(alloc, claim, head, Vec::new(alloc)),
         None => Ok(LineRead::Wrong(CertFault::Line(lines + 1))),
     }
 }
@@ -153,25 +153,28 @@ fn at_inner(
     match inner_of_line(alloc, line)? {
         Some(position) => {
             inner.push(position)?;
-            Ok(inside(claim, head, inner))
+            inside(alloc, claim, head, inner)
         }
         None => Ok(LineRead::Wrong(CertFault::Line(lines + 1))),
     }
 }
 
 /// What the last line is that was read of a pattern.
-fn inside(claim: Claim, head: Head, inner: Vec<Inner>) -> LineRead
-    ensures { (ls : List (List ℕ)) (es : List Entry)
+fn inside(
+    alloc: Global,
+    claim: Claim,
+    head: Head,
+    inner: Vec<Inner>,
+) -> Result<LineRead, AllocError>
+    ensures { IfOk result (λ read. (ls : List (List ℕ)) (es : List Entry)
         → FitsHead head → All FitsInner inner.items → length inner.items ≤ head.count
         → AreRead ls versions.Two claim es (unfinished_lines head inner.items)
-        → IsRead ls es (at.AtEntries versions.Two claim) result }
+        → IsRead ls es (at.AtEntries versions.Two claim) read) }
 {
     if inner.len() < head.count as usize {
-        return LineRead::Passed(Stage::AtInner { claim, head, inner });
+        return Ok(LineRead::Passed(Stage::AtInner { claim, head, inner }));
     }
-    LineRead::Listed(
-        claim,
-        head.with(inner),
-        Stage::AtEntries(Version::Two, claim),
-    )
+    let entry = head.with(alloc, inner)?;
+    let next = Stage::AtEntries(Version::Two, claim);
+    Ok(LineRead::Listed(claim, entry, next))
 }

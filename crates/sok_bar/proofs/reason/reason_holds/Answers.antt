@@ -59,4 +59,4 @@ returns-in-Frozen-clause-refused c = ample c.args.board.now c.args.player c.args
 pub returns-in-Pattern-clause-exact : goal.returns-in-Pattern-clause-exact
 returns-in-Pattern-clause-exact c =
     subst (MayTell c.args.board.now c.args.player c.args.boxes.now c.args.rest c.holds_by.result)
-    ((λ i. Pattern (c.as_slice-members-in-Pattern.ensures i) (c.as_slice-inner.ensures i)) ∙ sym c.in-Pattern.is) c.holds_by.ensures.exact
+    (ap (λ members. Pattern members c.in-Pattern.inner) c.as_slice-members-in-Pattern.ensures ∙ sym c.in-Pattern.is) c.holds_by.ensures.exact

@@ -1,6 +1,7 @@
 use Rattle.std.proofs.Common.{◌≢◌, ◌≤◌, ◌+◌, ◌∷◌, ◌++◌, ◌∙◌, [], All, Some, codes, length, sym, ap, subst, arith}
 use Rattle.std.proofs.lemmas.Bool.Decides.{Decides-eqb}
 use Rattle.std.proofs.lemmas.List.Elements.{All-nil}
+use Rattle.std.proofs.lemmas.Result.{IfOk-weaker}
 use Rattle.std.proofs.lemmas.Slice.Eq.{slice_eq-Decides}
 use Rattle.sok_entry.specs.declared.fault.CertFault.TheVariants.{Line}
 use Rattle.sok_entry.specs.declared.stage.Stage.TheVariants.{AtEntries}
@@ -40,8 +41,8 @@ returns-in-Some-Begun c = λ ls es count at.
     let short : length inner ≤ head.count = omega (arith, ap length c.new.ensures.items) in
     let read = subst (λ is. AreRead (ls ++ line ∷ []) Two claim es (unfinished_lines head is)) empty
     (read-head ls es line claim head (subst (λ v. AreRead ls v claim es []) second at) is) in
-    subst (λ v. IsRead (ls ++ line ∷ []) es (AtEntries v claim) c.inside.result) (sym second)
-    (c.inside.ensures (ls ++ line ∷ []) es is.0 fits short read)
+    IfOk-weaker c.inside.result _ _ (λ told reads. subst (λ v. IsRead (ls ++ line ∷ []) es (AtEntries v claim) told) (sym second)
+        (reads (ls ++ line ∷ []) es is.0 fits short read)) c.inside.ensures
 
 pub returns-in-None : goal.returns-in-None
 unfolding last_line

@@ -1,6 +1,7 @@
 use Rattle.std.proofs.Common.{◌≤◌, ◌+◌, ◌∷◌, ◌++◌, [], All, length, sym, ap, subst, arith}
 use Rattle.std.proofs.lemmas.List.{length_push}
 use Rattle.std.proofs.lemmas.List.Elements.{All-push}
+use Rattle.std.proofs.lemmas.Result.{IfOk-weaker}
 use Rattle.sok_entry.specs.declared.fault.CertFault.TheVariants.{Line}
 use Rattle.sok_entry.specs.declared.version.Version.TheVariants.{Two}
 use Rattle.sok_entry.specs.Text.{FitsInner}
@@ -22,8 +23,8 @@ returns-in_ok-push-in-Some c = λ ls es count (unfinished, at).
     let short : length c.push.new.self.items ≤ head.count =
     omega (arith, ap length c.in_ok-push-in-Some.ensures.items, length_push inner position, unfinished.more_belong) in
     let read = subst (λ all. AreRead (ls ++ line ∷ []) Two claim es (unfinished_lines head all)) pushed (read-inner ls es line claim head inner position at is) in
-    IsRead-inner (ls ++ line ∷ []) es claim head c.args.inner c.inside.result
-    (c.inside.ensures (ls ++ line ∷ []) es unfinished.head_fits fits short read)
+    IfOk-weaker c.inside.result _ _ (λ told is. IsRead-inner (ls ++ line ∷ []) es claim head c.args.inner told
+        (is (ls ++ line ∷ []) es unfinished.head_fits fits short read)) c.inside.ensures
 
 pub returns-in-None : goal.returns-in-None
 returns-in-None c = λ ls es count (unfinished, at).

@@ -12,5 +12,5 @@ returns c = λ ls es head_fits inner_fit short read.
     let inner = c.args.inner.items in
     let count : c.len.result ≡ length inner = search rules in
     let many : length inner ≡ c.args.head.count = omega arith in
-    subst (λ e. IsRead ls es (AtEntries Two claim) (Listed claim e (AtEntries Two claim))) (sym c.with.ensures)
+    subst (λ e. IsRead ls es (AtEntries Two claim) (Listed claim e (AtEntries Two claim))) (sym c.in_ok-entry.ensures)
     (read-full ls es claim c.args.head inner head_fits inner_fit many read)

@@ -38,7 +38,7 @@ returns-clause-holds c b player lost =
     let squares = lost.loss.key.boxes in
     let is = loss-is ((goal.at.returns-clause-holds c).After-index-loss) b player lost in
     let are : c.list-2.result.now ≡ squares = c.list-2.ensures.list ∙ ap (λ (l : Loss). l.key.boxes) (sym is) in
-    let inner_is : lost.loss.inner ≡ c.in_ok-inner.inner = ap (λ (l : Loss). l.inner) is ∙ sym c.as_slice.ensures ∙ sym c.in_ok-inner.ensures in
+    let inner_is : lost.loss.inner ≡ c.in_ok-inner.inner = ap (λ (l : Loss). l.inner) is ∙ sym c.in_ok-inner.ensures in
     let at : AreMembersAt boxes squares c.in_ok-members.members = subst (λ (list : List ℕ). AreMembersAt list squares c.in_ok-members.members) c.list.ensures.list
     (subst (λ (list : List ℕ). AreMembersAt c.list.result.now list c.in_ok-members.members) are c.in_ok-members.ensures) in
     pattern-of b player boxes squares c.in_ok-members.members c.in_ok-inner.inner at
@@ -48,10 +48,10 @@ pub returns-clause-fit : goal.returns-clause-fit
 returns-clause-fit c =
     let (b, player, lost) = c.requires.lost in
     let is = loss-is ((goal.at.returns-clause-fit c).After-index-loss) b player lost in
-    subst (λ (inner : List Inner). All FitsInner inner) (ap (λ (l : Loss). l.inner) is ∙ sym c.as_slice.ensures ∙ sym c.in_ok-inner.ensures) lost.fit
+    subst (λ (inner : List Inner). All FitsInner inner) (ap (λ (l : Loss). l.inner) is ∙ sym c.in_ok-inner.ensures) lost.fit
 
 pub returns-clause-few : goal.returns-clause-few
 returns-clause-few c =
     let (b, player, lost) = c.requires.lost in
     let is = loss-is ((goal.at.returns-clause-few c).After-index-loss) b player lost in
-    subst (λ (inner : List Inner). length inner ≤ loss_limit) (ap (λ (l : Loss). l.inner) is ∙ sym c.as_slice.ensures ∙ sym c.in_ok-inner.ensures) lost.few
+    subst (λ (inner : List Inner). length inner ≤ loss_limit) (ap (λ (l : Loss). l.inner) is ∙ sym c.in_ok-inner.ensures) lost.few
