@@ -1,5 +1,5 @@
 -- What an output holds after a call that opens a file and solves a level of it, with a certificate in another file, or alone.
-use Rattle.std.specs.Prelude.{ℕ, ◌≡◌, ◌⊎◌, Bool, List, Option, Some, None, Result, Err}
+use Rattle.std.specs.Prelude.{ℕ, ◌≡◌, ◌≢◌, ◌⊎◌, Bool, List, Option, Some, None, Result, Err}
 use Rattle.sok_engine.specs.declared.fault.ToolFault.{ToolFault}
 use Rattle.sok_engine.specs.declared.fault.ToolFault.TheVariants as tool
 use Rattle.sok_engine.specs.Certified.{Bytes, CertifiedAnswers, Stays, WritesBoth}
@@ -9,7 +9,7 @@ use Rattle.sok_engine.specs.Written.{Writes}
 use Rattle.sok_solve.specs.Solves.{IsFind, IsSolve}
 use Rattle.sok_files.specs.Files.{OfFile}
 
--- it did not begin: memory was refused, or a file can't be opened or made
+-- it did not begin: memory was refused, or a file can't be opened or may not be made
 abbrev pub IsUnbegun : Result ℕ ToolFault → Type 0
 IsUnbegun result = (result ≡ Err tool.Memory) ⊎ (result ≡ Err tool.ReadFailed) ⊎ (result ≡ Err tool.WriteFailed)
 
@@ -17,8 +17,9 @@ IsUnbegun result = (result ≡ Err tool.Memory) ⊎ (result ≡ Err tool.ReadFai
 abbrev pub SolvesTo : CertifiedAnswers → (Bytes → Type 0) → Bytes → Result ℕ ToolFault → Type 0
 SolvesTo P IsPlace out result = (IsUnbegun result × Stays out) ⊎ ((cert : Bytes) × IsPlace cert × WritesBoth P cert out result)
 
--- A level of a file is solved within a limit, with a bound where the limit is met, or without. With a path the certificate goes to the file that is made there; with none there is no certificate.
-abbrev pub SolvesLevel : (Option (List ℕ) → Type 0) → (List ℕ → Bytes → Type 0) → ℕ → ℕ → Bool → Option (List ℕ) → Bytes → Result ℕ ToolFault → Type 0
-SolvesLevel reads makes n limit bound (Some path) out result =
-    SolvesTo (OfFile reads (Within input_limit (IsSolve n limit bound))) (makes path) out result
-SolvesLevel reads makes n limit bound None out result = Writes (OfFile reads (Within input_limit (IsFind n limit bound))) out.old out.new result
+-- A level of a file is solved within a limit, with a bound where the limit is met, or without. With a path, which is another than the file's, the certificate
+-- goes to the file that is made there; with none there is no certificate.
+abbrev pub SolvesLevel : List ℕ → (Option (List ℕ) → Type 0) → (List ℕ → Bytes → Type 0) → ℕ → ℕ → Bool → Option (List ℕ) → Bytes → Result ℕ ToolFault → Type 0
+SolvesLevel file reads makes n limit bound (Some path) out result =
+    SolvesTo (OfFile reads (Within input_limit (IsSolve n limit bound))) (λ cert. (file ≢ path) × makes path cert) out result
+SolvesLevel file reads makes n limit bound None out result = Writes (OfFile reads (Within input_limit (IsFind n limit bound))) out.old out.new result

@@ -1,7 +1,7 @@
 //! Each command on its files, which are opened, or made, in the order in which the words name them,
 //! before anything is read.
 
-ghost use Rattle.std.specs.Prelude.{◌≡◌, option_map, string_bytes};
+ghost use Rattle.std.specs.Prelude.{◌≡◌, ◌≢◌, option_map, string_bytes};
 ghost use Rattle.sok_engine.specs.Inputs.{Within};
 ghost use Rattle.sok_engine.specs.Limits.{cert_limit, input_limit};
 ghost use Rattle.sok_engine.specs.Written.{Writes};
@@ -86,7 +86,7 @@ pub fn check<F: Folder + AllocGlobal, W: Write>(
 }
 
 /// Solves the n-th level of a collection. The certificate is written to a file, if a path is given;
-/// else none is made.
+/// else none is made. That file is never the collection's, which would be emptied.
 pub fn solve<F: Folder + AllocGlobal, W: Write>(
     rt: &F,
     path: &str,
@@ -96,7 +96,7 @@ pub fn solve<F: Folder + AllocGlobal, W: Write>(
     cert_path: Option<String>,
     out: &mut W,
 ) -> Result<u8, ToolFault>
-    ensures { SolvesLevel (F.reads rt.now path.now)
+    ensures { SolvesLevel path.now (F.reads rt.now path.now)
         (λ place. IsMade F.Output.contents (F.makes rt.now place)) n limit bound
         (option_map (λ s. string_bytes s) cert_path)
         (record { old = W.contents out.old; new = W.contents out.new }) result }
@@ -124,7 +124,8 @@ fn find<F: Folder + AllocGlobal, W: Write>(
     find_bytes(rt.alloc(), &mut input, n as usize, limit, bound, out)
 }
 
-/// Solves a level, and writes the certificate to a file that is made for it.
+/// Solves a level, and writes the certificate to a file that is made for it, if that is another than
+/// the collection's.
 fn solve_with_file<F: Folder + AllocGlobal, W: Write>(
     rt: &F,
     path: &str,
@@ -136,9 +137,13 @@ fn solve_with_file<F: Folder + AllocGlobal, W: Write>(
 ) -> Result<u8, ToolFault>
     ensures { SolvesTo
         (OfFile (F.reads rt.now path.now) (Within input_limit (IsSolve n limit bound)))
-        (IsMade F.Output.contents (F.makes rt.now cert_path.now))
+        (λ cert. (path.now ≢ cert_path.now)
+            × IsMade F.Output.contents (F.makes rt.now cert_path.now) cert)
         (record { old = W.contents out.old; new = W.contents out.new }) result }
 {
+    if rt.is_one(path, cert_path) {
+        return Err(ToolFault::WriteFailed);
+    }
     let mut input = open(rt, path)?;
     let mut cert_out = create(rt, cert_path)?;
     solve_bytes(

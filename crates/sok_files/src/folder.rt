@@ -1,9 +1,10 @@
 //! Files by their paths.
 
-ghost use Rattle.std.specs.Prelude.{ℕ, List, Option, IfOk, MatchResult, ⊤};
+ghost use Rattle.std.specs.Prelude.{ℕ, ◌≡◌, List, Option, IfOk, IsTrue, MatchResult, ⊤};
 
 use std::fs::{self, File};
 use std::io::{self, Read, Write};
+use std::os::unix::fs::MetadataExt;
 
 /// Files by their paths, as those of the machine.
 pub trait Folder {
@@ -29,6 +30,10 @@ pub trait Folder {
     /// Makes a file, or empties it.
     fn create(&self, path: &str) -> io::Result<Self::Output>
         ensures { IfOk result (λ file. makes self.now path.now file) };
+
+    /// Whether two paths lead to one file, as far as this can be told: one path and itself do.
+    fn is_one(&self, path: &str, other: &str) -> bool
+        ensures { path.now ≡ other.now → IsTrue result };
 }
 
 /// No contract knows what the machine's files hold.
@@ -49,5 +54,17 @@ impl Folder for HostRuntime {
 
     fn create(&self, path: &str) -> io::Result<File> {
         fs::create(self, path)
+    }
+
+    fn is_one(&self, path: &str, other: &str) -> bool {
+        path == other || are_linked(self, path, other)
+    }
+}
+
+/// Whether there are files at both paths, and the two are one.
+fn are_linked(rt: &HostRuntime, path: &str, other: &str) -> bool {
+    match (fs::metadata(rt, path), fs::metadata(rt, other)) {
+        (Ok(one), Ok(two)) => one.dev() == two.dev() && one.ino() == two.ino(),
+        _ => false,
     }
 }

@@ -10,6 +10,9 @@ use std::test::Fail;
 /// What is told of a file that can't be opened.
 pub(crate) const OPEN_FAILED: &str = "fault 50 ReadFailed\n";
 
+/// What is told of a file that can't be made.
+pub(crate) const MAKE_FAILED: &str = "fault 51 WriteFailed\n";
+
 /// Four levels: one of one push, a faulty one, one with fewer goals than boxes, and a room.
 const LEVELS: &str = "\
 ; First

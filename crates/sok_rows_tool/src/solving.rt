@@ -1,12 +1,31 @@
 //! `solve` on files.
 
-use crate::rows::{OPEN_FAILED, first_other, prepare};
+use crate::rows::{MAKE_FAILED, OPEN_FAILED, first_other, prepare};
 use sok_sketch::tutorial::Row;
 use std::fs;
 use std::test::Fail;
 
-/// A certificate that is written is accepted. Where there is none, its file is emptied.
-const SOLVES: [Row; 13] = [
+/// A certificate that is written is accepted. Where there is none, its file is emptied, but never
+/// that of the collection, by whatever name.
+const SOLVES: [Row; 16] = [
+    (
+        "sok solve solves/levels 1 --cert solves/levels",
+        "",
+        MAKE_FAILED,
+        5,
+    ),
+    (
+        "sok solve solves/levels 1 --cert ./solves/../solves/levels",
+        "",
+        MAKE_FAILED,
+        5,
+    ),
+    (
+        "sok solve solves/levels 1 --cert solves/linked",
+        "",
+        MAKE_FAILED,
+        5,
+    ),
     ("sok solve solves/levels 1", "solved 1 1\nR\n", "", 0),
     (
         "sok solve solves/levels 4 --limit 0",
@@ -27,7 +46,7 @@ const SOLVES: [Row; 13] = [
     (
         "sok solve solves/levels 1 --cert solves/none/cert",
         "",
-        "fault 51 WriteFailed\n",
+        MAKE_FAILED,
         5,
     ),
     (
@@ -71,6 +90,7 @@ const SOLVES: [Row; 13] = [
 #[test]
 fn solutions_of_files(rt: HostRuntime) -> Result<(), Fail> {
     prepare(&rt, "solves")?;
+    fs::hard_link(&rt, "solves/levels", "solves/linked")?;
     let other = first_other(&rt, &SOLVES)?;
     assert_eq!(rt; other, None);
     fs::remove_dir_all(&rt, "solves")?;

@@ -34,7 +34,7 @@ RunsCheck files file n cert out err exit =
 -- what is answered to the job of solving, with a certificate where a path is given
 abbrev pub RunsSolve : Files → List ℕ → ℕ → ℕ → Bool → Option (List ℕ) → Bytes → Bytes → ℕ → Type 0
 RunsSolve files file n most bound path out err exit =
-    (result : Result ℕ ToolFault) × SolvesLevel (files.reads file) files.makes n most bound path out result × Ends result err.old err.new exit
+    (result : Result ℕ ToolFault) × SolvesLevel file (files.reads file) files.makes n most bound path out result × Ends result err.old err.new exit
 
 -- a command works on the book in a database, with a file that may be lacking, and the program ends with its status, or that of the fault
 abbrev pub RunsOn : Place → Type 0 → (Book → Book → Type 0) → (Book → Book → Result ℕ ToolFault → Type 0) → Bytes → Bytes → ℕ → Type 0

@@ -87,7 +87,7 @@ pub(crate) const BOUND: Place = Place {
 pub(crate) const OUTPUT: Place = Place {
     name: "cert",
     kind: Kind::Path,
-    help: "Write the certificate to this file, which is created or emptied first",
+    help: "Write the certificate to this file, which is created or emptied first; never FILE itself",
 };
 
 pub(crate) const CERT: Place = Place {

@@ -84,8 +84,8 @@ Writes one of these:
   limit S at least K   the same, with --bound: no letters solve the level with fewer than K
                        pushes (status 4)
 The certificate shows it to whoever checks it, but for limit S, with which it stays empty. With
---cert more states are kept than without, so a limit may be met that suffices without. A fault is status 3
-or 5, and of memory 6.
+--cert more states are kept than without, so a limit may be met that suffices without. A fault is
+status 3 or 5, and of memory 6.
 
 Example: sok solve small.xsb 1 --cert first.cert",
             places: &[FILE, N, LIMIT, BOUND, OUTPUT],

@@ -17,7 +17,7 @@ use std::alloc::Global;
 ///
 /// ```text
 /// list FILE · replay FILE N TEXT · draw FILE N [TEXT]
-/// solve FILE N [--limit S] [--cert PATH] · check FILE N CERT
+/// solve FILE N [--limit S] [--bound] [--cert PATH] · check FILE N CERT
 /// add DB FILE · offer DB ID TEXT · prove DB ID CERT · show DB ID · export DB
 /// ```
 ///
