@@ -41,8 +41,8 @@ bound-again : (b : Numbered) (boxes u v goal_of : List ℕ) (total depth : ℕ) 
     → ArePrices b boxes u v total goal_of
     → (player : ℕ) → Bars b player boxes (Barring.bound u v) (rest_of claim depth)
 bound-again b boxes u v goal_of total depth Unsolvable (bound, prices, none) are = absurd none
-bound-again b boxes u v goal_of total depth (Pushes k) (bound, (us, vs, priced), near) are =
-    let least = AtLeast-IsAssignment b boxes us vs goal_of are.distances bound (priced 0) are.assignment in
+bound-again b boxes u v goal_of total depth (Pushes k) (bound, ((us, vs, priced), costs), near) are =
+    let least = AtLeast-IsAssignment b boxes us vs goal_of are.distances bound priced are.assignment in
     let cost = are.cost in
     bound-priced b boxes u v total depth k are.priced (omega (arith, least, cost, near))
 

@@ -58,8 +58,8 @@ module _ (b : Numbered) (accepted : IsAccepted b) (claim : Claim) (key : Key) (d
 agree-open : (b : Numbered) → IsAccepted b → (claim : Claim) (key : Key) (depth deep : ℕ) (x : Position) → IsPlaced b key.boxes key.least
     → Same b.rows (key_position b key) x → deep ≤ depth → CostsEnough b claim key.boxes deep → AllAgree b.rows claim depth x
 agree-open b accepted Unsolvable key depth deep x placed same near (n, bounded, none) w solves = absurd none
-agree-open b accepted (Pushes k) key depth deep x placed same near (n, (u, v, bars), enough) w solves =
-    let more = (reasons-bar b accepted key.least key.boxes (Barring.bound u v) (AtLeast n) placed (bars key.least)).each x same w solves in
+agree-open b accepted (Pushes k) key depth deep x placed same near (n, ((u, v, priced), cost), enough) w solves =
+    let more = (reasons-bar b accepted key.least key.boxes (Barring.bound u v) (AtLeast n) placed priced).each x same w solves in
     omega (arith, more, enough, near)
 
 module _ (b : Numbered) (accepted : IsAccepted b) (limit : ℕ) (p : Progress) (search : IsSearch b limit p) (claim : Claim) (done : AreDone b claim p) where

@@ -3,8 +3,8 @@ use Rattle.std.specs.Prelude.{ℕ, ◌≡◌, ◌<◌, ◌≤◌, ◌+◌, ◌�
 use Rattle.std.specs.Map.{values_of}
 use Rattle.sok_rules.specs.Play.{Position, AllOnGoals, NeverFrom, start}
 use Rattle.sok_board.specs.Area.{Numbered, position_of, boxes_of}
+use Rattle.sok_price.specs.Matched.{TellsLeast}
 use Rattle.sok_bar.specs.declared.rest.Rest.{Rest}
-use Rattle.sok_bar.specs.declared.rest.Rest.TheVariants.{AtLeast}
 use Rattle.sok_bar.specs.Bars.{Barring, Bars, IsOfBoxes}
 use Rattle.sok_state.specs.declared.key.Key.{Key}
 use Rattle.sok_state.specs.declared.push.Push.{Push}
@@ -66,9 +66,9 @@ IsCome b p key depth (Some origin) = IsFrom b p key depth origin
 abbrev pub IsSolved : Numbered → Key → Type 0
 IsSolved b key = AllOnGoals b.rows (position_of b key.least key.boxes)
 
--- prices bound the pushes from boxes by at least so many, wherever the player stands
+-- the least total of giving each box a goal of its own: an assignment costs it, and prices bound the pushes by it, wherever the player stands
 abbrev pub HasBound : Numbered → List ℕ → ℕ → Type 0
-HasBound b boxes n = (u : List ℕ) × (v : List ℕ) × ((player : ℕ) → Bars b player boxes (Barring.bound u v) (AtLeast n))
+HasBound b boxes n = TellsLeast b boxes (Some n)
 
 -- a reason bars boxes, wherever the player stands and whatever is to be shown
 abbrev pub IsDead : Numbered → List ℕ → Type 0
