@@ -138,7 +138,7 @@ fn solve_with_file<F: Folder + AllocGlobal, W: Write>(
     ensures { SolvesTo
         (OfFile (F.reads rt.now path.now) (Within input_limit (IsSolve n limit bound)))
         (λ cert. (path.now ≢ cert_path.now)
-            × IsMade F.Output.contents (F.makes rt.now cert_path.now) cert)
+        × IsMade F.Output.contents (F.makes rt.now cert_path.now) cert)
         (record { old = W.contents out.old; new = W.contents out.new }) result }
 {
     if rt.is_one(path, cert_path) {

@@ -39,7 +39,7 @@ pub(crate) fn certificate(
 {
     let mut matching = Matching::new(alloc, board, tables)?;
     let mut squares = Vec::new(alloc);
-    let mut entries = Vec::new(alloc);
+    let mut entries = Vec::with_capacity(alloc, search.table.len())?;
     for index in 0..search.table.len() {
         let entry = entry_at(
             alloc,
@@ -119,7 +119,7 @@ fn state_at(
 fn numbers_of(alloc: Global, squares: &[Sq]) -> Result<Numbers, Memory>
     ensures { IfOk result (λ numbers. numbers ≡ squares.now) }
 {
-    let mut numbers = Vec::new(alloc);
+    let mut numbers = Vec::with_capacity(alloc, squares.len())?;
     for square in squares {
         numbers.push(u32::from(*square))?;
     }

@@ -42,7 +42,7 @@ returns-in-Some-Begun c = λ ls es count at.
     let read = subst (λ is. AreRead (ls ++ line ∷ []) Two claim es (unfinished_lines head is)) empty
     (read-head ls es line claim head (subst (λ v. AreRead ls v claim es []) second at) is) in
     IfOk-weaker c.inside.result _ _ (λ told reads. subst (λ v. IsRead (ls ++ line ∷ []) es (AtEntries v claim) told) (sym second)
-        (reads (ls ++ line ∷ []) es is.0 fits short read)) c.inside.ensures
+    (reads (ls ++ line ∷ []) es is.0 fits short read)) c.inside.ensures
 
 pub returns-in-None : goal.returns-in-None
 unfolding last_line

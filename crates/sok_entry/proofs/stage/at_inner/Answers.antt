@@ -24,7 +24,7 @@ returns-in_ok-push-in-Some c = λ ls es count (unfinished, at).
     omega (arith, ap length c.in_ok-push-in-Some.ensures.items, length_push inner position, unfinished.more_belong) in
     let read = subst (λ all. AreRead (ls ++ line ∷ []) Two claim es (unfinished_lines head all)) pushed (read-inner ls es line claim head inner position at is) in
     IfOk-weaker c.inside.result _ _ (λ told is. IsRead-inner (ls ++ line ∷ []) es claim head c.args.inner told
-        (is (ls ++ line ∷ []) es unfinished.head_fits fits short read)) c.inside.ensures
+    (is (ls ++ line ∷ []) es unfinished.head_fits fits short read)) c.inside.ensures
 
 pub returns-in-None : goal.returns-in-None
 returns-in-None c = λ ls es count (unfinished, at).

@@ -9,8 +9,8 @@ use Rattle.sok_search.proofs.certifying.certificate.Goals as goal
 
 pub loop-index-init : goal.loop-index-init
 loop-index-init c = record {
-  first = first-none c.args.board.now c.args.claim (progress_of c.args.search.now) c.new-entries.result.items c.new-entries.ensures.items;
-  fit = none-fit c.new-entries.result.items c.new-entries.ensures.items;
+  first = first-none c.args.board.now c.args.claim (progress_of c.args.search.now) c.in_ok-entries.entries.items c.in_ok-entries.ensures.items;
+  fit = none-fit c.in_ok-entries.entries.items c.in_ok-entries.ensures.items;
   serves = c.in_ok-matching.ensures.serves;
 }
 

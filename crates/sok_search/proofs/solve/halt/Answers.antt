@@ -25,8 +25,8 @@ returns c =
         | then-wanted+in_ok-certificate w ↦
             let cert = w.in_ok-certificate.field-0 in
             subst shows (sym w.cert-is) (shows-some rows c.args.limit c.args.wanted least cert w.if-wanted.true
-                (shown-least c.args.board.now c.requires.accepted c.args.limit p cut.search cut.more cut.full least c.least_open-at_least.ensures cut.kept
-                cert.entries.items w.in_ok-certificate.ensures.entries w.in_ok-certificate.ensures.fit))
+            (shown-least c.args.board.now c.requires.accepted c.args.limit p cut.search cut.more cut.full least c.least_open-at_least.ensures cut.kept
+            cert.entries.items w.in_ok-certificate.ensures.entries w.in_ok-certificate.ensures.fit))
         | else-wanted w ↦ subst shows (sym w.cert-is) (shows-none rows c.args.limit c.args.wanted least w.if-wanted.false)
       ],
     )
