@@ -1,5 +1,5 @@
 -- What losses show: nothing solves where some of the boxes are lost alone.
-use Rattle.std.proofs.Common.{ℕ, ◌≡◌, ◌<◌, ◌∙◌, ◌&&◌, ◌==◌, true, inl, inr, refl, sym, ap, subst, List, All, Contains, IfOk, IfSome, OnOk, Option, None, Some, Result, Ok, Err, arith, get_or, length}
+use Rattle.std.proofs.Common.{ℕ, ◌≡◌, ◌<◌, ◌∙◌, ◌&&◌, ◌==◌, true, inl, inr, refl, sym, ap, subst, List, All, Contains, IfOk, IfSome, OnOk, Option, None, Some, Result, Ok, Err, arith, get_or, length, slice_get}
 use Rattle.std.specs.List.Sorted.{IsStrictlyIncreasing}
 use Rattle.std.proofs.lemmas.Bool.Decides.{nat_tests}
 use Rattle.std.proofs.lemmas.List.{get_or_default}
@@ -53,6 +53,26 @@ pub lost-found : (b : Numbered) (player : ℕ) (boxes : List ℕ) (key : Key) �
     → IfSome found (IsLostBy b player boxes losses)
 lost-found b player boxes key is boxes_are losses each None told = told
 lost-found b player boxes key is boxes_are losses each (Some place) at = lost-at b player boxes key is boxes_are losses each place at
+
+-- a loss is closed from each square to which the player comes in its state
+pub lost-from : (b : Numbered) → IsAccepted b → (player : ℕ) (boxes : List ℕ) (losses : List Loss) → All (IsLoss b) losses → (place : ℕ) (loss : Loss)
+    → slice_get losses place ≡ Some loss → Contains loss.region player → ((square : ℕ) → Contains loss.key.boxes square → Contains boxes square)
+    → IsLostBy b player boxes losses place
+lost-from b accepted player boxes losses each place loss there comes among =
+    let squares = loss.key.boxes in
+    let least = loss.key.least in
+    let one : IsLoss b loss = subst (IsLoss b) (get_or_from_slice_get losses place loss loss there) (each place loss (slice_get_within losses place loss there)) in
+    let standing = IsStanding-placed b accepted.numbered accepted.proper least squares one.region.placed in
+    let same = Same-sym b.rows (position_of b least squares) (position_of b player squares) standing ((one.region.exact player).0 comes).1 in
+    record {
+      loss = loss;
+      there = there;
+      rising = one.state.is.placed.rising;
+      among = among;
+      closed = closed-from b player least squares loss.inner same one.closed;
+      few = one.few;
+      fit = one.fit;
+    }
 
 -- some of the boxes make a position with the player
 pub placed-among : (b : Numbered) (player : ℕ) (some boxes : List ℕ) → IsStrictlyIncreasing some → ((square : ℕ) → Contains some square → Contains boxes square)

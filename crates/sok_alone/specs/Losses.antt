@@ -4,6 +4,7 @@ use Rattle.std.specs.List.Sorted.{IsStrictlyIncreasing}
 use Rattle.std.specs.Option.{IfSome}
 use Rattle.sok_board.specs.Area.{Numbered}
 use Rattle.sok_entry.specs.Text.{FitsInner}
+use Rattle.sok_region.specs.Regions.{IsRegion}
 use Rattle.sok_state.specs.declared.key.Key.{Key}
 use Rattle.sok_state.specs.Keys.{IsKey}
 use Rattle.sok_bar.specs.Patterns.{AreClosedAlone}
@@ -14,9 +15,10 @@ use Rattle.sok_alone.specs.declared.losses.Losses.{Losses}
 abbrev pub loss_limit : ℕ
 loss_limit = 200
 
--- a state of some boxes alone, with positions of them that are closed under pushes
+-- a state of some boxes alone, with where the player comes in it, and positions of them that are closed under pushes
 pub record IsLoss (b : Numbered) (loss : Loss) : Type 0 where
   pub state : IsKey b loss.key
+  pub region : IsRegion b loss.key.boxes loss.key.least loss.region
   pub closed : AreClosedAlone b loss.key.least loss.key.boxes loss.inner
   pub few : length loss.inner ≤ loss_limit
   pub fit : All FitsInner loss.inner

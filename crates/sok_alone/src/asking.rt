@@ -1,13 +1,13 @@
 //! Which boxes of a position are asked for a loss, and when.
 
-ghost use Rattle.std.specs.Prelude.{◌≡◌, ◌<◌, Contains, IfOk, length};
+ghost use Rattle.std.specs.Prelude.{◌≡◌, ◌<◌, All, Contains, IfOk, IsTrue, length};
 ghost use Rattle.sok_board.specs.BoxSets.{put_in_order};
 ghost use Rattle.sok_region.specs.Regions.{IsPlaced};
 ghost use Rattle.sok_alone.specs.Asking.{MayAsk, TellsAsked};
-ghost use Rattle.sok_alone.specs.Losses.{ArePushed, KeepsLosses, TellsLoss};
+ghost use Rattle.sok_alone.specs.Losses.{ArePushed, IsLostBy, KeepsLosses, TellsLoss, losses_of};
 
 use crate::choosing::chosen;
-use crate::hints::hint_of;
+use crate::hints::{Hint, hint_of};
 use crate::losses::Losses;
 use sok_board::area::Sq;
 use sok_board::board::Board;
@@ -18,8 +18,12 @@ use sok_rules::fault::Memory;
 use sok_state::key::Key;
 use std::alloc::Global;
 
-/// How far apart three boxes stand at most that are asked, in rows and in columns.
+/// How far apart boxes stand close, at most, in rows and in columns.
 const REACH: u32 = 2;
+
+/// How many states are known before more is asked than two boxes that stand close: in a small search
+/// it takes longer than it saves.
+const KNOWN: usize = 1_000;
 
 /// A push of one of some boxes, about which is asked where so many states are known.
 #[derive(Clone, Copy)]
@@ -32,6 +36,38 @@ pub(crate) struct Asking<'a> {
     from: Sq,
     dir: Dir,
     to: Sq,
+}
+
+impl Asking<'_> {
+    /// Whether the pushed box is asked with another one: with each one, once many states are known,
+    /// and with one that stands close.
+    fn reaches(&self, one: Sq) -> bool
+        requires to { self.now.to < length self.now.board.now.area }
+        requires one { one < length self.now.board.now.area }
+    {
+        self.known >= KNOWN || are_close(self.board, self.to, one)
+    }
+
+    /// Whether boxes stand on all of some squares after the push.
+    fn leaves(&self, squares: &[Sq]) -> bool
+        ensures { IsTrue result → All
+            (Contains (put_in_order self.now.from self.now.to self.now.boxes.now)) squares.now }
+    {
+        for square in squares {
+            if !self.leaves_one(*square) {
+                return false;
+            }
+        }
+        true
+    }
+
+    /// Whether a box stands on a square after the push.
+    fn leaves_one(&self, square: Sq) -> bool
+        ensures { IsTrue result
+            → Contains (put_in_order self.now.from self.now.to self.now.boxes.now) square }
+    {
+        square == self.to || square != self.from && self.boxes.has(square)
+    }
 }
 
 impl Losses {
@@ -68,7 +104,7 @@ impl Losses {
             to,
         };
         let found = self.loss_of_two(&asking)?;
-        if found.is_some() {
+        if found.is_some() || known < KNOWN {
             return Ok(found);
         }
         self.loss_of_three(&asking)
@@ -80,7 +116,7 @@ impl Losses {
         ensures { IfOk result (TellsAsked asking.now self.old self.new) }
     {
         for one in asking.boxes.list() {
-            if *one == asking.from {
+            if *one == asking.from || !asking.reaches(*one) {
                 continue;
             }
             let found = self.ask(asking, *one, None)?;
@@ -134,15 +170,34 @@ impl Losses {
         requires { MayAsk asking.now self.old }
         ensures { IfOk result (TellsAsked asking.now self.old self.new) }
     {
-        let hint = hint_of(asking.board, asking.dir, asking.to, one, two);
-        if self.hints.has(hint) || !self.is_worth_it(asking.known) {
+        let number = hint_of(asking.board, asking.dir, asking.to, one, two);
+        let hint = self.hints.at(number);
+        if let Hint::Lost(place) = hint
+            && self.shows(asking, u32::from(place))
+        {
+            return Ok(Some(u32::from(place)));
+        }
+        if matches!(hint, Hint::Clear) || !self.is_worth_it(asking.known) {
             return Ok(None);
         }
         let found = self.loss_pushed(asking, &[asking.from, one, two.unwrap_or(one)])?;
-        if found.is_none() {
-            self.hints.note(hint);
-        }
+        self.hints.note(number, found);
         Ok(found)
+    }
+
+    /// Whether the loss at a place shows that nothing solves after a push.
+    fn shows(&self, asking: &Asking<'_>, place: u32) -> bool
+        requires { MayAsk asking.now self.now }
+        ensures { IsTrue result → IsLostBy asking.now.board.now asking.now.from
+            (put_in_order asking.now.from asking.now.to asking.now.boxes.now)
+            (losses_of self.now) place }
+    {
+        // Its clauses tell that the level is accepted.
+        let _squares = asking.board.squares();
+        match self.loss_at(place) {
+            Some(loss) => loss.region.has(asking.from) && asking.leaves(loss.key.boxes.list()),
+            None => false,
+        }
     }
 
     /// The place of a loss after a push, of those of the boxes that stand on some squares before it.

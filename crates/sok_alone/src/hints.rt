@@ -1,5 +1,5 @@
-//! Hints of pushes after which no loss is known. A wrong hint costs time alone, so none of them is
-//! promised to be right.
+//! Hints of pushes: that no loss is known after one, or which. A wrong hint costs time alone, so none
+//! of them is promised to be right.
 
 ghost use Rattle.std.specs.Prelude.{◌≤◌};
 ghost use Rattle.sok_board.specs.Limits.{square_limit};
@@ -13,13 +13,24 @@ use std::alloc::Global;
 /// How many hints of three boxes are kept, a prime number.
 const TRIOS: usize = 65_521;
 
-/// For which pushes no loss of the pushed box with one other box, or with two, is known.
+/// What is known of the pushed box with one other box, or with two, after a push.
+#[derive(Clone, Copy, Debug)]
+pub(crate) enum Hint {
+    /// They were not asked.
+    Open,
+    /// No loss is known.
+    Clear,
+    /// The loss at this place.
+    Lost(u16),
+}
+
+/// The hints that were noted.
 #[derive(Drop)]
 pub(crate) struct Hints {
     /// Of two boxes, by the push and the square of the other box.
-    pairs: Vec<bool>,
+    pairs: Vec<Hint>,
     /// Of three boxes, by the push and the squares of the two others: the last one of each
-    /// remainder.
+    /// remainder of which no loss is known.
     trios: Vec<usize>,
 }
 
@@ -29,26 +40,39 @@ impl Hints {
         requires { squares ≤ square_limit }
     {
         Ok(Hints {
-            pairs: vec![in alloc; false; squares * 4 * squares]?,
+            pairs: vec![in alloc; Hint::Open; squares * 4 * squares]?,
             trios: vec![in alloc; 0; TRIOS]?,
         })
     }
 
-    /// Whether a hint was noted, and not since displaced.
-    pub(crate) fn has(&self, hint: usize) -> bool {
-        match self.pairs.get(hint) {
-            Some(is_noted) => *is_noted,
-            None => self.trios.get(hint % TRIOS) == Some(&hint),
+    /// The hint with a number, if it was noted, and not since displaced.
+    pub(crate) fn at(&self, number: usize) -> Hint {
+        match self.pairs.get(number) {
+            Some(hint) => *hint,
+            None if self.trios.get(number % TRIOS) == Some(&number) => Hint::Clear,
+            None => Hint::Open,
         }
     }
 
-    /// Notes a hint.
-    pub(crate) fn note(&mut self, hint: usize) {
-        if hint < self.pairs.len() {
-            self.pairs[hint] = true;
-        } else if hint % TRIOS < self.trios.len() {
-            self.trios[hint % TRIOS] = hint;
+    /// Notes which loss was found, or that none was.
+    pub(crate) fn note(&mut self, number: usize, found: Option<u32>) {
+        let hint = hint_from(found);
+        if number < self.pairs.len() {
+            self.pairs[number] = hint;
+        } else if number % TRIOS < self.trios.len() && found.is_none() {
+            self.trios[number % TRIOS] = number;
         }
+    }
+}
+
+/// What a hint says where a loss was found, or none.
+fn hint_from(found: Option<u32>) -> Hint {
+    match found {
+        Some(place) => match u16::try_from(place) {
+            Ok(place) => Hint::Lost(place),
+            Err(_) => Hint::Open,
+        },
+        None => Hint::Clear,
     }
 }
 

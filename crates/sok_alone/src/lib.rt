@@ -13,6 +13,7 @@
 //! | `known` | the states that are known (private) |
 //! | `losses` | boxes that are found to be never solved, kept for a whole search |
 //! | `meeting` | a state is come to (private) |
+//! | `probing` | whether boxes are soon solved, as a guess (private) |
 #![tactic(auto)]
 
 mod asking;
@@ -26,3 +27,4 @@ mod judging;
 mod known;
 pub mod losses;
 mod meeting;
+mod probing;

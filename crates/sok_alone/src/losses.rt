@@ -1,6 +1,6 @@
 //! Boxes that are found to be never solved, taken alone: kept for a whole search.
 
-ghost use Rattle.std.specs.Prelude.{ℕ, ◌≡◌, ◌≤◌, All, IfOk, IfSome, OnOk, length};
+ghost use Rattle.std.specs.Prelude.{ℕ, ◌≡◌, ◌≤◌, All, IfOk, IfSome, OnOk, Some, length, slice_get};
 ghost use Rattle.sok_bar.specs.Patterns.{IsPattern};
 ghost use Rattle.sok_board.specs.Area.{Numbered};
 ghost use Rattle.sok_entry.specs.Text.{FitsInner};
@@ -12,10 +12,12 @@ use crate::closing::close_unless;
 use crate::finding::members_of;
 use crate::found::FoundPattern;
 use crate::hints::Hints;
+use crate::probing::are_soon_solved;
 use sok_board::board::Board;
 use sok_board::box_set::BoxSet;
 use sok_entry::entry::Inners;
 use sok_push::tables::Tables;
+use sok_region::region::Region;
 use sok_rules::fault::Memory;
 use sok_state::key::Key;
 use sok_state::table::Table;
@@ -28,13 +30,15 @@ const STATES: u32 = 200;
 /// large board they take no longer than the states themselves.
 const SEARCHES: usize = 4_096;
 
-/// The most losses that are kept.
+/// The most losses that are kept, as many as a hint can name.
 const LOSSES: usize = 65_536;
 
-/// A state of some boxes alone that is never solved, and positions that show it.
+/// A state of some boxes alone that is never solved, where the player comes in it, and positions that
+/// show it.
 #[derive(Debug, Drop)]
 pub struct Loss {
     pub key: Key,
+    pub region: Region,
     pub inner: Inners,
 }
 
@@ -42,7 +46,7 @@ pub struct Loss {
 /// those.
 #[derive(Drop)]
 pub struct Losses {
-    /// After which pushes no loss is known.
+    /// After which pushes no loss is known, or which.
     pub(crate) hints: Hints,
     /// The states that were asked. The depth of one is 0 where no loss is known, else one more than
     /// the place of its loss.
@@ -84,6 +88,13 @@ impl Losses {
         Ok(FoundPattern { members, inner })
     }
 
+    /// The loss at a place, if there is one.
+    pub(crate) fn loss_at(&self, place: u32) -> Option<&Loss>
+        ensures { IfSome result (λ loss. slice_get (losses_of self.now) place ≡ Some loss.now) }
+    {
+        self.losses.get(place as usize)
+    }
+
     /// Whether boxes that were not asked yet may be searched where so many states are known.
     pub(crate) fn is_worth_it(&self, known: usize) -> bool {
         self.asked.len().saturating_sub(SEARCHES) <= known
@@ -114,8 +125,9 @@ impl Losses {
         Ok(place_of(&self.losses, number, key))
     }
 
-    /// Searches a state of boxes alone, up to a state of which no loss is known though it was asked.
-    /// Its loss goes last, if one is found, and its number, from 1 on, is told, else 0.
+    /// Searches a state of boxes alone, unless they are soon solved, and up to a state of which no loss
+    /// is known though it was asked. Its loss goes last, if one is found, and its number, from 1 on, is
+    /// told, else 0.
     fn find(
         &mut self,
         alloc: Global,
@@ -129,7 +141,7 @@ impl Losses {
         ensures more { OnOk result (AddsLosses board.now self.old self.new) }
         ensures asked { self.new.asked ≡ self.old.asked }
     {
-        if self.losses.len() >= LOSSES {
+        if self.losses.len() >= LOSSES || are_soon_solved(alloc, board, tables, key)? {
             return Ok(0);
         }
         let found = close_unless(
@@ -144,8 +156,9 @@ impl Losses {
         let Some(inner) = found else {
             return Ok(0);
         };
+        let region = Region::of(alloc, board, &key.boxes, key.least)?;
         let key = key.copy(alloc)?;
-        self.losses.push(Loss { key, inner })?;
+        self.losses.push(Loss { key, region, inner })?;
         Ok(self.losses.len() as u32)
     }
 }

@@ -1,0 +1,93 @@
+//! Whether some boxes alone are soon solved. This is a guess: where it is wrong it costs time alone, so
+//! no clause says what it tells.
+
+ghost use Rattle.std.specs.Prelude.{◌≡◌, ◌<◌, All, IfSome, length};
+ghost use Rattle.sok_state.specs.Keys.{IsKey};
+ghost use Rattle.sok_state.specs.Pushes.{IsLegal};
+
+use sok_board::area::Sq;
+use sok_board::board::Board;
+use sok_board::box_set::BoxSet;
+use sok_closed::solved::is_solved;
+use sok_push::tables::Tables;
+use sok_region::region::Region;
+use sok_rules::fault::Memory;
+use sok_state::key::Key;
+use sok_state::legal::{after, list_pushes};
+use sok_state::push::Push;
+use std::alloc::Global;
+
+/// Whether boxes alone come to be solved by pushes each of which brings its box nearer to a free
+/// goal (hill climbing), as many as the board has squares at most. It refuses only for want of
+/// memory.
+pub(crate) fn are_soon_solved(
+    alloc: Global,
+    board: &Board,
+    tables: &Tables,
+    start: &Key,
+) -> Result<bool, Memory>
+    requires tables { tables.now.board ≡ board.now }
+    requires state { IsKey board.now start.now }
+{
+    let mut key = start.copy(alloc)?;
+    let mut region = Region::of(alloc, board, &key.boxes, key.least)?;
+    let mut pushes = Vec::new(alloc);
+    for _ in 0..board.squares() {
+        if is_solved(board, &key.boxes) {
+            return Ok(true);
+        }
+        list_pushes(board, &key, &region, &mut pushes)?;
+        let Some(push) = nearer(board, tables, &key, &pushes) else {
+            return Ok(false);
+        };
+        key = after(alloc, board, &key, push)?;
+        region.again(board, &key.boxes, key.least);
+    }
+    Ok(false)
+}
+
+/// The first of some pushes that brings its box nearer to a free goal.
+fn nearer(board: &Board, tables: &Tables, key: &Key, pushes: &[Push]) -> Option<Push>
+    requires tables { tables.now.board ≡ board.now }
+    requires legal { All (IsLegal board.now key.now) pushes.now }
+    ensures { IfSome result (IsLegal board.now key.now) }
+{
+    for push in pushes {
+        if is_nearer(board, tables, &key.boxes, *push) {
+            return Some(*push);
+        }
+    }
+    None
+}
+
+/// Whether a push brings its box nearer to a free goal.
+fn is_nearer(board: &Board, tables: &Tables, boxes: &BoxSet, push: Push) -> bool
+    requires tables { tables.now.board ≡ board.now }
+    requires exists { push.from < length board.now.area }
+{
+    match board.neighbour(push.from, push.dir) {
+        Some(to) => {
+            way(board, tables, boxes, push.from, to)
+                < way(board, tables, boxes, push.from, push.from)
+        }
+        None => false,
+    }
+}
+
+/// The fewest pushes from a square to a goal on which none of the boxes but one stands, or the
+/// greatest number where none lead there.
+fn way(board: &Board, tables: &Tables, boxes: &BoxSet, moved: Sq, square: Sq) -> u16
+    requires tables { tables.now.board ≡ board.now }
+    requires exists { square < length board.now.area }
+{
+    let mut least = u16::MAX;
+    for (index, goal) in board.goals().iter().enumerate() {
+        if *goal != moved && boxes.has(*goal) {
+            continue;
+        }
+        if let Some(pushes) = tables.dist(index, square) {
+            least = least.min(pushes);
+        }
+    }
+    least
+}
