@@ -39,7 +39,6 @@ pub EndsBy-fault : (P : Answers) (old new : Option (List ℕ)) (fault : ToolFaul
 EndsBy-fault P old new tool.Memory is kept = kept
 EndsBy-fault P old new tool.ReadFailed is kept = absurd is
 EndsBy-fault P old new tool.WriteFailed is kept = absurd is
-EndsBy-fault P old new tool.TooMuch is kept = absurd is
 EndsBy-fault P old new _ is kept = (is, kept)
 
 pub IsFaultOf-weaker : {A : Type 0} (P Q : AnswersOf A) → ((fault : ToolFault) → P (Err fault) → Q (Err fault))
@@ -47,7 +46,6 @@ pub IsFaultOf-weaker : {A : Type 0} (P Q : AnswersOf A) → ((fault : ToolFault)
 IsFaultOf-weaker P Q weaker tool.Memory is = tt
 IsFaultOf-weaker P Q weaker tool.ReadFailed is = absurd is
 IsFaultOf-weaker P Q weaker tool.WriteFailed is = absurd is
-IsFaultOf-weaker P Q weaker tool.TooMuch is = absurd is
 IsFaultOf-weaker P Q weaker fault is = weaker fault is
 
 -- the fault of what was read is one of what the reader has left

@@ -43,7 +43,6 @@ EndsBothBy-fault : (P : CertifiedAnswers) (cert out : Option (List ℕ)) (fault 
 EndsBothBy-fault P cert out tool.Memory is = (Keeps-refl cert, Keeps-refl out)
 EndsBothBy-fault P cert out tool.ReadFailed is = absurd is
 EndsBothBy-fault P cert out tool.WriteFailed is = absurd is
-EndsBothBy-fault P cert out tool.TooMuch is = absurd is
 EndsBothBy-fault P cert out _ is = (is, Keeps-refl cert, Keeps-refl out)
 
 -- all that a reader has left was read and answered, and both were written

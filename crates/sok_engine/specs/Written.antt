@@ -30,7 +30,6 @@ abbrev pub IsFaultOf : {A : Type 0} → AnswersOf A → ToolFault → Type 0
 IsFaultOf P tool.Memory = ⊤
 IsFaultOf P tool.ReadFailed = ⊥
 IsFaultOf P tool.WriteFailed = ⊥
-IsFaultOf P tool.TooMuch = ⊥
 IsFaultOf P fault = P (Err fault)
 
 -- what is made is one of the answers, memory aside

@@ -39,7 +39,7 @@ pub enum ToolFault {
     ReadFailed,
     /// A write failed, for any cause.
     WriteFailed,
-    /// An input has more bytes than its limit.
+    /// An input has more bytes than its limit, or a certificate would have.
     TooMuch,
 }
 

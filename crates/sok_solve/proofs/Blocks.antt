@@ -41,6 +41,12 @@ text_of_entries-next front entries i e within is =
     ∙ ap (λ ls. lines ++ flat_map ended ls) (append-nil (entry_lines (get_or entries i e))) ∙ ap (λ x. lines ++ entry_text x) (sym is) in
     append_assoc front lines (entry_text e) ∙ ap (λ behind. front ++ behind) (sym last)
 
+-- so many bytes more
+pub length-next : (entries : List Entry) (i : ℕ) (e : Entry) → i < length entries → e ≡ get_or entries i e
+    → length (text_of_entries (take (i + 1) entries)) ≡ length (text_of_entries (take i entries)) + length (entry_text e)
+length-next entries i e within is =
+    sym (ap length (text_of_entries-next [] entries i e within is)) ∙ length-append (text_of_entries (take i entries)) (entry_text e)
+
 -- what is behind some entries
 pub lines_behind-parts : (front : List ℕ) (entries : List Entry) (i : ℕ)
     → front ++ lines_behind entries ≡ (front ++ text_of_entries (take i entries)) ++ lines_behind (drop i entries)

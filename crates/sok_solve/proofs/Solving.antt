@@ -1,6 +1,6 @@
 -- What is answered to a level that is to be solved.
-use Rattle.std.proofs.Common.{ℕ, ◌≡◌, ◌↔◌, Bool, true, false, List, Option, Some, None, Result, Ok, Err}
-use Rattle.std.proofs.Common.{IsSome, MatchResult, refl, subst, sym}
+use Rattle.std.proofs.Common.{ℕ, ◌≡◌, ◌<◌, ◌↔◌, ◌⊎◌, Bool, true, false, List, Option, Some, None, Result, Ok, Err}
+use Rattle.std.proofs.Common.{IsSome, MatchResult, inl, inr, length, refl, subst, sym}
 use Rattle.std.specs.Option.{IsSomeAnd}
 use Rattle.sok_rules.specs.declared.cell.Dir.{Dir}
 use Rattle.sok_rules.specs.declared.fault.PlayFault.{PlayFault}
@@ -21,9 +21,11 @@ use Rattle.sok_engine.specs.declared.fault.ToolFault.{ToolFault}
 use Rattle.sok_engine.specs.declared.fault.ToolFault.TheVariants as tool
 use Rattle.sok_engine.specs.Certified.{Certified}
 use Rattle.sok_engine.specs.Faults.{of_play}
-use Rattle.sok_engine.specs.Written.{Answer, Gives, IsFaultOf}
+use Rattle.sok_engine.specs.Limits.{cert_limit}
+use Rattle.sok_engine.specs.Written.{Answer, AnswersOf, Gives, IsFaultOf}
+use Rattle.sok_engine.proofs.Answering.{Within-few, Within-much}
 use Rattle.sok_solve.specs.Faults.{of_solve}
-use Rattle.sok_solve.specs.Solves.{IsAnswered, is_bad, is_refused, is_told}
+use Rattle.sok_solve.specs.Solves.{Becomes, BecomesWithin, IsAnswered, TellsWithin, is_bad, is_refused, is_told}
 
 -- letters that solve are legal
 solves_legal : (end : Option Position) (P : Position → Type 0) → IsSomeAnd end P → IsSome end
@@ -41,18 +43,35 @@ abbrev fails : (B : Type 0) → SolveFault → Result B SolveFault
 fails B fault = Err fault
 
 -- why a level is not solved is one of its answers, memory aside
-pub refused_answer : {A : Type 0} (B : Type 0) (Tells : A → Type 0) (rows : Rows) (limit : ℕ) (fault : SolveFault)
-    → (fails B fault ≡ fails B solve.BadLimit) ↔ IsBadLimit limit → IsRefusal rows limit fault → IsFaultOf (IsAnswered Tells limit rows) (of_solve fault)
-refused_answer B Tells rows limit solve.BadLimit bad_limit is = is_bad is refl
-refused_answer B Tells rows limit (solve.Level board.Memory) bad_limit is = tt
-refused_answer B Tells rows limit (solve.Level fault) bad_limit is = is_refused (λ bad. let same = bad_limit.1 bad in cc) fault is.0 is.1 refl
-refused_answer B Tells rows limit solve.Memory bad_limit is = tt
+pub refused_answer : {A : Type 0} (B : Type 0) (Tells : A → Type 0) (Becoming : A → AnswersOf A) (rows : Rows) (limit : ℕ) (fault : SolveFault)
+    → (fails B fault ≡ fails B solve.BadLimit) ↔ IsBadLimit limit → IsRefusal rows limit fault
+    → IsFaultOf (IsAnswered Tells Becoming limit rows) (of_solve fault)
+refused_answer B Tells Becoming rows limit solve.BadLimit bad_limit is = is_bad is refl
+refused_answer B Tells Becoming rows limit (solve.Level board.Memory) bad_limit is = tt
+refused_answer B Tells Becoming rows limit (solve.Level fault) bad_limit is = is_refused (λ bad. let same = bad_limit.1 bad in cc) fault is.0 is.1 refl
+refused_answer B Tells Becoming rows limit solve.Memory bad_limit is = tt
 
 -- what is told is the answer of an acceptable level within its limit
 pub told_answer : {A : Type 0} (Tells : A → Type 0) (rows : Rows) (limit : ℕ) (answer : Result A ToolFault) → ¬ (IsBadLimit limit) → IsAcceptable rows
-    → MatchResult answer Tells (λ fault. fault ≡ tool.Memory) → Gives (IsAnswered Tells limit rows) answer
+    → MatchResult answer Tells (λ fault. fault ≡ tool.Memory) → Gives (IsAnswered Tells Becomes limit rows) answer
 told_answer Tells rows limit (Ok told) good acceptable tells = is_told good acceptable told tells refl
-told_answer Tells rows limit (Err fault) good acceptable memory = subst (IsFaultOf (IsAnswered Tells limit rows)) (sym memory) tt
+told_answer Tells rows limit (Err fault) good acceptable memory = subst (IsFaultOf (IsAnswered Tells Becomes limit rows)) (sym memory) tt
+
+-- the same with a certificate, which may be too long
+pub told_within : (Tells : Certified → Type 0) (rows : Rows) (limit : ℕ) (answer : Result Certified ToolFault) → ¬ (IsBadLimit limit) → IsAcceptable rows
+    → TellsWithin Tells answer → Gives (IsAnswered Tells BecomesWithin limit rows) answer
+told_within Tells rows limit (Ok told) good acceptable (tells, short) =
+    is_told good acceptable told tells (Within-few cert_limit (λ bytes. Becomes told) told.cert (Ok told) short refl)
+told_within Tells rows limit (Err fault) good acceptable tells = elim tells [
+  | inl memory ↦ subst (IsFaultOf (IsAnswered Tells BecomesWithin limit rows)) (sym memory) tt
+  | inr long ↦ subst (IsFaultOf (IsAnswered Tells BecomesWithin limit rows)) (sym long.0)
+      (is_told good acceptable long.1.0 long.1.1 (Within-much cert_limit (λ bytes. Becomes long.1.0) long.1.0.cert long.1.2))
+]
+
+-- what would be told is too long, or memory was refused
+pub untold : (Tells : Certified → Type 0) (told : Certified) → Tells told → (fault : ToolFault)
+    → (fault ≡ tool.Memory) ⊎ ((fault ≡ tool.TooMuch) × (cert_limit < length told.cert)) → TellsWithin Tells (Err fault)
+untold Tells told tells fault why = elim why [ inl memory ↦ inl memory | inr (is, long) ↦ inr (is, (told, tells, long)) ]
 
 abbrev answering : List ℕ → ℕ → Answer
 answering text status = record { text = text; status = status }

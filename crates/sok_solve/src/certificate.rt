@@ -1,14 +1,17 @@
 //! A certificate that is written a block of lines at a time.
 
-ghost use Rattle.std.specs.Prelude.{◌≡◌, ◌≤◌, ◌++◌, [], IfOk, OnErr, OnOk, vec_capacity, vec_len};
+ghost use Rattle.std.specs.Prelude.{◌≡◌, ◌≤◌, [], IfOk, OnErr, OnOk, vec_capacity, vec_len};
 ghost use Rattle.std.specs.Io.KnownBytes.{Appends};
 ghost use Rattle.sok_engine.specs.Written.{AppendsFront};
 ghost use Rattle.sok_cert.specs.Text.{text_of};
-ghost use Rattle.sok_solve.specs.Blocks.{HasRoom, Waits, block, lines_behind};
+ghost use Rattle.sok_solve.specs.Blocks.{HasRoom, TellsReady, Waits, block, counted};
+ghost use Rattle.sok_solve.specs.Blocks.{lines_behind};
 
 use sok_cert::claim::Claim;
 use sok_cert::entry::Cert;
 use sok_cert::writing::{push_end, push_entry, push_front, version_of};
+use sok_engine::fault::ToolFault;
+use sok_engine::input::CERT_LIMIT;
 use sok_engine::output::{WriteFailed, write_whole};
 use std::alloc::{AllocError, Global};
 use std::io::Write;
@@ -37,11 +40,15 @@ impl Model for ReadyCert {
 }
 
 impl ReadyCert {
-    pub(crate) fn new(alloc: Global, claim: &Claim, cert: Cert) -> Result<ReadyCert, AllocError>
-        ensures { IfOk result (λ ready. ready ≡ text_of claim.now cert.entries.items) }
+    /// The text is refused with `TooMuch` where it is longer than one that is read.
+    pub(crate) fn new(alloc: Global, claim: &Claim, cert: Cert) -> Result<ReadyCert, ToolFault>
+        ensures { TellsReady (text_of claim.now cert.entries.items) result }
     {
-        let mut lines = room_for(alloc, &cert)?;
+        let (mut lines, behind) = room_for(alloc, &cert)?;
         push_front(&mut lines, version_of(&cert.entries), claim)?;
+        if behind.saturating_add(lines.len()) > CERT_LIMIT {
+            return Err(ToolFault::TooMuch);
+        }
         Ok(ReadyCert { cert, lines })
     }
 
@@ -62,31 +69,37 @@ impl ReadyCert {
     }
 }
 
-/// No lines, with room for a block and the lines of any entry behind it.
-fn room_for(alloc: Global, cert: &Cert) -> Result<Vec<u8>, AllocError>
-    ensures empty { IfOk result (λ lines. lines.items ≡ []) }
+/// No lines, with room for a block and the lines of any entry behind it, and how many bytes the
+/// lines behind the claim have.
+fn room_for(alloc: Global, cert: &Cert) -> Result<(Vec<u8>, usize), AllocError>
+    ensures empty { IfOk result (λ told. told.0.items ≡ []) }
     ensures room { IfOk result
-        (λ lines. HasRoom block (vec_capacity lines) cert.now.entries.items) }
+        (λ told. HasRoom block (vec_capacity told.0) cert.now.entries.items) }
+    ensures bytes { IfOk result (λ told. told.1 ≡ counted (lines_behind cert.now.entries.items)) }
 {
     let mut lines = Vec::new(alloc);
-    spell_each(&mut lines, cert)?;
+    let behind = spell_each(&mut lines, cert)?;
     let longest = lines.capacity();
     lines.clear();
     lines.reserve(longest + BLOCK)?;
-    Ok(lines)
+    Ok((lines, behind))
 }
 
-/// Spells the lines of each entry by themselves, and so makes room for the longest.
-fn spell_each(line: &mut Vec<u8>, cert: &Cert) -> Result<(), AllocError>
-    ensures { OnOk result (HasRoom 0 (vec_capacity line.new) cert.now.entries.items) }
+/// Spells the lines of each entry by themselves, and so makes room for the longest. It tells how
+/// many bytes the lines behind the claim have.
+fn spell_each(line: &mut Vec<u8>, cert: &Cert) -> Result<usize, AllocError>
+    ensures room { OnOk result (HasRoom 0 (vec_capacity line.new) cert.now.entries.items) }
+    ensures bytes { IfOk result (λ bytes. bytes ≡ counted (lines_behind cert.now.entries.items)) }
 {
     line.clear();
     push_end(line)?;
+    let mut bytes = line.len();
     for entry in &cert.entries {
         line.clear();
         push_entry(line, entry)?;
+        bytes = bytes.saturating_add(line.len());
     }
-    Ok(())
+    Ok(bytes)
 }
 
 /// Writes the lines that wait, once they fill a block.

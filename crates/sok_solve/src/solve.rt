@@ -10,8 +10,8 @@ ghost use Rattle.sok_rules.specs.Play.{Solves};
 ghost use Rattle.sok_search.specs.Faults.{TellsFault};
 ghost use Rattle.sok_search.specs.Outcomes.{IsOutcome};
 ghost use Rattle.sok_solve.specs.Faults.{of_solve};
-ghost use Rattle.sok_solve.specs.Solves.{IsSolve, IsSolveAnswer, TellsOutcome, bound_answer};
-ghost use Rattle.sok_solve.specs.Solves.{limit_answer, solution_text};
+ghost use Rattle.sok_solve.specs.Solves.{IsSolve, IsSolveAnswer, TellsOutcome, TellsWithin};
+ghost use Rattle.sok_solve.specs.Solves.{bound_answer, limit_answer, solution_text};
 
 use crate::certificate::ReadyCert;
 use sok_cert::claim::Claim;
@@ -39,9 +39,10 @@ use std::marker::Model;
 ///
 /// Where there is no such answer nothing is written, and the fault is the first of these:
 /// `ReadFailed` or `TooMuch`; `NoSuchLevel` or another fault of the level; `BadLimit`; one of its
-/// board. A write that fails is `WriteFailed` at once: after a front of the certificate, with
-/// nothing of the answer; or after the certificate and a front of the answer. Of a reader that does
-/// not tell which bytes it holds, this is promised of some bytes.
+/// board; `TooMuch`, where the certificate would have more bytes than one that is read. A write that
+/// fails is `WriteFailed` at once: after a front of the certificate, with nothing of the answer; or
+/// after the certificate and a front of the answer. Of a reader that does not tell which bytes it
+/// holds, this is promised of some bytes.
 pub fn solve_bytes<R: Read, W: Write, C: Write>(
     alloc: Global,
     input: &mut R,
@@ -154,8 +155,7 @@ fn told(
     outcome: Outcome,
 ) -> Result<CertifiedAnswer, ToolFault>
     requires { IsOutcome level.now limit bound outcome }
-    ensures { MatchResult result (TellsOutcome limit bound level.now)
-        (λ fault. fault ≡ tool.Memory) }
+    ensures { TellsWithin (TellsOutcome limit bound level.now) result }
 {
     match outcome {
         Outcome::Solved { dirs, pushes, cert } => {

@@ -2,7 +2,7 @@ use Rattle.std.proofs.Common.{refl, subst, sym}
 use Rattle.sok_search.specs.declared.found.Found.{Found}
 use Rattle.sok_search.proofs.Refusing.{no-fault}
 use Rattle.sok_engine.specs.Written.{IsFaultOf}
-use Rattle.sok_solve.specs.Solves.{IsFindAnswer, TellsFound}
+use Rattle.sok_solve.specs.Solves.{Becomes, IsFindAnswer, TellsFound}
 use Rattle.sok_solve.proofs.Solving.{refused_answer, told_answer}
 use Rattle.sok_solve.proofs.find.answer.Goals as goal
 
@@ -16,6 +16,6 @@ returns-in-Ok c =
 
 pub returns-in-Err : goal.returns-in-Err
 returns-in-Err c =
-    let answer = refused_answer Found (TellsFound c.args.limit c.args.bound c.args.level.now) c.args.level.now c.args.limit c.in-Err.fault c.in-Err.ensures.tells.bad_limit
+    let answer = refused_answer Found (TellsFound c.args.limit c.args.bound c.args.level.now) Becomes c.args.level.now c.args.limit c.in-Err.fault c.in-Err.ensures.tells.bad_limit
     c.in-Err.ensures.tells.refused in
     subst (IsFaultOf (IsFindAnswer c.args.limit c.args.bound c.args.level.now)) (sym c.tool_fault.ensures) answer
