@@ -21,8 +21,8 @@ use std::alloc::Global;
 /// How far apart boxes stand close, at most, in rows and in columns.
 const REACH: u32 = 2;
 
-/// How many states are known before more is asked than two boxes that stand close: in a small search
-/// it takes longer than it saves.
+/// How many states are known before two boxes are asked that do not stand close: in a small search it
+/// takes longer than it saves.
 const KNOWN: usize = 1_000;
 
 /// A push of one of some boxes, about which is asked where so many states are known.
@@ -104,7 +104,7 @@ impl Losses {
             to,
         };
         let found = self.loss_of_two(&asking)?;
-        if found.is_some() || known < KNOWN {
+        if found.is_some() {
             return Ok(found);
         }
         self.loss_of_three(&asking)
