@@ -331,6 +331,7 @@ fn push_number(text: &mut Vec<u8>, number: usize) -> Result<(), AllocError>
     push_decimal(text, number)
 }
 
+/// Appends a number. Most have one digit or two, which are pushed as they are.
 fn push_decimal(text: &mut Vec<u8>, number: usize) -> Result<(), AllocError>
     ensures number { OnOk result (text.new.items ≡ text.old.items ++ decimal number) }
     ensures capacity { vec_capacity text.old ≤ vec_capacity text.new }
@@ -338,6 +339,12 @@ fn push_decimal(text: &mut Vec<u8>, number: usize) -> Result<(), AllocError>
         (vec_capacity text.old < vec_len text.old + length (decimal number)) }
     ensures refused { OnErr result (text.new.items ≡ text.old.items) }
 {
+    if number < 10 {
+        return text.extend_from_slice(&[b'0' + number as u8]);
+    }
+    if number < 100 {
+        return text.extend_from_slice(&[b'0' + (number / 10) as u8, b'0' + (number % 10) as u8]);
+    }
     let mut digits = Buffer::new();
     text.extend_from_slice(digits.format(number).as_bytes())
 }
