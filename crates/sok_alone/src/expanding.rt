@@ -16,13 +16,12 @@ use sok_push::tables::Tables;
 use sok_region::region::Region;
 use sok_rules::fault::Memory;
 use sok_state::key::Key;
-use sok_state::legal::{follow, list_pushes};
+use sok_state::legal::{after, list_pushes};
 use sok_state::push::Push;
 use sok_state::table::Table;
 use std::alloc::Global;
 
-/// Follows some legal pushes of a known state. The region is a place for those of the states that
-/// they lead to.
+/// Follows some legal pushes of a known state.
 fn follow_all(
     alloc: Global,
     board: &Board,
@@ -32,7 +31,6 @@ fn follow_all(
     known: &mut Known,
     key: &Key,
     pushes: &[Push],
-    region: &mut Region,
 ) -> Result<Met, Memory>
     ghost start: { Key }
     requires asked { IsAsked board.now tables.now lives.now start }
@@ -43,7 +41,7 @@ fn follow_all(
         (TellsFollowed board.now lives.now start limit known.old key.now pushes.now known.new) }
 {
     for push in pushes {
-        let next = follow(alloc, board, key, *push, region)?;
+        let next = after(alloc, board, key, *push)?;
         match meet(alloc, board, tables, lives, limit, known, &next)? {
             Met::On => {}
             Met::Ended => return Ok(Met::Ended),
@@ -76,19 +74,9 @@ fn expand(
         return Ok(Met::On);
     }
     let key = known.table.key(alloc, squares, index)?;
-    let mut region = Region::of(alloc, board, &key.boxes, key.least)?;
+    let region = Region::of(alloc, board, &key.boxes, key.least)?;
     list_pushes(board, &key, &region, pushes)?;
-    follow_all(
-        alloc,
-        board,
-        tables,
-        lives,
-        limit,
-        known,
-        &key,
-        pushes,
-        &mut region,
-    )
+    follow_all(alloc, board, tables, lives, limit, known, &key, pushes)
 }
 
 /// Expands one known state after another, until none is left or the search has ended.

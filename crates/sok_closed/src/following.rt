@@ -1,91 +1,147 @@
 //! Whether the pushes of a state lead to states of a table.
 
-ghost use Rattle.std.specs.Prelude.{◌≤◌, IfOk, All, length};
+ghost use Rattle.std.specs.Prelude.{ℕ, List, ◌≤◌, IfOk, OnOk, All, length};
 ghost use Rattle.sok_board.specs.Area.{IsAccepted};
+ghost use Rattle.sok_board.specs.Limits.{box_limit};
+ghost use Rattle.sok_region.specs.Layouts.{IsLaidOut};
+ghost use Rattle.sok_state.specs.declared.key.Key.{Key};
 ghost use Rattle.sok_state.specs.Keys.{IsKey};
 ghost use Rattle.sok_state.specs.Pushes.{IsLegal};
-ghost use Rattle.sok_state.specs.Tables.{HasDistinctKeys};
-ghost use Rattle.sok_closed.specs.Lookup.{TellsFound, TellsFirst, TellsOpen};
+ghost use Rattle.sok_state.specs.Tables.{HasDistinctKeys, IsAt};
+ghost use Rattle.sok_closed.specs.Lookup.{IsLaidAt, TellsFound, TellsFirst, TellsOpen};
 
 use sok_board::board::Board;
+use sok_field::field::Field;
+use sok_region::layout::Layout;
 use sok_region::region::Region;
 use sok_rules::fault::Memory;
 use sok_state::key::Key;
-use sok_state::legal::{follow, list_pushes};
+use sok_state::legal::list_pushes;
 use sok_state::push::Push;
+use sok_state::stepping::{square_ahead, step};
 use sok_state::table::Table;
 use std::alloc::Global;
 
-/// Whether the state that a push leads to is in a table, at most one deeper. The region is a place
-/// for that of the state.
-fn is_found(
-    alloc: Global,
-    board: &Board,
-    table: &Table,
-    key: &Key,
-    depth: u32,
-    push: Push,
-    region: &mut Region,
-) -> Result<bool, Memory>
-    requires accepted { IsAccepted board.now }
-    requires key { IsKey board.now key.now }
-    requires legal { IsLegal board.now key.now push }
-    requires distinct { HasDistinctKeys table.now.entries }
-    requires wide { length board.now.area ≤ table.now.room }
-    ensures { IfOk result (TellsFound board.now table.now.entries key.now depth push) }
-{
-    let next = follow(alloc, board, key, push, region)?;
-    match table.get(&next) {
-        Some(index) => Ok(u64::from(table.depth(index)) <= u64::from(depth) + 1),
-        None => Ok(false),
-    }
+/// What is kept from state to state, so that nothing is made anew: the boxes of the state whose
+/// pushes are followed, laid out; room for the squares that the player comes to after a push; and
+/// the pushes.
+#[derive(Drop)]
+pub(crate) struct Scratch {
+    pub(crate) layout: Layout,
+    pub(crate) seen: Field,
+    pub(crate) pushes: Vec<Push>,
 }
 
-/// The place of the first of some pushes that leads to no state of a table at most one deeper.
-fn first_missing(
-    alloc: Global,
-    board: &Board,
-    table: &Table,
-    key: &Key,
-    depth: u32,
-    pushes: &[Push],
-    region: &mut Region,
-) -> Result<Option<usize>, Memory>
-    requires accepted { IsAccepted board.now }
-    requires key { IsKey board.now key.now }
-    requires legal { All (IsLegal board.now key.now) pushes.now }
-    requires distinct { HasDistinctKeys table.now.entries }
-    requires wide { length board.now.area ≤ table.now.room }
-    ensures { IfOk result (TellsFirst board.now table.now.entries key.now depth pushes.now) }
-{
-    for (place, push) in pushes.iter().enumerate() {
-        if !is_found(alloc, board, table, key, depth, *push, region)? {
-            return Ok(Some(place));
+impl Scratch {
+    /// Room for the states of a board. It keeps the allocator for the boxes and the pushes.
+    pub(crate) fn new(alloc: Global, board: &Board) -> Scratch
+        ensures { (boxes : List ℕ) × IsLaidOut board.now boxes result.layout }
+    {
+        Scratch {
+            layout: Layout::new(alloc, board),
+            seen: Field::new(),
+            pushes: Vec::new(alloc),
         }
     }
-    Ok(None)
 }
 
-/// The first legal push of a state that leads to no state of a table at most one deeper. The list
-/// is a place for the pushes.
+/// Whether the state that a push leads to from the one at an index of a table is in the table, at
+/// most one deeper.
+fn is_found(
+    board: &Board,
+    table: &Table,
+    index: usize,
+    depth: u32,
+    push: Push,
+    layout: &mut Layout,
+    seen: &mut Field,
+) -> bool
+    requires accepted { IsAccepted board.now }
+    requires legal { (key : Key) × IsLaidAt board.now table.now.entries index layout.old key
+        × IsLegal board.now key push }
+    requires distinct { HasDistinctKeys table.now.entries }
+    requires wide { length board.now.area ≤ table.now.room }
+    ensures laid { (key : Key) → IsLaidAt board.now table.now.entries index layout.old key
+        → IsLegal board.now key push
+        → IsLaidAt board.now table.now.entries index layout.new key }
+    ensures found { (key : Key) → IsLaidAt board.now table.now.entries index layout.old key
+        → IsLegal board.now key push
+        → TellsFound board.now table.now.entries key depth push result }
+{
+    let to = square_ahead(board, push);
+    let least = step(board, push, to, layout, seen);
+    match table.get_next(index, push.from, to, least) {
+        Some(at) => u64::from(table.depth(at)) <= u64::from(depth) + 1,
+        None => false,
+    }
+}
+
+/// The place of the first of some pushes from the state at an index of a table that leads to no
+/// state of it at most one deeper.
+fn first_missing(
+    board: &Board,
+    table: &Table,
+    index: usize,
+    depth: u32,
+    pushes: &[Push],
+    layout: &mut Layout,
+    seen: &mut Field,
+) -> Option<usize>
+    requires accepted { IsAccepted board.now }
+    requires legal { (key : Key) × IsLaidAt board.now table.now.entries index layout.old key
+        × All (IsLegal board.now key) pushes.now }
+    requires distinct { HasDistinctKeys table.now.entries }
+    requires wide { length board.now.area ≤ table.now.room }
+    ensures laid { (key : Key) → IsLaidAt board.now table.now.entries index layout.old key
+        → All (IsLegal board.now key) pushes.now
+        → IsLaidAt board.now table.now.entries index layout.new key }
+    ensures first { (key : Key) → IsLaidAt board.now table.now.entries index layout.old key
+        → All (IsLegal board.now key) pushes.now
+        → TellsFirst board.now table.now.entries key depth pushes.now result }
+{
+    for (place, push) in pushes.iter().enumerate() {
+        if !is_found(board, table, index, depth, *push, layout, seen) {
+            return Some(place);
+        }
+    }
+    None
+}
+
+/// The first legal push of the state at an index of a table that leads to no state of it at most
+/// one deeper.
 pub(crate) fn open_push(
     alloc: Global,
     board: &Board,
     table: &Table,
+    index: usize,
     key: &Key,
     depth: u32,
-    pushes: &mut Vec<Push>,
+    scratch: &mut Scratch,
 ) -> Result<Option<Push>, Memory>
     requires accepted { IsAccepted board.now }
+    requires there { IsAt table.now.entries key.now index }
     requires key { IsKey board.now key.now }
+    requires few { length key.now.boxes ≤ box_limit }
     requires distinct { HasDistinctKeys table.now.entries }
     requires wide { length board.now.area ≤ table.now.room }
-    ensures { IfOk result (TellsOpen board.now table.now.entries key.now depth) }
+    requires laid { (boxes : List ℕ) × IsLaidOut board.now boxes scratch.old.layout }
+    ensures laid { OnOk result
+        ((boxes : List ℕ) × IsLaidOut board.now boxes scratch.new.layout) }
+    ensures first { IfOk result (TellsOpen board.now table.now.entries key.now depth) }
 {
-    let mut region = Region::of(alloc, board, &key.boxes, key.least)?;
-    list_pushes(board, key, &region, pushes)?;
-    match first_missing(alloc, board, table, key, depth, pushes, &mut region)? {
-        Some(place) => Ok(Some(pushes[place])),
+    let region = Region::of(alloc, board, &key.boxes, key.least)?;
+    list_pushes(board, key, &region, &mut scratch.pushes)?;
+    scratch.layout.lay(board, key.boxes.list())?;
+    match first_missing(
+        board,
+        table,
+        index,
+        depth,
+        &scratch.pushes,
+        &mut scratch.layout,
+        &mut scratch.seen,
+    ) {
+        Some(place) => Ok(Some(scratch.pushes[place])),
         None => Ok(None),
     }
 }

@@ -8,7 +8,7 @@ ghost use Rattle.sok_board.specs.Limits.{square_limit};
 ghost use Rattle.sok_state.specs.Tables.{IsAt};
 ghost use Rattle.sok_closed.specs.Lookup.{AreKeys, TellsMissed};
 
-use crate::following::open_push;
+use crate::following::{Scratch, open_push};
 use sok_board::board::Board;
 use sok_rules::fault::Memory;
 use sok_state::key::Key;
@@ -118,14 +118,15 @@ impl Roll {
         // A table tells with its length that no key stands there twice.
         let _states = self.table.len();
         let mut squares = Vec::new(alloc);
-        let mut pushes = Vec::new(alloc);
+        let mut scratch = Scratch::new(alloc, board);
         for (index, expanded) in self.marks.iter().enumerate() {
             if !*expanded {
                 continue;
             }
             let key = self.table.key(alloc, &mut squares, index)?;
             let depth = self.table.depth(index);
-            if let Some(push) = open_push(alloc, board, &self.table, &key, depth, &mut pushes)? {
+            let table = &self.table;
+            if let Some(push) = open_push(alloc, board, table, index, &key, depth, &mut scratch)? {
                 return Ok(Some((index, push)));
             }
         }

@@ -1,15 +1,14 @@
-//! The pushes of a state whose region is at hand, and the state behind one.
+//! The pushes of a state whose region is at hand.
 
 ghost use Rattle.sok_state.specs.Keys.{IsKey};
 
 use crate::setting::board;
-use sok_board::area::Sq;
 use sok_board::board::Board;
 use sok_region::region::Region;
 use sok_rules::cell::Dir;
 use sok_sketch::sketch;
 use sok_state::key::Key;
-use sok_state::legal::{follow, list_pushes};
+use sok_state::legal::list_pushes;
 use sok_state::push::Push;
 use std::alloc::Global;
 use std::test::Fail;
@@ -57,31 +56,13 @@ fn lists_twice(alloc: Global, board: &Board, key: &Key, told: &[Push]) -> Result
     Ok(lists(alloc, board, key, &mut pushes, told)? && lists(alloc, board, key, &mut pushes, told)?)
 }
 
-/// Whether the first push of a state leads to boxes and a least square, and a kept region is then
-/// that of the new state: it has the square that the box left, and not the one it came to.
-fn leads_to(alloc: Global, board: &Board, key: &Key, boxes: &[Sq], least: Sq) -> Result<bool, Fail>
-    requires { IsKey board.now key.now }
-{
-    let mut region = Region::of(alloc, board, &key.boxes, key.least)?;
-    let mut pushes = Vec::new(alloc);
-    list_pushes(board, key, &region, &mut pushes)?;
-    if pushes.len() == 0 {
-        return Ok(false);
-    }
-    let push = pushes[0];
-    let next = follow(alloc, board, key, push, &mut region)?;
-    let stands = next.boxes.list() == boxes && next.least == least;
-    Ok(stands && region.has(push.from) && !boxes.iter().any(|square| region.has(*square)))
-}
-
-/// Whether each push is legal from a board's start, and the first of them leads to 3.
+/// Whether each push is legal from a board's start.
 fn pushes_around(alloc: Global, board: &Board) -> Result<bool, Fail> {
     let key = Key::start(alloc, board)?;
-    Ok(lists_twice(alloc, board, &key, &EACH_PUSH)? && leads_to(alloc, board, &key, &[3], 0)?)
+    lists_twice(alloc, board, &key, &EACH_PUSH)
 }
 
-/// A box in the open, and the player below it on the left: each push is legal, and behind the
-/// first of them the player still comes everywhere.
+/// A box in the open, and the player below it on the left: each push is legal.
 #[test]
 fn pushes_over_kept_lists(rt: HostRuntime) -> Result<(), Fail> {
     let board = board(rt.alloc(), sketch::BOX_IN_THE_OPEN)?;

@@ -8,12 +8,11 @@ use Rattle.sok_state.specs.declared.key.Key.{Key}
 use Rattle.sok_state.specs.declared.push.Push.{Push}
 use Rattle.sok_state.specs.Keys.{IsKey}
 use Rattle.sok_region.specs.Layouts.{IsLaidOut, Laid}
-use Rattle.sok_state.specs.Pushes.{IsLegal}
+use Rattle.sok_state.specs.Pushes.{IsLegal, IsPushable}
 use Rattle.sok_state.specs.Tables.{Entries, Enters, GoesLast, IsAt}
 use Rattle.sok_search.specs.declared.note.Note.{Note}
 use Rattle.sok_search.specs.Searches.{Frame, Progress, IsNoted, IsSearch}
 use Rattle.sok_search.specs.Steps.{IsAdded, IsListed, Queues, holding}
-use Rattle.sok_search.specs.Trials.{IsPushable}
 use Rattle.sok_search.proofs.Knowing.{key-within, noted-at}
 
 -- a state that went last into the table, and is noted, is added

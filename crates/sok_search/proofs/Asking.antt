@@ -20,11 +20,11 @@ use Rattle.sok_search.specs.declared.reaching.Reached.{Reached}
 use Rattle.sok_search.specs.declared.reaching.Reached.TheVariants.{On, Full}
 use Rattle.sok_search.specs.Searches.{Progress, LeadsNowhere}
 use Rattle.sok_search.specs.Steps.{holding, knowing}
-use Rattle.sok_search.specs.Trials.{IsPushable}
+use Rattle.sok_state.specs.Pushes.{IsPushable}
 use Rattle.sok_search.specs.Views.{TellsReached}
 use Rattle.sok_search.proofs.LeavingOut.{lost-nowhere}
 use Rattle.sok_search.proofs.Pushing.{pushed-knowing}
-use Rattle.sok_search.proofs.Stepped.{ComesNext, next-made, next_of, placed-after}
+use Rattle.sok_state.proofs.Stepped.{ComesNext, next-made, next_of, placed-after}
 
 pub tells-knowing : (b : Numbered) (limit : ℕ) (p : Progress) (losses : Losses) (index : ℕ) (key : Key) (depth : ℕ) (push : Push) (q : Progress) (r : Reached)
     → TellsReached b limit (knowing losses p) index key depth push q r → TellsReached b limit p index key depth push q r

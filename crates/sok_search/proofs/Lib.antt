@@ -18,7 +18,6 @@ pub mod Pushing
 pub mod Reasons
 pub mod Refusing
 pub mod Showing
-pub mod Stepped
 pub mod Traces
 pub mod Trailing
 pub mod Trails

@@ -1,16 +1,10 @@
 -- What a push is tried with.
-use Rattle.std.specs.Prelude.{ℕ, ◌≡◌, ◌<◌, ◌≤◌, List, Bool, true, All, Contains, length}
+use Rattle.std.specs.Prelude.{ℕ, ◌≡◌, ◌<◌, List, Bool, true, All, Contains, length}
 use Rattle.std.specs.List.Sorted.{IsStrictlyIncreasing}
-use Rattle.sok_rules.specs.Play.{Position}
 use Rattle.sok_board.specs.Area.{Numbered}
-use Rattle.sok_board.specs.Limits.{box_limit}
 use Rattle.sok_price.specs.Matched.{Holds, KeptMatching, Serves}
 use Rattle.sok_board.specs.BoxSets.{IsMoved}
-use Rattle.sok_state.specs.declared.key.Key.{Key}
-use Rattle.sok_state.specs.declared.push.Push.{Push}
-use Rattle.sok_state.specs.Keys.{IsKey, IsKeyOf}
-use Rattle.sok_region.specs.Layouts.{IsLaidOut, Laid}
-use Rattle.sok_state.specs.Pushes.{IsLegal, LeadsTo}
+use Rattle.sok_region.specs.Layouts.{IsLaidOut}
 use Rattle.sok_search.specs.declared.trial.Trial.{Trial}
 
 -- a matching for a board, which is that of some boxes if it is said so
@@ -33,15 +27,3 @@ pub record AreMoved (b : Numbered) (boxes : List ℕ) (from to : ℕ) (after : L
   pub moved : IsMoved boxes from to after
   pub rising : IsStrictlyIncreasing after
   pub after_exist : All (λ square. square < length b.area) after
-
--- a state of the board that is laid out, and a push from it
-pub record IsPushable (b : Numbered) (push : Push) (layout : Laid) (key : Key) : Type 0 where
-  pub state : IsKey b key
-  pub few : length key.boxes ≤ box_limit
-  pub legal : IsLegal b key push
-  pub laid : IsLaidOut b key.boxes layout
-
--- a state of the board to which a push leads
-pub record IsLedTo (b : Numbered) (key : Key) (push : Push) (next : Key) : Type 0 where
-  pub state : IsKey b next
-  pub exact : (after : Position) → LeadsTo b key push after → IsKeyOf b after next

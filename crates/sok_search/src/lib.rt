@@ -19,7 +19,6 @@
 //! | `reaching` | a push is followed (private) |
 //! | `running` | one state is taken after another (private) |
 //! | `search` | what a search knows (private) |
-//! | `stepping` | the state that a push leads to (private) |
 //! | `tracing` | the pushes that lead to a solved state (private) |
 //! | `trail` | the letters that make pushes one after another (private) |
 //! | `trial` | how a new state stands that a push leads to (private) |
@@ -41,7 +40,6 @@ mod reaching;
 mod running;
 mod search;
 pub mod solve;
-mod stepping;
 mod tracing;
 mod trail;
 mod trial;

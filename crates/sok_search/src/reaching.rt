@@ -14,7 +14,6 @@ ghost use Rattle.sok_search.specs.Views.{progress_of, HoldsState, TellsReached};
 
 use crate::note::{Note, Origin, Standing};
 use crate::search::{Search, add, lower};
-use crate::stepping::{square_ahead, step};
 use crate::trial::{Trial, judge_after};
 use sok_alone::losses::Losses;
 use sok_board::area::Sq;
@@ -24,6 +23,7 @@ use sok_rules::fault::Memory;
 use sok_state::key::Key;
 use sok_state::legal::after;
 use sok_state::push::Push;
+use sok_state::stepping::{square_ahead, step};
 use std::alloc::Global;
 
 /// That a search goes on, or that its table is full and lacks a state that is reached: then the

@@ -6,4 +6,5 @@ pub mod PackedTables
 pub mod Packing
 pub mod Placed
 pub mod States
+pub mod Stepped
 pub mod Unpacking

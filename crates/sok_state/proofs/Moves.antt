@@ -1,6 +1,7 @@
 -- Boxes after a push, by their numbers.
-use Rattle.std.proofs.Common.{ℕ, ◌≡◌, ◌<◌, inl, inr, refl, sym, ap, ◌∙◌, subst, List, Bool, true, true≢false, All, length, get_or}
+use Rattle.std.proofs.Common.{ℕ, ◌≡◌, ◌<◌, inl, inr, refl, sym, ap, ◌∙◌, subst, List, Bool, true, true≢false, All, Contains, MatchOption, None, Option, Some, length, get_or}
 use Rattle.std.specs.Cmp.{both_ways}
+use Rattle.std.specs.Map.{keys_of}
 use Rattle.std.proofs.lemmas.Bool.{cases_Bool}
 use Rattle.std.proofs.lemmas.Option.{same_Some}
 use Rattle.std.proofs.lemmas.List.Elements.{All-contains, Contains-get_or}
@@ -17,7 +18,7 @@ use Rattle.sok_board.proofs.Positions.{listed_box}
 use Rattle.sok_board.specs.BoxSets.{IsMoved}
 use Rattle.sok_region.specs.Regions.{IsPlaced}
 use Rattle.sok_state.specs.declared.key.Key.{Key}
-use Rattle.sok_state.specs.Tables.{Entries, IsAt, IsNext}
+use Rattle.sok_state.specs.Tables.{Entries, HasNext, IsAt, IsNext, LacksNext}
 use Rattle.sok_state.proofs.Placed.{box_cases, decoration_there, same_rising}
 
 -- boxes with one of them moved are one list
@@ -39,6 +40,18 @@ pub next-at : (old : Entries) (index from to least : ℕ) (found key one other :
 next-at old index from to least found key one other here is there also =
     let same = same_Some found key (sym here ∙ there) in
     next-same key from to least one other (subst (λ (k : Key). IsNext k from to least one) same is) also
+
+-- and where it is found, the state that comes next is
+pub next-found : (old : Entries) (index from to least : ℕ) (found one : Key) → IsAt old found index → IsNext found from to least one → (r : Option ℕ)
+    → MatchOption r (Contains (keys_of old) one → ⊥) (IsAt old one) → MatchOption r (LacksNext old index from to least) (HasNext old index from to least)
+next-found old index from to least found one here is None lacks = record {
+  absent = λ key next there comes.
+      subst (λ (k : Key). Contains (keys_of old) k → ⊥) (next-at old index from to least found key one next here is there comes) lacks;
+}
+next-found old index from to least found one here is (Some at) has = record {
+  there = λ key next there comes.
+      subst (λ (k : Key). IsAt old k at) (next-at old index from to least found key one next here is there comes) has;
+}
 
 -- a box that stands elsewhere than on the square that one has left
 moved-there : (boxes : Spot → Bool) (from to s : Spot) → boxes s ≡ true → (s ≡ from → ⊥) → moved boxes from to s ≡ true

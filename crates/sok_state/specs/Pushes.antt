@@ -1,10 +1,12 @@
 -- The pushes that are legal from some position of a state.
-use Rattle.std.specs.Prelude.{ℕ, ◌≡◌, ◌<◌, ◌⊎◌, Some, true, length}
+use Rattle.std.specs.Prelude.{ℕ, ◌≡◌, ◌<◌, ◌≤◌, ◌⊎◌, Some, true, length}
 use Rattle.sok_rules.specs.declared.cell.Dir.{Dir}
 use Rattle.sok_rules.specs.declared.cell.Dir.TheVariants.{Left, Up, Right, Down}
 use Rattle.sok_rules.specs.Play.{Position, step}
 use Rattle.sok_rules.specs.States.{Same}
 use Rattle.sok_board.specs.Area.{Numbered, spot_of, position_of}
+use Rattle.sok_board.specs.Limits.{box_limit}
+use Rattle.sok_region.specs.Layouts.{IsLaidOut, Laid}
 use Rattle.sok_state.specs.declared.key.Key.{Key}
 use Rattle.sok_state.specs.declared.push.Push.{Push}
 use Rattle.sok_state.specs.Keys.{IsKey, IsKeyOf}
@@ -27,6 +29,13 @@ pub record IsKeyAfter (b : Numbered) (key : Key) (push : Push) (next : Key) : Ty
   pub exact : (after : Position) → LeadsTo b key push after → IsKeyOf b after next
   pub of_board : IsKey b next
   pub as_many : length next.boxes ≡ length key.boxes
+
+-- a push from a state of the board, whose boxes are laid out
+pub record IsPushable (b : Numbered) (push : Push) (layout : Laid) (key : Key) : Type 0 where
+  pub state : IsKey b key
+  pub few : length key.boxes ≤ box_limit
+  pub legal : IsLegal b key push
+  pub laid : IsLaidOut b key.boxes layout
 
 -- left, up, right, down
 abbrev pub rank : Dir → ℕ

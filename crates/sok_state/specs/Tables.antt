@@ -58,6 +58,10 @@ pub record IsNext (key : Key) (from to least : ℕ) (next : Key) : Type 0 where
 pub record EntersNext (old : Entries) (index from to least depth at : ℕ) (is_new : Bool) (new : Entries) : Type 0 where
   pub enters : (key next : Key) → IsAt old key index → IsNext key from to least next → Enters old next depth at is_new new
 
+-- the key that comes next to the one at an index stands at another
+pub record HasNext (old : Entries) (index from to least at : ℕ) : Type 0 where
+  pub there : (key next : Key) → IsAt old key index → IsNext key from to least next → IsAt old next at
+
 -- the key that comes next to the one at an index is not there
 pub record LacksNext (old : Entries) (index from to least : ℕ) : Type 0 where
   pub absent : (key next : Key) → IsAt old key index → IsNext key from to least next → Contains (keys_of old) next → ⊥

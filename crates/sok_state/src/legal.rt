@@ -71,27 +71,6 @@ pub fn after(alloc: Global, board: &Board, key: &Key, push: Push) -> Result<Key,
     key_of(alloc, board, boxes, push.from)
 }
 
-/// The key that `after` gives, and makes a region that of the new state. It refuses only for want
-/// of memory, and then the region stays.
-pub fn follow(
-    alloc: Global,
-    board: &Board,
-    key: &Key,
-    push: Push,
-    region: &mut Region,
-) -> Result<Key, Memory>
-    requires key { IsKey board.now key.now }
-    requires legal { IsLegal board.now key.now push }
-    ensures next { IfOk result (IsKeyAfter board.now key.now push) }
-    ensures region { IfOk result (λ next. IsRegion board.now next.boxes next.least region.new) }
-    ensures refused { OnErr result (region.new ≡ region.old) }
-{
-    let boxes = boxes_after(alloc, board, key, push)?;
-    region.again(board, &boxes, push.from);
-    let least = region.least();
-    Ok(Key { boxes, least })
-}
-
 /// The boxes after a push.
 fn boxes_after(alloc: Global, board: &Board, key: &Key, push: Push) -> Result<BoxSet, Memory>
     requires key { IsKey board.now key.now }

@@ -8,6 +8,7 @@
 //! | `packed` | the key of a state in bits (private) |
 //! | `packed_table` | packed keys of one width in the order of their insertion, with depths (private) |
 //! | `push` | a push, by the square of its box and its direction |
+//! | `stepping` | the state that a push leads to, over boxes that are laid out |
 //! | `table` | keys in the order of their insertion, with depths, as narrow as a board allows |
 #![tactic(auto)]
 
@@ -17,4 +18,5 @@ pub mod legal;
 mod packed;
 mod packed_table;
 pub mod push;
+pub mod stepping;
 pub mod table;

@@ -4,8 +4,8 @@ ghost use Rattle.std.specs.Prelude.{ℕ, ◌≡◌, ◌<◌, ◌≤◌, ◌+◌,
 ghost use Rattle.std.specs.Prelude.{IsOk, OnErr, MatchOption, length, slice_get, slice_index};
 ghost use Rattle.std.specs.Map.{keys_of, values_of};
 ghost use Rattle.sok_state.specs.PackedKeys.{state_of};
-ghost use Rattle.sok_state.specs.Tables.{Enters, EntersNext, HasDistinctKeys, HasFewBoxes, IsAt};
-ghost use Rattle.sok_state.specs.Tables.{LacksNext, Lowers};
+ghost use Rattle.sok_state.specs.Tables.{Enters, EntersNext, HasDistinctKeys, HasFewBoxes, HasNext};
+ghost use Rattle.sok_state.specs.Tables.{IsAt, LacksNext, Lowers};
 
 use crate::key::Key;
 use crate::packed::PackedKey;
@@ -132,9 +132,31 @@ impl<const N: usize> PackedTable<N> {
         ensures { MatchOption result
             (Contains (keys_of self.now.entries) key.now → ⊥) (IsAt self.now.entries key.now) }
     {
-        let packed: PackedKey<N> = PackedKey::of(key);
-        fit(&packed.boxes);
-        self.keys.get_index_of(&packed)
+        self.find(PackedKey::of(key))
+    }
+
+    /// The index of the key after a push from the one at an index.
+    pub(crate) fn get_next(&self, index: usize, from: Sq, to: Sq, least: Sq) -> Option<usize>
+        requires small { N ≤ 16 }
+        requires exists { index < length self.now.entries }
+        requires from { from < 64 * N }
+        requires to { to < 64 * N }
+        ensures { MatchOption result (LacksNext self.now.entries index from to least)
+            (HasNext self.now.entries index from to least) }
+    {
+        let packed = self.packed(index);
+        self.find(packed.moved(from, to, least))
+    }
+
+    /// The index of a packed key.
+    fn find(&self, key: PackedKey<N>) -> Option<usize>
+        requires { N ≤ 16 }
+        ensures { MatchOption result
+            (Contains (keys_of self.now.entries) (state_of key.entry) → ⊥)
+            (IsAt self.now.entries (state_of key.entry)) }
+    {
+        fit(&key.boxes);
+        self.keys.get_index_of(&key)
     }
 
     /// The key at an index. Its boxes are listed in a place for squares first.

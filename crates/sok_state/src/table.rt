@@ -4,8 +4,8 @@ ghost use Rattle.std.specs.Prelude.{◌≡◌, ◌<◌, ◌≤◌, ◌+◌, [], 
 ghost use Rattle.std.specs.Prelude.{OnErr, MatchOption, length, slice_get};
 ghost use Rattle.std.specs.Map.{keys_of, values_of};
 ghost use Rattle.sok_board.specs.Limits.{square_limit};
-ghost use Rattle.sok_state.specs.Tables.{Enters, EntersNext, HasDistinctKeys, HasFewBoxes, IsAt};
-ghost use Rattle.sok_state.specs.Tables.{LacksNext, Lowers};
+ghost use Rattle.sok_state.specs.Tables.{Enters, EntersNext, HasDistinctKeys, HasFewBoxes, HasNext};
+ghost use Rattle.sok_state.specs.Tables.{IsAt, LacksNext, Lowers};
 
 use crate::key::Key;
 use crate::packed_table::PackedTable;
@@ -131,6 +131,18 @@ impl Table {
             (Contains (keys_of self.now.entries) key.now → ⊥) (IsAt self.now.entries key.now) }
     {
         packed!(&self.store, table => table.get(key))
+    }
+
+    /// The index of the key after a push from the one at an index, as `insert_next` makes it, and
+    /// None where the table lacks it. It takes no memory.
+    pub fn get_next(&self, index: usize, from: Sq, to: Sq, least: Sq) -> Option<usize>
+        requires exists { index < length self.now.entries }
+        requires from { from < self.now.room }
+        requires to { to < self.now.room }
+        ensures { MatchOption result (LacksNext self.now.entries index from to least)
+            (HasNext self.now.entries index from to least) }
+    {
+        packed!(&self.store, table => table.get_next(index, from, to, least))
     }
 
     /// The key at an index. Its boxes are listed in a place for squares first. It refuses only for

@@ -25,7 +25,7 @@ meet-requires g c =
       (
         c.loop-push.invariant.known,
         reached-next b g.start key c.in_ok-next.next (get_or c.args.pushes.now i no_push) c.requires.1.1.0
-            (c.requires.1.1.1 i no_push c.loop-push-test.true) c.in_ok-next.ensures.next.exact c.in_ok-next.ensures.next.of_board c.in_ok-next.ensures.next.as_many,
+            (c.requires.1.1.1 i no_push c.loop-push-test.true) c.in_ok-next.ensures.exact c.in_ok-next.ensures.of_board c.in_ok-next.ensures.as_many,
       ),
     )
 
@@ -45,7 +45,7 @@ loop-push-preserved g c =
       grows = Grows-trans c.args.known.now before new c.loop-push.invariant.grows met.grows;
       found = before_more (λ _ other. IsFound b new.table.entries key 0 other) pushes i push (slice_get-get_or pushes i no_push c.loop-push-test.true)
           (λ j other below there. found-grows before new met.grows b key 0 other (c.loop-push.invariant.found j other below there))
-          (found-met b g.start c.args.limit before new key c.in_ok-next.next push c.in_ok-next.ensures.next.exact met);
+          (found-met b g.start c.args.limit before new key c.in_ok-next.next push c.in_ok-next.ensures.exact met);
     }
 
 pub returns : goal.returns

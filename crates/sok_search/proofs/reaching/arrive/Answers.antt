@@ -7,13 +7,13 @@ use Rattle.sok_alone.specs.Losses.{losses_of}
 use Rattle.sok_search.specs.declared.search.Search.{Search}
 use Rattle.sok_search.specs.Searches.{Frame}
 use Rattle.sok_search.specs.Steps.{holding}
-use Rattle.sok_search.specs.Trials.{IsPushable}
+use Rattle.sok_state.specs.Pushes.{IsPushable}
 use Rattle.sok_search.specs.Views.{progress_of}
 use Rattle.sok_search.proofs.Adding.{added-made, note-within, taken, taken-deep, taken-pushable}
 use Rattle.sok_search.proofs.Moving.{moved-next}
 use Rattle.sok_search.proofs.Asking.{lost-next}
 use Rattle.sok_search.proofs.Pushing.{pushed-added, pushed-known}
-use Rattle.sok_search.proofs.Stepped.{ComesNext, comes-next, next_of}
+use Rattle.sok_state.proofs.Stepped.{ComesNext, comes-next, next_of}
 use Rattle.sok_search.proofs.reaching.arrive.Goals as goal
 use Rattle.sok_search.proofs.reaching.arrive.Goals.{After-step-least, Then-not-is_new}
 
@@ -108,7 +108,7 @@ returns-then-not-is_new-clause-tells c =
     let next = next_of c.args.key.now c.args.push.from c.args.to c.step-least.result in
     let stays = stays_in ((goal.at.returns-then-not-is_new-clause-tells c).Then-not-is_new) in
     pushed-known c.args.board.now c.args.limit c.args.index p c.requires.state.running.search c.args.key.now c.args.depth c.requires.state.there c.requires.state.depth_is
-    one.note one.note_is c.args.push c.requires.legal next comes.came.exact comes.came.state comes.as_many
+    one.note one.note_is c.args.push c.requires.legal next comes.came.exact comes.came.of_board comes.came.as_many
     c.in_ok-at.at (frame_in c.args.search.now c.insert_next.new.self) c.insert_next.new.self.entries
     (same_frame c.args.search.now c.insert_next.new.self c.in_ok-at.ensures.room) stays
     (progress_of c.approach.new.search) c.in_ok-approach.ensures
@@ -135,7 +135,7 @@ judge_after-requires-clause-moved c =
     let here = (goal.at.judge_after-requires-clause-moved c).After-step-least in
     let can = can_in here in
     let comes = comes_in here in
-    moved-next c.args.board.now c.requires.state.running.accepted c.args.key.now _ c.args.push c.args.to can.state can.few comes.came.state c.requires.legal
+    moved-next c.args.board.now c.requires.state.running.accepted c.args.key.now _ c.args.push c.args.to can.state can.few comes.came.of_board c.requires.legal
     comes.came.exact c.requires.ahead
 
 pub returns-clause-tells : goal.returns-clause-tells
@@ -158,7 +158,7 @@ returns-clause-tells c =
     c.requires.ahead c.step-least.result comes losses c.args.lost c.requires.lost) in
     pushed-added c.args.board.now c.args.limit c.args.index p c.requires.state.running.search c.args.key.now
     c.args.depth c.requires.state.there c.requires.state.depth_is one.note one.note_is
-    c.args.push c.requires.legal next comes.came.exact comes.came.state comes.as_many last.absent
+    c.args.push c.requires.legal next comes.came.exact comes.came.of_board comes.came.as_many last.absent
     (omega (arith, room, length_is)) _ refl judged q
     (added-made p (frame_in c.args.search.now c.insert_next.new.self) c.insert_next.new.self.entries q next (c.args.depth + 1) at _
     (same_frame c.args.search.now c.insert_next.new.self c.in_ok-at.ensures.room) last

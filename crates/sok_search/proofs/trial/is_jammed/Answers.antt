@@ -1,6 +1,6 @@
 use Rattle.std.proofs.Common.{◌<◌, inl, length, refl}
 use Rattle.std.proofs.lemmas.List.Elements.{All-contains}
-use Rattle.sok_search.proofs.Stepped.{gone, moved-back}
+use Rattle.sok_state.proofs.Stepped.{gone, moved-back}
 use Rattle.sok_search.proofs.trial.is_jammed.Goals as goal
 
 pub shift-requires-clause-from : goal.shift-requires-clause-from

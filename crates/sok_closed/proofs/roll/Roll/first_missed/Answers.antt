@@ -9,14 +9,21 @@ loop-index-preserved-then-not-expanded c =
     let marks = c.deref-expanded-items.result.now in
     let i = c.loop-index.index in
     let mark : slice_get marks i ≡ Some false = slice_get-get_or marks i false c.loop-index-test.true ∙ ap Some c.if-not-expanded.true in
-    followed-unmarked c.args.board.now c.args.self.now i
-    (rw (← c.self.view_is) (subst (λ (all : List Bool). slice_get all i ≡ Some false) c.deref-expanded-items.ensures.value mark)) c.loop-index.invariant
+    record {
+      followed = followed-unmarked c.args.board.now c.args.self.now i
+          (rw (← c.self.view_is) (subst (λ (all : List Bool). slice_get all i ≡ Some false) c.deref-expanded-items.ensures.value mark))
+          c.loop-index.invariant.followed;
+      laid = c.loop-index.invariant.laid;
+    }
 
 pub key-requires-clause-few : goal.key-requires-clause-few
 key-requires-clause-few c = λ key at. (c.requires.keys c.loop-index.index key (rw (← c.self.view_is) at)).1
 
 pub open_push-requires-clause-key : goal.open_push-requires-clause-key
 open_push-requires-clause-key c = (c.requires.keys c.loop-index.index c.in_ok-key.key (rw (← c.self.view_is) c.in_ok-key.ensures)).0
+
+pub open_push-requires-clause-few : goal.open_push-requires-clause-few
+open_push-requires-clause-few c = (c.requires.keys c.loop-index.index c.in_ok-key.key (rw (← c.self.view_is) c.in_ok-key.ensures)).1
 
 pub returns-in-Some : goal.returns-in-Some
 returns-in-Some c =
@@ -33,14 +40,16 @@ returns-in-Some c =
         depth_is = rw (← c.self.view_is) c.depth-depth.ensures;
       };
       missed = rw (← c.self.view_is)
-          (subst (TellsOpen b c.self.inside.table.entries c.in_ok-key.key c.depth-depth.result) c.in-Some.is c.in_ok-push.ensures);
-      before = c.loop-index.invariant;
+          (subst (TellsOpen b c.self.inside.table.entries c.in_ok-key.key c.depth-depth.result) c.in-Some.is c.in_ok-push.ensures.first);
+      before = c.loop-index.invariant.followed;
     }
 
 pub loop-index-preserved : goal.loop-index-preserved
 loop-index-preserved c =
-    let b = c.args.board.now in
-    followed-more b c.args.self.now c.loop-index.index c.in_ok-key.key c.depth-depth.result (rw (← c.self.view_is) c.in_ok-key.ensures)
-    (rw (← c.self.view_is) c.depth-depth.ensures)
-    (rw (← c.self.view_is) (subst (TellsOpen b c.self.inside.table.entries c.in_ok-key.key c.depth-depth.result) c.in_default.is c.in_ok-push.ensures))
-    c.loop-index.invariant
+    let b = c.args.board.now in record {
+      followed = followed-more b c.args.self.now c.loop-index.index c.in_ok-key.key c.depth-depth.result (rw (← c.self.view_is) c.in_ok-key.ensures)
+          (rw (← c.self.view_is) c.depth-depth.ensures)
+          (rw (← c.self.view_is) (subst (TellsOpen b c.self.inside.table.entries c.in_ok-key.key c.depth-depth.result) c.in_default.is c.in_ok-push.ensures.first))
+          c.loop-index.invariant.followed;
+      laid = c.in_ok-push.ensures.laid;
+    }

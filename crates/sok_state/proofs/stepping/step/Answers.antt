@@ -2,8 +2,8 @@ use Rattle.std.proofs.Common.{inl, refl, subst, sym}
 use Rattle.sok_board.specs.Area.{position_of}
 use Rattle.sok_state.specs.Keys.{IsKeyOf}
 use Rattle.sok_state.proofs.LegalPushes.{LeadsTo-position, clear-legal, key_after}
-use Rattle.sok_search.proofs.Stepped.{clear-after, moved-back, next-made, next_of, placed-after}
-use Rattle.sok_search.proofs.stepping.step.Goals as goal
+use Rattle.sok_state.proofs.Stepped.{clear-after, moved-back, next-as_many, next-made, next_of, placed-after}
+use Rattle.sok_state.proofs.stepping.step.Goals as goal
 
 pub least_square-least-requires-clause-laid : goal.least_square-least-requires-clause-laid
 least_square-least-requires-clause-laid c =
@@ -47,7 +47,8 @@ returns-clause-next c = λ key next can is.
     let is_key : IsKeyOf b (position_of b push.from next.boxes) next = subst
     (λ n. IsKeyOf b (position_of b push.from next.boxes) (record { boxes = next.boxes; least = n })) (sym is.least_is) found in
     record {
-      state = record { player = push.from; boxes = next.boxes; placed = placed; is = is_key };
       exact = λ after leads. key_after b next push next.boxes after
           (LeadsTo-position b c.requires.accepted.numbered key push ahead next.boxes after can.state.is.placed ahead_is is.moved leads) is_key;
+      of_board = record { player = push.from; boxes = next.boxes; placed = placed; is = is_key };
+      as_many = next-as_many b c.requires.accepted key next push ahead c.least_square-least.result c.args.layout.now can ahead_is is;
     }

@@ -2,8 +2,8 @@ use Rattle.std.proofs.Common.{◌∙◌, ap, is_some, subst, sym, true≢false, 
 use Rattle.sok_board.specs.Area.{spot_of}
 use Rattle.sok_field.specs.Numbers.{Draws}
 use Rattle.sok_region.proofs.Regions.{through-exact}
-use Rattle.sok_search.proofs.Stepped.{first-key, numbered, player-drawn}
-use Rattle.sok_search.proofs.stepping.least_square.Goals as goal
+use Rattle.sok_state.proofs.Stepped.{first-key, numbered, player-drawn}
+use Rattle.sok_state.proofs.stepping.least_square.Goals as goal
 
 pub flood_from-requires-clause-start : goal.flood_from-requires-clause-start
 flood_from-requires-clause-start c =

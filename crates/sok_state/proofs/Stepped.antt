@@ -22,10 +22,10 @@ use Rattle.sok_state.specs.declared.key.Key.{Key}
 use Rattle.sok_state.specs.declared.push.Push.{Push}
 use Rattle.sok_state.specs.Keys.{IsKey, IsKeyOf}
 use Rattle.sok_region.specs.Layouts.{Laid}
-use Rattle.sok_state.specs.Pushes.{IsLegal}
+use Rattle.sok_state.specs.Pushes.{IsKeyAfter, IsLegal, IsPushable}
 use Rattle.sok_state.specs.Tables.{IsNext}
 use Rattle.sok_state.proofs.LegalPushes.{IsPlaced-after, clear-legal, clear_ahead}
-use Rattle.sok_search.specs.Trials.{IsLedTo, IsPushable}
+use Rattle.sok_state.proofs.Moves.{next-same}
 
 -- a box that is moved back
 pub moved-back : (boxes after : List ℕ) (from to : ℕ) → Contains boxes from → (Contains boxes to → ⊥) → IsMoved boxes from to after
@@ -71,19 +71,25 @@ next-made b accepted key push to least layout can ahead =
     let (list, as_many) = IsBoxList-put push.from to key.boxes placed.rising can.few there (clear-after b accepted key push to can.state can.legal ahead) in
     (record { moved = IsMoved-put push.from to key.boxes; rising = list.rising; least_is = refl }, as_many)
 
+-- each other one has as many boxes
+pub next-as_many : (b : Numbered) → IsAccepted b → (key next : Key) (push : Push) (to least : ℕ) (layout : Laid) → IsPushable b push layout key
+    → beside b push.from push.dir ≡ Some to → IsNext key push.from to least next → length next.boxes ≡ length key.boxes
+next-as_many b accepted key next push to least layout can ahead is =
+    let (made, as_many) = next-made b accepted key push to least layout can ahead in
+    ap (λ (k : Key). length k.boxes) (next-same key push.from to least next (next_of key push.from to least) is made) ∙ as_many
+
 -- what is known of it
 pub record ComesNext (b : Numbered) (key : Key) (push : Push) (to least : ℕ) : Type 0 where
   pub is : IsNext key push.from to least (next_of key push.from to least)
-  pub as_many : length (next_of key push.from to least).boxes ≡ length key.boxes
-  pub came : IsLedTo b key push (next_of key push.from to least)
+  pub came : IsKeyAfter b key push (next_of key push.from to least)
 
 pub comes-next : (b : Numbered) → IsAccepted b → (key : Key) (push : Push) (to least : ℕ) (layout : Laid) → IsPushable b push layout key
     → beside b push.from push.dir ≡ Some to
-    → ((other next : Key) → IsPushable b push layout other → IsNext other push.from to least next → IsLedTo b other push next)
+    → ((other next : Key) → IsPushable b push layout other → IsNext other push.from to least next → IsKeyAfter b other push next)
     → ComesNext b key push to least
 comes-next b accepted key push to least layout can ahead comes =
     let (is, as_many) = next-made b accepted key push to least layout can ahead in
-    record { is = is; as_many = as_many; came = comes key (next_of key push.from to least) can is }
+    record { is = is; came = comes key (next_of key push.from to least) can is }
 
 module _ (b : Numbered) (accepted : IsAccepted b) (boxes : List ℕ) (player : ℕ) (free seen : List ℕ) (placed : IsPlaced b boxes player)
     (drawn : Draws b (λ n. Contains boxes n → ⊥) free)

@@ -1,6 +1,6 @@
 use Rattle.std.proofs.Common.{◌∙◌, ap, is_some, sym}
 use Rattle.sok_state.proofs.LegalPushes.{clear-legal}
-use Rattle.sok_search.proofs.stepping.square_ahead.Goals as goal
+use Rattle.sok_state.proofs.stepping.square_ahead.Goals as goal
 
 pub unwrap-requires : goal.unwrap-requires
 unwrap-requires c =
