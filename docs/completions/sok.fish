@@ -10,5 +10,5 @@ complete -c sok -n __fish_use_subcommand -f -a check -d 'Judges a certificate, w
 complete -c sok -n __fish_use_subcommand -f -a add -d 'Adds the levels of a collection to a book'
 complete -c sok -n __fish_use_subcommand -f -a offer -d 'Offers a solution, which the book keeps if it has fewer pushes'
 complete -c sok -n __fish_use_subcommand -f -a prove -d 'Judges a certificate for a level of a book, and keeps the verdict'
-complete -c sok -n __fish_use_subcommand -f -a show -d 'Shows a level of a book: its rows, title, best solution and verdict'
+complete -c sok -n __fish_use_subcommand -f -a show -d 'Shows a level of a book, or tells each of its levels in a line'
 complete -c sok -n __fish_use_subcommand -f -a export -d 'Writes the levels of a book as a collection'

@@ -7,7 +7,8 @@ use Rattle.sok_book.specs.declared.fault.BookFault.TheVariants as refusal
 use Rattle.sok_book.specs.Books.{Book, Page, page_at}
 use Rattle.sok_page.specs.declared.record.Record.{Record}
 use Rattle.sok_page.specs.Texts.{page_text, record_text}
-use Rattle.sok_shelf.specs.Exported.{export_text}
+use Rattle.sok_shelf.specs.declared.text.BookText.{BookText}
+use Rattle.sok_shelf.specs.BookTexts.{book_text}
 use Rattle.sok_shelf.specs.Shown.{shown_text}
 use Rattle.sok_engine.specs.declared.fault.ToolFault.{ToolFault}
 use Rattle.sok_engine.specs.declared.fault.ToolFault.TheVariants as tool
@@ -16,7 +17,7 @@ use Rattle.sok_engine.specs.Written.{Answer, IsFaultOf, Writes}
 use Rattle.sok_row.specs.Faults.{IsOutside}
 use Rattle.sok_row.specs.Told.{AreRecordsOf, IsRecordOf, Told, told, telling, telling_from}
 use Rattle.sok_store.specs.Calls.{Keeps, id_number}
-use Rattle.sok_keep.specs.Shows.{IsExport, IsShow, show_answer}
+use Rattle.sok_keep.specs.Shows.{IsBookText, IsShow, show_answer}
 use Rattle.sok_keep.proofs.Ending.{ends_unwritten}
 
 -- an answer is its text and its status
@@ -61,10 +62,12 @@ texts_of n (page ∷ book) (kept ∷ records) same =
     let rest = texts_of (n + 1) book records others in
     λ i. texts i ∷ rest i
 
-pub exports : (book : Book) (records : List Record) (answer : Answer) → AreRecordsOf book records → answer.text ≡ export_text (map record_text records)
-    → answer.status ≡ 0 → IsExport book (Ok answer)
-exports book records answer are text status =
-    inr (ap Ok (same_answer answer (export_text (map page_text book)) 0 (text ∙ ap export_text (texts_of 1 book records are)) status))
+-- so a text of all records is that of all pages
+pub tells_all : (text : BookText) (book : Book) (records : List Record) (answer : Answer) → AreRecordsOf book records
+    → answer.text ≡ book_text text (map record_text records) → answer.status ≡ 0 → IsBookText text book (Ok answer)
+tells_all text book records answer are same status =
+    let told = same ∙ ap (book_text text) (texts_of 1 book records are) in
+    inr (ap Ok (same_answer answer (book_text text (map page_text book)) 0 told status))
 
 -- ---- calls
 

@@ -3,7 +3,8 @@ use Rattle.std.specs.Prelude.{ℤ, ◌≡◌, ◌⊎◌, Option, Some, None, Res
 use Rattle.sok_book.specs.declared.fault.BookFault.TheVariants as refusal
 use Rattle.sok_book.specs.Books.{Book, Page, page_at}
 use Rattle.sok_page.specs.Texts.{page_text}
-use Rattle.sok_shelf.specs.Exported.{export_text}
+use Rattle.sok_shelf.specs.declared.text.BookText.{BookText}
+use Rattle.sok_shelf.specs.BookTexts.{book_text}
 use Rattle.sok_shelf.specs.Shown.{shown_text}
 use Rattle.sok_engine.specs.declared.fault.ToolFault.{ToolFault}
 use Rattle.sok_engine.specs.declared.fault.ToolFault.TheVariants as tool
@@ -23,9 +24,9 @@ show_answer (Some page) = Ok (record { text = shown_text (page_text page); statu
 abbrev pub IsShow : Book → ℤ → Answers
 IsShow book id = UnlessRefused (λ answer. answer ≡ show_answer (page_at book (id_number id)))
 
-abbrev pub export_answer : Book → Answer
-export_answer book = record { text = export_text (map page_text book); status = 0 }
+abbrev pub book_answer : BookText → Book → Answer
+book_answer text book = record { text = book_text text (map page_text book); status = 0 }
 
--- the answer that has all levels
-abbrev pub IsExport : Book → Answers
-IsExport book = UnlessRefused (λ answer. answer ≡ Ok (export_answer book))
+-- the answer that has such a text of all levels
+abbrev pub IsBookText : BookText → Book → Answers
+IsBookText text book = UnlessRefused (λ answer. answer ≡ Ok (book_answer text book))

@@ -7,7 +7,7 @@
 //! | `line` | the line of a command that was done |
 //! | `offer` | a solution is offered |
 //! | `prove` | a verdict is proved |
-//! | `show` | one level is shown, or all are exported |
+//! | `show` | one level is shown, or a text of all is written |
 #![tactic(auto)]
 
 pub mod add;

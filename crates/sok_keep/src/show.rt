@@ -1,4 +1,4 @@
-//! One level of a book is shown, or all are exported.
+//! One level of a book is shown, or a text of all is written.
 
 ghost use Rattle.std.specs.Prelude.{◌≡◌, ◌⊎◌, IfErr, IfOk, IsNone, IsSomeAnd};
 ghost use Rattle.sqlite.specs.Held.{state};
@@ -11,13 +11,13 @@ ghost use Rattle.sok_row.specs.Faults.{IsOutside};
 ghost use Rattle.sok_row.specs.Told.{IsRecordOf};
 ghost use Rattle.sok_store.specs.Calls.{Keeps, MakesNone, Stops, id_number};
 ghost use Rattle.sok_keep.specs.Causes.{IsCausedFault};
-ghost use Rattle.sok_keep.specs.Shows.{IsExport, IsShow};
+ghost use Rattle.sok_keep.specs.Shows.{IsBookText, IsShow};
 
 use sok_engine::answer::Answer;
 use sok_engine::fault::ToolFault;
 use sok_page::record::Record;
-use sok_shelf::export::export_text;
 use sok_shelf::show::shown_text;
+use sok_shelf::text::{BookText, book_text};
 use sok_store::book::Book;
 use sqlite::Alter;
 use std::alloc::Global;
@@ -75,36 +75,42 @@ fn record_at<S: Alter>(book: &mut Book<S>, id: i64) -> Result<Record, ToolFault>
     }
 }
 
-/// Writes the levels of a book as a collection, in order of their ids, at status 0: for each `;
-/// TITLE`, if it has one, its canonical rows, and an empty line. So the collection is read back as
-/// the same levels with the same titles. The book stays as it is.
+/// Writes a text of all levels of a book, in order of their ids, at status 0. The book stays as it
+/// is, and of an empty one nothing is written.
 ///
-/// A write that fails is `WriteFailed` at once, after a front of the collection.
-pub fn export_bytes<S: Alter, W: Write>(
+/// `Export` is a collection: for each level `; TITLE`, if it has one, its canonical rows, and an
+/// empty line. So it is read back as the same levels with the same titles. `Overview` is a line for
+/// each: its id, how many rows, columns and boxes it has, the pushes and the moves of its best
+/// solution, or `-` for each where there is none, `untested`, `optimal` or `unsolvable`, and its
+/// title, if it has one.
+///
+/// A write that fails is `WriteFailed` at once, after a front of the text.
+pub fn book_bytes<S: Alter, W: Write>(
     alloc: Global,
     book: &mut Book<S>,
+    text: BookText,
     out: &mut W,
 ) -> Result<u8, ToolFault>
     ensures writes { Keeps (state S.Store book.old) (state S.Store book.new) (λ pages.
-        Writes (IsExport pages) (W.contents out.old) (W.contents out.new) result) }
+        Writes (IsBookText text pages) (W.contents out.old) (W.contents out.new) result) }
     ensures cause { IfErr result
         (IsCausedFault (state S.Store book.old) (state S.Store book.new) MakesNone) }
     ensures stop { Stops (state S.Store book.old) (state S.Store book.new) MakesNone }
 {
-    let answer = exported(alloc, book)?;
+    let answer = told(alloc, book, text)?;
     answer.write(out)
 }
 
-/// The answer that has all levels.
-fn exported<S: Alter>(alloc: Global, book: &mut Book<S>) -> Result<Answer, ToolFault>
+/// The answer that has such a text.
+fn told<S: Alter>(alloc: Global, book: &mut Book<S>, text: BookText) -> Result<Answer, ToolFault>
     ensures gives { Keeps (state S.Store book.old) (state S.Store book.new)
-        (λ pages. Gives (IsExport pages) result) }
+        (λ pages. Gives (IsBookText text pages) result) }
     ensures cause { IfErr result
         (IsCausedFault (state S.Store book.old) (state S.Store book.new) MakesNone) }
     ensures stop { Stops (state S.Store book.old) (state S.Store book.new) MakesNone }
 {
     match book.list() {
-        Ok(records) => Ok(Answer::new(export_text(alloc, &records)?, 0)),
+        Ok(records) => Ok(Answer::new(book_text(alloc, &records, text)?, 0)),
         Err(fault) => Err(ToolFault::from(fault)),
     }
 }

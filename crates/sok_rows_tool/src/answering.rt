@@ -5,7 +5,8 @@ use sok_engine::fault::ToolFault;
 use sok_keep::add::add_bytes;
 use sok_keep::offer::offer_bytes;
 use sok_keep::prove::prove_bytes;
-use sok_keep::show::{export_bytes, show_bytes};
+use sok_keep::show::{book_bytes, show_bytes};
+use sok_shelf::text::BookText;
 use sok_store::book::Book;
 use sqlite::{Alter, Connection};
 use std::alloc::Global;
@@ -19,6 +20,7 @@ pub(crate) enum Command<'a> {
     Offer(i64, &'a str),
     Prove(i64, &'a str),
     Show(i64),
+    Overview,
     Export,
 }
 
@@ -52,7 +54,8 @@ pub(crate) fn answer<S: Alter, W: Write>(
         Command::Offer(id, text) => offer_bytes(alloc, book, id, text.as_bytes(), out),
         Command::Prove(id, cert) => prove_bytes(alloc, book, id, &mut cert.as_bytes(), out),
         Command::Show(id) => show_bytes(alloc, book, id, out),
-        Command::Export => export_bytes(alloc, book, out),
+        Command::Overview => book_bytes(alloc, book, BookText::Overview, out),
+        Command::Export => book_bytes(alloc, book, BookText::Export, out),
     }
 }
 

@@ -112,6 +112,11 @@ fn levels_without_a_push_and_a_lost_pair_are_proved(rt: HostRuntime) -> Result<(
         ),
         (Command::Add(PAIR_THAT_IS_LOST), "1 id 3\n", Ok(0)),
         (Command::Prove(3, LOST_PAIR), "proved unsolvable\n", Ok(0)),
+        (
+            Command::Overview,
+            "1 3 5 1 0 0 optimal\n2 3 5 1 - - unsolvable\n3 5 12 3 - - unsolvable\n",
+            Ok(0),
+        ),
     ];
     assert_eq!(rt; first_other(rt.alloc(), &rows)?, None);
     Ok(())
@@ -121,6 +126,7 @@ fn levels_without_a_push_and_a_lost_pair_are_proved(rt: HostRuntime) -> Result<(
 fn faults_come_in_their_order(rt: HostRuntime) -> Result<(), Fail> {
     let rows = [
         (Command::Export, "", Ok(0)),
+        (Command::Overview, "", Ok(0)),
         (
             Command::Show(1),
             "",
@@ -169,6 +175,11 @@ fn faults_come_in_their_order(rt: HostRuntime) -> Result<(), Fail> {
         (
             Command::Export,
             "; A\n#####\n#@$.#\n#####\n\n#####\n#@.$#\n#####\n\n",
+            Ok(0),
+        ),
+        (
+            Command::Overview,
+            "1 3 5 1 - - untested A\n2 3 5 1 - - untested\n",
             Ok(0),
         ),
     ];

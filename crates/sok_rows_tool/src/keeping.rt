@@ -11,17 +11,19 @@ use std::test::Fail;
 const NO_DATABASE: &str = "fault 32 Database\n";
 
 /// Commands on a book that is not there, of which none makes one.
-const ABSENT: [Row; 4] = [
+const ABSENT: [Row; 5] = [
     ("sok export books/book", "", NO_DATABASE, 5),
     ("sok show books/book 1", "", NO_DATABASE, 5),
+    ("sok show books/book", "", NO_DATABASE, 5),
     ("sok offer books/book 1 R", "", NO_DATABASE, 5),
     ("sok prove books/book 1 books/cert", "", NO_DATABASE, 5),
 ];
 
-const COMMANDS: [Row; 22] = [
+const COMMANDS: [Row; 24] = [
     // the file is made, of a collection without levels
     ("sok add books/book books/cert", "", "", 0),
     ("sok export books/book", "", "", 0),
+    ("sok show books/book", "", "", 0),
     ("sok show books/book 1", "", "fault 30 NoLevel\n", 3),
     ("sok show books/book 0", "", "fault 30 NoLevel\n", 3),
     (
@@ -67,6 +69,12 @@ const COMMANDS: [Row; 22] = [
     (
         "sok show books/book 1",
         "#####\n#@$.#\n#####\ntitle First\nbest 1 1 R\nverdict optimal\n",
+        "",
+        0,
+    ),
+    (
+        "sok show books/book",
+        "1 3 5 1 1 1 optimal First\n2 4 6 1 4 18 untested The room\n",
         "",
         0,
     ),

@@ -40,8 +40,9 @@ fn reads_each_form(rt: HostRuntime) -> Result<(), Fail> {
         ("sok prove B 3 C", "Prove(\"B\", 3, \"C\")"),
         (
             "sok show B 9223372036854775807",
-            "Show(\"B\", 9223372036854775807)",
+            "Show(\"B\", Some(9223372036854775807))",
         ),
+        ("sok show B", "Show(\"B\", None)"),
         ("sok export B", "Export(\"B\")"),
     ] {
         assert!(rt; asks_for(&rt, line, asked)?, "{line}");

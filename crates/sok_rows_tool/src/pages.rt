@@ -5,6 +5,7 @@ use sok_page::reading::record_of;
 use sok_page::record::Record;
 use sok_page::title::kept_title;
 use sok_shelf::export::export_text;
+use sok_shelf::overview::overview_text;
 use sok_shelf::show::shown_text;
 use std::alloc::{AllocError, Global};
 use std::process::Abort;
@@ -81,8 +82,13 @@ fn is_exported(alloc: Global, records: &[Record], whole: &str) -> Result<bool, F
     Ok(export_text(alloc, records)?.as_slice() == whole.as_bytes())
 }
 
+/// Whether each record is told in its line of a text.
+fn is_told(alloc: Global, records: &[Record], lines: &str) -> Result<bool, Fail> {
+    Ok(overview_text(alloc, records)?.as_slice() == lines.as_bytes())
+}
+
 #[test]
-fn records_are_shown_and_exported(rt: HostRuntime) -> Result<(), Fail> {
+fn records_are_shown_exported_and_told(rt: HostRuntime) -> Result<(), Fail> {
     let mut records = Vec::new(rt.alloc());
     for (id, row, lines) in [
         (1, ROOM, "title A room\nbest 2 6 ulldRR\nverdict optimal\n"),
@@ -92,6 +98,8 @@ fn records_are_shown_and_exported(rt: HostRuntime) -> Result<(), Fail> {
     }
     let whole = format!(in rt.alloc(); "; A room\n{}\n{}\n", ROOM.text, UNTITLED.text)?;
     assert!(rt; is_exported(rt.alloc(), records.as_slice(), whole.as_str())?);
+    let lines = "1 4 6 1 2 6 optimal A room\n2 3 5 1 - - untested\n";
+    assert!(rt; is_told(rt.alloc(), records.as_slice(), lines)?);
     for kept in records {
         let again = columns_of(kept);
         assert_eq!(rt; again.pushes.is_some(), again.verdict == 1);

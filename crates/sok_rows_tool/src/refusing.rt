@@ -5,11 +5,11 @@ use crate::rows::{ran, run_on, words};
 use std::test::Fail;
 
 /// The name, the version, and what proved it, as README tells it.
-const VERSION: &str = "sok 1.0\nproved with rattle-kit-13b logic dac8208d650f15bf\n";
+const VERSION: &str = "sok 1.0\nproved with rattle-kit-13f logic dac8208d650f15bf\n";
 
 /// A line, a part of what is written to the output, or where the status is 2 to the error stream,
 /// and the status.
-const REFUSALS: [(&str, &str, u8); 25] = [
+const REFUSALS: [(&str, &str, u8); 26] = [
     ("sok --help", "Exit status:", 0),
     ("sok --version", VERSION, 0),
     ("sok help solve", "limit S", 0),
@@ -22,6 +22,7 @@ const REFUSALS: [(&str, &str, u8); 25] = [
     ("sok offer --help", "kept PUSHES MOVES", 0),
     ("sok prove --help", "proved optimal K", 0),
     ("sok show --help", "best PUSHES MOVES LETTERS", 0),
+    ("sok help show", "BOXES PUSHES MOVES VERDICT TITLE", 0),
     ("sok export --help", "in order of ids", 0),
     ("sok sovle F 1", "unrecognized subcommand 'sovle'", 2),
     ("sok list", "<FILE>", 2),

@@ -22,7 +22,7 @@ pub const TEXT: &str = "\
 ";
 
 /// The commands behind it, in their order.
-pub const SESSION: [Row; 15] = [
+pub const SESSION: [Row; 16] = [
     (
         "sok list small.xsb",
         "1 4 6 1 1 Around the box\n2 3 5 1 1 Stuck at the wall\n",
@@ -84,6 +84,12 @@ pub const SESSION: [Row; 15] = [
     (
         "sok show small.db 1",
         "######\n#    #\n# $@.#\n######\ntitle Around the box\nbest 2 6 ulldRR\nverdict optimal\n",
+        "",
+        0,
+    ),
+    (
+        "sok show small.db",
+        "1 4 6 1 2 6 optimal Around the box\n2 3 5 1 - - unsolvable Stuck at the wall\n",
         "",
         0,
     ),

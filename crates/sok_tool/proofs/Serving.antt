@@ -1,16 +1,18 @@
 -- What is answered to a job is what serves its form.
-use Rattle.std.proofs.Common.{ℕ, ℤ, ◌≡◌, ◌∙◌, inl, Bool, FitsSigned, Global, String, List, Option, Some, None, Err, option_map, pos, refl}
+use Rattle.std.proofs.Common.{ℕ, ℤ, ◌≡◌, ◌∙◌, inl, Bool, FitsSigned, Global, String, List, Option, Some, None, Err, option_map, refl}
 use Rattle.std.proofs.Common.{◌≤◌, ◌∷◌, ap, arith, length, map, string_bytes, subst, sym, w64}
 use Rattle.std.proofs.lemmas.List.{length-map}
+use Rattle.std.proofs.lemmas.Option.{none-some}
 use Rattle.std.specs.Str.Parse.{digits_value}
 use Rattle.sok_engine.specs.declared.fault.ToolFault.TheVariants as tool
 use Rattle.sok_engine.specs.Certified.{Bytes, Stays}
 use Rattle.sok_play.specs.Drawings.{IsDrawing}
 use Rattle.sok_play.specs.Plays.{IsReplay}
-use Rattle.sok_keep.specs.Shows.{IsExport, IsShow}
+use Rattle.sok_keep.specs.Shows.{IsBookText, IsShow}
 use Rattle.sok_keep.proofs.Ids.{fits, of_passed, passed}
+use Rattle.sok_shelf.specs.declared.text.BookText.TheVariants as texts
 use Rattle.sok_words.specs.declared.job.Job.TheVariants as job
-use Rattle.sok_words.specs.Forms.{Form, IsId, IsPlain, Means, add, check, draw, export, limit_of, list, offer, prove, replay, show, solve, words_of}
+use Rattle.sok_words.specs.Forms.{Form, IsId, IsPlain, Means, add, check, draw, export, id_value, limit_of, list, offer, prove, replay, show, solve, words_of}
 use Rattle.sok_files.specs.Endings.{Ends}
 use Rattle.sok_files.specs.Files.{Files}
 use Rattle.sok_tool.specs.Commands.{RunsAdd, RunsCheck, RunsOffer, RunsPlay, RunsProve, RunsShowing, RunsSolve, Serves}
@@ -25,6 +27,8 @@ Serves-memory files databases (draw file number text) out err exit ends kept = (
 Serves-memory files databases (check file number cert) out err exit ends kept = (Err tool.Memory, kept, ends)
 Serves-memory files databases (solve file number limit bound None) out err exit ends kept = (Err tool.Memory, kept, ends)
 Serves-memory files databases (solve file number limit bound (Some cert)) out err exit ends kept = (Err tool.Memory, inl (inl refl, kept), ends)
+Serves-memory files databases (show db (Some id)) out err exit ends kept = (Err tool.Memory, refused tool.Memory (unread refl) refl kept, ends)
+Serves-memory files databases (show db None) out err exit ends kept = (Err tool.Memory, refused tool.Memory (unread refl) refl kept, ends)
 Serves-memory files databases _ out err exit ends kept = (Err tool.Memory, refused tool.Memory (unread refl) refl kept, ends)
 
 -- a form has a word after the program's name
@@ -89,8 +93,8 @@ Serves-solve files databases _ file name n most bounds path out err exit means n
 -- ---- on a book
 
 -- an id below 2 ^ 63 fits
-plain_id : (id : ℤ) (number : List ℕ) → IsId number → id ≡ pos (digits_value 10 number) → FitsSigned w64 id
-plain_id id number plain is = subst (λ i. FitsSigned w64 i) (sym is) (fits (pos (digits_value 10 number)) plain.1)
+plain_id : (id : ℤ) (number : List ℕ) → IsId number → id ≡ id_value number → FitsSigned w64 id
+plain_id id number plain is = subst (λ i. FitsSigned w64 i) (sym is) (fits (id_value number) plain.1)
 
 pub Serves-add : (files : Files) (databases : Databases) (form : Form) (db file : String Global) (db_name name : List ℕ) (out err : Bytes) (exit : ℕ)
     → Means form (job.Add db file) → db_name ≡ string_bytes db → name ≡ string_bytes file → RunsAdd files databases db_name name out err exit
@@ -117,17 +121,26 @@ Serves-prove files databases (prove of number place) db id cert db_name name out
 Serves-prove files databases _ db id cert db_name name out err exit plain means db_named named runs = absurd means
 
 pub Serves-show : (files : Files) (databases : Databases) (form : Form) (db : String Global) (id : ℤ) (db_name : List ℕ) (out err : Bytes) (exit : ℕ)
-    → IsPlain form → Means form (job.Show db id) → db_name ≡ string_bytes db
+    → IsPlain form → Means form (job.Show db (Some id)) → db_name ≡ string_bytes db
     → RunsShowing databases db_name (λ book. IsShow book (passed id)) out err exit
     → Serves files databases form out err exit
-Serves-show files databases (show of number) db id db_name out err exit plain (db_is, id_is) db_named runs =
+Serves-show files databases (show of (Some number)) db id db_name out err exit plain (db_is, is) db_named runs =
+    let id_is : id ≡ id_value number = cc in
     subst (λ i. RunsShowing databases of (λ book. IsShow book i) out err exit) id_is
     (subst (λ d. RunsShowing databases d (λ book. IsShow book id) out err exit) (db_named ∙ db_is)
     (of_passed (λ i. RunsShowing databases db_name (λ book. IsShow book i) out err exit) id (plain_id id number plain.1 id_is) runs))
+Serves-show files databases (show of None) db id db_name out err exit plain (db_is, is) db_named runs = absurd (none-some id (sym is))
 Serves-show files databases _ db id db_name out err exit plain means db_named runs = absurd means
 
+pub Serves-overview : (files : Files) (databases : Databases) (form : Form) (db : String Global) (db_name : List ℕ) (out err : Bytes) (exit : ℕ)
+    → Means form (job.Show db None) → db_name ≡ string_bytes db → RunsShowing databases db_name (IsBookText texts.Overview) out err exit → Serves files databases form out err exit
+Serves-overview files databases (show of None) db db_name out err exit (db_is, is) db_named runs =
+    subst (λ d. RunsShowing databases d (IsBookText texts.Overview) out err exit) (db_named ∙ db_is) runs
+Serves-overview files databases (show of (Some number)) db db_name out err exit (db_is, is) db_named runs = absurd (none-some (id_value number) is)
+Serves-overview files databases _ db db_name out err exit means db_named runs = absurd means
+
 pub Serves-export : (files : Files) (databases : Databases) (form : Form) (db : String Global) (db_name : List ℕ) (out err : Bytes) (exit : ℕ)
-    → Means form (job.Export db) → db_name ≡ string_bytes db → RunsShowing databases db_name IsExport out err exit → Serves files databases form out err exit
+    → Means form (job.Export db) → db_name ≡ string_bytes db → RunsShowing databases db_name (IsBookText texts.Export) out err exit → Serves files databases form out err exit
 Serves-export files databases (export of) db db_name out err exit db_is db_named runs =
-    subst (λ d. RunsShowing databases d IsExport out err exit) (db_named ∙ db_is) runs
+    subst (λ d. RunsShowing databases d (IsBookText texts.Export) out err exit) (db_named ∙ db_is) runs
 Serves-export files databases _ db db_name out err exit means db_named runs = absurd means

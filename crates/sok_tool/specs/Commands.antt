@@ -1,5 +1,5 @@
 -- What the program does for a command line.
-use Rattle.std.specs.Prelude.{ℕ, ℤ, ◌≡◌, Bool, List, [], Option, Result, pos, unwrap_or}
+use Rattle.std.specs.Prelude.{ℕ, ℤ, ◌≡◌, Bool, List, [], Option, Some, None, Result, unwrap_or}
 use Rattle.std.specs.Str.Parse.{digits_value}
 use Rattle.sok_book.specs.Books.{Book}
 use Rattle.sok_engine.specs.declared.fault.ToolFault.{ToolFault}
@@ -14,12 +14,13 @@ use Rattle.sok_judge.specs.Checks.{IsCheck}
 use Rattle.sok_keep.specs.Adds.{AddsBytes, WritesAdding}
 use Rattle.sok_keep.specs.Offers.{OffersText, WritesOffer}
 use Rattle.sok_keep.specs.Proves.{ProvesBytes, WritesProof}
-use Rattle.sok_keep.specs.Shows.{IsExport, IsShow}
+use Rattle.sok_keep.specs.Shows.{IsBookText, IsShow}
 use Rattle.sok_play.specs.Drawings.{IsDrawing}
 use Rattle.sok_play.specs.Listing.{IsListing}
 use Rattle.sok_play.specs.Plays.{IsReplay}
+use Rattle.sok_shelf.specs.declared.text.BookText.TheVariants.{Overview, Export}
 use Rattle.sok_store.specs.Calls.{MakesNone}
-use Rattle.sok_words.specs.Forms.{Form, add, check, draw, export, limit_of, list, offer, prove, replay, show, solve}
+use Rattle.sok_words.specs.Forms.{Form, add, check, draw, export, id_value, limit_of, list, offer, prove, replay, show, solve}
 use Rattle.sok_tool.specs.Databases.{Databases, OfOpened, Place, WorksOn, at, made_at}
 
 -- what is answered to the job of playing a text: of replaying it, or of drawing the level behind it
@@ -72,7 +73,8 @@ Serves files databases (check file number cert) out err exit = RunsCheck files f
 Serves files databases (solve file number limit bound cert) out err exit =
     RunsSolve files file (digits_value 10 number) (limit_of limit) bound cert out err exit
 Serves files databases (add db file) out err exit = RunsAdd files databases db file out err exit
-Serves files databases (offer db id text) out err exit = RunsOffer databases db (pos (digits_value 10 id)) text out err exit
-Serves files databases (prove db id cert) out err exit = RunsProve files databases db (pos (digits_value 10 id)) cert out err exit
-Serves files databases (show db id) out err exit = RunsShowing databases db (λ book. IsShow book (pos (digits_value 10 id))) out err exit
-Serves files databases (export db) out err exit = RunsShowing databases db IsExport out err exit
+Serves files databases (offer db id text) out err exit = RunsOffer databases db (id_value id) text out err exit
+Serves files databases (prove db id cert) out err exit = RunsProve files databases db (id_value id) cert out err exit
+Serves files databases (show db (Some id)) out err exit = RunsShowing databases db (λ book. IsShow book (id_value id)) out err exit
+Serves files databases (show db None) out err exit = RunsShowing databases db (IsBookText Overview) out err exit
+Serves files databases (export db) out err exit = RunsShowing databases db (IsBookText Export) out err exit

@@ -8,7 +8,7 @@ ghost use Rattle.sok_store.specs.Calls.{MakesNone};
 ghost use Rattle.sok_keep.specs.Adds.{AddsBytes, WritesAdding};
 ghost use Rattle.sok_keep.specs.Offers.{OffersText, WritesOffer};
 ghost use Rattle.sok_keep.specs.Proves.{ProvesBytes, WritesProof};
-ghost use Rattle.sok_keep.specs.Shows.{IsExport, IsShow};
+ghost use Rattle.sok_keep.specs.Shows.{IsBookText, IsShow};
 ghost use Rattle.sok_tool.specs.Databases.{IsWithoutBook, OfOpened, OpensFound, WorksOn, place};
 ghost use Rattle.sok_tool.specs.declared.databases.IfAbsent.{IfAbsent};
 ghost use Rattle.sok_tool.specs.declared.databases.IfAbsent.TheVariants as if_absent;
@@ -21,7 +21,8 @@ use sok_files::folder::Folder;
 use sok_keep::add::add_bytes;
 use sok_keep::offer::offer_bytes;
 use sok_keep::prove::prove_bytes;
-use sok_keep::show::{export_bytes, show_bytes};
+use sok_keep::show::{book_bytes, show_bytes};
+use sok_shelf::text::BookText;
 use sok_store::book::{Book, OpenRefused};
 use sqlite::{Alter, Connection};
 use std::io::Write;
@@ -104,20 +105,21 @@ pub(crate) fn show<S: Alter + Drop, F: Databases<Opened = Connection<S>> + Alloc
     told
 }
 
-/// Writes all levels as a collection.
-pub(crate) fn export<S: Alter + Drop, F: Databases<Opened = Connection<S>> + AllocGlobal, W: Write>(
+/// Writes a text of all levels.
+pub(crate) fn tell<S: Alter + Drop, F: Databases<Opened = Connection<S>> + AllocGlobal, W: Write>(
     rt: &F,
     db: &str,
+    text: BookText,
     out: &mut W,
 ) -> Result<u8, ToolFault>
     ensures { WorksOn (place (state S.Store)
         (F.keeps rt.now if_absent.Refuse db.now) (F.refuses rt.now db.now) (F.leaves rt.now db.now)) ⊥ MakesNone
         (λ book after. (after ≡ book)
-        × Writes (IsExport book) (W.contents out.old) (W.contents out.new) result)
+        × Writes (IsBookText text book) (W.contents out.old) (W.contents out.new) result)
         (record { old = W.contents out.old; new = W.contents out.new }) result }
 {
     let mut book = book_of(rt, db)?;
-    let told = export_bytes(rt.alloc(), &mut book, out);
+    let told = book_bytes(rt.alloc(), &mut book, text, out);
     rt.close(db, book.into_connection());
     told
 }

@@ -12,11 +12,12 @@ ghost use Rattle.sok_tool.specs.Commands.{Serves};
 ghost use Rattle.sok_tool.specs.declared.databases.IfAbsent.TheVariants as if_absent;
 
 use crate::databases::Databases;
-use crate::keeping::{add, export, offer, prove, show};
+use crate::keeping::{add, offer, prove, show, tell};
 use sok_files::command::{check, draw, list, replay, solve};
 use sok_files::ending::{ended, refused};
 use sok_files::folder::Folder;
 use sok_play::play::play_bytes;
+use sok_shelf::text::BookText;
 use sok_words::job::Job;
 use sok_words::words::job;
 use sqlite::{Alter, Connection};
@@ -105,7 +106,10 @@ fn served<
         Job::Add(db, file) => ended(add(rt, db.as_str(), file.as_str(), out), err),
         Job::Offer(db, id, text) => ended(offer(rt, db.as_str(), id, text.as_str(), out), err),
         Job::Prove(db, id, cert) => ended(prove(rt, db.as_str(), id, cert.as_str(), out), err),
-        Job::Show(db, id) => ended(show(rt, db.as_str(), id, out), err),
-        Job::Export(db) => ended(export(rt, db.as_str(), out), err),
+        Job::Show(db, id) => match id {
+            Some(id) => ended(show(rt, db.as_str(), id, out), err),
+            None => ended(tell(rt, db.as_str(), BookText::Overview, out), err),
+        },
+        Job::Export(db) => ended(tell(rt, db.as_str(), BookText::Export, out), err),
     }
 }

@@ -66,8 +66,10 @@ reads program (offer db id text) (d, i, t) =
 reads program (prove db id cert) (d, i, c) =
     by program (prove db id cert) (codes "prove") (value db d ∷ digits id i.0 ∷ value cert c ∷ []) refl refl
     (record { passes = (refl, (refl, (rw (id_passes (codes "ID") id i) refl, tt))); ends = refl }) (refl, refl, (i, refl), refl)
-reads program (show db id) (d, i) =
-    by program (show db id) (codes "show") (value db d ∷ digits id i.0 ∷ []) refl refl
+reads program (show db None) (d, i) =
+    by program (show db None) (codes "show") (value db d ∷ []) refl refl (record { passes = (refl, tt); ends = refl }) (refl, refl, (i, refl))
+reads program (show db (Some id)) (d, i) =
+    by program (show db (Some id)) (codes "show") (value db d ∷ digits id i.0 ∷ []) refl refl
     (record { passes = (refl, (refl, tt)); ends = ap (λ b. (b && true) && true) (id_passes (codes "ID") id i) }) (refl, refl, (i, refl))
 reads program (export db) is =
     by program (export db) (codes "export") (value db is ∷ []) refl refl (record { passes = (refl, tt); ends = refl }) (refl, refl)
@@ -168,7 +170,7 @@ refuses_level (check file number cert) name rows made e level has is memory =
 refuses_level _ name rows made e level has is memory = absurd (true≢false (sym level ∙ ap is_level_name has.0))
 
 abbrev pub is_entry_name : Text → Bool
-is_entry_name name = bytes_eq name (codes "offer") || bytes_eq name (codes "prove") || bytes_eq name (codes "show")
+is_entry_name name = bytes_eq name (codes "offer") || bytes_eq name (codes "prove")
 
 -- and where the entry is not
 pub refuses_entry : (form : Form) (name : Text) (rows : List Row) (made : Result Job JobRefused) (e : JobRefused) → is_entry_name name ≡ true
@@ -177,5 +179,4 @@ pub refuses_entry : (form : Form) (name : Text) (rows : List Row) (made : Result
     → Answers form made
 refuses_entry (offer db id text) name rows made e entry has is memory = refuses (offer db id text) made e is (memory db id has.1 has.2)
 refuses_entry (prove db id cert) name rows made e entry has is memory = refuses (prove db id cert) made e is (memory db id has.1 has.2)
-refuses_entry (show db id) name rows made e entry has is memory = refuses (show db id) made e is (memory db id has.1 has.2)
 refuses_entry _ name rows made e entry has is memory = absurd (true≢false (sym entry ∙ ap is_entry_name has.0))

@@ -1,16 +1,16 @@
 -- What the getters give of the matches of a form.
-use Rattle.std.proofs.Common.{ℤ, arith, pos, ◌≡◌, ◌∙◌, ◌<◌, ◌^◌, ℕ, refl, ap, Some}
+use Rattle.std.proofs.Common.{ℤ, arith, ◌≡◌, ◌∙◌, ◌<◌, ◌^◌, ℕ, refl, ap, Option, Some, None}
 use Rattle.std.specs.Prelude.{FitsSigned}
 use Rattle.std.proofs.lemmas.Int.{ints, to_z-of_z}
 use mir.Val.{of_z, to_z}
 use mir.Syntax.{w64}
-use Rattle.std.specs.Str.Parse.{IsNumeral, digits_value, signed_digits_value, without_leading_plus, without_leading_sign}
-use Rattle.clap.specs.Matches.{one_text}
+use Rattle.std.specs.Str.Parse.{ExplainsSignedError, HasSignedDigitsIfOk, IsNumeral, ParsesSigned, digits_value, signed_digits_value, without_leading_plus, without_leading_sign}
+use Rattle.clap.specs.Matches.{ReadsOne, one_text}
 use Rattle.clap.specs.Walk.{Text, rows_of}
 use Rattle.clap.specs.declared.parser.matches.Found.{Found}
 use Rattle.clap.proofs.WalkLemmas.{one_text-rows}
-use Rattle.sok_words.specs.Forms.{IsId, IsNumber}
-use Rattle.sok_words.specs.Rows.{HasId, HasNumber}
+use Rattle.sok_words.specs.Forms.{IsId, IsNumber, id_value}
+use Rattle.sok_words.specs.Rows.{HasNumber, HasOptionalId}
 use Rattle.sok_words.proofs.WordSteps.{no_minus, no_plus}
 use Rattle.sok_words.proofs.Lines.{minus_free}
 
@@ -25,17 +25,24 @@ number_parses text n = rw (no_plus text n.0) n
 
 -- ---- ids
 
-pub id_there : (f : Found) (name digits : Text) → HasId (rows_of f) name digits → one_text f name ≡ Some digits
+pub id_there : (f : Found) (name : Text) (digits : Option Text) → HasOptionalId (rows_of f) name digits → one_text f name ≡ digits
 id_there f name digits has = one_text-rows f name ∙ has.1
 
-signed : (text : Text) → IsId text → signed_digits_value 10 text ≡ pos (digits_value 10 text)
+signed : (text : Text) → IsId text → signed_digits_value 10 text ≡ id_value text
 signed text n = rw (no_minus text n.0, no_plus text n.0) refl
 
-id_fits : (text : Text) → IsId text → FitsSigned w64 (pos (digits_value 10 text))
+id_fits : (text : Text) → IsId text → FitsSigned w64 (id_value text)
 id_fits text n = omega (arith, ints)
 
-pub id_read : (text : Text) (x : ℤ) → IsId text → x ≡ signed_digits_value 10 text → to_z w64 (of_z w64 x) ≡ pos (digits_value 10 text)
-id_read text x n e = ap (λ z. to_z w64 (of_z w64 z)) (e ∙ signed text n) ∙ to_z-of_z w64 (pos (digits_value 10 text)) (id_fits text n)
+pub id_read : (text : Text) (x : ℤ) → IsId text → x ≡ id_value text → to_z w64 (of_z w64 x) ≡ id_value text
+id_read text x n e = ap (λ z. to_z w64 (of_z w64 z)) e ∙ to_z-of_z w64 (id_value text) (id_fits text n)
 
-pub id_parses : (text : Text) → IsId text → IsNumeral 10 (without_leading_sign text) × FitsSigned w64 (signed_digits_value 10 text)
+id_parses : (text : Text) → IsId text → IsNumeral 10 (without_leading_sign text) × FitsSigned w64 (signed_digits_value 10 text)
 id_parses text n = (rw (no_minus text n.0, no_plus text n.0) n.0, rw (signed text n) (id_fits text n))
+
+-- what is read of an id
+pub id_given : (id : Option ℤ) (text : Text) → IsId text
+    → ReadsOne (λ bytes told. ParsesSigned w64 10 bytes told × ExplainsSignedError 10 bytes told × HasSignedDigitsIfOk bytes told) text id
+    → id ≡ Some (id_value text)
+id_given None text is (fault, reads) = absurd (reads.0 (id_parses text is))
+id_given (Some x) text is reads = ap (λ z. Some z) (reads.0.1 ∙ signed text is)

@@ -1,5 +1,5 @@
 -- The command lines of which `job` knows the answer, and what it answers.
-use Rattle.std.specs.Prelude.{◌≡◌, ◌≢◌, ◌<◌, ◌^◌, ℕ, List, [], ◌∷◌, ◌++◌, Bool, true, false, Option, Some, None, IfSome, Result, Ok, Err, codes, pos, option_map, option_to_list, string_bytes, unwrap_or}
+use Rattle.std.specs.Prelude.{◌≡◌, ◌≢◌, ◌<◌, ◌^◌, ℕ, ℤ, List, [], ◌∷◌, ◌++◌, Bool, true, false, Option, Some, None, IfSome, Result, Ok, Err, codes, pos, option_map, option_to_list, string_bytes, unwrap_or}
 use Rattle.std.specs.Str.Parse.{IsNumeral, digits_value}
 use Rattle.sok_words.specs.declared.job.Job.{Job}
 use Rattle.sok_words.specs.declared.job.Job.TheVariants as job
@@ -28,7 +28,7 @@ pub data Form : Type 0 where
   add : List ℕ → List ℕ → Form
   offer : List ℕ → List ℕ → List ℕ → Form
   prove : List ℕ → List ℕ → List ℕ → Form
-  show : List ℕ → List ℕ → Form
+  show : List ℕ → Option (List ℕ) → Form
   export : List ℕ → Form
 
 abbrev pub IsPlain : Form → Type 0
@@ -41,7 +41,7 @@ IsPlain (check file number cert) = IsValue file × IsNumber number × IsValue ce
 IsPlain (add db file) = IsValue db × IsValue file
 IsPlain (offer db id text) = IsValue db × IsId id × IsValue text
 IsPlain (prove db id cert) = IsValue db × IsId id × IsValue cert
-IsPlain (show db id) = IsValue db × IsId id
+IsPlain (show db id) = IsValue db × IfSome id IsId
 IsPlain (export db) = IsValue db
 
 -- an option and its value, where it is given
@@ -65,14 +65,18 @@ words_of (check file number cert) = codes "check" ∷ file ∷ number ∷ cert �
 words_of (add db file) = codes "add" ∷ db ∷ file ∷ []
 words_of (offer db id text) = codes "offer" ∷ db ∷ id ∷ text ∷ []
 words_of (prove db id cert) = codes "prove" ∷ db ∷ id ∷ cert ∷ []
-words_of (show db id) = codes "show" ∷ db ∷ id ∷ []
+words_of (show db id) = codes "show" ∷ db ∷ option_to_list id
 words_of (export db) = codes "export" ∷ db ∷ []
 
 abbrev pub limit_of : Option (List ℕ) → ℕ
 limit_of None = 100000
 limit_of (Some text) = digits_value 10 text
 
--- the job has the values of the form; of letters that are left out it has none
+-- the id that digits spell
+abbrev pub id_value : List ℕ → ℤ
+id_value text = pos (digits_value 10 text)
+
+-- the job has the values of the form; of letters and of an id that are left out it has none
 abbrev pub Means : Form → Job → Type 0
 Means (list file) (job.List a) = (string_bytes a ≡ file)
 Means (replay file number text) (job.Replay a b c) = (string_bytes a ≡ file) × (b ≡ digits_value 10 number) × (string_bytes c ≡ text)
@@ -83,9 +87,9 @@ Means (solve file number limit bound cert) (job.Solve a n most bounds path) =
     × (option_map (λ s. string_bytes s) path ≡ cert)
 Means (check file number cert) (job.Check a b c) = (string_bytes a ≡ file) × (b ≡ digits_value 10 number) × (string_bytes c ≡ cert)
 Means (add db file) (job.Add a b) = (string_bytes a ≡ db) × (string_bytes b ≡ file)
-Means (offer db id text) (job.Offer a b c) = (string_bytes a ≡ db) × (b ≡ pos (digits_value 10 id)) × (string_bytes c ≡ text)
-Means (prove db id cert) (job.Prove a b c) = (string_bytes a ≡ db) × (b ≡ pos (digits_value 10 id)) × (string_bytes c ≡ cert)
-Means (show db id) (job.Show a b) = (string_bytes a ≡ db) × (b ≡ pos (digits_value 10 id))
+Means (offer db id text) (job.Offer a b c) = (string_bytes a ≡ db) × (b ≡ id_value id) × (string_bytes c ≡ text)
+Means (prove db id cert) (job.Prove a b c) = (string_bytes a ≡ db) × (b ≡ id_value id) × (string_bytes c ≡ cert)
+Means (show db id) (job.Show a b) = (string_bytes a ≡ db) × (b ≡ option_map id_value id)
 Means (export db) (job.Export a) = (string_bytes a ≡ db)
 Means _ _ = ⊥
 

@@ -1,5 +1,5 @@
 -- What the matches of a form hold.
-use Rattle.std.specs.Prelude.{◌≡◌, ℕ, Bool, true, false, List, Option, Some, None, codes}
+use Rattle.std.specs.Prelude.{◌≡◌, ℕ, Bool, true, false, List, Option, Some, None, IfSome, codes}
 use Rattle.std.specs.Str.Parse.{digits_value}
 use Rattle.clap.specs.Words.{Row, Text, first_of, one_of}
 use Rattle.clap.specs.Lexer.{without_minus}
@@ -12,6 +12,10 @@ HasNumber rows name digits number = IsNumber digits × (one_of name rows ≡ Som
 -- under the name stand the digits of an id
 abbrev pub HasId : List Row → Text → Text → Type 0
 HasId rows name digits = IsId digits × (one_of name rows ≡ Some digits)
+
+-- and so where it is given, and nothing where it is not
+abbrev pub HasOptionalId : List Row → Text → Option Text → Type 0
+HasOptionalId rows name digits = IfSome digits IsId × (one_of name rows ≡ digits)
 
 -- under the name stands whether the flag is given
 abbrev pub flag_text : Bool → Text
@@ -54,5 +58,5 @@ HasValues (prove db id cert) name rows = (name ≡ codes "prove")
     × (first_of (codes "DB") rows ≡ Some db)
     × HasId rows (codes "ID") id
     × (first_of (codes "CERT") rows ≡ Some cert)
-HasValues (show db id) name rows = (name ≡ codes "show") × (first_of (codes "DB") rows ≡ Some db) × HasId rows (codes "ID") id
+HasValues (show db id) name rows = (name ≡ codes "show") × (first_of (codes "DB") rows ≡ Some db) × HasOptionalId rows (codes "ID") id
 HasValues (export db) name rows = (name ≡ codes "export") × (first_of (codes "DB") rows ≡ Some db)

@@ -32,8 +32,12 @@ path_rule name = record (new_rule name) { long = Some name; value_names = 1 }
 abbrev pub flag_rule : Text → Rule
 flag_rule name = record (new_rule name) { long = Some name; action = Some action.SetTrue }
 
+-- an id, which may be left out
+abbrev pub optional_id_rule : Text → Rule
+optional_id_rule id = record (new_rule id) { parser = Some (vp.Signed (negsuc 9223372036854775807) (pos 9223372036854775807)) }
+
 abbrev pub id_rule : Text → Rule
-id_rule id = record (required_rule id) { parser = Some (vp.Signed (negsuc 9223372036854775807) (pos 9223372036854775807)) }
+id_rule id = record (optional_id_rule id) { required = true }
 
 -- the place or the option is read by the rule, and holds for its own command alone
 pub record Follows (rule : Rule) (arg : Arg) : Type 0 where
@@ -51,6 +55,7 @@ rule_of_kind kind.Text name = required_rule name
 rule_of_kind kind.Optional name = new_rule name
 rule_of_kind kind.Number name = number_rule name
 rule_of_kind kind.Id name = id_rule name
+rule_of_kind kind.OptionalId name = optional_id_rule name
 rule_of_kind kind.Limit name = limit_rule name
 rule_of_kind kind.Flag name = flag_rule name
 rule_of_kind kind.Path name = path_rule name
@@ -90,6 +95,9 @@ book_rule = required_rule (codes "DB")
 abbrev pub entry_rule : Rule
 entry_rule = id_rule (codes "ID")
 
+abbrev pub shown_rule : Rule
+shown_rule = optional_id_rule (codes "ID")
+
 -- the subcommands, each with its places and options
 abbrev pub subcommand_rules : List (Text × List Rule)
 subcommand_rules = (codes "list", file_rule ∷ [])
@@ -104,7 +112,7 @@ subcommand_rules = (codes "list", file_rule ∷ [])
     ∷ (codes "add", book_rule ∷ file_rule ∷ [])
     ∷ (codes "offer", book_rule ∷ entry_rule ∷ text_rule ∷ [])
     ∷ (codes "prove", book_rule ∷ entry_rule ∷ cert_rule ∷ [])
-    ∷ (codes "show", book_rule ∷ entry_rule ∷ [])
+    ∷ (codes "show", book_rule ∷ shown_rule ∷ [])
     ∷ (codes "export", book_rule ∷ [])
     ∷ []
 

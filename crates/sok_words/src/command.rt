@@ -14,7 +14,7 @@ Without a command it reads a line of letters from standard input, and behind it 
 plays the letters on the first level.";
 
 /// The version, and what proved it.
-const VERSION: &str = "1.0\nproved with rattle-kit-13b logic dac8208d650f15bf";
+const VERSION: &str = "1.0\nproved with rattle-kit-13f logic dac8208d650f15bf";
 
 const AFTER_HELP: &str = "\
 Exit status:

@@ -23,8 +23,8 @@ pub enum Job {
     Offer(String, i64, String),
     /// The path of a book, the id of a level, and the path of a certificate.
     Prove(String, i64, String),
-    /// The path of a book, and the id of a level.
-    Show(String, i64),
+    /// The path of a book, and the id of a level, which is none where all levels are asked for.
+    Show(String, Option<i64>),
     /// The path of a book.
     Export(String),
 }

@@ -13,6 +13,8 @@ pub(crate) enum Kind {
     Optional,
     Number,
     Id,
+    /// An id that may be left out.
+    OptionalId,
     Limit,
     Flag,
     Path,
@@ -37,6 +39,7 @@ impl Place {
             Kind::Optional => arg,
             Kind::Number => arg.required(true).value_parser(value_parser!(u32)),
             Kind::Id => arg.required(true).value_parser(value_parser!(i64)),
+            Kind::OptionalId => arg.value_parser(value_parser!(i64)),
             Kind::Limit => arg
                 .long(self.name)
                 .value_parser(value_parser!(u32))
@@ -106,4 +109,10 @@ pub(crate) const ID: Place = Place {
     name: "ID",
     kind: Kind::Id,
     help: "The id of a level in the book, from 1",
+};
+
+pub(crate) const SHOWN: Place = Place {
+    name: "ID",
+    kind: Kind::OptionalId,
+    help: "The id of the level to show, from 1; without it each level is told in a line",
 };

@@ -1,13 +1,12 @@
 //! The job of each subcommand.
 
-ghost use Rattle.std.specs.Prelude.{◌≡◌, List, ℕ, IfErr, IfOk, Some, codes, pos, string_bytes};
-ghost use Rattle.std.specs.Str.Parse.{digits_value};
+ghost use Rattle.std.specs.Prelude.{◌≡◌, List, ℕ, IfErr, IfOk, Some, codes, string_bytes};
 ghost use Rattle.clap.specs.Words.{Row, first_of, found_of, rows_of, subcommand_rows_of};
-ghost use Rattle.sok_words.specs.Forms.{Answers, Form};
+ghost use Rattle.sok_words.specs.Forms.{Answers, Form, id_value};
 ghost use Rattle.sok_words.specs.Rows.{HasId, HasNumber, HasValues};
 
 use crate::job::{Job, JobRefused};
-use crate::values::{flag_of, id_of, missing, number_of, option_of, text_of};
+use crate::values::{flag_of, id_of, missing, number_of, option_of, optional_id_of, text_of};
 use clap::ArgMatches;
 use std::alloc::Global;
 
@@ -62,8 +61,8 @@ fn job_of(alloc: Global, name: &str, values: &ArgMatches<'_>) -> Result<Job, Job
             Ok(Job::Prove(db, id, text_of(alloc, values, "CERT")?))
         }
         "show" => {
-            let (db, id) = entry_of(alloc, values)?;
-            Ok(Job::Show(db, id))
+            let db = text_of(alloc, values, "DB")?;
+            Ok(Job::Show(db, optional_id_of(values, "ID")))
         }
         "export" => Ok(Job::Export(text_of(alloc, values, "DB")?)),
         _ => Err(missing(alloc)),
@@ -92,7 +91,7 @@ fn entry_of(alloc: Global, values: &ArgMatches<'_>) -> Result<(String, i64), Job
     ensures db { (db : List ℕ) → first_of (codes "DB") (rows_of (found_of values.now)) ≡ Some db
         → IfOk result (λ entry. string_bytes entry.0 ≡ db) }
     ensures id { (digits : List ℕ) → HasId (rows_of (found_of values.now)) (codes "ID") digits
-        → IfOk result (λ entry. entry.1 ≡ pos (digits_value 10 digits)) }
+        → IfOk result (λ entry. entry.1 ≡ id_value digits) }
     ensures memory { (db digits : List ℕ)
         → first_of (codes "DB") (rows_of (found_of values.now)) ≡ Some db
         → HasId (rows_of (found_of values.now)) (codes "ID") digits

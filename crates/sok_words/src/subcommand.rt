@@ -3,7 +3,7 @@
 ghost use Rattle.std.specs.Prelude.{◌≡◌, IfOk, fold};
 ghost use Rattle.sok_words.specs.Shapes.{Builds, own_app, sok_app, sok_top, with_own};
 
-use crate::place::{BOUND, CERT, DB, FILE, ID, LETTERS, LIMIT, N, OUTPUT, Place, TEXT};
+use crate::place::{BOUND, CERT, DB, FILE, ID, LETTERS, LIMIT, N, OUTPUT, Place, SHOWN, TEXT};
 use clap::Command;
 use std::alloc::{AllocError, Global};
 
@@ -144,16 +144,20 @@ Example: sok prove small.db 1 first.cert",
         },
         Subcommand {
             name: "show",
-            about: "Shows a level of a book: its rows, title, best solution and verdict",
+            about: "Shows a level of a book, or tells each of its levels in a line",
             writes: "\
-Writes the level's rows, and behind them (status 0):
+With ID it writes the level's rows, and behind them (status 0):
   title TITLE                       if it has one
   best PUSHES MOVES LETTERS         or best none
   verdict untested                  or verdict optimal, or verdict unsolvable
-A fault is status 3 or 5, and of memory 6.
+Without ID it writes a line for each level, in order of ids (status 0):
+  ID ROWS COLS BOXES PUSHES MOVES VERDICT TITLE
+PUSHES and MOVES are those of the best, or - where there is none; a level without a title has none
+there. A fault is status 3 or 5, and of memory 6.
 
-Example: sok show small.db 1",
-            places: &[DB, ID],
+Examples: sok show small.db 1
+          sok show small.db",
+            places: &[DB, SHOWN],
         },
         Subcommand {
             name: "export",

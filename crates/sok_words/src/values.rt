@@ -1,10 +1,10 @@
 //! The values that were given.
 
 ghost use Rattle.std.specs.Prelude.{◌≡◌, ℕ, Bool, List, Option, Some, IsOkAnd, MatchResult, option_map};
-ghost use Rattle.std.specs.Prelude.{pos, string_bytes};
-ghost use Rattle.std.specs.Str.Parse.{digits_value};
+ghost use Rattle.std.specs.Prelude.{string_bytes};
 ghost use Rattle.clap.specs.Words.{first_of, found_of, rows_of};
-ghost use Rattle.sok_words.specs.Rows.{HasFlag, HasId, HasNumber};
+ghost use Rattle.sok_words.specs.Forms.{id_value};
+ghost use Rattle.sok_words.specs.Rows.{HasFlag, HasId, HasNumber, HasOptionalId};
 
 use crate::job::JobRefused;
 use clap::ArgMatches;
@@ -87,10 +87,19 @@ pub(crate) fn number_of(
 /// The id under this name.
 pub(crate) fn id_of(alloc: Global, values: &ArgMatches<'_>, name: &str) -> Result<i64, JobRefused>
     ensures { (digits : List ℕ) → HasId (rows_of (found_of values.now)) name.now digits
-        → IsOkAnd result (λ n. n ≡ pos (digits_value 10 digits)) }
+        → IsOkAnd result (λ n. n ≡ id_value digits) }
 {
-    match values.get_one::<i64>(name) {
-        Some(number) => Ok(number),
+    match optional_id_of(values, name) {
+        Some(id) => Ok(id),
         None => Err(missing(alloc)),
     }
+}
+
+/// The id under this name, where it is given.
+pub(crate) fn optional_id_of(values: &ArgMatches<'_>, name: &str) -> Option<i64>
+    ensures { (digits : Option (List ℕ))
+        → HasOptionalId (rows_of (found_of values.now)) name.now digits
+        → result ≡ option_map id_value digits }
+{
+    values.get_one::<i64>(name)
 }

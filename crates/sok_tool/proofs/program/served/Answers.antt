@@ -1,7 +1,7 @@
-use Rattle.std.proofs.Common.{subst}
+use Rattle.std.proofs.Common.{◌∙◌, Some, None, ap, subst}
 use Rattle.sok_words.specs.declared.job.Job.TheVariants as job
 use Rattle.sok_words.specs.Forms.{Means}
-use Rattle.sok_tool.proofs.Serving.{Serves-add, Serves-check, Serves-draw, Serves-export, Serves-offer, Serves-prove, Serves-replay, Serves-show, Serves-solve}
+use Rattle.sok_tool.proofs.Serving.{Serves-add, Serves-check, Serves-draw, Serves-export, Serves-offer, Serves-overview, Serves-prove, Serves-replay, Serves-show, Serves-solve}
 use Rattle.sok_tool.proofs.program.served.Goals as goal
 
 pub returns-in-Replay : goal.returns-in-Replay
@@ -53,16 +53,27 @@ returns-in-Prove g c = λ form plain means.
     Serves-prove _ _ form s.db s.id s.cert c.as_str-in-Prove.result.now c.as_str-in-Prove-2.result.now _ _ _ plain meant c.as_str-in-Prove.ensures.value
     c.as_str-in-Prove-2.ensures.value (c.prove.result, c.prove.ensures, c.ended-in-Prove.ensures)
 
+-- with an id
+pub returns-in-Some : goal.returns-in-Some
+returns-in-Some g c = λ form plain means.
+    let s = c.in-Show in
+    let id = c.in-Some.id in
+    let meant : Means form (job.Show s.db (Some id)) = subst (Means form) (s.is ∙ ap (λ o. job.Show s.db o) c.in-Some.is) means in
+    Serves-show _ _ form s.db id c.as_str-in-Some.result.now _ _ _ plain meant c.as_str-in-Some.ensures.value
+    (c.show.result, c.show.ensures, c.ended-in-Some.ensures)
+
+-- and without one
 pub returns-in-Show : goal.returns-in-Show
 returns-in-Show g c = λ form plain means.
     let s = c.in-Show in
-    let meant : Means form (job.Show s.db s.id) = subst (Means form) s.is means in
-    Serves-show _ _ form s.db s.id c.as_str-in-Show.result.now _ _ _ plain meant c.as_str-in-Show.ensures.value
-    (c.show.result, c.show.ensures, c.ended-in-Show.ensures)
+    let meant : Means form (job.Show s.db None) = subst (Means form) (s.is ∙ ap (λ o. job.Show s.db o) c.in-None.is) means in
+    Serves-overview _ _ form s.db c.as_str-in-None.result.now _ _ _ meant c.as_str-in-None.ensures.value
+    (c.tell.result, c.tell.ensures, c.ended-in-None.ensures)
 
-pub returns-in-Export : goal.returns-in-Export
-returns-in-Export g c = λ form plain means.
+-- the last command, export
+pub returns : goal.returns
+returns g c = λ form plain means.
     let s = c.in-Export in
     let meant : Means form (job.Export s.db) = subst (Means form) s.is means in
     Serves-export _ _ form s.db c.as_str-in-Export.result.now _ _ _ meant c.as_str-in-Export.ensures.value
-    (c.export.result, c.export.ensures, c.ended-in-Export.ensures)
+    (c.tell-in-Export.result, c.tell-in-Export.ensures, c.ended-in-Export.ensures)

@@ -33,11 +33,6 @@ returns-in_err-db-in-prove c = λ form has.
     refuses_entry form c.args.name.now (rows_of (found_of c.args.values.now)) _ _ (ap is_entry_name c.in-prove.is) has c.from_residual-in_err-db-in-prove.ensures.1
     c.in_err-db-in-prove.ensures.memory
 
-pub returns-in_err-db-in-show : goal.returns-in_err-db-in-show
-returns-in_err-db-in-show c = λ form has.
-    refuses_entry form c.args.name.now (rows_of (found_of c.args.values.now)) _ _ (ap is_entry_name c.in-show.is) has c.from_residual-in_err-db-in-show.ensures.1
-    c.in_err-db-in-show.ensures.memory
-
 pub returns-in_err-text-in-draw : goal.returns-in_err-text-in-draw
 returns-in_err-text-in-draw c = λ form has. refuses form _ _ c.from_residual-in_err-text-in-draw.ensures.1 (c.in_err-text-in-draw.ensures _ refl)
 

@@ -1,11 +1,11 @@
 use Rattle.sok_tool.proofs.Working.{Keeps-turns, without_book, works}
-use Rattle.sok_tool.proofs.keeping.export.Goals as goal
+use Rattle.sok_tool.proofs.keeping.tell.Goals as goal
 
 pub returns-in_err-book : goal.returns-in_err-book
 returns-in_err-book g c = without_book _ _ _ _ _ _ _ c.from_residual.ensures.1 c.in_err-book.ensures.refused
 
 pub returns : goal.returns
 returns g c =
-    let call = c.export_bytes-told in
+    let call = c.book_bytes-told in
     works _ _ _ _ _ _ c.in_ok-book.book call.new.book _ c.in_ok-book.ensures.opens c.into_connection.ensures c.close.ensures
     (Keeps-turns _ _ _ call.ensures.writes) call.ensures.stop call.ensures.cause
