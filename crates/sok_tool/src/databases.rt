@@ -9,9 +9,10 @@ ghost use Rattle.sok_tool.specs.declared.databases.IfAbsent.{IfAbsent};
 use sok_book::fault::BookFault;
 use sok_engine::fault::ToolFault;
 use sok_row::fault::fault_of;
-use sqlite::{Connection, File, FileStore};
-use std::fs;
+use sqlite::{Connection, Error, ErrorCode, File, FileStore};
 use std::io::Read;
+use std::time::Duration;
+use std::{fs, thread};
 
 /// What becomes of a database that is not there.
 #[derive(Clone, Copy, Debug, PartialEq, Eq)]
@@ -72,10 +73,7 @@ impl Databases for HostRuntime {
         if !may_open {
             return Err(ToolFault::Book(BookFault::Database));
         }
-        match Connection::open(self, path) {
-            Ok(connection) => Ok(connection),
-            Err(error) => Err(ToolFault::from(fault_of(error))),
-        }
+        open_in_turn(self, path)
     }
 
     fn close(&self, _path: &str, connection: Connection<FileStore<File>>)
@@ -84,6 +82,28 @@ impl Databases for HostRuntime {
         // The log is copied into the database file. Where that fails, the next open reads the log.
         let _ = connection.close();
     }
+}
+
+/// How often a database is tried that another process has open.
+const TRIES: u32 = 40;
+
+/// How long is waited behind such a try, in milliseconds.
+const PAUSE: u64 = 50;
+
+/// Opens a database. Where another process has it open, it is tried again for some two seconds.
+fn open_in_turn(rt: &HostRuntime, path: &str) -> Result<Connection<FileStore<File>>, ToolFault>
+    ensures { IfErr result (λ fault. (fault ≡ tool.Memory) ⊎ (fault ≡ tool.Book refusal.Database)) }
+{
+    for _ in 0..TRIES {
+        match Connection::open(rt, path) {
+            Ok(connection) => return Ok(connection),
+            Err(Error::SqliteFailure(ErrorCode::DatabaseBusy)) => {
+                thread::sleep(rt, Duration::from_millis(PAUSE));
+            }
+            Err(error) => return Err(ToolFault::from(fault_of(error))),
+        }
+    }
+    Err(ToolFault::Book(BookFault::Database))
 }
 
 /// What stands at a path.
