@@ -11,7 +11,7 @@ _sok() {
     offer) words=" --help" ;;
     prove) words=" --help" ;;
     show) words=" --help" ;;
-    export) words=" --help" ;;
+    export) words="--solutions --help" ;;
   esac
   [ "$COMP_CWORD" -eq 1 ] && words="list replay draw solve check add offer prove show export help --help --version"
   COMPREPLY=($(compgen -W "$words" -- "${COMP_WORDS[COMP_CWORD]}"))

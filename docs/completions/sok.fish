@@ -12,3 +12,4 @@ complete -c sok -n __fish_use_subcommand -f -a offer -d 'Offers a solution, whic
 complete -c sok -n __fish_use_subcommand -f -a prove -d 'Judges a certificate for a level of a book, and keeps the verdict'
 complete -c sok -n __fish_use_subcommand -f -a show -d 'Shows a level of a book, or tells each of its levels in a line'
 complete -c sok -n __fish_use_subcommand -f -a export -d 'Writes the levels of a book as a collection'
+complete -c sok -n '__fish_seen_subcommand_from export' -l solutions -d 'Note behind each level its best solution, and what is proved of it'

@@ -77,10 +77,13 @@ module _ (old new : State) (More : Book → Book → Type 0) where
   ]
 
   -- a write that fails is no such fault
+  pub unwritten_caused : (fault : ToolFault) → fault ≡ tool.WriteFailed → IsCausedFault old new More fault
+  unwritten_caused fault unwritten = λ told. let no : tool.WriteFailed ≡ tool.Book refusal.Database = sym unwritten ∙ told in absurd cc
+
   pub written_caused : (answer : Answer) (held later : Option (List ℕ)) (result : Result ℕ ToolFault) → WritesOne answer held later result
       → IfErr result (IsCausedFault old new More)
   written_caused answer held later (Ok status) written = tt
-  written_caused answer held later (Err fault) written = λ told. let no : tool.WriteFailed ≡ tool.Book refusal.Database = sym written.0 ∙ told in absurd cc
+  written_caused answer held later (Err fault) written = unwritten_caused fault written.0
 
   -- where what is told is of the book, or memory was refused
   pub unproved_caused : (fault : BookFault) (told : ToolFault) → (told ≡ tool.Memory) ⊎ (told ≡ of_book fault) → IsCausedFault old new More (of_book fault)

@@ -1,5 +1,5 @@
 -- How levels that are added treat the connection.
-use Rattle.std.proofs.Common.{ℕ, ℤ, pos, ◌≡◌, ◌≢◌, ◌⊎◌, ◌∙◌, ◌+◌, ◌<◌, inl, inr, List, [], ◌++◌, Option, Result, Ok, Err, IfErr, IfOk, OnOk}
+use Rattle.std.proofs.Common.{ℕ, ℤ, pos, ◌≡◌, ◌≢◌, ◌⊎◌, ◌∙◌, ◌+◌, ◌<◌, inl, inr, List, [], ◌++◌, Option, Result, Ok, Err, IfErr, OnOk}
 use Rattle.std.proofs.Common.{arith, length, refl, subst, sym}
 use Rattle.sqlite.specs.State.{State, HasCleanDisk}
 use Rattle.sqlite.proofs.StateLemmas.{survives_then}
@@ -77,32 +77,28 @@ module _ {T : Type 0} (old new : State) (n : ℕ) (rows : Rows) (title : Option 
     cause = tt;
   }
 
-  -- memory was refused for its line
-  pub unsaid_treats : (fault : ToolFault) → fault ≡ tool.Memory → Treats {T = T} old new (AddsNext n (Ok rows) title) (Err fault)
-  unsaid_treats fault memory = memory_treats old new _ fault memory (level_stops old new n rows title stop)
-
   -- the book refuses it
-  pub refused_treats : (see : T → List ℕ) (fault : BookFault) (result : Result T ToolFault)
-      → IfOk result (λ line. (cause : BoardFault) × (fault ≡ refusal.Level cause) × (see line ≡ fault_line n (of_board cause)))
-      → IfErr result (λ told. (told ≡ tool.Memory) ⊎ (((cause : BoardFault) → fault ≢ refusal.Level cause) × (told ≡ of_book fault)))
+  pub refused_treats : (told whole : List ℕ) (fault : BookFault) (result : Result T ToolFault)
+      → OnOk result ((cause : BoardFault) × (fault ≡ refusal.Level cause) × (whole ≡ told ++ fault_line n (of_board cause)))
+      → IfErr result (λ why. (why ≡ tool.Memory) ⊎ (((cause : BoardFault) → fault ≢ refusal.Level cause) × (why ≡ of_book fault)))
       → Keeps old new (λ b. IsOutside fault ⊎ IsNotAdded b rows fault) → ((cause : BoardFault) → fault ≡ refusal.Level cause → new ≡ old)
       → IsCaused old new (Admits rows (title_kept title)) fault → Treats old new (AddsNext n (Ok rows) title) result
-  refused_treats see fault (Ok line) (cause, is, says) given keeps untouched caused = record {
+  refused_treats told whole fault (Ok done) (cause, is, grown) given keeps untouched caused = record {
     done = λ clean book shows.
         let (why, held) = keeps clean book (held_shown old book shows) in
         let same = sym (untouched cause is) in (
           book,
-          (see line, unaccepted rows cause refl (no_board book rows fault cause why is) says refl),
+          (fault_line n (of_board cause), unaccepted rows cause refl (no_board book rows fault cause why is) refl refl),
           subst (λ s. ShowsBook s book) same shows,
           rw (← same) (λ up. up),
         );
     stop = level_stops old new n rows title stop;
     cause = tt;
   }
-  refused_treats see fault (Err told) says given keeps untouched caused = record {
+  refused_treats told whole fault (Err why) says given keeps untouched caused = record {
     done = tt;
     stop = level_stops old new n rows title stop;
-    cause = unproved_caused old new _ fault told (elim given [ inl memory ↦ inl memory | inr (other, is) ↦ inr is ])
+    cause = unproved_caused old new _ fault why (elim given [ inl memory ↦ inl memory | inr (other, is) ↦ inr is ])
         (caused_more old new _ (Admits rows (title_kept title)) (admitted n rows title) fault caused);
   }
 
@@ -115,15 +111,15 @@ found_treats old new n rows found title known result (inr is) same it =
     subst (λ f. Treats old new (AddsNext n f known) result) is (subst (λ t. Treats old new (AddsNext n (Ok rows) t) result) same it)
 
 -- it has a fault
-pub faulty_treats : {T : Type 0} (see : T → List ℕ) (s : State) (n : ℕ) (fault : LevelFault) (found : Result Rows LevelFault) (title : Option (List ℕ))
-    (result : Result T ToolFault) → (fails fault ≡ fails level.Memory) ⊎ (fails fault ≡ found) → IfOk result (λ line. fault ≢ level.Memory)
-    → IfOk result (λ line. see line ≡ fault_line n (of_level fault)) → IfErr result (λ told. told ≡ tool.Memory) → Treats s s (AddsNext n found title) result
-faulty_treats see s n fault found title (Ok line) is other says memory = record {
-  done = λ clean book shows. (book, (see line, faulty fault (is_faulty fault found is other) says refl), shows, λ up. up);
+pub faulty_treats : {T : Type 0} (s : State) (n : ℕ) (fault : LevelFault) (found : Result Rows LevelFault) (title : Option (List ℕ))
+    (result : Result T ToolFault) → (fails fault ≡ fails level.Memory) ⊎ (fails fault ≡ found) → OnOk result (fault ≢ level.Memory)
+    → IfErr result (λ why. why ≡ tool.Memory) → Treats s s (AddsNext n found title) result
+faulty_treats s n fault found title (Ok done) is other memory = record {
+  done = λ clean book shows. (book, (fault_line n (of_level fault), faulty fault (is_faulty fault found is other) refl refl), shows, λ up. up);
   stop = stops_same s _;
   cause = tt;
 }
-faulty_treats see s n fault found title (Err told) is other says memory = memory_treats s s _ told memory (stops_same s _)
+faulty_treats s n fault found title (Err why) is other memory = memory_treats s s _ why memory (stops_same s _)
 
 -- ---- all levels
 
@@ -181,7 +177,5 @@ all_treats old new blocks n lines carries stop = record {
 }
 
 -- what carries a book keeps its connection open
-pub carries_open : {T : Type 0} (old new : State) (Makes : Book → Book → Type 0) (result : Result T ToolFault) → Carries old new Makes
-    → OnOk result (KeepsOpen old new)
-carries_open old new Makes (Ok x) carries = λ clean book holds up. (carries clean book (holds.0, holds.1 up)).3 up
-carries_open old new Makes (Err fault) carries = tt
+pub carries_open : (old new : State) (Makes : Book → Book → Type 0) → Carries old new Makes → KeepsOpen old new
+carries_open old new Makes carries clean book holds up = (carries clean book (holds.0, holds.1 up)).3 up

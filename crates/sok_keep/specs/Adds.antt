@@ -1,5 +1,5 @@
 -- What is told of the levels of a collection as they are added to a book, one after another, and what becomes of the book.
-use Rattle.std.specs.Prelude.{ℕ, ℤ, ◌≡◌, ◌<◌, ◌≤◌, ◌+◌, List, [], ◌++◌, Option, Result, Ok, Err, IfSome, codes, length}
+use Rattle.std.specs.Prelude.{ℕ, ℤ, ◌≡◌, ◌<◌, ◌≤◌, ◌⊎◌, ◌+◌, List, [], ◌++◌, Option, Result, Ok, Err, IfSome, codes, length}
 use Rattle.std.specs.Fmt.{decimal, signed_decimal}
 use Rattle.std.specs.Io.KnownBytes.{Appends, Keeps}
 use Rattle.std.specs.Option.{option_and_then}
@@ -59,17 +59,28 @@ AddsBytes known book after = (bytes : List ℕ) × IfSome known (λ all. bytes �
 abbrev pub IsFullAt : List Block → ℕ → Book → Type 0
 IsFullAt blocks n book = (rows : Rows) × (level_at blocks n ≡ Ok rows) × IsNotAdded book rows refusal.BookFull
 
--- How the addition ends after so many levels, with these lines. All were added, and the lines were written, or a front of them. Else nothing was
--- written: no level was read; or the next level has no room in the book; or the database or memory was refused.
+-- why the next level is not added: memory or the database was refused, or the book is full
+abbrev pub IsStopAt : List Block → ℕ → Book → ToolFault → Type 0
+IsStopAt blocks n book tool.Memory = Unit {0}
+IsStopAt blocks n book (tool.Book refusal.Database) = Unit {0}
+IsStopAt blocks n book (tool.Book refusal.BookFull) = IsFullAt blocks n book
+IsStopAt blocks n book fault = ⊥
+
+-- all levels were added, or the next one is not
+abbrev pub IsEndAt : List Block → ℕ → Book → Type 0
+IsEndAt blocks n book = (n ≡ length blocks) ⊎ ((fault : ToolFault) × IsStopAt blocks (n + 1) book fault)
+
+-- How the addition ends after so many levels, with these lines. All were added; or no level was read; or the next level has no room in the book; or the
+-- database or memory was refused. The lines were written each time; or a write failed, after a front of them.
 abbrev pub EndsAdding : List ℕ → ℕ → List ℕ → Book → Option (List ℕ) → Option (List ℕ) → Result ℕ ToolFault → Type 0
 EndsAdding bytes n text after old new (Ok status) = (length bytes ≤ input_limit) × (n ≡ length (blocks_of bytes)) × (status ≡ 0) × Appends old new text
 EndsAdding bytes n text after old new (Err tool.WriteFailed) =
-    (length bytes ≤ input_limit) × (n ≡ length (blocks_of bytes)) × AppendsFront old new text
+    (length bytes ≤ input_limit) × IsEndAt (blocks_of bytes) n after × AppendsFront old new text
 EndsAdding bytes n text after old new (Err tool.ReadFailed) = (n ≡ 0) × Keeps old new
 EndsAdding bytes n text after old new (Err tool.TooMuch) = (n ≡ 0) × (input_limit < length bytes) × Keeps old new
-EndsAdding bytes n text after old new (Err (tool.Book refusal.BookFull)) = (length bytes ≤ input_limit) × IsFullAt (blocks_of bytes) (n + 1) after × Keeps old new
-EndsAdding bytes n text after old new (Err (tool.Book refusal.Database)) = Keeps old new
-EndsAdding bytes n text after old new (Err tool.Memory) = Keeps old new
+EndsAdding bytes n text after old new (Err (tool.Book refusal.BookFull)) = (length bytes ≤ input_limit) × IsFullAt (blocks_of bytes) (n + 1) after × Appends old new text
+EndsAdding bytes n text after old new (Err (tool.Book refusal.Database)) = Appends old new text
+EndsAdding bytes n text after old new (Err tool.Memory) = Appends old new text
 EndsAdding bytes n text after old new (Err fault) = ⊥
 
 -- The first levels of the collection that a reader has left were added to the book, and how it ended then. Where the reader does not tell it, it is some

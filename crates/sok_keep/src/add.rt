@@ -1,7 +1,7 @@
 //! The levels of a collection are added to a book.
 
-ghost use Rattle.std.specs.Prelude.{◌≡◌, ◌≢◌, ◌⊎◌, IfErr, IfOk, OnOk, Ok};
-ghost use Rattle.std.specs.Prelude.{option_map, string_bytes};
+ghost use Rattle.std.specs.Prelude.{◌≡◌, ◌≢◌, ◌≤◌, ◌⊎◌, ◌+◌, ◌++◌, [], IfErr, IfOk, OnErr, OnOk, Ok};
+ghost use Rattle.std.specs.Prelude.{option_map, string_bytes, vec_capacity, vec_len};
 ghost use Rattle.sqlite.specs.Held.{state};
 ghost use Rattle.sok_text.specs.Collections.{blocks_of, level_at};
 ghost use Rattle.sok_rules.specs.declared.fault.LevelFault.TheVariants as level;
@@ -11,13 +11,15 @@ ghost use Rattle.sok_engine.specs.Faults.{of_board, of_book, of_level};
 ghost use Rattle.sok_engine.specs.declared.fault.ToolFault.TheVariants as tool;
 ghost use Rattle.sok_store.specs.Calls.{KeepsOpen, Stops, Turns};
 ghost use Rattle.sok_keep.specs.Adds.{AddsBytes, WritesAdding, fault_line, id_line, title_at};
-ghost use Rattle.sok_keep.specs.Adding.{AddsNext, AddsSome, LeavesLevel, LeavesLevels, seen};
+ghost use Rattle.sok_keep.specs.Adding.{AddsNext, AddsSome, LeavesLevel, LeavesLevels};
 ghost use Rattle.sok_keep.specs.Causes.{IsCausedFault, Treats};
 
+use crate::line::{LINE_ROOM, Line};
+use itoa::Buffer;
 use sok_book::fault::BookFault;
-use sok_engine::answer::Answer;
 use sok_engine::fault::ToolFault;
 use sok_engine::input::read_input;
+use sok_engine::output::write_whole;
 use sok_rules::fault::LevelFault;
 use sok_rules::level::Level;
 use sok_store::book::Book;
@@ -31,10 +33,10 @@ use std::io::{Read, Write};
 /// that stands there already keeps its id and its title, and one that has a fault, or no board,
 /// changes nothing.
 ///
-/// Any other fault ends the call. Then nothing is written, and the levels before stay added:
-/// `ReadFailed` or `TooMuch`, before any; `BookFull` at the first that is new where there are
-/// 10,000; `Database` at any. A write that fails is `WriteFailed` at once, after a front of the
-/// lines.
+/// Any other fault ends the call: `ReadFailed` or `TooMuch`, before any level; `BookFull` at the
+/// first that is new where there are 10,000; `Database` or `Memory` at any. The levels before it
+/// stay added, and their lines are written all the same. A write that fails is `WriteFailed`, after
+/// a front of the lines, also where another fault had ended the call.
 pub fn add_bytes<S: Alter, R: Read, W: Write>(
     alloc: Global,
     book: &mut Book<S>,
@@ -51,113 +53,169 @@ pub fn add_bytes<S: Alter, R: Read, W: Write>(
         (AddsBytes (R.remaining input.old))) }
 {
     let bytes = read_input(alloc, input)?;
-    let lines = added(alloc, book, bytes.as_slice())?;
-    let answer = Answer::new(lines, 0);
-    answer.write(out)
+    let mut lines = Vec::new(alloc);
+    let ended = add_all(alloc, book, bytes.as_slice(), &mut lines);
+    write_whole(out, &lines)?;
+    ended?;
+    Ok(0)
 }
 
-/// The lines of all levels of a collection, which are added.
-fn added<S: Alter>(alloc: Global, book: &mut Book<S>, bytes: &[u8]) -> Result<Vec<u8>, ToolFault>
+/// Adds all levels of a collection, and tells each in a line.
+fn add_all<S: Alter>(
+    alloc: Global,
+    book: &mut Book<S>,
+    bytes: &[u8],
+    lines: &mut Vec<u8>,
+) -> Result<(), ToolFault>
+    requires { lines.old.items ≡ [] }
     ensures leaves { Turns (state S.Store book.old) (state S.Store book.new) (λ pages after.
-        LeavesLevels (blocks_of bytes.now) pages after (seen (λ v. v.items) result)) }
+        LeavesLevels (blocks_of bytes.now) pages after lines.new.items result) }
     ensures treats { Treats (state S.Store book.old) (state S.Store book.new)
         (AddsSome (blocks_of bytes.now)) result }
 {
     let collection = Collection::read(alloc, bytes)?;
-    add_levels(alloc, book, &collection)
+    add_levels(alloc, book, &collection, lines)
 }
 
 fn add_levels<S: Alter>(
     alloc: Global,
     book: &mut Book<S>,
     collection: &Collection<'_>,
-) -> Result<Vec<u8>, ToolFault>
+    lines: &mut Vec<u8>,
+) -> Result<(), ToolFault>
+    requires { lines.old.items ≡ [] }
     ensures leaves { Turns (state S.Store book.old) (state S.Store book.new) (λ pages after.
-        LeavesLevels collection.now pages after (seen (λ v. v.items) result)) }
+        LeavesLevels collection.now pages after lines.new.items result) }
     ensures treats { Treats (state S.Store book.old) (state S.Store book.new)
         (AddsSome collection.now) result }
 {
-    let mut lines = Vec::new(alloc);
     for index in 0..collection.len() {
-        let line = add_level(alloc, book, collection, index + 1)?;
-        lines.extend_from_slice(line.as_bytes())?;
+        lines.reserve(LINE_ROOM)?;
+        add_level(alloc, book, collection, index + 1, lines)?;
     }
-    Ok(lines)
+    Ok(())
 }
 
-/// The line of a level, which is added.
+/// Adds a level, and tells it in a line. There is room for the line of one that is in the book, so
+/// that no want of memory comes between it and its line.
 fn add_level<S: Alter>(
     alloc: Global,
     book: &mut Book<S>,
     collection: &Collection<'_>,
     n: usize,
-) -> Result<String, ToolFault>
+    lines: &mut Vec<u8>,
+) -> Result<(), ToolFault>
+    requires { vec_len lines.old + LINE_ROOM ≤ vec_capacity lines.old }
     ensures leaves { Turns (state S.Store book.old) (state S.Store book.new) (λ pages after.
         LeavesLevel n (level_at collection.now n) (title_at collection.now n) pages after
-        (seen string_bytes result)) }
+        lines.old.items lines.new.items result) }
     ensures treats { Treats (state S.Store book.old) (state S.Store book.new)
         (AddsNext n (level_at collection.now n) (title_at collection.now n)) result }
 {
     let title = collection.title(n);
     match collection.level(alloc, n) {
-        Ok(level) => add_made(alloc, book, n, &level, title),
-        Err(fault) => faulty_line(alloc, n, fault),
+        Ok(level) => add_made(alloc, book, n, &level, title, lines),
+        Err(fault) => tell_faulty(alloc, n, fault, lines),
     }
 }
 
-/// The line of a level with a fault, unless memory was refused.
-fn faulty_line(alloc: Global, n: usize, fault: LevelFault) -> Result<String, ToolFault>
-    ensures other { IfOk result (λ _. fault ≢ level.Memory) }
-    ensures line { IfOk result (λ line. string_bytes line ≡ fault_line n (of_level fault)) }
+/// Tells a level with a fault, unless memory was refused.
+fn tell_faulty(
+    alloc: Global,
+    n: usize,
+    fault: LevelFault,
+    lines: &mut Vec<u8>,
+) -> Result<(), ToolFault>
+    ensures other { OnOk result (fault ≢ level.Memory) }
+    ensures line { OnOk result
+        (lines.new.items ≡ lines.old.items ++ fault_line n (of_level fault)) }
     ensures memory { IfErr result (λ cause. cause ≡ tool.Memory) }
+    ensures same { OnErr result (lines.new.items ≡ lines.old.items) }
 {
     match fault {
         LevelFault::Memory => Err(ToolFault::Memory),
-        _ => Ok(fault_line(alloc, n, ToolFault::from(fault))?),
+        _ => Ok(push_fault_line(alloc, n, ToolFault::from(fault), lines)?),
     }
 }
 
-/// The line of a level without a fault, which is added.
+/// Adds a level without a fault, and tells it.
 fn add_made<S: Alter>(
     alloc: Global,
     book: &mut Book<S>,
     n: usize,
     level: &Level,
     title: Option<&[u8]>,
-) -> Result<String, ToolFault>
+    lines: &mut Vec<u8>,
+) -> Result<(), ToolFault>
+    requires { vec_len lines.old + LINE_ROOM ≤ vec_capacity lines.old }
     ensures leaves { Turns (state S.Store book.old) (state S.Store book.new) (λ pages after.
         LeavesLevel n (Ok level.now) (option_map (λ t. t.now) title.entry) pages after
-        (seen string_bytes result)) }
+        lines.old.items lines.new.items result) }
     ensures treats { Treats (state S.Store book.old) (state S.Store book.new)
         (AddsNext n (Ok level.now) (option_map (λ t. t.now) title.entry)) result }
 {
     match book.add(level, title) {
-        Ok(id) => Ok(id_line(alloc, n, id)?),
-        Err(fault) => refused_line(alloc, n, fault),
+        Ok(id) => {
+            push_id_line(n, id, lines);
+            Ok(())
+        }
+        Err(fault) => tell_refused(alloc, n, fault, lines),
     }
 }
 
-/// The line of a level that has no board. Another fault of the book ends the call.
-fn refused_line(alloc: Global, n: usize, fault: BookFault) -> Result<String, ToolFault>
-    ensures line { IfOk result (λ line. (cause : BoardFault) × (fault ≡ refusal.Level cause)
-        × (string_bytes line ≡ fault_line n (of_board cause))) }
+/// Tells a level that has no board. Another fault of the book ends the call.
+fn tell_refused(
+    alloc: Global,
+    n: usize,
+    fault: BookFault,
+    lines: &mut Vec<u8>,
+) -> Result<(), ToolFault>
+    ensures line { OnOk result ((cause : BoardFault) × (fault ≡ refusal.Level cause)
+        × (lines.new.items ≡ lines.old.items ++ fault_line n (of_board cause))) }
     ensures told { IfErr result (λ told. (told ≡ tool.Memory)
         ⊎ (((cause : BoardFault) → fault ≢ refusal.Level cause) × (told ≡ of_book fault))) }
+    ensures same { OnErr result (lines.new.items ≡ lines.old.items) }
 {
     match fault {
-        BookFault::Level(cause) => Ok(fault_line(alloc, n, ToolFault::from(cause))?),
+        BookFault::Level(cause) => { Ok(push_fault_line(alloc, n, ToolFault::from(cause), lines)?) }
         _ => Err(ToolFault::from(fault)),
     }
 }
 
-/// The line of a level that is in the book.
-fn id_line(alloc: Global, n: usize, id: i64) -> Result<String, AllocError>
-    ensures { IfOk result (λ line. string_bytes line ≡ id_line n id) }
+/// Adds the line of a level that is in the book, for which there is room.
+fn push_id_line(n: usize, id: i64, lines: &mut Vec<u8>)
+    requires { vec_len lines.old + LINE_ROOM ≤ vec_capacity lines.old }
+    ensures { lines.new.items ≡ lines.old.items ++ id_line n id }
 {
-    format!(in alloc; "{n} id {id}\n")
+    let line = id_line(n, id);
+    lines.extend_from_slice(line.as_str().as_bytes()).unwrap();
 }
 
-/// The line of a level that is not added.
+fn id_line(n: usize, id: i64) -> Line
+    ensures { result.bytes ≡ id_line n id }
+{
+    let mut line = Line::new();
+    line.push_str(Buffer::new().format(n));
+    line.push_str(" id ");
+    line.push_str(Buffer::new().format(id));
+    line.push_str("\n");
+    line
+}
+
+/// Adds the line of a level that is not added.
+fn push_fault_line(
+    alloc: Global,
+    n: usize,
+    fault: ToolFault,
+    lines: &mut Vec<u8>,
+) -> Result<(), AllocError>
+    ensures line { OnOk result (lines.new.items ≡ lines.old.items ++ fault_line n fault) }
+    ensures same { OnErr result (lines.new.items ≡ lines.old.items) }
+{
+    let line = fault_line(alloc, n, fault)?;
+    lines.extend_from_slice(line.as_bytes())
+}
+
 fn fault_line(alloc: Global, n: usize, fault: ToolFault) -> Result<String, AllocError>
     ensures { IfOk result (λ line. string_bytes line ≡ fault_line n fault) }
 {

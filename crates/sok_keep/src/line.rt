@@ -8,6 +8,9 @@ use sok_engine::fault::ToolFault;
 use sok_engine::output::write_whole;
 use std::io::Write;
 
+/// So many bytes has a line at the most.
+pub(crate) const LINE_ROOM: usize = 64;
+
 /// A line of at most 64 bytes.
 pub(crate) type Line = ArrayString<64>;
 

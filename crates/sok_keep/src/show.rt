@@ -78,9 +78,10 @@ fn record_at<S: Alter>(book: &mut Book<S>, id: i64) -> Result<Record, ToolFault>
 /// Writes a text of all levels of a book, in order of their ids, at status 0. The book stays as it
 /// is, and of an empty one nothing is written.
 ///
-/// `Export` is a collection: for each level `; TITLE`, if it has one, its canonical rows, and an
-/// empty line. So it is read back as the same levels with the same titles. `Overview` is a line for
-/// each: its id, how many rows, columns and boxes it has, the pushes and the moves of its best
+/// `Export` is a collection: for each level `; TITLE`, if it has one, its canonical rows, where
+/// solutions are asked for `Solution: LURD` and `Pushes: K` or `Pushes: K optimal`, or `Unsolvable`,
+/// and an empty line. So it is read back as the same levels with the same titles. `Overview` is a
+/// line for each: its id, how many rows, columns and boxes it has, the pushes and the moves of its best
 /// solution, or `-` for each where there is none, `untested`, `optimal` or `unsolvable`, and its
 /// title, if it has one.
 ///

@@ -22,6 +22,7 @@ pub(crate) enum Command<'a> {
     Show(i64),
     Overview,
     Export,
+    Solutions,
 }
 
 /// A command, what it writes, and its status or fault.
@@ -55,8 +56,19 @@ pub(crate) fn answer<S: Alter, W: Write>(
         Command::Prove(id, cert) => prove_bytes(alloc, book, id, &mut cert.as_bytes(), out),
         Command::Show(id) => show_bytes(alloc, book, id, out),
         Command::Overview => book_bytes(alloc, book, BookText::Overview, out),
-        Command::Export => book_bytes(alloc, book, BookText::Export, out),
+        Command::Export => export(alloc, book, false, out),
+        Command::Solutions => export(alloc, book, true, out),
     }
+}
+
+/// Exports a book, with its solutions or without.
+fn export<S: Alter, W: Write>(
+    alloc: Global,
+    book: &mut Book<S>,
+    solutions: bool,
+    out: &mut W,
+) -> Result<u8, ToolFault> {
+    book_bytes(alloc, book, BookText::Export { solutions }, out)
 }
 
 fn is_told<S: Alter>(alloc: Global, book: &mut Book<S>, row: Row) -> bool {

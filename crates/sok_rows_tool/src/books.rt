@@ -1,8 +1,10 @@
 //! Levels with titles, and a book that is full.
 
+use crate::answering::{Command, answer};
 use crate::tables::opened;
 use sok_book::fault::BookFault;
 use sok_book::limits::LEVEL_LIMIT;
+use sok_engine::fault::ToolFault;
 use sok_page::record::Record;
 use sok_sketch::sketch::{ONE_PUSH, SOLVED, level};
 use sok_sql::making::create;
@@ -128,9 +130,45 @@ fn add_to_full(rt: &impl Abort, alloc: Global, book: &mut Book<MemStore>) -> Res
     add_both(rt, alloc, book, there.as_str())
 }
 
+/// Adds a collection to a full book, of which the first level is there, the second has no player,
+/// and the third has no room. The lines of the first two are written.
+fn add_collection(
+    rt: &impl Abort,
+    alloc: Global,
+    book: &mut Book<MemStore>,
+    collection: &str,
+) -> Result<(), Fail> {
+    let full = Err(ToolFault::Book(BookFault::BookFull));
+    let mut out = Vec::new(alloc);
+    let told = answer(alloc, book, Command::Add(collection), &mut out);
+    assert_eq!(rt; told, full);
+    let lines = b"1 id 7\n2 fault 3 NoPlayer\n".as_slice();
+    assert_eq!(rt; out.as_slice(), lines);
+    // where they can't be written, that is told
+    let mut room = [0u8; 10];
+    let told = answer(
+        alloc,
+        book,
+        Command::Add(collection),
+        &mut room.as_mut_slice(),
+    );
+    assert_eq!(rt; told, Err(ToolFault::WriteFailed));
+    assert_eq!(rt; room.as_slice(), b"1 id 7\n2 f".as_slice());
+    Ok(())
+}
+
+/// Adds a collection whose third level has no room.
+fn add_three(rt: &impl Abort, alloc: Global, book: &mut Book<MemStore>) -> Result<(), Fail> {
+    let there = numbered(alloc, 7)?;
+    let more = numbered(alloc, 8)?;
+    let collection = format!(in alloc; "{there}\n#####\n#$ .#\n#####\n\n{ONE_PUSH}\n{more}")?;
+    add_collection(rt, alloc, book, collection.as_str())
+}
+
 #[test]
 fn a_full_book_takes_no_other_level(rt: HostRuntime) -> Result<(), Fail> {
     let alloc = rt.alloc();
     let mut book = book_in(alloc, filled(alloc)?)?;
-    add_to_full(&rt, alloc, &mut book)
+    add_to_full(&rt, alloc, &mut book)?;
+    add_three(&rt, alloc, &mut book)
 }

@@ -30,7 +30,7 @@ end
 ";
 
 /// A room is added, solved and proved.
-const ROOM: [Row; 14] = [
+const ROOM: [Row; 15] = [
     (Command::Add(ROOM_OF_TWO_ROWS), "1 id 1\n", Ok(0)),
     (Command::Add(ROOM_OF_TWO_ROWS), "1 id 1\n", Ok(0)),
     (
@@ -73,6 +73,11 @@ const ROOM: [Row; 14] = [
         Err(ToolFault::Book(BookFault::NoLevel)),
     ),
     (Command::Export, "######\n#    #\n# $@.#\n######\n\n", Ok(0)),
+    (
+        Command::Solutions,
+        "######\n#    #\n# $@.#\n######\nSolution: ulldRR\nPushes: 2 optimal\n\n",
+        Ok(0),
+    ),
 ];
 
 #[test]
@@ -115,6 +120,11 @@ fn levels_without_a_push_and_a_lost_pair_are_proved(rt: HostRuntime) -> Result<(
         (
             Command::Overview,
             "1 3 5 1 0 0 optimal\n2 3 5 1 - - unsolvable\n3 5 12 3 - - unsolvable\n",
+            Ok(0),
+        ),
+        (
+            Command::Solutions,
+            "#####\n#@ *#\n#####\nSolution: \nPushes: 0 optimal\n\n#####\n#@.$#\n#####\nUnsolvable\n\n#######\n#     ######\n#  $ @$ $..#\n# .   ######\n#######\nUnsolvable\n\n",
             Ok(0),
         ),
     ];
@@ -180,6 +190,22 @@ fn faults_come_in_their_order(rt: HostRuntime) -> Result<(), Fail> {
         (
             Command::Overview,
             "1 3 5 1 - - untested A\n2 3 5 1 - - untested\n",
+            Ok(0),
+        ),
+        // levels of which nothing is known have no notes, and notes behind a level are no titles
+        (
+            Command::Solutions,
+            "; A\n#####\n#@$.#\n#####\n\n#####\n#@.$#\n#####\n\n",
+            Ok(0),
+        ),
+        (
+            Command::Add("###\n#@#\n#$#\n#.#\n###\nSolution: D\nPushes: 1\n\n####\n#@*#\n####\n"),
+            "1 id 3\n2 id 4\n",
+            Ok(0),
+        ),
+        (
+            Command::Overview,
+            "1 3 5 1 - - untested A\n2 3 5 1 - - untested\n3 5 3 1 - - untested\n4 3 4 1 - - untested\n",
             Ok(0),
         ),
     ];

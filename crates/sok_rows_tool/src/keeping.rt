@@ -19,7 +19,7 @@ const ABSENT: [Row; 5] = [
     ("sok prove books/book 1 books/cert", "", NO_DATABASE, 5),
 ];
 
-const COMMANDS: [Row; 24] = [
+const COMMANDS: [Row; 25] = [
     // the file is made, of a collection without levels
     ("sok add books/book books/cert", "", "", 0),
     ("sok export books/book", "", "", 0),
@@ -81,6 +81,12 @@ const COMMANDS: [Row; 24] = [
     (
         "sok export books/book",
         "; First\n#####\n#@$.#\n#####\n\n; The room\n######\n#    #\n# $@.#\n######\n\n",
+        "",
+        0,
+    ),
+    (
+        "sok export books/book --solutions",
+        "; First\n#####\n#@$.#\n#####\nSolution: R\nPushes: 1 optimal\n\n; The room\n######\n#    #\n# $@.#\n######\nSolution: rlulldRurrdLulldRR\nPushes: 4\n\n",
         "",
         0,
     ),

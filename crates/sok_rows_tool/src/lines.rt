@@ -43,7 +43,8 @@ fn reads_each_form(rt: HostRuntime) -> Result<(), Fail> {
             "Show(\"B\", Some(9223372036854775807))",
         ),
         ("sok show B", "Show(\"B\", None)"),
-        ("sok export B", "Export(\"B\")"),
+        ("sok export B", "Export(\"B\", false)"),
+        ("sok export B --solutions", "Export(\"B\", true)"),
     ] {
         assert!(rt; asks_for(&rt, line, asked)?, "{line}");
     }

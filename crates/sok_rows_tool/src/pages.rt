@@ -77,9 +77,14 @@ fn record(
     Ok(kept)
 }
 
-/// Whether records are exported as a text.
-fn is_exported(alloc: Global, records: &[Record], whole: &str) -> Result<bool, Fail> {
-    Ok(export_text(alloc, records)?.as_slice() == whole.as_bytes())
+/// Whether records are exported as a text, with their solutions or without.
+fn is_exported(
+    alloc: Global,
+    records: &[Record],
+    solutions: bool,
+    whole: &str,
+) -> Result<bool, Fail> {
+    Ok(export_text(alloc, records, solutions)?.as_slice() == whole.as_bytes())
 }
 
 /// Whether each record is told in its line of a text.
@@ -97,7 +102,10 @@ fn records_are_shown_exported_and_told(rt: HostRuntime) -> Result<(), Fail> {
         records.push(record(&rt, rt.alloc(), id, row, lines)?)?;
     }
     let whole = format!(in rt.alloc(); "; A room\n{}\n{}\n", ROOM.text, UNTITLED.text)?;
-    assert!(rt; is_exported(rt.alloc(), records.as_slice(), whole.as_str())?);
+    assert!(rt; is_exported(rt.alloc(), records.as_slice(), false, whole.as_str())?);
+    let notes = "Solution: ulldRR\nPushes: 2 optimal\n";
+    let whole = format!(in rt.alloc(); "; A room\n{}{notes}\n{}\n", ROOM.text, UNTITLED.text)?;
+    assert!(rt; is_exported(rt.alloc(), records.as_slice(), true, whole.as_str())?);
     let lines = "1 4 6 1 2 6 optimal A room\n2 3 5 1 - - untested\n";
     assert!(rt; is_told(rt.alloc(), records.as_slice(), lines)?);
     for kept in records {

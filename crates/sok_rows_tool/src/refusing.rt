@@ -9,7 +9,7 @@ const VERSION: &str = "sok 1.0\nproved with rattle-kit-13f logic dac8208d650f15b
 
 /// A line, a part of what is written to the output, or where the status is 2 to the error stream,
 /// and the status.
-const REFUSALS: [(&str, &str, u8); 26] = [
+const REFUSALS: [(&str, &str, u8); 27] = [
     ("sok --help", "Exit status:", 0),
     ("sok --version", VERSION, 0),
     ("sok help solve", "limit S", 0),
@@ -24,6 +24,7 @@ const REFUSALS: [(&str, &str, u8); 26] = [
     ("sok show --help", "best PUSHES MOVES LETTERS", 0),
     ("sok help show", "BOXES PUSHES MOVES VERDICT TITLE", 0),
     ("sok export --help", "in order of ids", 0),
+    ("sok help export", "Solution: LETTERS", 0),
     ("sok sovle F 1", "unrecognized subcommand 'sovle'", 2),
     ("sok list", "<FILE>", 2),
     ("sok list F G", "unexpected argument 'G'", 2),

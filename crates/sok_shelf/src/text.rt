@@ -14,8 +14,9 @@ use std::alloc::{AllocError, Global};
 pub enum BookText {
     /// A line for each level.
     Overview,
-    /// A collection of them.
-    Export,
+    /// A collection of them, in which their best solutions and verdicts are noted where this is
+    /// asked for.
+    Export { solutions: bool },
 }
 
 /// This text of all levels, in this order.
@@ -24,6 +25,6 @@ pub fn book_text(alloc: Global, records: &[Record], text: BookText) -> Result<Ve
 {
     match text {
         BookText::Overview => overview_text(alloc, records),
-        BookText::Export => export_text(alloc, records),
+        BookText::Export { solutions } => export_text(alloc, records, solutions),
     }
 }

@@ -42,7 +42,7 @@ asks (add db file) = omega arith
 asks (offer db id text) = omega arith
 asks (prove db id cert) = omega arith
 asks (show db id) = omega arith
-asks (export db) = omega arith
+asks (export db solutions) = omega arith
 
 -- so without further words none is asked for
 pub too_few : (words : List (String Global)) (program : List ℕ) (form : Form) → length words ≤ 1
@@ -139,8 +139,10 @@ Serves-overview files databases (show of None) db db_name out err exit (db_is, i
 Serves-overview files databases (show of (Some number)) db db_name out err exit (db_is, is) db_named runs = absurd (none-some (id_value number) is)
 Serves-overview files databases _ db db_name out err exit means db_named runs = absurd means
 
-pub Serves-export : (files : Files) (databases : Databases) (form : Form) (db : String Global) (db_name : List ℕ) (out err : Bytes) (exit : ℕ)
-    → Means form (job.Export db) → db_name ≡ string_bytes db → RunsShowing databases db_name (IsBookText texts.Export) out err exit → Serves files databases form out err exit
-Serves-export files databases (export of) db db_name out err exit db_is db_named runs =
-    subst (λ d. RunsShowing databases d (IsBookText texts.Export) out err exit) (db_named ∙ db_is) runs
-Serves-export files databases _ db db_name out err exit means db_named runs = absurd means
+pub Serves-export : (files : Files) (databases : Databases) (form : Form) (db : String Global) (solutions : Bool) (db_name : List ℕ) (out err : Bytes) (exit : ℕ)
+    → Means form (job.Export db solutions) → db_name ≡ string_bytes db → RunsShowing databases db_name (IsBookText (texts.Export solutions)) out err exit
+    → Serves files databases form out err exit
+Serves-export files databases (export of asked) db solutions db_name out err exit (db_is, asked_is) db_named runs =
+    subst (λ s. RunsShowing databases of (IsBookText (texts.Export s)) out err exit) asked_is
+    (subst (λ d. RunsShowing databases d (IsBookText (texts.Export solutions)) out err exit) (db_named ∙ db_is) runs)
+Serves-export files databases _ db solutions db_name out err exit means db_named runs = absurd means

@@ -77,4 +77,4 @@ Serves files databases (offer db id text) out err exit = RunsOffer databases db 
 Serves files databases (prove db id cert) out err exit = RunsProve files databases db (id_value id) cert out err exit
 Serves files databases (show db (Some id)) out err exit = RunsShowing databases db (λ book. IsShow book (id_value id)) out err exit
 Serves files databases (show db None) out err exit = RunsShowing databases db (IsBookText Overview) out err exit
-Serves files databases (export db) out err exit = RunsShowing databases db (IsBookText Export) out err exit
+Serves files databases (export db solutions) out err exit = RunsShowing databases db (IsBookText (Export solutions)) out err exit

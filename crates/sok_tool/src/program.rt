@@ -110,6 +110,11 @@ fn served<
             Some(id) => ended(show(rt, db.as_str(), id, out), err),
             None => ended(tell(rt, db.as_str(), BookText::Overview, out), err),
         },
-        Job::Export(db) => ended(tell(rt, db.as_str(), BookText::Export, out), err),
+        Job::Export(db, solutions) => {
+            ended(
+                tell(rt, db.as_str(), BookText::Export { solutions }, out),
+                err,
+            )
+        }
     }
 }

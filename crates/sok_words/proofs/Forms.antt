@@ -71,8 +71,11 @@ reads program (show db None) (d, i) =
 reads program (show db (Some id)) (d, i) =
     by program (show db (Some id)) (codes "show") (value db d ∷ digits id i.0 ∷ []) refl refl
     (record { passes = (refl, (refl, tt)); ends = ap (λ b. (b && true) && true) (id_passes (codes "ID") id i) }) (refl, refl, (i, refl))
-reads program (export db) is =
-    by program (export db) (codes "export") (value db is ∷ []) refl refl (record { passes = (refl, tt); ends = refl }) (refl, refl)
+reads program (export db false) is =
+    by program (export db false) (codes "export") (value db is ∷ []) refl refl (record { passes = (refl, tt); ends = refl }) (refl, refl, refl)
+reads program (export db true) is =
+    by program (export db true) (codes "export") (value db is ∷ named (codes "--solutions") ∷ []) refl refl
+    (record { passes = (refl, (refl, tt)); ends = refl }) (refl, refl, refl)
 reads program (solve file number None false None) (f, n, m, c) =
     by program (solve file number None false None) (codes "solve") (value file f ∷ digits number n.0 ∷ []) refl refl
     (record {

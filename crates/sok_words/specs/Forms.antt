@@ -29,7 +29,7 @@ pub data Form : Type 0 where
   offer : List ℕ → List ℕ → List ℕ → Form
   prove : List ℕ → List ℕ → List ℕ → Form
   show : List ℕ → Option (List ℕ) → Form
-  export : List ℕ → Form
+  export : List ℕ → Bool → Form
 
 abbrev pub IsPlain : Form → Type 0
 IsPlain (list file) = IsValue file
@@ -42,7 +42,7 @@ IsPlain (add db file) = IsValue db × IsValue file
 IsPlain (offer db id text) = IsValue db × IsId id × IsValue text
 IsPlain (prove db id cert) = IsValue db × IsId id × IsValue cert
 IsPlain (show db id) = IsValue db × IfSome id IsId
-IsPlain (export db) = IsValue db
+IsPlain (export db solutions) = IsValue db
 
 -- an option and its value, where it is given
 abbrev pub option_words : List ℕ → Option (List ℕ) → List (List ℕ)
@@ -66,7 +66,7 @@ words_of (add db file) = codes "add" ∷ db ∷ file ∷ []
 words_of (offer db id text) = codes "offer" ∷ db ∷ id ∷ text ∷ []
 words_of (prove db id cert) = codes "prove" ∷ db ∷ id ∷ cert ∷ []
 words_of (show db id) = codes "show" ∷ db ∷ option_to_list id
-words_of (export db) = codes "export" ∷ db ∷ []
+words_of (export db solutions) = codes "export" ∷ db ∷ flag_words (codes "--solutions") solutions
 
 abbrev pub limit_of : Option (List ℕ) → ℕ
 limit_of None = 100000
@@ -90,7 +90,7 @@ Means (add db file) (job.Add a b) = (string_bytes a ≡ db) × (string_bytes b �
 Means (offer db id text) (job.Offer a b c) = (string_bytes a ≡ db) × (b ≡ id_value id) × (string_bytes c ≡ text)
 Means (prove db id cert) (job.Prove a b c) = (string_bytes a ≡ db) × (b ≡ id_value id) × (string_bytes c ≡ cert)
 Means (show db id) (job.Show a b) = (string_bytes a ≡ db) × (b ≡ option_map id_value id)
-Means (export db) (job.Export a) = (string_bytes a ≡ db)
+Means (export db solutions) (job.Export a b) = (string_bytes a ≡ db) × (b ≡ solutions)
 Means _ _ = ⊥
 
 -- the answer to a form: its job, or memory ran out

@@ -59,4 +59,6 @@ HasValues (prove db id cert) name rows = (name ≡ codes "prove")
     × HasId rows (codes "ID") id
     × (first_of (codes "CERT") rows ≡ Some cert)
 HasValues (show db id) name rows = (name ≡ codes "show") × (first_of (codes "DB") rows ≡ Some db) × HasOptionalId rows (codes "ID") id
-HasValues (export db) name rows = (name ≡ codes "export") × (first_of (codes "DB") rows ≡ Some db)
+HasValues (export db solutions) name rows = (name ≡ codes "export")
+    × (first_of (codes "DB") rows ≡ Some db)
+    × HasFlag rows (codes "solutions") solutions

@@ -113,7 +113,7 @@ subcommand_rules = (codes "list", file_rule ∷ [])
     ∷ (codes "offer", book_rule ∷ entry_rule ∷ text_rule ∷ [])
     ∷ (codes "prove", book_rule ∷ entry_rule ∷ cert_rule ∷ [])
     ∷ (codes "show", book_rule ∷ shown_rule ∷ [])
-    ∷ (codes "export", book_rule ∷ [])
+    ∷ (codes "export", book_rule ∷ flag_rule (codes "solutions") ∷ [])
     ∷ []
 
 -- the program's command

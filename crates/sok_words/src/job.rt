@@ -25,8 +25,8 @@ pub enum Job {
     Prove(String, i64, String),
     /// The path of a book, and the id of a level, which is none where all levels are asked for.
     Show(String, Option<i64>),
-    /// The path of a book.
-    Export(String),
+    /// The path of a book, and whether solutions are written, too.
+    Export(String, bool),
 }
 
 /// A command line that asks for nothing: the text to print, and the status to end with. That is 0

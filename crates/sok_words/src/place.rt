@@ -105,6 +105,12 @@ pub(crate) const DB: Place = Place {
     help: "The database file of a book of levels, which add makes where there is none",
 };
 
+pub(crate) const SOLUTIONS: Place = Place {
+    name: "solutions",
+    kind: Kind::Flag,
+    help: "Note behind each level its best solution, and what is proved of it",
+};
+
 pub(crate) const ID: Place = Place {
     name: "ID",
     kind: Kind::Id,

@@ -64,7 +64,10 @@ fn job_of(alloc: Global, name: &str, values: &ArgMatches<'_>) -> Result<Job, Job
             let db = text_of(alloc, values, "DB")?;
             Ok(Job::Show(db, optional_id_of(values, "ID")))
         }
-        "export" => Ok(Job::Export(text_of(alloc, values, "DB")?)),
+        "export" => {
+            let db = text_of(alloc, values, "DB")?;
+            Ok(Job::Export(db, flag_of(values, "solutions")))
+        }
         _ => Err(missing(alloc)),
     }
 }

@@ -3,7 +3,9 @@
 ghost use Rattle.std.specs.Prelude.{◌≡◌, IfOk, fold};
 ghost use Rattle.sok_words.specs.Shapes.{Builds, own_app, sok_app, sok_top, with_own};
 
-use crate::place::{BOUND, CERT, DB, FILE, ID, LETTERS, LIMIT, N, OUTPUT, Place, SHOWN, TEXT};
+use crate::place::{
+    BOUND, CERT, DB, FILE, ID, LETTERS, LIMIT, N, OUTPUT, Place, SHOWN, SOLUTIONS, TEXT,
+};
 use clap::Command;
 use std::alloc::{AllocError, Global};
 
@@ -164,10 +166,15 @@ Examples: sok show small.db 1
             about: "Writes the levels of a book as a collection",
             writes: "\
 Writes for each level, in order of ids, ; TITLE if it has one, its rows, and an empty line (status
-0). A fault is status 5, and of memory 6.
+0). With --solutions these notes stand before that line:
+  Solution: LETTERS  its best solution, if it has one, and behind it
+  Pushes: K          its pushes, with optimal behind K where no solution has fewer
+  Unsolvable         no letters solve the level
+A fault is status 5, and of memory 6.
 
-Example: sok export small.db > small.xsb",
-            places: &[DB],
+Examples: sok export small.db > small.xsb
+          sok export small.db --solutions > solved.xsb",
+            places: &[DB, SOLUTIONS],
         },
     ]
 }

@@ -18,7 +18,8 @@ use std::alloc::Global;
 /// ```text
 /// list FILE · replay FILE N TEXT · draw FILE N [TEXT]
 /// solve FILE N [--limit S] [--bound] [--cert PATH] · check FILE N CERT
-/// add DB FILE · offer DB ID TEXT · prove DB ID CERT · show DB [ID] · export DB
+/// add DB FILE · offer DB ID TEXT · prove DB ID CERT · show DB [ID]
+/// export DB [--solutions]
 /// ```
 ///
 /// Places and PATH that are not empty and do not begin with a hyphen, N and S below 2 ^ 32 and ID

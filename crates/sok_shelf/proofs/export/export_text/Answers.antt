@@ -6,8 +6,8 @@ use Rattle.sok_shelf.proofs.export.export_text.Goals as goal
 
 pub loop-kept-preserved : goal.loop-kept-preserved
 loop-kept-preserved c =
-    c.in_ok-push_level.ensures ∙ ap (λ text. text ++ level_export (record_text c.kept-item.result)) c.loop-kept.invariant
-    ∙ sym (export-more record_text c.args.records.now c.loop-kept.kept-index c.kept-item.result _ (omega arith) c.kept-item.is)
+    c.in_ok-push_level.ensures ∙ ap (λ text. text ++ level_export c.args.solutions (record_text c.kept-item.result)) c.loop-kept.invariant
+    ∙ sym (export-more c.args.solutions record_text c.args.records.now c.loop-kept.kept-index c.kept-item.result _ (omega arith) c.kept-item.is)
 
 pub returns : goal.returns
-returns c = c.loop-kept.invariant ∙ export-all record_text c.args.records.now c.loop-kept.kept-index (omega arith)
+returns c = c.loop-kept.invariant ∙ export-all c.args.solutions record_text c.args.records.now c.loop-kept.kept-index (omega arith)

@@ -74,6 +74,6 @@ returns-in-Show g c = λ form plain means.
 pub returns : goal.returns
 returns g c = λ form plain means.
     let s = c.in-Export in
-    let meant : Means form (job.Export s.db) = subst (Means form) s.is means in
-    Serves-export _ _ form s.db c.as_str-in-Export.result.now _ _ _ meant c.as_str-in-Export.ensures.value
+    let meant : Means form (job.Export s.db s.solutions) = subst (Means form) s.is means in
+    Serves-export _ _ form s.db s.solutions c.as_str-in-Export.result.now _ _ _ meant c.as_str-in-Export.ensures.value
     (c.tell-in-Export.result, c.tell-in-Export.ensures, c.ended-in-Export.ensures)
