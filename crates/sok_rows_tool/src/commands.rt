@@ -228,10 +228,29 @@ fn offer_twice(rt: &impl Abort, alloc: Global, book: &mut Book<MemStore>) -> Res
     Ok(())
 }
 
-/// The answer of an offer cannot be written, and the offer stands.
+/// Settles a second level whose line cannot be written, and then once more.
+fn settle_twice(rt: &impl Abort, alloc: Global, book: &mut Book<MemStore>) -> Result<(), Fail> {
+    let mut out = Vec::new(alloc);
+    answer(alloc, book, Command::Add(BOX_BEYOND_THE_GOAL), &mut out)?;
+    let mut room = [0u8; 20];
+    let settle = Command::Settle(4, 1);
+    let settled = answer(alloc, book, settle, &mut room.as_mut_slice());
+    assert_eq!(rt; settled, Err(ToolFault::WriteFailed));
+    assert_eq!(rt; room.as_slice(), b"1 optimal 2 6\n2 unso".as_slice());
+    let again = answer(alloc, book, settle, &mut out);
+    assert_eq!(rt; again, Ok(0));
+    let shown = answer(alloc, book, Command::Overview, &mut out);
+    assert_eq!(rt; shown, Ok(0));
+    let told = b"1 id 2\n1 4 6 1 2 6 optimal\n2 3 5 1 - - unsolvable\n";
+    assert_eq!(rt; out.as_slice(), told.as_slice());
+    Ok(())
+}
+
+/// The answer of an offer cannot be written, and the offer stands; and so with a verdict.
 #[test]
 fn a_command_stands_without_its_answer(rt: HostRuntime) -> Result<(), Fail> {
     let alloc = rt.alloc();
     let mut book = book_in(alloc, Connection::open_in_memory(alloc)?)?;
-    offer_twice(&rt, alloc, &mut book)
+    offer_twice(&rt, alloc, &mut book)?;
+    settle_twice(&rt, alloc, &mut book)
 }

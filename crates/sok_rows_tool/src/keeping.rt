@@ -11,12 +11,13 @@ use std::test::Fail;
 const NO_DATABASE: &str = "fault 32 Database\n";
 
 /// Commands on a book that is not there, of which none makes one.
-const ABSENT: [Row; 5] = [
+const ABSENT: [Row; 6] = [
     ("sok export books/book", "", NO_DATABASE, 5),
     ("sok show books/book 1", "", NO_DATABASE, 5),
     ("sok show books/book", "", NO_DATABASE, 5),
     ("sok offer books/book 1 R", "", NO_DATABASE, 5),
     ("sok prove books/book 1 books/cert", "", NO_DATABASE, 5),
+    ("sok settle books/book", "", NO_DATABASE, 5),
 ];
 
 const COMMANDS: [Row; 25] = [
@@ -114,6 +115,105 @@ fn a_book_in_a_file(rt: HostRuntime) -> Result<(), Fail> {
     // a file that is no database gets no log beside it
     assert!(rt; fs::open(&rt, "books/cert-wal").is_err());
     fs::remove_dir_all(&rt, "books")?;
+    Ok(())
+}
+
+/// A room of two pushes, in which the box comes to four places; a box that is lost; a corridor of
+/// six pushes, with seven places; and a level that is solved as it stands.
+const UNSETTLED: &str = "\
+######
+#    #
+# $@.#
+######
+
+#####
+#@.$#
+#####
+
+##########
+#@$     .#
+##########
+
+#####
+#@ *#
+#####
+";
+
+/// A book is settled: within four states, and from a level on; then what is left; then nothing is.
+const SETTLES: [Row; 13] = [
+    (
+        "sok add settles/book settles/unsettled",
+        "1 id 1\n2 id 2\n3 id 3\n4 id 4\n",
+        "",
+        0,
+    ),
+    (
+        "sok settle settles/book --limit 0",
+        "",
+        "fault 16 BadLimit\n",
+        3,
+    ),
+    (
+        "sok settle settles/book --limit 1000001",
+        "",
+        "fault 16 BadLimit\n",
+        3,
+    ),
+    ("sok settle settles/book --from 5", "", "", 0),
+    (
+        "sok settle settles/book --from 3 --limit 4",
+        "3 limit 4 at least 6\n4 optimal 0 0\n",
+        "",
+        4,
+    ),
+    (
+        "sok show settles/book",
+        "1 4 6 1 - - untested\n2 3 5 1 - - untested\n3 3 10 1 - - untested\n4 3 5 1 0 0 optimal\n",
+        "",
+        0,
+    ),
+    // a best with more pushes goes, and one with as many stays
+    (
+        "sok offer settles/book 1 rlulldRurrdLulldRR",
+        "stored 4 18\n",
+        "",
+        0,
+    ),
+    (
+        "sok settle settles/book --limit 4",
+        "1 optimal 2 6\n2 unsolvable\n3 limit 4 at least 6\n",
+        "",
+        4,
+    ),
+    (
+        "sok show settles/book 1",
+        "######\n#    #\n# $@.#\n######\nbest 2 6 ulldRR\nverdict optimal\n",
+        "",
+        0,
+    ),
+    (
+        "sok show settles/book 2",
+        "#####\n#@.$#\n#####\nbest none\nverdict unsolvable\n",
+        "",
+        0,
+    ),
+    ("sok settle settles/book", "3 optimal 6 6\n", "", 0),
+    ("sok settle settles/book", "", "", 0),
+    (
+        "sok show settles/book",
+        "1 4 6 1 2 6 optimal\n2 3 5 1 - - unsolvable\n3 3 10 1 6 6 optimal\n4 3 5 1 0 0 optimal\n",
+        "",
+        0,
+    ),
+];
+
+#[test]
+fn levels_of_a_book_are_settled(rt: HostRuntime) -> Result<(), Fail> {
+    prepare(&rt, "settles")?;
+    fs::write(&rt, "settles/unsettled", UNSETTLED)?;
+    let other = first_other(&rt, &SETTLES)?;
+    assert_eq!(rt; other, None);
+    fs::remove_dir_all(&rt, "settles")?;
     Ok(())
 }
 

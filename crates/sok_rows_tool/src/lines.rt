@@ -38,6 +38,12 @@ fn reads_each_form(rt: HostRuntime) -> Result<(), Fail> {
         ("sok add B F", "Add(\"B\", \"F\")"),
         ("sok offer B 3 uR", "Offer(\"B\", 3, \"uR\")"),
         ("sok prove B 3 C", "Prove(\"B\", 3, \"C\")"),
+        ("sok settle B", "Settle(\"B\", 100000, 1)"),
+        (
+            "sok settle B --limit 5 --from 9223372036854775807",
+            "Settle(\"B\", 5, 9223372036854775807)",
+        ),
+        ("sok settle B --from 3", "Settle(\"B\", 100000, 3)"),
         (
             "sok show B 9223372036854775807",
             "Show(\"B\", Some(9223372036854775807))",

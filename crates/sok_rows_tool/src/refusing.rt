@@ -9,7 +9,7 @@ const VERSION: &str = "sok 1.0\nproved with rattle-kit-13f logic dac8208d650f15b
 
 /// A line, a part of what is written to the output, or where the status is 2 to the error stream,
 /// and the status.
-const REFUSALS: [(&str, &str, u8); 27] = [
+const REFUSALS: [(&str, &str, u8); 31] = [
     ("sok --help", "Exit status:", 0),
     ("sok --version", VERSION, 0),
     ("sok help solve", "limit S", 0),
@@ -21,6 +21,8 @@ const REFUSALS: [(&str, &str, u8); 27] = [
     ("sok add --help", "N id ID", 0),
     ("sok offer --help", "kept PUSHES MOVES", 0),
     ("sok prove --help", "proved optimal K", 0),
+    ("sok settle --help", "ID limit S at least K", 0),
+    ("sok help settle", "[default: 1]", 0),
     ("sok show --help", "best PUSHES MOVES LETTERS", 0),
     ("sok help show", "BOXES PUSHES MOVES VERDICT TITLE", 0),
     ("sok export --help", "in order of ids", 0),
@@ -44,6 +46,12 @@ const REFUSALS: [(&str, &str, u8); 27] = [
         2,
     ),
     ("sok prove B 1", "<CERT>", 2),
+    ("sok settle B 2", "unexpected argument '2'", 2),
+    (
+        "sok settle B --from 9223372036854775808",
+        "9223372036854775808",
+        2,
+    ),
     ("sok show B -1", "unexpected argument '-1'", 2),
 ];
 

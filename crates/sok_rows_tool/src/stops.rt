@@ -23,7 +23,7 @@ struct Stop {
     found: &'static [&'static str],
 }
 
-const STOPS: [Stop; 3] = [
+const STOPS: [Stop; 4] = [
     Stop {
         before: &[
             Command::Add(ROOM_OF_TWO_ROWS),
@@ -41,6 +41,16 @@ const STOPS: [Stop; 3] = [
         command: Command::Prove(1, TWO_PUSHES),
         look: Command::Show(1),
         found: &[
+            "######\n#    #\n# $@.#\n######\nbest 2 6 ulldRR\nverdict untested\n",
+            "######\n#    #\n# $@.#\n######\nbest 2 6 ulldRR\nverdict optimal\n",
+        ],
+    },
+    Stop {
+        before: &[Command::Add(ROOM_OF_TWO_ROWS)],
+        command: Command::Settle(4, 1),
+        look: Command::Show(1),
+        found: &[
+            "######\n#    #\n# $@.#\n######\nbest none\nverdict untested\n",
             "######\n#    #\n# $@.#\n######\nbest 2 6 ulldRR\nverdict untested\n",
             "######\n#    #\n# $@.#\n######\nbest 2 6 ulldRR\nverdict optimal\n",
         ],

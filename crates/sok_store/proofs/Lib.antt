@@ -4,6 +4,7 @@ pub mod Caused
 pub mod Found
 pub mod Histories
 pub mod Known
+pub mod KnownProofs
 pub mod Offered
 pub mod Opened
 pub mod Proved

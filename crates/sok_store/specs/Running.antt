@@ -13,6 +13,7 @@ use Rattle.sok_book.specs.Commands.{Adds, Offers, Proves}
 use Rattle.sok_book.specs.Refusals.{IsNotAdded, IsNotOffered, IsNotProved}
 use Rattle.sok_row.specs.Faults.{IsOutside}
 use Rattle.sok_store.specs.Calls.{Changes, Finds, IsCaused, Keeps, MakesNone, Stops, id_number}
+use Rattle.sok_store.specs.Known.{IsNotKnown, ProvesKnown}
 use Rattle.sok_store.specs.Standing.{OffersTelling}
 use Rattle.sok_store.specs.declared.standing.Standing.{Standing}
 use Rattle.sok_store.specs.Entries.{AddsPage, IsCausedAdding, IsCausedSetting, IsFull, Sets, StopsAdding, StopsSetting}
@@ -74,3 +75,9 @@ abbrev pub RunsProving : State → State → ℕ → List ℕ → Result Claim B
 RunsProving old new id bytes =
     Runs old new (λ shown book after. Proves book id bytes shown after) (λ book after. (shown : Claim) × Proves book id bytes shown after)
     (λ book fault. IsNotProved book id bytes fault)
+
+-- it is proved by a certificate of which is known that there is one
+abbrev pub RunsKnown : State → State → ℕ → Rows → Claim → Result (Unit {0}) BookFault → Type 0
+RunsKnown old new id rows claim =
+    Runs old new (λ _ book after. ProvesKnown book id claim after) (λ book after. ProvesKnown book id claim after)
+    (λ book fault. IsNotKnown book id rows claim fault)

@@ -16,12 +16,14 @@ ghost use Rattle.sok_row.specs.Faults.{IsOutside};
 ghost use Rattle.sok_row.specs.Told.{AreRecordsOf, IsRecordOf};
 ghost use Rattle.sok_store.specs.Calls.{Changes, Finds, IsCaused, Keeps, MakesNone, Stops};
 ghost use Rattle.sok_store.specs.Calls.{id_number, title_kept};
+ghost use Rattle.sok_store.specs.Known.{IsCertified, IsNotKnown, ProvesKnown};
 ghost use Rattle.sok_store.specs.Opening.{IsCausedOpening, IsUnopened, LeavesOpening, Opens};
 ghost use Rattle.sok_store.specs.Running.{Admits};
 ghost use Rattle.sok_store.specs.Standing.{OffersTelling};
 ghost use Rattle.sok_store.specs.declared.standing.Standing.{Standing};
 
 use crate::adding::add_to;
+use crate::certified::prove_known_to;
 use crate::listing::records_in;
 use crate::offering::offer_to;
 use crate::opening::prepare;
@@ -227,5 +229,25 @@ impl<S: Alter> Book<S> {
             × Proves book (id_number id) certificate.now shown after)) }
     {
         prove_to(&mut self.connection, self.alloc, id, certificate)
+    }
+
+    /// Proves the verdict of the level with an id by a certificate of which is known that there is
+    /// one, so that no bytes are read or judged: whoever calls it has a proof that a closed
+    /// certificate of this level shows the claim. Refused are, in this order, an id at which this
+    /// level does not stand (`NoLevel`), and a claim that is not about its best (`ClaimDiffers`).
+    pub fn prove_known(&mut self, id: i64, level: &Level, claim: Claim) -> Result<(), BookFault>
+        requires { IsCertified level.now claim }
+        ensures proved { OnOk result (Changes (state S.Store self.old) (state S.Store self.new)
+            (λ book after. ProvesKnown book (id_number id) claim after)) }
+        ensures refused { IfErr result (λ fault.
+            Keeps (state S.Store self.old) (state S.Store self.new)
+            (λ book. IsOutside fault
+            ⊎ IsNotKnown book (id_number id) level.now claim fault)) }
+        ensures stop { Stops (state S.Store self.old) (state S.Store self.new)
+            (λ book after. ProvesKnown book (id_number id) claim after) }
+        ensures cause { IfErr result (IsCaused (state S.Store self.old) (state S.Store self.new)
+            (λ book after. ProvesKnown book (id_number id) claim after)) }
+    {
+        prove_known_to(&mut self.connection, self.alloc, id, level, claim)
     }
 }

@@ -9,6 +9,7 @@
 
 mod adding;
 pub mod book;
+mod certified;
 mod entry;
 pub mod law;
 mod listing;

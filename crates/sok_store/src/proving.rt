@@ -78,7 +78,7 @@ fn judge_entry(alloc: Global, entry: &Entry, bytes: &[u8]) -> Result<Claim, Book
 }
 
 /// The verdict that a claim is.
-fn verdict_of(claim: Claim) -> Verdict
+pub(crate) fn verdict_of(claim: Claim) -> Verdict
     ensures { result ≡ verdict_of claim }
 {
     match claim {

@@ -1,6 +1,6 @@
 -- What is answered to a job is what serves its form.
-use Rattle.std.proofs.Common.{ℕ, ℤ, ◌≡◌, ◌∙◌, inl, Bool, FitsSigned, Global, String, List, Option, Some, None, Err, option_map, refl}
-use Rattle.std.proofs.Common.{◌≤◌, ◌∷◌, ap, arith, length, map, string_bytes, subst, sym, w64}
+use Rattle.std.proofs.Common.{ℕ, ℤ, ◌≡◌, ◌∙◌, inl, Bool, FitsSigned, Global, IfSome, String, List, Option, Some, None, Err, option_map, refl}
+use Rattle.std.proofs.Common.{◌≤◌, ◌∷◌, ap, arith, length, map, pos, string_bytes, subst, sym, w64}
 use Rattle.std.proofs.lemmas.List.{length-map}
 use Rattle.std.proofs.lemmas.Option.{none-some}
 use Rattle.std.specs.Str.Parse.{digits_value}
@@ -12,10 +12,10 @@ use Rattle.sok_keep.specs.Shows.{IsBookText, IsShow}
 use Rattle.sok_keep.proofs.Ids.{fits, of_passed, passed}
 use Rattle.sok_shelf.specs.declared.text.BookText.TheVariants as texts
 use Rattle.sok_words.specs.declared.job.Job.TheVariants as job
-use Rattle.sok_words.specs.Forms.{Form, IsId, IsPlain, Means, add, check, draw, export, id_value, limit_of, list, offer, prove, replay, show, solve, words_of}
+use Rattle.sok_words.specs.Forms.{Form, IsId, IsPlain, Means, add, check, draw, export, from_of, id_value, limit_of, list, offer, prove, replay, settle, show, solve, words_of}
 use Rattle.sok_files.specs.Endings.{Ends}
 use Rattle.sok_files.specs.Files.{Files}
-use Rattle.sok_tool.specs.Commands.{RunsAdd, RunsCheck, RunsOffer, RunsPlay, RunsProve, RunsShowing, RunsSolve, Serves}
+use Rattle.sok_tool.specs.Commands.{RunsAdd, RunsCheck, RunsOffer, RunsPlay, RunsProve, RunsSettle, RunsShowing, RunsSolve, Serves}
 use Rattle.sok_tool.specs.Databases.{Databases, refused, unread}
 
 -- where memory was refused, nothing is written
@@ -41,6 +41,7 @@ asks (check file number cert) = omega arith
 asks (add db file) = omega arith
 asks (offer db id text) = omega arith
 asks (prove db id cert) = omega arith
+asks (settle db limit from) = omega arith
 asks (show db id) = omega arith
 asks (export db solutions) = omega arith
 
@@ -96,6 +97,11 @@ Serves-solve files databases _ file name n most bounds path out err exit means n
 plain_id : (id : ℤ) (number : List ℕ) → IsId number → id ≡ id_value number → FitsSigned w64 id
 plain_id id number plain is = subst (λ i. FitsSigned w64 i) (sym is) (fits (id_value number) plain.1)
 
+-- and so does the first one
+plain_from : (id : ℤ) (from : Option (List ℕ)) → IfSome from IsId → id ≡ from_of from → FitsSigned w64 id
+plain_from id None plain is = subst (λ i. FitsSigned w64 i) (sym is) (fits (pos 1) (omega arith))
+plain_from id (Some number) plain is = plain_id id number plain is
+
 pub Serves-add : (files : Files) (databases : Databases) (form : Form) (db file : String Global) (db_name name : List ℕ) (out err : Bytes) (exit : ℕ)
     → Means form (job.Add db file) → db_name ≡ string_bytes db → name ≡ string_bytes file → RunsAdd files databases db_name name out err exit
     → Serves files databases form out err exit
@@ -119,6 +125,14 @@ Serves-prove files databases (prove of number place) db id cert db_name name out
     same_three (λ d i f. RunsProve files databases d i f out err exit) _ _ _ _ _ _ (db_named ∙ db_is) id_is (named ∙ cert_is)
     (of_passed (λ i. RunsProve files databases db_name i name out err exit) id (plain_id id number plain.1 id_is) runs)
 Serves-prove files databases _ db id cert db_name name out err exit plain means db_named named runs = absurd means
+
+pub Serves-settle : (files : Files) (databases : Databases) (form : Form) (db : String Global) (most : ℕ) (first : ℤ) (db_name : List ℕ)
+    (out err : Bytes) (exit : ℕ) → IsPlain form → Means form (job.Settle db most first) → db_name ≡ string_bytes db
+    → RunsSettle databases db_name most (passed first) out err exit → Serves files databases form out err exit
+Serves-settle files databases (settle of limit from) db most first db_name out err exit plain (db_is, limit_is, from_is) db_named runs =
+    same_three (λ d l i. RunsSettle databases d l i out err exit) _ _ _ _ _ _ (db_named ∙ db_is) limit_is from_is
+    (of_passed (λ i. RunsSettle databases db_name most i out err exit) first (plain_from first from plain.2 from_is) runs)
+Serves-settle files databases _ db most first db_name out err exit plain means db_named runs = absurd means
 
 pub Serves-show : (files : Files) (databases : Databases) (form : Form) (db : String Global) (id : ℤ) (db_name : List ℕ) (out err : Bytes) (exit : ℕ)
     → IsPlain form → Means form (job.Show db (Some id)) → db_name ≡ string_bytes db

@@ -1,8 +1,10 @@
 -- What the program does for a command line.
-use Rattle.std.specs.Prelude.{ℕ, ℤ, ◌≡◌, Bool, List, [], Option, Some, None, Result, unwrap_or}
+use Rattle.std.specs.Prelude.{ℕ, ℤ, ◌≡◌, Bool, List, [], Option, Some, None, Result, Err, unwrap_or}
 use Rattle.std.specs.Str.Parse.{digits_value}
+use Rattle.sok_search.specs.Faults.{IsBadLimit}
 use Rattle.sok_book.specs.Books.{Book}
 use Rattle.sok_engine.specs.declared.fault.ToolFault.{ToolFault}
+use Rattle.sok_engine.specs.declared.fault.ToolFault.TheVariants as tool
 use Rattle.sok_engine.specs.Certified.{Bytes}
 use Rattle.sok_engine.specs.Inputs.{Within}
 use Rattle.sok_engine.specs.Limits.{cert_limit, input_limit}
@@ -15,12 +17,13 @@ use Rattle.sok_keep.specs.Adds.{AddsBytes, WritesAdding}
 use Rattle.sok_keep.specs.Offers.{OffersText, WritesOffer}
 use Rattle.sok_keep.specs.Proves.{ProvesBytes, WritesProof}
 use Rattle.sok_keep.specs.Shows.{IsBookText, IsShow}
+use Rattle.sok_settle.specs.Settles.{SettlesSome, WritesSettling}
 use Rattle.sok_play.specs.Drawings.{IsDrawing}
 use Rattle.sok_play.specs.Listing.{IsListing}
 use Rattle.sok_play.specs.Plays.{IsReplay}
 use Rattle.sok_shelf.specs.declared.text.BookText.TheVariants.{Overview, Export}
 use Rattle.sok_store.specs.Calls.{MakesNone}
-use Rattle.sok_words.specs.Forms.{Form, add, check, draw, export, id_value, limit_of, list, offer, prove, replay, show, solve}
+use Rattle.sok_words.specs.Forms.{Form, add, check, draw, export, from_of, id_value, limit_of, list, offer, prove, replay, settle, show, solve}
 use Rattle.sok_tool.specs.Databases.{Databases, OfOpened, Place, WorksOn, at, made_at}
 
 -- what is answered to the job of playing a text: of replaying it, or of drawing the level behind it
@@ -59,6 +62,12 @@ RunsProve files databases db id cert out err exit =
     RunsOn (at databases db) (files.lacks cert) (λ book after. OfOpened (files.reads cert) (λ known. ProvesBytes id known book after))
     (λ book after result. OfOpened (files.reads cert) (λ known. WritesProof book id known after out.old out.new result)) out err exit
 
+-- the levels that nothing is proved of are settled, within a limit that is not refused, from an id on
+abbrev pub RunsSettle : Databases → List ℕ → ℕ → ℤ → Bytes → Bytes → ℕ → Type 0
+RunsSettle databases db limit from out err exit =
+    RunsOn (at databases db) ⊥ (SettlesSome limit from)
+    (λ book after result. (IsBadLimit limit → result ≡ Err tool.BadLimit) × WritesSettling limit from book after out.old out.new result) out err exit
+
 -- the book stays, and such an answer is written
 abbrev pub RunsShowing : Databases → List ℕ → (Book → Answers) → Bytes → Bytes → ℕ → Type 0
 RunsShowing databases db P out err exit =
@@ -75,6 +84,7 @@ Serves files databases (solve file number limit bound cert) out err exit =
 Serves files databases (add db file) out err exit = RunsAdd files databases db file out err exit
 Serves files databases (offer db id text) out err exit = RunsOffer databases db (id_value id) text out err exit
 Serves files databases (prove db id cert) out err exit = RunsProve files databases db (id_value id) cert out err exit
+Serves files databases (settle db limit from) out err exit = RunsSettle databases db (limit_of limit) (from_of from) out err exit
 Serves files databases (show db (Some id)) out err exit = RunsShowing databases db (λ book. IsShow book (id_value id)) out err exit
 Serves files databases (show db None) out err exit = RunsShowing databases db (IsBookText Overview) out err exit
 Serves files databases (export db solutions) out err exit = RunsShowing databases db (IsBookText (Export solutions)) out err exit

@@ -1,14 +1,17 @@
 //! Each command on a book. The database is opened first, then the file that the command names, and
 //! then the book. Only `add` makes a database that is not there.
 
-ghost use Rattle.std.specs.Prelude.{◌≡◌, IfErr, IfOk};
+ghost use Rattle.std.specs.Prelude.{◌≡◌, Err, IfErr, IfOk};
 ghost use Rattle.sqlite.specs.Held.{state};
+ghost use Rattle.sok_search.specs.Faults.{IsBadLimit};
+ghost use Rattle.sok_engine.specs.declared.fault.ToolFault.TheVariants as tool;
 ghost use Rattle.sok_engine.specs.Written.{Writes};
 ghost use Rattle.sok_store.specs.Calls.{MakesNone};
 ghost use Rattle.sok_keep.specs.Adds.{AddsBytes, WritesAdding};
 ghost use Rattle.sok_keep.specs.Offers.{OffersText, WritesOffer};
 ghost use Rattle.sok_keep.specs.Proves.{ProvesBytes, WritesProof};
 ghost use Rattle.sok_keep.specs.Shows.{IsBookText, IsShow};
+ghost use Rattle.sok_settle.specs.Settles.{SettlesSome, WritesSettling};
 ghost use Rattle.sok_tool.specs.Databases.{IsWithoutBook, OfOpened, OpensFound, WorksOn, place};
 ghost use Rattle.sok_tool.specs.declared.databases.IfAbsent.{IfAbsent};
 ghost use Rattle.sok_tool.specs.declared.databases.IfAbsent.TheVariants as if_absent;
@@ -22,6 +25,7 @@ use sok_keep::add::add_bytes;
 use sok_keep::offer::offer_bytes;
 use sok_keep::prove::prove_bytes;
 use sok_keep::show::{book_bytes, show_bytes};
+use sok_settle::settle::settle_bytes;
 use sok_shelf::text::BookText;
 use sok_store::book::{Book, OpenRefused};
 use sqlite::{Alter, Connection};
@@ -82,6 +86,27 @@ pub(crate) fn prove<
 {
     let (mut book, mut cert_input) = book_and_file(rt, db, IfAbsent::Refuse, path)?;
     let told = prove_bytes(rt.alloc(), &mut book, id, &mut cert_input, out);
+    rt.close(db, book.into_connection());
+    told
+}
+
+/// Settles the levels that nothing is proved of, from an id on.
+pub(crate) fn settle<S: Alter + Drop, F: Databases<Opened = Connection<S>> + AllocGlobal, W: Write>(
+    rt: &F,
+    db: &str,
+    limit: u32,
+    from: i64,
+    out: &mut W,
+) -> Result<u8, ToolFault>
+    ensures { WorksOn (place (state S.Store)
+        (F.keeps rt.now if_absent.Refuse db.now) (F.refuses rt.now db.now) (F.leaves rt.now db.now)) ⊥
+        (SettlesSome limit from)
+        (λ book after. (IsBadLimit limit → result ≡ Err tool.BadLimit)
+        × WritesSettling limit from book after (W.contents out.old) (W.contents out.new) result)
+        (record { old = W.contents out.old; new = W.contents out.new }) result }
+{
+    let mut book = book_of(rt, db)?;
+    let told = settle_bytes(rt.alloc(), &mut book, limit, from, out);
     rt.close(db, book.into_connection());
     told
 }

@@ -12,7 +12,7 @@ ghost use Rattle.sok_tool.specs.Commands.{Serves};
 ghost use Rattle.sok_tool.specs.declared.databases.IfAbsent.TheVariants as if_absent;
 
 use crate::databases::Databases;
-use crate::keeping::{add, offer, prove, show, tell};
+use crate::keeping::{add, offer, prove, settle, show, tell};
 use sok_files::command::{check, draw, list, replay, solve};
 use sok_files::ending::{ended, refused};
 use sok_files::folder::Folder;
@@ -106,6 +106,7 @@ fn served<
         Job::Add(db, file) => ended(add(rt, db.as_str(), file.as_str(), out), err),
         Job::Offer(db, id, text) => ended(offer(rt, db.as_str(), id, text.as_str(), out), err),
         Job::Prove(db, id, cert) => ended(prove(rt, db.as_str(), id, cert.as_str(), out), err),
+        Job::Settle(db, limit, from) => { ended(settle(rt, db.as_str(), limit, from, out), err) }
         Job::Show(db, id) => match id {
             Some(id) => ended(show(rt, db.as_str(), id, out), err),
             None => ended(tell(rt, db.as_str(), BookText::Overview, out), err),

@@ -7,7 +7,7 @@ use Rattle.clap.specs.Walk.{Row, Text, walked}
 use Rattle.clap.specs.Words.{first_of}
 use Rattle.clap.specs.Simple.{subcommand_of}
 use Rattle.clap.specs.Takes.{takes}
-use Rattle.sok_words.specs.Forms.{Answers, Form, IsNumber, IsPlain, Means, list, replay, draw, solve, check, add, offer, prove, show, export, words_of}
+use Rattle.sok_words.specs.Forms.{Answers, Form, IsId, IsNumber, IsPlain, Means, list, replay, draw, solve, check, add, offer, prove, settle, show, export, words_of}
 use Rattle.sok_words.specs.Rows.{HasId, HasNumber, HasValues}
 use Rattle.sok_words.specs.Shapes.{sok_app}
 use Rattle.sok_words.specs.declared.job.Job.{Job}
@@ -41,6 +41,9 @@ digits text numeral = value text (number_is_value text numeral)
 default_is_number : IsNumber (codes "100000")
 default_is_number = ((lit< tt, (lit< tt, (lit< tt, (lit< tt, (lit< tt, (lit< tt, (lit< tt, tt))))))), lit< tt)
 
+one_is_id : IsId (codes "1")
+one_is_id = ((lit< tt, (lit< tt, tt)), lit< tt)
+
 pub reads : (program : Text) (form : Form) → IsPlain form → Reads program form
 unfolding walked AllPass
 reads program (list file) is =
@@ -66,6 +69,24 @@ reads program (offer db id text) (d, i, t) =
 reads program (prove db id cert) (d, i, c) =
     by program (prove db id cert) (codes "prove") (value db d ∷ digits id i.0 ∷ value cert c ∷ []) refl refl
     (record { passes = (refl, (refl, (rw (id_passes (codes "ID") id i) refl, tt))); ends = refl }) (refl, refl, (i, refl), refl)
+reads program (settle db None None) (d, l, i) =
+    by program (settle db None None) (codes "settle") (value db d ∷ []) refl refl (record { passes = (refl, tt); ends = refl })
+    (refl, refl, (default_is_number, refl, refl), (one_is_id, refl))
+reads program (settle db None (Some id)) (d, l, i) =
+    by program (settle db None (Some id)) (codes "settle") (value db d ∷ named (codes "--from") ∷ digits id i.0 ∷ []) refl refl
+    (record { passes = (refl, (refl, (refl, tt))); ends = ap (λ b. (b && true) && true) (id_passes (codes "from") id i) })
+    (refl, refl, (default_is_number, refl, refl), (i, refl))
+reads program (settle db (Some limit) None) (d, l, i) =
+    by program (settle db (Some limit) None) (codes "settle") (value db d ∷ named (codes "--limit") ∷ digits limit l.0 ∷ []) refl refl
+    (record { passes = (refl, (refl, (refl, tt))); ends = ap (λ b. (b && true) && true) (number_passes (codes "limit") limit l) })
+    (refl, refl, (l, refl, refl), (one_is_id, refl))
+reads program (settle db (Some limit) (Some id)) (d, l, i) =
+    by program (settle db (Some limit) (Some id)) (codes "settle")
+    (value db d ∷ named (codes "--limit") ∷ digits limit l.0 ∷ named (codes "--from") ∷ digits id i.0 ∷ []) refl refl
+    (record {
+      passes = (refl, (refl, (refl, (rw (number_passes (codes "limit") limit l) refl, (refl, tt)))));
+      ends = ap (λ b. (b && true) && true) (id_passes (codes "from") id i);
+    }) (refl, refl, (l, refl, refl), (i, refl))
 reads program (show db None) (d, i) =
     by program (show db None) (codes "show") (value db d ∷ []) refl refl (record { passes = (refl, tt); ends = refl }) (refl, refl, (i, refl))
 reads program (show db (Some id)) (d, i) =

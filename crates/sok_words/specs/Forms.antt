@@ -28,6 +28,7 @@ pub data Form : Type 0 where
   add : List ℕ → List ℕ → Form
   offer : List ℕ → List ℕ → List ℕ → Form
   prove : List ℕ → List ℕ → List ℕ → Form
+  settle : List ℕ → Option (List ℕ) → Option (List ℕ) → Form
   show : List ℕ → Option (List ℕ) → Form
   export : List ℕ → Bool → Form
 
@@ -41,6 +42,7 @@ IsPlain (check file number cert) = IsValue file × IsNumber number × IsValue ce
 IsPlain (add db file) = IsValue db × IsValue file
 IsPlain (offer db id text) = IsValue db × IsId id × IsValue text
 IsPlain (prove db id cert) = IsValue db × IsId id × IsValue cert
+IsPlain (settle db limit from) = IsValue db × IfSome limit IsNumber × IfSome from IsId
 IsPlain (show db id) = IsValue db × IfSome id IsId
 IsPlain (export db solutions) = IsValue db
 
@@ -65,6 +67,7 @@ words_of (check file number cert) = codes "check" ∷ file ∷ number ∷ cert �
 words_of (add db file) = codes "add" ∷ db ∷ file ∷ []
 words_of (offer db id text) = codes "offer" ∷ db ∷ id ∷ text ∷ []
 words_of (prove db id cert) = codes "prove" ∷ db ∷ id ∷ cert ∷ []
+words_of (settle db limit from) = codes "settle" ∷ db ∷ (option_words (codes "--limit") limit ++ option_words (codes "--from") from)
 words_of (show db id) = codes "show" ∷ db ∷ option_to_list id
 words_of (export db solutions) = codes "export" ∷ db ∷ flag_words (codes "--solutions") solutions
 
@@ -75,6 +78,11 @@ limit_of (Some text) = digits_value 10 text
 -- the id that digits spell
 abbrev pub id_value : List ℕ → ℤ
 id_value text = pos (digits_value 10 text)
+
+-- and the first one, where they are given
+abbrev pub from_of : Option (List ℕ) → ℤ
+from_of None = pos 1
+from_of (Some text) = id_value text
 
 -- the job has the values of the form; of letters and of an id that are left out it has none
 abbrev pub Means : Form → Job → Type 0
@@ -89,6 +97,7 @@ Means (check file number cert) (job.Check a b c) = (string_bytes a ≡ file) × 
 Means (add db file) (job.Add a b) = (string_bytes a ≡ db) × (string_bytes b ≡ file)
 Means (offer db id text) (job.Offer a b c) = (string_bytes a ≡ db) × (b ≡ id_value id) × (string_bytes c ≡ text)
 Means (prove db id cert) (job.Prove a b c) = (string_bytes a ≡ db) × (b ≡ id_value id) × (string_bytes c ≡ cert)
+Means (settle db limit from) (job.Settle a most first) = (string_bytes a ≡ db) × (most ≡ limit_of limit) × (first ≡ from_of from)
 Means (show db id) (job.Show a b) = (string_bytes a ≡ db) × (b ≡ option_map id_value id)
 Means (export db solutions) (job.Export a b) = (string_bytes a ≡ db) × (b ≡ solutions)
 Means _ _ = ⊥

@@ -3,7 +3,7 @@ use Rattle.std.specs.Prelude.{◌≡◌, ℕ, Bool, true, false, List, Option, S
 use Rattle.std.specs.Str.Parse.{digits_value}
 use Rattle.clap.specs.Words.{Row, Text, first_of, one_of}
 use Rattle.clap.specs.Lexer.{without_minus}
-use Rattle.sok_words.specs.Forms.{Form, IsId, IsNumber, limit_of, list, replay, draw, solve, check, add, offer, prove, show, export}
+use Rattle.sok_words.specs.Forms.{Form, IsId, IsNumber, limit_of, list, replay, draw, solve, check, add, offer, prove, settle, show, export}
 
 -- under the name stand the digits of the number
 abbrev pub HasNumber : List Row → Text → Text → ℕ → Type 0
@@ -28,6 +28,10 @@ HasFlag rows name flag = one_of name rows ≡ Some (flag_text flag)
 abbrev pub limit_text : Option Text → Text
 limit_text None = codes "100000"
 limit_text (Some text) = text
+
+abbrev pub from_text : Option Text → Text
+from_text None = codes "1"
+from_text (Some text) = text
 
 abbrev pub HasValues : Form → Text → List Row → Type 0
 HasValues (list file) name rows = (name ≡ codes "list") × (first_of (codes "FILE") rows ≡ Some file)
@@ -58,6 +62,10 @@ HasValues (prove db id cert) name rows = (name ≡ codes "prove")
     × (first_of (codes "DB") rows ≡ Some db)
     × HasId rows (codes "ID") id
     × (first_of (codes "CERT") rows ≡ Some cert)
+HasValues (settle db limit from) name rows = (name ≡ codes "settle")
+    × (first_of (codes "DB") rows ≡ Some db)
+    × HasNumber rows (codes "limit") (limit_text limit) (limit_of limit)
+    × HasId rows (codes "from") (from_text from)
 HasValues (show db id) name rows = (name ≡ codes "show") × (first_of (codes "DB") rows ≡ Some db) × HasOptionalId rows (codes "ID") id
 HasValues (export db solutions) name rows = (name ≡ codes "export")
     × (first_of (codes "DB") rows ≡ Some db)

@@ -5,7 +5,7 @@ ghost use Rattle.sok_words.specs.Shapes.{Follows, rule_of_kind};
 use clap::{Arg, ArgAction, value_parser};
 use std::alloc::Global;
 
-/// What is read in a place. One for a limit, a flag or a path is an option.
+/// What is read in a place. One for a limit, a first id, a flag or a path is an option.
 #[derive(Clone, Copy)]
 pub(crate) enum Kind {
     Text,
@@ -16,6 +16,8 @@ pub(crate) enum Kind {
     /// An id that may be left out.
     OptionalId,
     Limit,
+    /// An id to begin at.
+    First,
     Flag,
     Path,
 }
@@ -45,6 +47,11 @@ impl Place {
                 .value_parser(value_parser!(u32))
                 .default_value("100000")
                 .value_name("S"),
+            Kind::First => arg
+                .long(self.name)
+                .value_parser(value_parser!(i64))
+                .default_value("1")
+                .value_name("ID"),
             Kind::Flag => arg.long(self.name).action(ArgAction::SetTrue),
             Kind::Path => arg.long(self.name).value_name("PATH"),
         }
@@ -115,6 +122,12 @@ pub(crate) const ID: Place = Place {
     name: "ID",
     kind: Kind::Id,
     help: "The id of a level in the book, from 1",
+};
+
+pub(crate) const FROM: Place = Place {
+    name: "from",
+    kind: Kind::First,
+    help: "Pass over the levels with a lower id than this one",
 };
 
 pub(crate) const SHOWN: Place = Place {

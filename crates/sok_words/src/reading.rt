@@ -60,6 +60,11 @@ fn job_of(alloc: Global, name: &str, values: &ArgMatches<'_>) -> Result<Job, Job
             let (db, id) = entry_of(alloc, values)?;
             Ok(Job::Prove(db, id, text_of(alloc, values, "CERT")?))
         }
+        "settle" => {
+            let db = text_of(alloc, values, "DB")?;
+            let limit = number_of(alloc, values, "limit")?;
+            Ok(Job::Settle(db, limit, id_of(alloc, values, "from")?))
+        }
         "show" => {
             let db = text_of(alloc, values, "DB")?;
             Ok(Job::Show(db, optional_id_of(values, "ID")))

@@ -4,7 +4,7 @@ ghost use Rattle.std.specs.Prelude.{◌≡◌, IfOk, fold};
 ghost use Rattle.sok_words.specs.Shapes.{Builds, own_app, sok_app, sok_top, with_own};
 
 use crate::place::{
-    BOUND, CERT, DB, FILE, ID, LETTERS, LIMIT, N, OUTPUT, Place, SHOWN, SOLUTIONS, TEXT,
+    BOUND, CERT, DB, FILE, FROM, ID, LETTERS, LIMIT, N, OUTPUT, Place, SHOWN, SOLUTIONS, TEXT,
 };
 use clap::Command;
 use std::alloc::{AllocError, Global};
@@ -34,7 +34,7 @@ impl Subcommand {
 }
 
 /// The subcommands in the order of the help.
-pub(crate) fn subcommands() -> [Subcommand; 10]
+pub(crate) fn subcommands() -> [Subcommand; 11]
     ensures { fold with_own sok_top result ≡ sok_app }
 {
     [
@@ -143,6 +143,23 @@ is status 3 or 5, and of memory 6.
 
 Example: sok prove small.db 1 first.cert",
             places: &[DB, ID, CERT],
+        },
+        Subcommand {
+            name: "settle",
+            about: "Solves each level of a book that nothing is proved of, and keeps the verdict",
+            writes: "\
+Writes a line for each level with verdict untested, in order of ids, as soon as it is done:
+  ID optimal PUSHES MOVES  those of its best: no letters solve the level with fewer pushes
+  ID unsolvable            no letters solve the level
+  ID limit S at least K    more than S states can be reached, and no letters solve the level with
+                           fewer than K pushes: nothing is kept of it
+  ID fault 14 TooLong      the solution has more than 1,000,000 letters: nothing is kept of it
+The status is 0 where no line is one of the last two, and else 4. A fault is status 3 or 5, and of
+memory 6: the lines before it stand, and what they tell is kept.
+
+Examples: sok settle small.db
+          sok settle small.db --limit 1000000 --from 2",
+            places: &[DB, LIMIT, FROM],
         },
         Subcommand {
             name: "show",

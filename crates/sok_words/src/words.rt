@@ -18,13 +18,13 @@ use std::alloc::Global;
 /// ```text
 /// list FILE · replay FILE N TEXT · draw FILE N [TEXT]
 /// solve FILE N [--limit S] [--bound] [--cert PATH] · check FILE N CERT
-/// add DB FILE · offer DB ID TEXT · prove DB ID CERT · show DB [ID]
-/// export DB [--solutions]
+/// add DB FILE · offer DB ID TEXT · prove DB ID CERT
+/// settle DB [--limit S] [--from ID] · show DB [ID] · export DB [--solutions]
 /// ```
 ///
 /// Places and PATH that are not empty and do not begin with a hyphen, N and S below 2 ^ 32 and ID
-/// below 2 ^ 63 in digits alone, are read as they stand, and S is 100,000 where it is left out.
-/// Other words are read or refused as `clap` does it.
+/// below 2 ^ 63 in digits alone, are read as they stand. S is 100,000 where it is left out, and the
+/// ID behind `--from` 1. Other words are read or refused as `clap` does it.
 pub fn job(alloc: Global, words: &[String]) -> Result<Job, JobRefused>
     ensures { (program : List ℕ) (form : Form) → IsPlain form
         → map (λ word. string_bytes word) words.now ≡ program ∷ words_of form

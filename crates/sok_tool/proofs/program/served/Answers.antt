@@ -1,7 +1,7 @@
 use Rattle.std.proofs.Common.{◌∙◌, Some, None, ap, subst}
 use Rattle.sok_words.specs.declared.job.Job.TheVariants as job
 use Rattle.sok_words.specs.Forms.{Means}
-use Rattle.sok_tool.proofs.Serving.{Serves-add, Serves-check, Serves-draw, Serves-export, Serves-offer, Serves-overview, Serves-prove, Serves-replay, Serves-show, Serves-solve}
+use Rattle.sok_tool.proofs.Serving.{Serves-add, Serves-check, Serves-draw, Serves-export, Serves-offer, Serves-overview, Serves-prove, Serves-replay, Serves-settle, Serves-show, Serves-solve}
 use Rattle.sok_tool.proofs.program.served.Goals as goal
 
 pub returns-in-Replay : goal.returns-in-Replay
@@ -52,6 +52,13 @@ returns-in-Prove g c = λ form plain means.
     let meant : Means form (job.Prove s.db s.id s.cert) = subst (Means form) s.is means in
     Serves-prove _ _ form s.db s.id s.cert c.as_str-in-Prove.result.now c.as_str-in-Prove-2.result.now _ _ _ plain meant c.as_str-in-Prove.ensures.value
     c.as_str-in-Prove-2.ensures.value (c.prove.result, c.prove.ensures, c.ended-in-Prove.ensures)
+
+pub returns-in-Settle : goal.returns-in-Settle
+returns-in-Settle g c = λ form plain means.
+    let s = c.in-Settle in
+    let meant : Means form (job.Settle s.db s.limit s.from) = subst (Means form) s.is means in
+    Serves-settle _ _ form s.db s.limit s.from c.as_str-in-Settle.result.now _ _ _ plain meant c.as_str-in-Settle.ensures.value
+    (c.settle.result, c.settle.ensures, c.ended-in-Settle.ensures)
 
 -- with an id
 pub returns-in-Some : goal.returns-in-Some

@@ -1,0 +1,141 @@
+-- What is known of the page of a level, before and after its solution is offered.
+use Rattle.std.proofs.Common.{ℕ, ℤ, ◌≡◌, ◌∙◌, ◌≤◌, inl, inr, List, Option, Some, None, Bool, false, IfSome, IsSomeAnd, ap, arith, length, refl, subst, sym}
+use Rattle.std.proofs.Common.{option_map, if◌then◌else◌}
+use Rattle.std.proofs.lemmas.Bool.{cases_Bool}
+use Rattle.std.proofs.lemmas.Bool.Decides.{nat_tests}
+use Rattle.std.proofs.lemmas.Option.{same_Some}
+use Rattle.sok_rules.specs.declared.cell.Dir.{Dir}
+use Rattle.sok_rules.specs.Limits.{letter_limit}
+use Rattle.sok_rules.specs.Squares.{Rows}
+use Rattle.sok_rules.specs.Play.{IsFewest, IsUnsolvable, Solves, pushes, start}
+use Rattle.sok_cert.specs.Claim.{Claim}
+use Rattle.sok_cert.specs.Claim.TheVariants as claim
+use Rattle.sok_search.specs.Outcomes.{IsLeastSolution}
+use Rattle.sok_book.specs.declared.fault.BookFault.{BookFault}
+use Rattle.sok_book.specs.declared.fault.BookFault.TheVariants as refusal
+use Rattle.sok_book.specs.declared.record.Offer.{Offer}
+use Rattle.sok_book.specs.declared.record.Verdict.TheVariants.{Untested}
+use Rattle.sok_book.specs.Books.{Book, Page, Solution, page_at, solution_of}
+use Rattle.sok_book.specs.Commands.{Meets, Offers, best_pushes, is_better, offer_answer, with_best, with_page, verdict_of}
+use Rattle.sok_book.specs.Refusals.{IsNotOffered}
+use Rattle.sok_book.proofs.Outcomes.{offers-are-not-refused}
+use Rattle.sok_page.specs.Kept.{IsKeptPage, IsKeptSolution}
+use Rattle.sok_row.specs.Kept.{IsKeptBook}
+use Rattle.sok_store.specs.Calls.{id_number}
+use Rattle.sok_store.specs.Known.{IsNotKnown, ProvesKnown}
+use Rattle.sok_store.proofs.Found.{kept_at, page_there, some_and}
+use Rattle.sok_keep.specs.Offers.{HasBest}
+use Rattle.sok_settle.specs.Steps.{IsTriedAs}
+
+-- ---- letters that solve a level are not refused
+
+pub never_refused : (from id : ℤ) (rows : Rows) (book : Book) (letters : List Dir) (fault : BookFault) → IsTriedAs from id rows book → Solves rows letters
+    → length letters ≤ letter_limit → IsNotOffered book (id_number id) letters fault → ⊥
+never_refused from id rows book letters fault (page, tried, same) solves few refused =
+    let answer = offer_answer (is_better (pushes page.level (start page.level) letters) (best_pushes page)) in
+    let after = with_page book (id_number id) (with_best page (solution_of page.level letters)) in
+    let offers : Offers book (id_number id) letters answer after = record {
+      page = page;
+      there = tried.there;
+      few = few;
+      solves = subst (λ (r : Rows). Solves r letters) (sym same) solves;
+      answer_is = refl;
+      after_is = refl;
+    } in
+    offers-are-not-refused book after (id_number id) letters answer fault offers refused
+
+-- ---- the best of a level
+
+-- a level has this best number of pushes, if it has a best
+best_least : (rows : Rows) (least : ℕ) (best : Solution) → IsFewest rows least → IsKeptSolution rows best → least ≤ best.pushes
+best_least rows least best fewest kept =
+    let count : best.pushes ≡ pushes rows (start rows) best.letters = ap (λ (s : Solution). s.pushes) kept.solution.counted in
+    subst (λ n. least ≤ n) (sym count) (fewest.least best.letters kept.solution.solves)
+
+no_better : (rows : Rows) (least : ℕ) (best : Option Solution) → IsFewest rows least → IfSome best (IsKeptSolution rows)
+    → is_better least (option_map (λ b. b.pushes) best) ≡ false → option_map (λ b. b.pushes) best ≡ Some least
+no_better rows least None fewest kept worse = absurd cc
+no_better rows least (Some best) fewest kept worse =
+    let low = best_least rows least best fewest kept in
+    let high : best.pushes ≤ least = grind (arith, nat_tests, worse) in
+    let same : best.pushes ≡ least = omega (arith, low, high) in
+    ap Some same
+
+-- the page with the solution as its best, or as it was, has so many pushes as its best
+pub record HasLeast (book : Book) (id : ℕ) (rows : Rows) (least : ℕ) : Type 0 where
+  pub page : Page
+  pub there : page_at book id ≡ Some page
+  pub level : page.level ≡ rows
+  pub best : best_pushes page ≡ Some least
+
+best_is : (page : Page) (letters : List Dir) (least : ℕ) → IsKeptPage page → IsLeastSolution page.level letters least
+    → ((with_best page (solution_of page.level letters)).level ≡ page.level) × (best_pushes (with_best page (solution_of page.level letters)) ≡ Some least)
+best_is page letters least kept is =
+    let new = solution_of page.level letters in
+    let improved : Page = record page { best = Some new; verdict = Untested } in
+    elim (cases_Bool (is_better new.pushes (best_pushes page))) [
+      | inl better ↦
+          let chosen : with_best page new ≡ improved = ap (λ (b : Bool). if b then improved else page) better in
+          (ap (λ (p : Page). p.level) chosen, ap best_pushes chosen ∙ ap Some is.counted)
+      | inr worse ↦
+          let chosen : with_best page new ≡ page = ap (λ (b : Bool). if b then improved else page) worse in
+          let test : is_better least (best_pushes page) ≡ false = ap (λ n. is_better n (best_pushes page)) (sym is.counted) ∙ worse in
+          (ap (λ (p : Page). p.level) chosen, ap best_pushes chosen ∙ no_better page.level least page.best is.fewest kept.best test)
+    ]
+
+-- after the solution was offered
+pub offered_best : (from id : ℤ) (rows : Rows) (book middle : Book) (letters : List Dir) (least : ℕ) (offer : Offer) → IsKeptBook book
+    → IsTriedAs from id rows book → IsLeastSolution rows letters least → Offers book (id_number id) letters offer middle
+    → HasLeast middle (id_number id) rows least
+offered_best from id rows book middle letters least offer kept (page, tried, same) is offered =
+    let one : offered.page ≡ page = same_Some offered.page page (sym offered.there ∙ tried.there) in
+    let level : offered.page.level ≡ rows = ap (λ (p : Page). p.level) one ∙ same in
+    let new = with_best offered.page (solution_of offered.page.level letters) in
+    let (stays, best) = best_is offered.page letters least (kept_at book (id_number id) offered.page kept offered.there)
+    (subst (λ (r : Rows). IsLeastSolution r letters least) (sym level) is) in
+    record {
+      page = new;
+      there = ap (λ (b : Book). page_at b (id_number id)) offered.after_is ∙ page_there book (id_number id) offered.page new offered.there;
+      level = stays ∙ level;
+      best = best;
+    }
+
+-- so a claim of its pushes is not refused
+pub never_differs : (book : Book) (id : ℕ) (rows : Rows) (least : ℕ) (fault : BookFault) → HasLeast book id rows least
+    → IsNotKnown book id rows (claim.Pushes least) fault → ⊥
+never_differs book id rows least refusal.NoLevel has refused = refused (some_and (page_at book id) (λ p. p.level ≡ rows) has.page has.there has.level)
+never_differs book id rows least refusal.ClaimDiffers has refused =
+    subst (λ (o : Option Page). IsSomeAnd o (λ p. Meets (claim.Pushes least) (best_pushes p) → ⊥)) has.there refused.1 has.best
+never_differs book id rows least fault has refused = refused
+
+-- and the best that is told has as many
+pub best_told : (book : Book) (id : ℕ) (rows : Rows) (least : ℕ) (best : Solution) → HasLeast book id rows least → HasBest book id best → best.pushes ≡ least
+best_told book id rows least best has told =
+    let here : has.page.best ≡ Some best = subst (λ (o : Option Page). IsSomeAnd o (λ p. p.best ≡ Some best)) has.there told in
+    same_Some best.pushes least (sym (ap (option_map (λ (b : Solution). b.pushes)) here) ∙ has.best)
+
+-- and a proof leaves it
+pub best_stays : (middle after : Book) (id : ℕ) (shown : Claim) (best : Solution) → ProvesKnown middle id shown after → HasBest middle id best
+    → HasBest after id best
+best_stays middle after id shown best (bytes, proves) has =
+    let new : Page = record proves.page { verdict = verdict_of shown } in
+    let at : page_at after id ≡ Some new = ap (λ (b : Book). page_at b id) proves.after_is ∙ page_there middle id proves.page new proves.there in
+    let here : proves.page.best ≡ Some best = subst (λ (o : Option Page). IsSomeAnd o (λ p. p.best ≡ Some best)) proves.there has in
+    some_and (page_at after id) (λ p. p.best ≡ Some best) new at here
+
+-- ---- a level that has no solution
+
+no_best : (rows : Rows) (best : Option Solution) → IsUnsolvable rows → IfSome best (IsKeptSolution rows) → option_map (λ b. b.pushes) best ≡ None
+no_best rows None unsolvable kept = refl
+no_best rows (Some best) unsolvable kept = absurd (unsolvable best.letters kept.solution.solves)
+
+-- a claim of this is not refused
+pub never_solved : (from id : ℤ) (rows : Rows) (book : Book) (fault : BookFault) → IsKeptBook book → IsTriedAs from id rows book → IsUnsolvable rows
+    → IsNotKnown book (id_number id) rows claim.Unsolvable fault → ⊥
+never_solved from id rows book refusal.NoLevel kept (page, tried, same) unsolvable refused =
+    refused (some_and (page_at book (id_number id)) (λ p. p.level ≡ rows) page tried.there same)
+never_solved from id rows book refusal.ClaimDiffers kept (page, tried, same) unsolvable refused =
+    let best = (kept_at book (id_number id) page kept tried.there).best in
+    subst (λ (o : Option Page). IsSomeAnd o (λ p. Meets claim.Unsolvable (best_pushes p) → ⊥)) tried.there refused.1
+    (no_best page.level page.best (subst IsUnsolvable (sym same) unsolvable) best)
+never_solved from id rows book fault kept is unsolvable refused = refused

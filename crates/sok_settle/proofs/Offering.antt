@@ -1,0 +1,207 @@
+-- A level is settled by the answer of its search: what becomes of the book, call by call.
+use Rattle.std.proofs.Common.{ℕ, ℤ, ◌⊎◌, ◌<◌, ◌≤◌, inl, inr, List, Bool, true, false, Option, Result, Err, arith, length, refl, subst, sym}
+use Rattle.std.proofs.KnownBytes.{Keeps-refl}
+use Rattle.sqlite.specs.State.{State, HasCleanDisk}
+use Rattle.sqlite.proofs.StateLemmas.{survives_then}
+use Rattle.sok_rules.specs.declared.cell.Dir.{Dir}
+use Rattle.sok_rules.specs.Limits.{letter_limit}
+use Rattle.sok_rules.specs.Squares.{Rows}
+use Rattle.sok_rules.specs.Play.{IsFewest, IsUnsolvable}
+use Rattle.sok_cert.specs.Claim.TheVariants as claim
+use Rattle.sok_search.specs.Outcomes.{IsCutShort, IsLeastSolution}
+use Rattle.sok_book.specs.declared.fault.BookFault.{BookFault}
+use Rattle.sok_book.specs.Books.{Book}
+use Rattle.sok_book.specs.Refusals.{IsNotOffered}
+use Rattle.sok_engine.specs.declared.fault.ToolFault.{ToolFault}
+use Rattle.sok_engine.specs.declared.fault.ToolFault.TheVariants as tool
+use Rattle.sok_engine.specs.Faults.{of_book}
+use Rattle.sok_row.specs.Faults.{IsOutside}
+use Rattle.sok_row.specs.Kept.{IsKeptBook}
+use Rattle.sok_store.specs.Calls.{Changes, IsCaused, Stops, id_number}
+use Rattle.sok_store.specs.Calls as calls
+use Rattle.sok_store.specs.Known.{IsNotKnown, ProvesKnown}
+use Rattle.sok_store.specs.Standing.{OffersTelling}
+use Rattle.sok_store.specs.declared.standing.Standing.{Standing}
+use Rattle.sok_store.proofs.Calls.{held, held_shown, shown, stops_less, stops_same}
+use Rattle.sok_store.proofs.Caused.{cause_before}
+use Rattle.sok_keep.proofs.Ending.{caused_more}
+use Rattle.sok_settle.specs.Settles.{LeavesLevel, SettlesLevel, fault_line, is_optimal, is_past_limit, is_too_long, is_unsolvable, limit_line, optimal_line, too_long, unsolvable_line}
+use Rattle.sok_settle.specs.Steps.{GoesWhere, IsTriedAs, MayStep, StepsLevel, TellsLine, TellsTooLong}
+use Rattle.sok_settle.proofs.Going.{changes_carries, left_steps, memory_goes, same_carries, told_goes}
+use Rattle.sok_settle.proofs.Levels.{HasLeast, best_stays, best_told, never_differs, never_refused, never_solved, offered_best}
+
+module _ (limit : ℕ) (from id : ℤ) (rows : Rows) where
+  abbrev where_tried : State → State → (Book → Book → Type 0) → Result Bool ToolFault → Type 0
+  where_tried old new Makes = GoesWhere {X = Bool} (IsTriedAs from id rows) old new Makes (MayStep limit from id)
+
+  -- ---- without a change
+
+  pub limit_goes : (s : State) (least : ℕ) (held later : Option (List ℕ)) (result : Result Bool ToolFault) → IsCutShort rows limit limit least
+      → TellsLine (limit_line id limit least) false held later result
+      → where_tried s s (λ book after. StepsLevel limit from id book after held later result) result
+  limit_goes s least held later result cut tells =
+      told_goes limit from id (IsTriedAs from id rows) s s (limit_line id limit least) false held later result
+      (same_carries s _ (λ book tried.
+      let (page, is, same) = tried in
+      is_past_limit page least is (subst (λ (r : Rows). IsCutShort r limit limit least) (sym same) cut) refl refl refl))
+      (stops_same s _) tells
+
+  pub too_long_goes : (s : State) (letters : List Dir) (pushes : ℕ) (held later : Option (List ℕ)) (result : Result Bool ToolFault)
+      → IsLeastSolution rows letters pushes → letter_limit < length letters → TellsTooLong id held later result
+      → where_tried s s (λ book after. StepsLevel limit from id book after held later result) result
+  too_long_goes s letters pushes held later result least many (inl (is, keeps)) =
+      subst (λ (r : Result Bool ToolFault). where_tried s s (λ book after. StepsLevel limit from id book after held later r) r) (sym is)
+      (memory_goes limit from id (IsTriedAs from id rows) s held later tool.Memory refl keeps)
+  too_long_goes s letters pushes held later result least many (inr tells) =
+      told_goes limit from id (IsTriedAs from id rows) s s (fault_line id too_long) false held later result
+      (same_carries s _ (λ book tried.
+      let (page, is, same) = tried in
+      is_too_long page letters pushes is (subst (λ (r : Rows). IsLeastSolution r letters pushes) (sym same) least) many refl refl refl))
+      (stops_same s _) tells
+
+  -- ---- an offer, and a proof
+
+  module _ (old mid : State) (letters : List Dir) (pushes : ℕ) (few : length letters ≤ letter_limit) (least : IsLeastSolution rows letters pushes)
+      (one : Stops old mid (λ book after. (told : Standing) × OffersTelling book (id_number id) letters told after)) where
+    abbrev IsOffered : Book → Book → Type 0
+    IsOffered book after = (told : Standing) × OffersTelling book (id_number id) letters told after
+
+    left : (book after : Book) → IsTriedAs from id rows book → IsOffered book after → LeavesLevel from id book after
+    left book after (page, is, same) (told, tells) = inr (page, is, letters, told.offer, tells.offered)
+
+    offer_stops : Stops old mid (λ book after. IsTriedAs from id rows book → MayStep limit from id book after)
+    offer_stops = stops_less old mid _ _ (λ book after made tried. inl (left book after tried made)) one
+
+    -- the letters are not kept, for a cause outside
+    pub unoffered_goes : (held : Option (List ℕ)) (fault : BookFault)
+        → calls.Keeps old mid (λ book. IsOutside fault ⊎ IsNotOffered book (id_number id) letters fault) → IsCaused old mid IsOffered fault
+        → where_tried old mid (λ book after. StepsLevel limit from id book after held held (Err (of_book fault))) (Err (of_book fault))
+    unoffered_goes held fault keeps caused = record {
+      done = tt;
+      ended = λ clean book shows.
+          let (why, holds) = keeps clean book (held_shown old book shows) in (
+            book,
+            λ tried. elim why [
+              | inl outside ↦ left_steps limit from id book book held held fault outside (inl refl) (Keeps-refl held)
+              | inr refused ↦ absurd (never_refused from id rows book letters fault tried least.solves few refused)
+            ],
+            holds,
+          );
+      stop = offer_stops;
+      cause = caused_more old mid _ IsOffered (λ book after made tried. inl (left book after tried made)) fault caused;
+    }
+
+    module _ (told : Standing) (offered : Changes old mid (λ book after. OffersTelling book (id_number id) letters told after)) (new : State)
+        (two : Stops mid new (λ book after. ProvesKnown book (id_number id) (claim.Pushes pushes) after)) where
+      early : HasCleanDisk new → HasCleanDisk mid
+      early clean = omega (arith, clean, two.clean)
+
+      least_after : (book middle : Book) → IsKeptBook book → IsTriedAs from id rows book → OffersTelling book (id_number id) letters told middle
+          → HasLeast middle (id_number id) rows pushes
+      least_after book middle kept tried tells = offered_best from id rows book middle letters pushes told.offer kept tried least tells.offered
+
+      optimal : (book middle after : Book) → IsKeptBook book → IsTriedAs from id rows book → OffersTelling book (id_number id) letters told middle
+          → ProvesKnown middle (id_number id) (claim.Pushes pushes) after
+          → SettlesLevel limit from id book (optimal_line id told.pushes told.moves) true after
+      optimal book middle after kept tried tells proves =
+          let (page, is, same) = tried in
+          let count = best_told middle (id_number id) rows pushes tells.best (least_after book middle kept tried tells) tells.has in
+          is_optimal page tells.best is (record {
+            letters = letters;
+            offer = told.offer;
+            middle = middle;
+            offered = tells.offered;
+            proved = subst (λ n. ProvesKnown middle (id_number id) (claim.Pushes n) after) (sym count) proves;
+            has = best_stays middle after (id_number id) (claim.Pushes pushes) tells.best proves tells.has;
+            fewest = subst (λ (r : Rows). IsFewest r tells.best.pushes) (sym same) (subst (IsFewest rows) (sym count) least.fewest);
+          }) (λ i. optimal_line id (tells.pushes i) (tells.moves i)) refl
+
+      proof_stops : Stops old new (λ book after. IsTriedAs from id rows book → MayStep limit from id book after)
+      proof_stops = survives_then old mid new _ _ _ (λ _ db made. made) (λ clean db made book shows.
+          let (middle, tells, stores) = offered (early clean) book (held_shown old book shows) in
+          let (after, proves, has) = made middle (shown mid middle stores) in
+          (after, λ tried. inr (optimal_line id told.pushes told.moves, true, optimal book middle after shows.0 tried tells proves), has))
+          offer_stops two
+
+      -- the verdict is not proved, for a cause outside
+      pub unproved_goes : (held : Option (List ℕ)) (fault : BookFault)
+          → calls.Keeps mid new (λ book. IsOutside fault ⊎ IsNotKnown book (id_number id) rows (claim.Pushes pushes) fault)
+          → IsCaused mid new (λ book after. ProvesKnown book (id_number id) (claim.Pushes pushes) after) fault
+          → where_tried old new (λ book after. StepsLevel limit from id book after held held (Err (of_book fault))) (Err (of_book fault))
+      unproved_goes held_out fault keeps caused = record {
+        done = tt;
+        ended = λ clean book shows.
+            let (middle, tells, stores) = offered (early clean) book (held_shown old book shows) in
+            let (why, holds) = keeps clean middle (held mid middle stores) in (
+              middle,
+              λ tried. elim why [
+                | inl outside ↦ left_steps limit from id book middle held_out held_out fault outside (left book middle tried (told, tells)) (Keeps-refl held_out)
+                | inr refused ↦ absurd (never_differs middle (id_number id) rows pushes fault (least_after book middle shows.0 tried tells) refused)
+              ],
+              holds,
+            );
+        stop = proof_stops;
+        cause = caused_more old new _ (λ book after. IsTriedAs from id rows book → MayStep limit from id book after) (λ book after made. made) fault
+            (λ database clean book holds.
+            let (middle, tells, stores) = offered (early clean) book holds in
+            elim (caused database clean middle (held mid middle stores)) [
+              | inl (after, proves, big) ↦
+                  inl (after, λ tried. inr (optimal_line id told.pushes told.moves, true, optimal book middle after holds.0 tried tells proves), big)
+              | inr why ↦ inr (cause_before old mid new _ _ one two clean why)
+            ]);
+      }
+
+      -- or it is, and told
+      pub proved_goes : (held later : Option (List ℕ)) (result : Result Bool ToolFault)
+          → Changes mid new (λ book after. ProvesKnown book (id_number id) (claim.Pushes pushes) after)
+          → TellsLine (optimal_line id told.pushes told.moves) true held later result
+          → where_tried old new (λ book after. StepsLevel limit from id book after held later result) result
+      proved_goes held_out later result proved tells_line =
+          told_goes limit from id (IsTriedAs from id rows) old new (optimal_line id told.pushes told.moves) true held_out later result
+          (changes_carries old new _ (λ clean book holds.
+          let (middle, tells, stores) = offered (early clean) book holds in
+          let (after, proves, stores_after) = proved clean middle (held mid middle stores) in
+          (after, λ tried. optimal book middle after holds.0 tried tells proves, stores_after)))
+          proof_stops tells_line
+
+  -- ---- a proof alone
+
+  module _ (old new : State) (unsolvable : IsUnsolvable rows)
+      (stop : Stops old new (λ book after. ProvesKnown book (id_number id) claim.Unsolvable after)) where
+    none_solves : (book after : Book) → IsTriedAs from id rows book → ProvesKnown book (id_number id) claim.Unsolvable after
+        → SettlesLevel limit from id book (unsolvable_line id) true after
+    none_solves book after (page, is, same) proves = is_unsolvable page is (subst IsUnsolvable (sym same) unsolvable) proves refl refl
+
+    may_none : (book after : Book) → ProvesKnown book (id_number id) claim.Unsolvable after → IsTriedAs from id rows book → MayStep limit from id book after
+    may_none book after proves tried = inr (unsolvable_line id, true, none_solves book after tried proves)
+
+    none_stops : Stops old new (λ book after. IsTriedAs from id rows book → MayStep limit from id book after)
+    none_stops = stops_less old new _ _ may_none stop
+
+    pub none_unproved_goes : (held : Option (List ℕ)) (fault : BookFault)
+        → calls.Keeps old new (λ book. IsOutside fault ⊎ IsNotKnown book (id_number id) rows claim.Unsolvable fault)
+        → IsCaused old new (λ book after. ProvesKnown book (id_number id) claim.Unsolvable after) fault
+        → where_tried old new (λ book after. StepsLevel limit from id book after held held (Err (of_book fault))) (Err (of_book fault))
+    none_unproved_goes held fault keeps caused = record {
+      done = tt;
+      ended = λ clean book shows.
+          let (why, holds) = keeps clean book (held_shown old book shows) in (
+            book,
+            λ tried. elim why [
+              | inl outside ↦ left_steps limit from id book book held held fault outside (inl refl) (Keeps-refl held)
+              | inr refused ↦ absurd (never_solved from id rows book fault shows.0 tried unsolvable refused)
+            ],
+            holds,
+          );
+      stop = none_stops;
+      cause = caused_more old new _ _ may_none fault caused;
+    }
+
+    pub none_proved_goes : (held later : Option (List ℕ)) (result : Result Bool ToolFault)
+        → Changes old new (λ book after. ProvesKnown book (id_number id) claim.Unsolvable after) → TellsLine (unsolvable_line id) true held later result
+        → where_tried old new (λ book after. StepsLevel limit from id book after held later result) result
+    none_proved_goes held later result proved tells =
+        told_goes limit from id (IsTriedAs from id rows) old new (unsolvable_line id) true held later result
+        (changes_carries old new _ (λ clean book holds.
+        let (after, proves, stores) = proved clean book holds in (after, λ tried. none_solves book after tried proves, stores)))
+        none_stops tells

@@ -1,0 +1,6 @@
+use Rattle.std.proofs.Common.{w64}
+use Rattle.std.proofs.lemmas.Int.{to_z-of_z}
+use Rattle.sok_settle.proofs.level.settle_level.Goals as goal
+
+pub returns-in-Ok : goal.returns-in-Ok
+returns-in-Ok g c from = rw (to_z-of_z w64 c.args.id c.ranges.id) at (c.settle_by.ensures from)

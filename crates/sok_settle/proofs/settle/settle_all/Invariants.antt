@@ -1,0 +1,8 @@
+use Rattle.sqlite.specs.Held.{state}
+use Rattle.sok_settle.proofs.Settling.{Gone, MayGo}
+use Rattle.sok_settle.proofs.settle.settle_all.Given as goal
+
+abbrev pub invariant-loop-kept : goal.invariant-loop-kept
+invariant-loop-kept g l =
+    Gone l.limit l.from l.records (state g.S.Store l.fn.book) (state g.S.Store l.book) l.kept-index l.all (g.W.Write.contents l.fn.out) (g.W.Write.contents l.out)
+    × MayGo l.limit l.from l.records (state g.S.Store l.fn.book) (state g.S.Store l.book)

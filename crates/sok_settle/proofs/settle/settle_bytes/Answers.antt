@@ -1,0 +1,61 @@
+use Rattle.std.proofs.Common.{subst, sym, w64}
+use Rattle.std.proofs.lemmas.Int.{to_z-of_z}
+use Rattle.sqlite.specs.Held.{state}
+use Rattle.sok_row.specs.Told.{AreRecordsOf}
+use Rattle.sok_store.specs.Calls.{Finds}
+use Rattle.sok_store.proofs.Calls.{stops_none}
+use Rattle.sok_settle.proofs.Settling.{bad_turns, unlisted_caused, unlisted_turns, whole_caused, whole_open, whole_stops, whole_turns}
+use Rattle.sok_settle.proofs.settle.settle_bytes.Goals as goal
+
+pub returns-then-is_bad-clause-writes : goal.returns-then-is_bad-clause-writes
+returns-then-is_bad-clause-writes g c =
+    bad_turns c.args.limit c.args.from (state g.S.Store c.args.book.now) (g.W.Write.contents c.args.out.now) (c.is_bad.ensures.0 c.if-is_bad.true)
+
+pub returns-in-Ok-clause-writes : goal.returns-in-Ok-clause-writes
+returns-in-Ok-clause-writes g c =
+    let old = state g.S.Store c.args.book.now in
+    let mid = state g.S.Store c.list.new.self in
+    let found = subst (λ rs. Finds old mid (λ book. AreRecordsOf book rs)) (sym c.deref.ensures.value) c.in-Ok.ensures.listed in
+    whole_turns c.args.limit c.args.from c.deref.result.now old mid (state g.S.Store c.settle_all.new.book) c.list.ensures.stop found
+    (g.W.Write.contents c.args.out.now) (g.W.Write.contents c.settle_all.new.out) c.settle_all.result
+    (rw (to_z-of_z w64 c.args.from c.ranges.from) at c.settle_all.ensures)
+
+pub returns-in-Ok-clause-open : goal.returns-in-Ok-clause-open
+returns-in-Ok-clause-open g c =
+    let old = state g.S.Store c.args.book.now in
+    let mid = state g.S.Store c.list.new.self in
+    let found = subst (λ rs. Finds old mid (λ book. AreRecordsOf book rs)) (sym c.deref.ensures.value) c.in-Ok.ensures.listed in
+    whole_open c.args.limit c.args.from c.deref.result.now old mid (state g.S.Store c.settle_all.new.book) c.list.ensures.stop found
+    (g.W.Write.contents c.args.out.now) (g.W.Write.contents c.settle_all.new.out) c.settle_all.result
+    (rw (to_z-of_z w64 c.args.from c.ranges.from) at c.settle_all.ensures)
+
+pub returns-in-Ok-clause-stop : goal.returns-in-Ok-clause-stop
+returns-in-Ok-clause-stop g c =
+    let old = state g.S.Store c.args.book.now in
+    let mid = state g.S.Store c.list.new.self in
+    let found = subst (λ rs. Finds old mid (λ book. AreRecordsOf book rs)) (sym c.deref.ensures.value) c.in-Ok.ensures.listed in
+    whole_stops c.args.limit c.args.from c.deref.result.now old mid (state g.S.Store c.settle_all.new.book) c.list.ensures.stop found
+    (g.W.Write.contents c.args.out.now) (g.W.Write.contents c.settle_all.new.out) c.settle_all.result
+    (rw (to_z-of_z w64 c.args.from c.ranges.from) at c.settle_all.ensures)
+
+pub returns-in-Ok-clause-cause : goal.returns-in-Ok-clause-cause
+returns-in-Ok-clause-cause g c =
+    let old = state g.S.Store c.args.book.now in
+    let mid = state g.S.Store c.list.new.self in
+    let found = subst (λ rs. Finds old mid (λ book. AreRecordsOf book rs)) (sym c.deref.ensures.value) c.in-Ok.ensures.listed in
+    whole_caused c.args.limit c.args.from c.deref.result.now old mid (state g.S.Store c.settle_all.new.book) c.list.ensures.stop found
+    (g.W.Write.contents c.args.out.now) (g.W.Write.contents c.settle_all.new.out) c.settle_all.result
+    (rw (to_z-of_z w64 c.args.from c.ranges.from) at c.settle_all.ensures)
+
+pub returns-in-Err-clause-writes : goal.returns-in-Err-clause-writes
+returns-in-Err-clause-writes g c =
+    rw c.from.ensures (unlisted_turns c.args.limit c.args.from (state g.S.Store c.args.book.now) (state g.S.Store c.list.new.self)
+    (g.W.Write.contents c.args.out.now) c.in-Err.fault c.in-Err.ensures.refused)
+
+pub returns-in-Err-clause-stop : goal.returns-in-Err-clause-stop
+returns-in-Err-clause-stop g c = stops_none (state g.S.Store c.args.book.now) (state g.S.Store c.list.new.self) _ c.list.ensures.stop
+
+pub returns-in-Err-clause-cause : goal.returns-in-Err-clause-cause
+returns-in-Err-clause-cause g c =
+    rw c.from.ensures (unlisted_caused c.args.limit c.args.from (state g.S.Store c.args.book.now) (state g.S.Store c.list.new.self) c.in-Err.fault
+    c.in-Err.ensures.cause)

@@ -1,0 +1,71 @@
+//! The line of a level.
+
+ghost use Rattle.std.specs.Prelude.{◌≡◌, IfOk, string_bytes};
+ghost use Rattle.sok_settle.specs.Settles.{fault_line, limit_line, optimal_line};
+ghost use Rattle.sok_settle.specs.Settles.{unsolvable_line};
+ghost use Rattle.sok_settle.specs.Steps.{TellsLine};
+
+use arrayvec::ArrayString;
+use itoa::Buffer;
+use sok_engine::fault::ToolFault;
+use sok_engine::output::write_whole;
+use std::alloc::{AllocError, Global};
+use std::io::Write;
+
+/// A line of at most 64 bytes, which is made without memory.
+pub(crate) type Line = ArrayString<64>;
+
+/// The line of a level whose best has the fewest pushes.
+pub(crate) fn optimal_line(id: i64, pushes: u32, moves: u32) -> Line
+    ensures { result.bytes ≡ optimal_line id pushes moves }
+{
+    let mut line = Line::new();
+    line.push_str(Buffer::new().format(id));
+    line.push_str(" optimal ");
+    line.push_str(Buffer::new().format(pushes));
+    line.push_str(" ");
+    line.push_str(Buffer::new().format(moves));
+    line.push_str("\n");
+    line
+}
+
+/// The line of a level that has no solution.
+pub(crate) fn unsolvable_line(id: i64) -> Line
+    ensures { result.bytes ≡ unsolvable_line id }
+{
+    let mut line = Line::new();
+    line.push_str(Buffer::new().format(id));
+    line.push_str(" unsolvable\n");
+    line
+}
+
+/// The line of a level with more states than the limit, with the fewest pushes that the search
+/// shows.
+pub(crate) fn limit_line(id: i64, limit: u32, at_least: u32) -> Line
+    ensures { result.bytes ≡ limit_line id limit at_least }
+{
+    let mut line = Line::new();
+    line.push_str(Buffer::new().format(id));
+    line.push_str(" limit ");
+    line.push_str(Buffer::new().format(limit));
+    line.push_str(" at least ");
+    line.push_str(Buffer::new().format(at_least));
+    line.push_str("\n");
+    line
+}
+
+/// The line of a level with a fault of its own.
+pub(crate) fn fault_line(alloc: Global, id: i64, fault: ToolFault) -> Result<String, AllocError>
+    ensures { IfOk result (λ line. string_bytes line ≡ fault_line id fault) }
+{
+    format!(in alloc; "{id} {fault}\n")
+}
+
+/// Writes the line of a level, and gives whether it is settled. A write that fails is `WriteFailed`
+/// at once, after a front of the line.
+pub(crate) fn tell<W: Write>(line: &Line, settled: bool, out: &mut W) -> Result<bool, ToolFault>
+    ensures { TellsLine line.now.bytes settled (W.contents out.old) (W.contents out.new) result }
+{
+    write_whole(out, line.as_str().as_bytes())?;
+    Ok(settled)
+}

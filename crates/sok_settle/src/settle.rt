@@ -1,0 +1,100 @@
+//! The levels of a book are settled.
+
+ghost use Rattle.std.specs.Prelude.{◌≡◌, ◌↔◌, ◌&&◌, Err, IfErr, IsTrue, OnOk};
+ghost use Rattle.sqlite.specs.Held.{state};
+ghost use Rattle.sok_engine.specs.declared.fault.ToolFault.TheVariants as tool;
+ghost use Rattle.sok_row.specs.Told.{AreRecordsOf};
+ghost use Rattle.sok_search.specs.Faults.{IsBadLimit};
+ghost use Rattle.sok_store.specs.Calls.{EndsOpen, Stops, Turns};
+ghost use Rattle.sok_keep.specs.Causes.{IsCausedFault};
+ghost use Rattle.sok_settle.specs.Settles.{SettlesSome, WritesSettling, settle_status};
+ghost use Rattle.sok_settle.specs.Steps.{GoesWhere};
+
+use crate::level::settle_kept;
+use sok_engine::fault::ToolFault;
+use sok_page::record::Record;
+use sok_search::solve::LIMIT;
+use sok_store::book::Book;
+use sqlite::Alter;
+use std::alloc::Global;
+use std::io::Write;
+
+/// Settles the levels of a book that nothing is proved of, in order of their ids, from one on: each
+/// is searched within a limit of states from 1 to 1,000,000. Where letters solve it, the solution
+/// with the fewest pushes is offered, and that none has fewer is proved; where none do, that is
+/// proved. Each line is written as soon as its level is done: `ID optimal PUSHES MOVES`, with those
+/// of its best; `ID unsolvable`; `ID limit S at least K` where more states can be reached, and none
+/// solves with fewer than K pushes; or `ID fault 14 TooLong` where the solution has more than
+/// 1,000,000 letters. The status is 0 where each level that was tried is settled, and 4 where one is
+/// not. Levels with a verdict stay as they were, and so do those before the first, without a line.
+///
+/// A limit that is bad is `BadLimit`, before anything else. `Memory` or `Database` may end the call
+/// at any level. Then what was written stands, and the level is as it was, or has a best and no
+/// verdict. A write that fails is `WriteFailed` at once, after a front of the line. No memory is
+/// taken between the commands on a level and its line.
+pub fn settle_bytes<S: Alter, W: Write>(
+    alloc: Global,
+    book: &mut Book<S>,
+    limit: u32,
+    from: i64,
+    out: &mut W,
+) -> Result<u8, ToolFault>
+    ensures writes { Turns (state S.Store book.old) (state S.Store book.new) (λ pages after.
+        WritesSettling limit from pages after (W.contents out.old) (W.contents out.new) result) }
+    ensures bad_limit { IsBadLimit limit → result ≡ Err tool.BadLimit }
+    ensures open { OnOk result (EndsOpen (state S.Store book.old) (state S.Store book.new)) }
+    ensures stop { Stops (state S.Store book.old) (state S.Store book.new)
+        (SettlesSome limit from) }
+    ensures cause { IfErr result (IsCausedFault (state S.Store book.old) (state S.Store book.new)
+        (SettlesSome limit from)) }
+{
+    if is_bad(limit) {
+        return Err(ToolFault::BadLimit);
+    }
+    match book.list() {
+        Ok(records) => settle_all(alloc, book, limit, from, &records, out),
+        Err(fault) => Err(ToolFault::from(fault)),
+    }
+}
+
+/// Whether a limit is refused.
+fn is_bad(limit: u32) -> bool
+    ensures { IsTrue result ↔ IsBadLimit limit }
+{
+    limit == 0 || limit > LIMIT
+}
+
+/// Settles the levels with these records.
+fn settle_all<S: Alter, W: Write>(
+    alloc: Global,
+    book: &mut Book<S>,
+    limit: u32,
+    from: i64,
+    records: &[Record],
+    out: &mut W,
+) -> Result<u8, ToolFault>
+    requires { IsBadLimit limit → ⊥ }
+    ensures { GoesWhere (λ pages. AreRecordsOf pages records.now)
+        (state S.Store book.old) (state S.Store book.new) (λ pages after.
+        WritesSettling limit from pages after (W.contents out.old) (W.contents out.new) result)
+        (SettlesSome limit from) result }
+{
+    let mut all = true;
+    for kept in records {
+        let settled = settle_kept(alloc, book, limit, from, kept, out)?;
+        all = both(all, settled);
+    }
+    Ok(settle_status(all))
+}
+
+fn both(all: bool, settled: bool) -> bool
+    ensures { result ≡ (all && settled) }
+{
+    all && settled
+}
+
+fn settle_status(all: bool) -> u8
+    ensures { result ≡ settle_status all }
+{
+    if all { 0 } else { 4 }
+}

@@ -1,0 +1,93 @@
+-- What becomes of a claim that some certificate shows, by what is known of the page.
+use Rattle.std.proofs.Common.{◌≡◌, ◌≢◌, ◌⊎◌, inl, inr, sym, subst, ◌∙◌, ℕ, Option, Some, None, Result, Ok, Err, IfErr, IsNone, IsSomeAnd, Bool, Decides, List, ◌↔◌, IsTrue, ap}
+use Rattle.sqlite.specs.State.{State}
+use Rattle.sok_rules.specs.Squares.{Rows}
+use Rattle.sok_rules.specs.Levels.{IsLevel}
+use Rattle.sok_text.specs.Canonical.{level_text}
+use Rattle.sok_cert.specs.Claim.{Claim}
+use Rattle.sok_book.specs.declared.fault.BookFault.{BookFault}
+use Rattle.sok_book.specs.declared.fault.BookFault.TheVariants.{ClaimDiffers, Database, Memory, NoLevel}
+use Rattle.sok_book.specs.Books.{Book, Page, page_at}
+use Rattle.sok_book.specs.Commands.{IsCertificate, Meets, StandsAt, best_pushes, verdict_of}
+use Rattle.sok_page.specs.Kept.{IsKeptPage}
+use Rattle.sok_page.proofs.Rows.{one_level}
+use Rattle.sok_store.specs.declared.entry.Entry.{Entry}
+use Rattle.sok_store.specs.Calls.{IsCaused}
+use Rattle.sok_store.specs.Entries.{HasVerdict, IsEntryOf, entry_pushes}
+use Rattle.sok_store.specs.Known.{IsCertified, IsNoClaimOn, IsNotKnown, ProvesKnown}
+use Rattle.sok_store.specs.Running.{Runs, RunsKnown, RunsReading, RunsSetting}
+use Rattle.sok_store.proofs.Calls.{stops_less}
+use Rattle.sok_store.proofs.Found.{some_and}
+use Rattle.sok_store.proofs.Known.{pushes_are}
+use Rattle.sok_store.proofs.Proved.{proof_stored}
+use Rattle.sok_store.proofs.Running.{Replaces, replaced_runs, unreplaced_runs}
+
+-- ---- of the page
+
+-- where no page is, no level stands
+pub none_stands : (o : Option Page) (P : Page → Type 0) → IsNone o → IsSomeAnd o P → ⊥
+none_stands None P none stands = stands
+none_stands (Some page) P none stands = absurd cc
+
+stands_there : (book : Book) (id : ℕ) (page : Page) (rows : Rows) → page_at book id ≡ Some page → StandsAt book rows id → page.level ≡ rows
+stands_there book id page rows at stands = subst (λ (o : Option Page). IsSomeAnd o (λ p. p.level ≡ rows)) at stands
+
+pub known_refused : (id : ℕ) (rows : Rows) (claim : Claim) (entry : Entry) (fault : BookFault) → (fault ≡ Memory) ⊎ IsNoClaimOn entry rows claim fault
+    → (book : Book) (page : Page) → IsKeptPage page → page_at book id ≡ Some page → IsEntryOf page entry
+    → (fault ≡ Memory) ⊎ ((fault ≢ Database) × IsNotKnown book id rows claim fault)
+known_refused id rows claim entry fault (inl memory) book page kept at is = inl memory
+known_refused id rows claim entry fault (inr (inl (missing, other))) book page kept at is =
+    let refused : IsNotKnown book id rows claim NoLevel = λ stands. other (is.level ∙ stands_there book id page rows at stands) in
+    inr ((λ database. let no : NoLevel ≡ Database = sym missing ∙ database in absurd cc), subst (IsNotKnown book id rows claim) (sym missing) refused)
+known_refused id rows claim entry fault (inr (inr (differs, same, unmet))) book page kept at is =
+    let refused : IsNotKnown book id rows claim ClaimDiffers = (
+      some_and (page_at book id) (λ p. p.level ≡ rows) page at (sym is.level ∙ same),
+      some_and (page_at book id) (λ p. Meets claim (best_pushes p) → ⊥) page at (λ meets. unmet (subst (Meets claim) (sym (pushes_are page entry is)) meets)),
+    ) in
+    inr ((λ database. let no : ClaimDiffers ≡ Database = sym differs ∙ database in absurd cc), subst (IsNotKnown book id rows claim) (sym differs) refused)
+
+-- levels are the same where their texts are
+pub same_levels : (rows other : Rows) → IsLevel rows → IsLevel other → (text other_text : List ℕ) → text ≡ level_text rows → other_text ≡ level_text other
+    → (same : Bool) → Decides same (text ≡ other_text) → IsTrue same ↔ rows ≡ other
+same_levels rows other level of_other text other_text is other_is same test = (
+  λ so. one_level rows other level of_other (sym is ∙ test.0 so ∙ other_is),
+  λ one. test.1 (is ∙ ap level_text one ∙ sym other_is),
+)
+
+-- ---- what is done of it
+
+pub known_stored : (id : ℕ) (rows : Rows) (claim : Claim) (entry : Entry) → IsCertified rows claim → entry.level ≡ rows → Meets claim (entry_pushes entry)
+    → Replaces {X = Unit {0}} id entry (λ _ book after. ProvesKnown book id claim after) tt (HasVerdict (verdict_of claim))
+known_stored id rows claim entry (bytes, certificate) same meets =
+    let it = proof_stored id bytes entry claim (subst (λ (r : Rows). IsCertificate r bytes claim) (sym same) certificate) meets in
+    record { after = it.after; makes = λ book page at is. (bytes, it.makes book page at is); writes = it.writes }
+
+-- so it may be made with nothing to answer
+caused_known : {X : Type 0} (old new : State) (id : ℕ) (claim : Claim) (result : Result X BookFault)
+    → IfErr result (IsCaused old new (λ book after. (x : Unit {0}) × ProvesKnown book id claim after))
+    → IfErr result (IsCaused old new (λ book after. ProvesKnown book id claim after))
+caused_known old new id claim (Ok x) cause = tt
+caused_known old new id claim (Err fault) cause = λ database clean book holds. elim (cause database clean book holds) [
+  | inl (after, made, big) ↦ inl (after, made.1, big)
+  | inr why ↦ inr why
+]
+
+known_runs : (old new : State) (id : ℕ) (rows : Rows) (claim : Claim) (result : Result (Unit {0}) BookFault)
+    → Runs old new (λ _ book after. ProvesKnown book id claim after) (λ book after. (x : Unit {0}) × ProvesKnown book id claim after)
+    (λ book fault. IsNotKnown book id rows claim fault) result → RunsKnown old new id rows claim result
+known_runs old new id rows claim result runs = record {
+  done = runs.done;
+  refused = runs.refused;
+  stop = stops_less old new (λ book after. (x : Unit {0}) × ProvesKnown book id claim after) (λ book after. ProvesKnown book id claim after)
+      (λ book after made. made.1) runs.stop;
+  cause = caused_known old new id claim result runs.cause;
+}
+
+-- the verdict is set, or not
+pub known_set : (old mid new : State) (id : ℕ) (rows : Rows) (claim : Claim) (entry : Entry) → IsCertified rows claim → entry.level ≡ rows
+    → Meets claim (entry_pushes entry) → RunsReading old mid id IsEntryOf (Ok entry) → (result : Result (Unit {0}) BookFault)
+    → RunsSetting mid new id (HasVerdict (verdict_of claim)) result → RunsKnown old new id rows claim result
+known_set old mid new id rows claim entry certified same meets read (Ok x) set =
+    known_runs old new id rows claim (Ok x) (replaced_runs (known_stored id rows claim entry certified same meets) old mid new read _ x set)
+known_set old mid new id rows claim entry certified same meets read (Err fault) set =
+    known_runs old new id rows claim (Err fault) (unreplaced_runs (known_stored id rows claim entry certified same meets) old mid new read _ fault set)

@@ -1,0 +1,108 @@
+//! A verdict is proved by a certificate of which is known that there is one.
+
+ghost use Rattle.std.specs.Prelude.{◌≡◌, ◌⊎◌, ◌<◌, ◌↔◌, IfErr, IfOk, IsTrue, OnOk};
+ghost use Rattle.sqlite.specs.Held.{state};
+ghost use Rattle.sok_book.specs.Commands.{Meets};
+ghost use Rattle.sok_store.specs.Calls.{id_number};
+ghost use Rattle.sok_store.specs.Entries.{entry_pushes};
+ghost use Rattle.sok_store.specs.Known.{IsCertified, IsNoClaimOn};
+ghost use Rattle.sok_store.specs.Running.{RunsKnown};
+
+use crate::entry::{Entry, entry_at};
+use crate::proving::verdict_of;
+use crate::reading::place_of;
+use crate::writing::store_verdict;
+use sok_book::fault::BookFault;
+use sok_cert::claim::Claim;
+use sok_page::writing::text_of;
+use sok_rules::fault::Memory;
+use sok_rules::level::Level;
+use sqlite::{Alter, Connection};
+use std::alloc::Global;
+
+/// Proves the verdict of the level with an id by a certificate of which is known that there is one.
+pub(crate) fn prove_known_to<S: Alter>(
+    conn: &mut Connection<S>,
+    alloc: Global,
+    id: i64,
+    level: &Level,
+    claim: Claim,
+) -> Result<(), BookFault>
+    requires { IsCertified level.now claim }
+    ensures { RunsKnown (state S.Store conn.old) (state S.Store conn.new)
+        (id_number id) level.now claim result }
+{
+    match place_of(id) {
+        Some(place) => prove_known_at(conn, alloc, place, level, claim),
+        None => Err(BookFault::NoLevel),
+    }
+}
+
+/// The same at an id that may be one.
+fn prove_known_at<S: Alter>(
+    conn: &mut Connection<S>,
+    alloc: Global,
+    id: u32,
+    level: &Level,
+    claim: Claim,
+) -> Result<(), BookFault>
+    requires low { 0 < id }
+    requires certified { IsCertified level.now claim }
+    ensures { RunsKnown (state S.Store conn.old) (state S.Store conn.new)
+        id level.now claim result }
+{
+    let entry = match entry_at(conn, alloc, id) {
+        Ok(entry) => entry,
+        Err(fault) => return Err(fault),
+    };
+    match judge_claim(alloc, &entry, level, claim) {
+        Ok(()) => store_verdict(conn, id, verdict_of(claim)),
+        Err(fault) => Err(fault),
+    }
+}
+
+/// Whether a claim on a level is one on an entry: it is the same level, and the claim is about its
+/// best solution.
+fn judge_claim(alloc: Global, entry: &Entry, level: &Level, claim: Claim) -> Result<(), BookFault>
+    ensures same { OnOk result (entry.now.level ≡ level.now) }
+    ensures meets { OnOk result (Meets claim (entry_pushes entry.now)) }
+    ensures refused { IfErr result (λ fault.
+        (fault ≡ BookFault.Memory) ⊎ IsNoClaimOn entry.now level.now claim fault) }
+{
+    let same = match is_same(alloc, &entry.level, level) {
+        Ok(same) => same,
+        Err(fault) => return Err(BookFault::from(fault)),
+    };
+    if !same {
+        return Err(BookFault::NoLevel);
+    }
+    if !is_about(claim, entry.pushes()) {
+        return Err(BookFault::ClaimDiffers);
+    }
+    Ok(())
+}
+
+/// Whether two levels are the same, by their canonical texts.
+fn is_same(alloc: Global, level: &Level, other: &Level) -> Result<bool, Memory>
+    ensures { IfOk result (λ same. IsTrue same ↔ level.now ≡ other.now) }
+{
+    // A level tells with its rows that it is one.
+    let _rows = level.rows();
+    let _other_rows = other.rows();
+    let text = text_of(alloc, level)?;
+    let other_text = text_of(alloc, other)?;
+    Ok(text.as_bytes() == other_text.as_bytes())
+}
+
+/// Whether a claim is about the best solution: it has as many pushes as are claimed, or there is
+/// none and none is to be.
+fn is_about(claim: Claim, best: Option<u64>) -> bool
+    ensures { IsTrue result ↔ Meets claim best }
+{
+    match (claim, best) {
+        (Claim::Pushes(claimed), Some(pushes)) => pushes == u64::from(claimed),
+        (Claim::Pushes(_), None) => false,
+        (Claim::Unsolvable, Some(_)) => false,
+        (Claim::Unsolvable, None) => true,
+    }
+}
