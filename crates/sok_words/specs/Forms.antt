@@ -1,5 +1,6 @@
 -- The command lines of which `job` knows the answer, and what it answers.
-use Rattle.std.specs.Prelude.{◌≡◌, ◌≢◌, ◌<◌, ◌^◌, ℕ, ℤ, List, [], ◌∷◌, ◌++◌, Bool, true, false, Option, Some, None, IfSome, Result, Ok, Err, codes, pos, option_map, option_to_list, string_bytes, unwrap_or}
+use Rattle.std.specs.Prelude.{◌≡◌, ◌≢◌, ◌<◌, ◌^◌, ℕ, ℤ, List, [], ◌∷◌, ◌++◌, Bool, true, false, Option, Some, None, IfSome, Result, Ok, Err, codes, pos, option_map, option_to_list, string_bytes, unwrap_or, String}
+use Rattle.std.specs.Global.{Global}
 use Rattle.std.specs.Str.Parse.{IsNumeral, digits_value}
 use Rattle.sok_words.specs.declared.job.Job.{Job}
 use Rattle.sok_words.specs.declared.job.Job.TheVariants as job
@@ -101,6 +102,16 @@ Means (settle db limit from) (job.Settle a most first) = (string_bytes a ≡ db)
 Means (show db id) (job.Show a b) = (string_bytes a ≡ db) × (b ≡ option_map id_value id)
 Means (export db solutions) (job.Export a b) = (string_bytes a ≡ db) × (b ≡ solutions)
 Means _ _ = ⊥
+
+-- a word that is a hyphen alone
+abbrev pub IsHyphen : String Global → Type 0
+IsHyphen word = string_bytes word ≡ codes "-"
+
+-- a certificate is to be written to the standard input, or read from it with the collection
+abbrev pub MisusesInput : Job → Type 0
+MisusesInput (job.Solve a n most bounds (Some path)) = IsHyphen path
+MisusesInput (job.Check a n cert) = IsHyphen a × IsHyphen cert
+MisusesInput _ = ⊥
 
 -- the answer to a form: its job, or memory ran out
 abbrev pub Answers : Form → Result Job JobRefused → Type 0

@@ -61,7 +61,7 @@ impl Place {
 pub(crate) const FILE: Place = Place {
     name: "FILE",
     kind: Kind::Text,
-    help: "A collection of levels in XSB text, at most 16,777,216 bytes",
+    help: "A collection of levels in XSB text, at most 16,777,216 bytes; - is the standard input",
 };
 
 pub(crate) const N: Place = Place {
@@ -103,7 +103,7 @@ pub(crate) const OUTPUT: Place = Place {
 pub(crate) const CERT: Place = Place {
     name: "CERT",
     kind: Kind::Text,
-    help: "A certificate, as solve writes it, at most 268,435,456 bytes",
+    help: "A certificate, as solve writes it, at most 268,435,456 bytes; - is the standard input",
 };
 
 pub(crate) const DB: Place = Place {

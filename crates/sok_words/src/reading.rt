@@ -32,18 +32,8 @@ fn job_of(alloc: Global, name: &str, values: &ArgMatches<'_>) -> Result<Job, Job
             let (file, number) = level_of(alloc, values)?;
             Ok(Job::Replay(file, number, text_of(alloc, values, "TEXT")?))
         }
-        "draw" => {
-            let (file, number) = level_of(alloc, values)?;
-            let text = option_of(alloc, values, "TEXT")?;
-            Ok(Job::Draw(file, number, text.unwrap_or(String::new(alloc))))
-        }
-        "solve" => {
-            let (file, number) = level_of(alloc, values)?;
-            let limit = number_of(alloc, values, "limit")?;
-            let bound = flag_of(values, "bound");
-            let path = option_of(alloc, values, "cert")?;
-            Ok(Job::Solve(file, number, limit, bound, path))
-        }
+        "draw" => draw_of(alloc, values),
+        "solve" => solve_of(alloc, values),
         "check" => {
             let (file, number) = level_of(alloc, values)?;
             Ok(Job::Check(file, number, text_of(alloc, values, "CERT")?))
@@ -60,11 +50,7 @@ fn job_of(alloc: Global, name: &str, values: &ArgMatches<'_>) -> Result<Job, Job
             let (db, id) = entry_of(alloc, values)?;
             Ok(Job::Prove(db, id, text_of(alloc, values, "CERT")?))
         }
-        "settle" => {
-            let db = text_of(alloc, values, "DB")?;
-            let limit = number_of(alloc, values, "limit")?;
-            Ok(Job::Settle(db, limit, id_of(alloc, values, "from")?))
-        }
+        "settle" => settle_of(alloc, values),
         "show" => {
             let db = text_of(alloc, values, "DB")?;
             Ok(Job::Show(db, optional_id_of(values, "ID")))
@@ -75,6 +61,38 @@ fn job_of(alloc: Global, name: &str, values: &ArgMatches<'_>) -> Result<Job, Job
         }
         _ => Err(missing(alloc)),
     }
+}
+
+/// The job of `draw`.
+fn draw_of(alloc: Global, values: &ArgMatches<'_>) -> Result<Job, JobRefused>
+    ensures { (form : Form) → HasValues form (codes "draw") (rows_of (found_of values.now))
+        → Answers form result }
+{
+    let (file, number) = level_of(alloc, values)?;
+    let text = option_of(alloc, values, "TEXT")?;
+    Ok(Job::Draw(file, number, text.unwrap_or(String::new(alloc))))
+}
+
+/// The job of `solve`.
+fn solve_of(alloc: Global, values: &ArgMatches<'_>) -> Result<Job, JobRefused>
+    ensures { (form : Form) → HasValues form (codes "solve") (rows_of (found_of values.now))
+        → Answers form result }
+{
+    let (file, number) = level_of(alloc, values)?;
+    let limit = number_of(alloc, values, "limit")?;
+    let bound = flag_of(values, "bound");
+    let path = option_of(alloc, values, "cert")?;
+    Ok(Job::Solve(file, number, limit, bound, path))
+}
+
+/// The job of `settle`.
+fn settle_of(alloc: Global, values: &ArgMatches<'_>) -> Result<Job, JobRefused>
+    ensures { (form : Form) → HasValues form (codes "settle") (rows_of (found_of values.now))
+        → Answers form result }
+{
+    let db = text_of(alloc, values, "DB")?;
+    let limit = number_of(alloc, values, "limit")?;
+    Ok(Job::Settle(db, limit, id_of(alloc, values, "from")?))
 }
 
 /// A collection, and the number of a level in it.

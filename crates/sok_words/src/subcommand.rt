@@ -112,7 +112,8 @@ Example: sok check small.xsb 1 first.cert",
 Writes a line for each level (status 0, also where levels are faulty):
   N id ID                 its id in the book: that of the same level, if it is there already
   N fault NUMBER NAME ..  the level's fault: it is not added; the levels behind it are
-A fault of the file or of the book is status 3 or 5, and of memory 6.
+A fault of the file or of the book is status 3 or 5, and of memory 6; the lines before it stand,
+and so do their levels in the book.
 
 Example: sok add small.db small.xsb",
             places: &[DB, FILE],

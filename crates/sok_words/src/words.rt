@@ -1,8 +1,8 @@
 //! Reading the words of a command line.
 
-ghost use Rattle.std.specs.Prelude.{◌≡◌, ◌∷◌, ℕ, List, map, string_bytes};
+ghost use Rattle.std.specs.Prelude.{◌≡◌, ◌∷◌, ◌↔◌, ℕ, List, IfOk, IsTrue, map, string_bytes};
 ghost use Rattle.clap.specs.Words.{kind_of};
-ghost use Rattle.sok_words.specs.Forms.{Answers, Form, IsPlain, words_of};
+ghost use Rattle.sok_words.specs.Forms.{Answers, Form, IsPlain, MisusesInput, words_of};
 
 use crate::command::sok_command;
 use crate::job::{Job, JobRefused};
@@ -24,19 +24,55 @@ use std::alloc::Global;
 ///
 /// Places and PATH that are not empty and do not begin with a hyphen, N and S below 2 ^ 32 and ID
 /// below 2 ^ 63 in digits alone, are read as they stand. S is 100,000 where it is left out, and the
-/// ID behind `--from` 1. Other words are read or refused as `clap` does it.
+/// ID behind `--from` 1. Other words are read or refused as `clap` does it; but `-`, which is the
+/// standard input, is refused as PATH, and as FILE and CERT of one command.
 pub fn job(alloc: Global, words: &[String]) -> Result<Job, JobRefused>
-    ensures { (program : List ℕ) (form : Form) → IsPlain form
+    ensures answers { (program : List ℕ) (form : Form) → IsPlain form
         → map (λ word. string_bytes word) words.now ≡ program ∷ words_of form
         → Answers form result }
+    ensures input { IfOk result (λ job. MisusesInput job → ⊥) }
 {
     let command = match sok_command(alloc) {
         Ok(command) => command,
         Err(_) => return Err(out_of_memory(alloc)),
     };
     match command.try_get_matches_from(words) {
-        Ok(matches) => job_in(alloc, &matches),
+        Ok(matches) => allowed(alloc, job_in(alloc, &matches)),
         Err(error) => Err(refused(alloc, &error)),
+    }
+}
+
+/// A job that was read, unless it misuses the standard input.
+fn allowed(alloc: Global, read: Result<Job, JobRefused>) -> Result<Job, JobRefused>
+    ensures answers { (form : Form) → IsPlain form → Answers form read → Answers form result }
+    ensures input { IfOk result (λ job. MisusesInput job → ⊥) }
+{
+    let job = read?;
+    if misuses_input(&job) {
+        return Err(input_refused(alloc));
+    }
+    Ok(job)
+}
+
+/// Whether a job would write to the standard input, or read two texts from it.
+fn misuses_input(job: &Job) -> bool
+    ensures { IsTrue result ↔ MisusesInput job.now }
+{
+    match job {
+        Job::Solve(_, _, _, _, Some(path)) => path.as_str() == "-",
+        Job::Check(file, _, cert) => file.as_str() == "-" && cert.as_str() == "-",
+        _ => false,
+    }
+}
+
+/// That the standard input is read once, and not written.
+fn input_refused(alloc: Global) -> JobRefused {
+    let text =
+        "error: '-' is the standard input, which is read once in a command, and not written\n\n\
+For more information, try '--help'.\n";
+    match String::from_str(alloc, text) {
+        Ok(text) => JobRefused { text, status: 2 },
+        Err(_) => out_of_memory(alloc),
     }
 }
 
