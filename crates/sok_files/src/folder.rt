@@ -36,7 +36,7 @@ pub trait Folder {
         ensures { path.now ≡ other.now → IsTrue result };
 }
 
-/// No contract knows what the machine's files hold.
+/// The machine's files, and `-` for the standard input. No contract knows what they hold.
 impl Folder for HostRuntime {
     type Input = File;
 
@@ -49,7 +49,7 @@ impl Folder for HostRuntime {
     ghost makes = { λ _ _ _. ⊤ };
 
     fn open(&self, path: &str) -> io::Result<File> {
-        fs::open(self, path)
+        fs::open(self, machine_path(path))
     }
 
     fn create(&self, path: &str) -> io::Result<File> {
@@ -57,8 +57,13 @@ impl Folder for HostRuntime {
     }
 
     fn is_one(&self, path: &str, other: &str) -> bool {
-        path == other || are_linked(self, path, other)
+        path == other || are_linked(self, machine_path(path), other)
     }
+}
+
+/// The machine's path of what is read at a path.
+fn machine_path(path: &str) -> &str {
+    if path == "-" { "/dev/stdin" } else { path }
 }
 
 /// Whether there are files at both paths, and the two are one.

@@ -9,7 +9,7 @@ const VERSION: &str = "sok 1.0\nproved with rattle-kit-13f logic dac8208d650f15b
 
 /// A line, a part of what is written to the output, or where the status is 2 to the error stream,
 /// and the status.
-const REFUSALS: [(&str, &str, u8); 31] = [
+const REFUSALS: [(&str, &str, u8); 33] = [
     ("sok --help", "Exit status:", 0),
     ("sok --version", VERSION, 0),
     ("sok help solve", "limit S", 0),
@@ -39,7 +39,9 @@ const REFUSALS: [(&str, &str, u8); 31] = [
         "cannot be used multiple times",
         2,
     ),
+    ("sok solve F 1 --cert -", "and not written", 2),
     ("sok check F 1", "<CERT>", 2),
+    ("sok check - 1 -", "read once in a command", 2),
     (
         "sok offer B 9223372036854775808 R",
         "9223372036854775808",
