@@ -16,7 +16,7 @@ use Rattle.sok_store.proofs.Calls.{held_shown, shown, stops_same}
 use Rattle.sok_keep.specs.Causes.{IsCausedFault}
 use Rattle.sok_keep.proofs.Ending.{book_database}
 use Rattle.sok_settle.specs.Settles.{LeavesLevel, SettlesLevel}
-use Rattle.sok_settle.specs.Steps.{Goes, GoesWhere, MayStep, StepsLevel, TellsLine}
+use Rattle.sok_settle.specs.Steps.{Goes, GoesThrough, MayStep, StepsLevel, TellsLine}
 
 -- ---- books that are shown
 
@@ -56,7 +56,7 @@ module _ (limit : ℕ) (from id : ℤ) where
     pub told_goes : (old new : State) (line : List ℕ) (settled : Bool) (held later : Option (List ℕ)) (result : Result Bool ToolFault)
         → Carries old new (λ book after. P book → SettlesLevel limit from id book line settled after)
         → Stops old new (λ book after. P book → MayStep limit from id book after) → TellsLine line settled held later result
-        → GoesWhere {X = Bool} P old new (λ book after. StepsLevel limit from id book after held later result) (MayStep limit from id) result
+        → GoesThrough P limit from id old new held later result
     told_goes old new line settled held later (Ok told) carries stop (same, appends) = record {
       done = λ clean book shows.
           let (after, makes, shown_after, stays) = carries clean book shows in
@@ -79,7 +79,7 @@ module _ (limit : ℕ) (from id : ℤ) where
 
     -- memory is refused before anything is done
     pub memory_goes : (s : State) (held later : Option (List ℕ)) (fault : ToolFault) → fault ≡ tool.Memory → Keeps held later
-        → GoesWhere {X = Bool} P s s (λ book after. StepsLevel limit from id book after held later (Err fault)) (MayStep limit from id) (Err fault)
+        → GoesThrough P limit from id s s held later (Err fault)
     memory_goes s held later fault memory keeps = record {
       done = tt;
       ended = λ clean book shows. (

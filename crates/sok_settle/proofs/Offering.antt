@@ -26,19 +26,19 @@ use Rattle.sok_store.proofs.Calls.{held, held_shown, shown, stops_less, stops_sa
 use Rattle.sok_store.proofs.Caused.{cause_before}
 use Rattle.sok_keep.proofs.Ending.{caused_more}
 use Rattle.sok_settle.specs.Settles.{LeavesLevel, SettlesLevel, fault_line, is_optimal, is_past_limit, is_too_long, is_unsolvable, limit_line, optimal_line, too_long, unsolvable_line}
-use Rattle.sok_settle.specs.Steps.{GoesWhere, IsTriedAs, MayStep, StepsLevel, TellsLine, TellsTooLong}
+use Rattle.sok_settle.specs.Steps.{GoesThrough, IsTriedAs, MayStep, TellsLine, TellsTooLong}
 use Rattle.sok_settle.proofs.Going.{changes_carries, left_steps, memory_goes, same_carries, told_goes}
 use Rattle.sok_settle.proofs.Levels.{HasLeast, best_stays, best_told, never_differs, never_refused, never_solved, offered_best}
 
 module _ (limit : ℕ) (from id : ℤ) (rows : Rows) where
-  abbrev where_tried : State → State → (Book → Book → Type 0) → Result Bool ToolFault → Type 0
-  where_tried old new Makes = GoesWhere {X = Bool} (IsTriedAs from id rows) old new Makes (MayStep limit from id)
+  abbrev through_tried : State → State → Option (List ℕ) → Option (List ℕ) → Result Bool ToolFault → Type 0
+  through_tried = GoesThrough (IsTriedAs from id rows) limit from id
 
   -- ---- without a change
 
   pub limit_goes : (s : State) (least : ℕ) (held later : Option (List ℕ)) (result : Result Bool ToolFault) → IsCutShort rows limit limit least
       → TellsLine (limit_line id limit least) false held later result
-      → where_tried s s (λ book after. StepsLevel limit from id book after held later result) result
+      → through_tried s s held later result
   limit_goes s least held later result cut tells =
       told_goes limit from id (IsTriedAs from id rows) s s (limit_line id limit least) false held later result
       (same_carries s _ (λ book tried.
@@ -48,9 +48,9 @@ module _ (limit : ℕ) (from id : ℤ) (rows : Rows) where
 
   pub too_long_goes : (s : State) (letters : List Dir) (pushes : ℕ) (held later : Option (List ℕ)) (result : Result Bool ToolFault)
       → IsLeastSolution rows letters pushes → letter_limit < length letters → TellsTooLong id held later result
-      → where_tried s s (λ book after. StepsLevel limit from id book after held later result) result
+      → through_tried s s held later result
   too_long_goes s letters pushes held later result least many (inl (is, keeps)) =
-      subst (λ (r : Result Bool ToolFault). where_tried s s (λ book after. StepsLevel limit from id book after held later r) r) (sym is)
+      subst (λ (r : Result Bool ToolFault). through_tried s s held later r) (sym is)
       (memory_goes limit from id (IsTriedAs from id rows) s held later tool.Memory refl keeps)
   too_long_goes s letters pushes held later result least many (inr tells) =
       told_goes limit from id (IsTriedAs from id rows) s s (fault_line id too_long) false held later result
@@ -75,7 +75,7 @@ module _ (limit : ℕ) (from id : ℤ) (rows : Rows) where
     -- the letters are not kept, for a cause outside
     pub unoffered_goes : (held : Option (List ℕ)) (fault : BookFault)
         → calls.Keeps old mid (λ book. IsOutside fault ⊎ IsNotOffered book (id_number id) letters fault) → IsCaused old mid IsOffered fault
-        → where_tried old mid (λ book after. StepsLevel limit from id book after held held (Err (of_book fault))) (Err (of_book fault))
+        → through_tried old mid held held (Err (of_book fault))
     unoffered_goes held fault keeps caused = record {
       done = tt;
       ended = λ clean book shows.
@@ -127,7 +127,7 @@ module _ (limit : ℕ) (from id : ℤ) (rows : Rows) where
       pub unproved_goes : (held : Option (List ℕ)) (fault : BookFault)
           → calls.Keeps mid new (λ book. IsOutside fault ⊎ IsNotKnown book (id_number id) rows (claim.Pushes pushes) fault)
           → IsCaused mid new (λ book after. ProvesKnown book (id_number id) (claim.Pushes pushes) after) fault
-          → where_tried old new (λ book after. StepsLevel limit from id book after held held (Err (of_book fault))) (Err (of_book fault))
+          → through_tried old new held held (Err (of_book fault))
       unproved_goes held_out fault keeps caused = record {
         done = tt;
         ended = λ clean book shows.
@@ -155,7 +155,7 @@ module _ (limit : ℕ) (from id : ℤ) (rows : Rows) where
       pub proved_goes : (held later : Option (List ℕ)) (result : Result Bool ToolFault)
           → Changes mid new (λ book after. ProvesKnown book (id_number id) (claim.Pushes pushes) after)
           → TellsLine (optimal_line id told.pushes told.moves) true held later result
-          → where_tried old new (λ book after. StepsLevel limit from id book after held later result) result
+          → through_tried old new held later result
       proved_goes held_out later result proved tells_line =
           told_goes limit from id (IsTriedAs from id rows) old new (optimal_line id told.pushes told.moves) true held_out later result
           (changes_carries old new _ (λ clean book holds.
@@ -181,7 +181,7 @@ module _ (limit : ℕ) (from id : ℤ) (rows : Rows) where
     pub none_unproved_goes : (held : Option (List ℕ)) (fault : BookFault)
         → calls.Keeps old new (λ book. IsOutside fault ⊎ IsNotKnown book (id_number id) rows claim.Unsolvable fault)
         → IsCaused old new (λ book after. ProvesKnown book (id_number id) claim.Unsolvable after) fault
-        → where_tried old new (λ book after. StepsLevel limit from id book after held held (Err (of_book fault))) (Err (of_book fault))
+        → through_tried old new held held (Err (of_book fault))
     none_unproved_goes held fault keeps caused = record {
       done = tt;
       ended = λ clean book shows.
@@ -199,7 +199,7 @@ module _ (limit : ℕ) (from id : ℤ) (rows : Rows) where
 
     pub none_proved_goes : (held later : Option (List ℕ)) (result : Result Bool ToolFault)
         → Changes old new (λ book after. ProvesKnown book (id_number id) claim.Unsolvable after) → TellsLine (unsolvable_line id) true held later result
-        → where_tried old new (λ book after. StepsLevel limit from id book after held later result) result
+        → through_tried old new held later result
     none_proved_goes held later result proved tells =
         told_goes limit from id (IsTriedAs from id rows) old new (unsolvable_line id) true held later result
         (changes_carries old new _ (λ clean book holds.

@@ -27,7 +27,7 @@ use Rattle.sok_store.proofs.Known.{entry_refused}
 use Rattle.sok_store.proofs.Wide.{wide}
 use Rattle.sok_keep.proofs.Ids.{passed}
 use Rattle.sok_settle.specs.Settles.{is_passed}
-use Rattle.sok_settle.specs.Steps.{GoesWhere, IsRecordIn, IsTriedAs, MayStep, StepsLevel}
+use Rattle.sok_settle.specs.Steps.{GoesThrough, IsRecordIn, IsTriedAs, MayStep, StepsLevel}
 use Rattle.sok_settle.proofs.Going.{book_uncaused, goes_other, left_steps}
 
 -- ---- the id of a record
@@ -77,9 +77,8 @@ tried_as from kept rows level text begun untested book of_book is =
 -- so it is settled as its level is
 pub read_goes : (limit : ℕ) (from : ℤ) (kept : Record) (rows : Rows) (old new : State) (held later : Option (List ℕ)) (result : Result Bool ToolFault)
     → IsLevel rows → level_text rows ≡ string_bytes kept.text → (kept.id <ℤ from → ⊥) → kept.verdict ≡ Untested
-    → GoesWhere {X = Bool} (IsTriedAs from (passed kept.id) rows) old new (λ book after. StepsLevel limit from (passed kept.id) book after held later result)
-    (MayStep limit from (passed kept.id)) result
-    → GoesWhere {X = Bool} (IsRecordIn kept) old new (λ book after. StepsLevel limit from kept.id book after held later result) (MayStep limit from kept.id) result
+    → GoesThrough (IsTriedAs from (passed kept.id) rows) limit from (passed kept.id) old new held later result
+    → GoesThrough (IsRecordIn kept) limit from kept.id old new held later result
 read_goes limit from kept rows old new held later result level text begun untested goes =
     goes_other old new _ _ _ _
     (λ book after of_book makes is.
@@ -95,7 +94,7 @@ read_goes limit from kept rows old new held later result level text begun untest
 module _ (limit : ℕ) (from : ℤ) (kept : Record) (s : State) (held : Option (List ℕ)) where
   -- a level that comes before the first, or has a verdict, is passed over
   pub passed_goes : ((book : Book) → IsKeptBook book → IsRecordIn kept book → (kept.id <ℤ from) ⊎ (kept.verdict ≢ Untested))
-      → GoesWhere {X = Bool} (IsRecordIn kept) s s (λ book after. StepsLevel limit from kept.id book after held held (Ok true)) (MayStep limit from kept.id) (Ok true)
+      → GoesThrough (IsRecordIn kept) limit from kept.id s s held held (Ok true)
   passed_goes why = record {
     done = λ clean book shows. (
       book,
@@ -118,8 +117,7 @@ module _ (limit : ℕ) (from : ℤ) (kept : Record) (s : State) (held : Option (
   -- what is not read of a record was refused for want of memory
   pub unread_goes : (number : ℤ) (fault : BookFault)
       → IsBroken number (λ rows. IsLevel rows × IsAcceptable rows × (level_text rows ≡ string_bytes kept.text)) fault
-      → GoesWhere {X = Bool} (IsRecordIn kept) s s (λ book after. StepsLevel limit from kept.id book after held held (Err (of_book fault))) (MayStep limit from kept.id)
-      (Err (of_book fault))
+      → GoesThrough (IsRecordIn kept) limit from kept.id s s held held (Err (of_book fault))
   unread_goes number fault broken = record {
     done = tt;
     ended = λ clean book shows. (

@@ -4,7 +4,7 @@ use Rattle.std.proofs.Common.{Bool, true, IfErr, IsSomeAnd, OnOk, ap, arith, len
 use Rattle.std.proofs.lemmas.Bool.{cases_Bool}
 use Rattle.std.proofs.lemmas.Option.{none-some, same_Some}
 use Rattle.std.specs.List.{slice_set}
-use Rattle.std.specs.Io.KnownBytes.{Appends}
+use Rattle.std.specs.Io.KnownBytes.{Appends, Keeps}
 use Rattle.std.proofs.KnownBytes.{Appends-kept, Appends-nil, Appends-trans, Keeps-refl}
 use Rattle.sqlite.specs.State.{State, HasCleanDisk}
 use Rattle.sqlite.proofs.StateLemmas.{survives_then}
@@ -31,8 +31,8 @@ use Rattle.sok_store.proofs.Caused.{cause_before}
 use Rattle.sok_store.proofs.Found.{some_and}
 use Rattle.sok_keep.specs.Causes.{IsCausedFault}
 use Rattle.sok_keep.proofs.Ending.{caused_more}
-use Rattle.sok_settle.specs.Settles.{LeavesLevel, SettlesLevel, SettlesSome, WritesSettling, is_optimal, is_passed, is_past_limit, is_too_long, is_unsolvable, more, none, settle_status}
-use Rattle.sok_settle.specs.Steps.{GoesWhere, HasGone, IsRecordIn, MayStep, StaysFrom, StepsLevel}
+use Rattle.sok_settle.specs.Settles.{EndsSettling, LeavesLevel, SettlesLevel, SettlesSome, WritesSettling, is_optimal, is_passed, is_past_limit, is_too_long, is_unsolvable, more, none, settle_status}
+use Rattle.sok_settle.specs.Steps.{GoesThrough, GoesWhere, HasGone, IsRecordIn, MayStep, StaysFrom, StepsLevel}
 
 -- ---- the other pages
 
@@ -117,39 +117,35 @@ module _ (limit : ℕ) (from : ℤ) where
       let next = more n gone.text line all settled middle after gone.settled (subst (λ i. SettlesLevel limit from i middle line settled after) is level) in
       (n + 1, gone.text ++ line, all && settled, after, next, inl refl)
 
+  -- how it ends behind the levels that were gone through
+  ends_behind : (book middle after : Book) (n : ℕ) (all : Bool) (first here later : Option (List ℕ)) (result : Result ℕ ToolFault)
+      → (gone : HasGone limit from n all book middle first here) → EndsSettling limit from book n gone.text all middle after first later result
+      → WritesSettling limit from book after first later result
+  ends_behind book middle after n all first here later result gone ended =
+      record { count = n; text = gone.text; all = all; before = middle; settled = gone.settled; ended = ended }
+
+  -- with none of the next one written
+  left_at : (book middle after : Book) (n : ℕ) (all : Bool) (id : ℤ) (first here later : Option (List ℕ)) (gone : HasGone limit from n all book middle first here)
+      → id ≡ pos (n + 1) → LeavesLevel from id middle after × Keeps here later → LeavesLevel from (pos (n + 1)) middle after × Appends first later gone.text
+  left_at book middle after n all id first here later gone is (left, keeps) =
+      (subst (λ i. LeavesLevel from i middle after) is left, Appends-kept first here later gone.text gone.written keeps)
+
   -- how it ends at the next level
   ends_at : (book middle after : Book) (n : ℕ) (all : Bool) (id : ℤ) (first here later : Option (List ℕ)) (fault : ToolFault)
       → HasGone limit from n all book middle first here → id ≡ pos (n + 1) → StepsLevel limit from id middle after here later (Err fault)
       → WritesSettling limit from book after first later (Err fault)
-  ends_at book middle after n all id first here later tool.WriteFailed gone is (line, settled, level, (k, under, front)) = record {
-    count = n;
-    text = gone.text;
-    all = all;
-    before = middle;
-    settled = gone.settled;
-    ended = (
-      line,
-      settled,
-      subst (λ i. SettlesLevel limit from i middle line settled after) is level,
-      (k, under, Appends-trans first here later gone.text (take k line) gone.written front),
-    );
-  }
-  ends_at book middle after n all id first here later tool.Memory gone is (left, keeps) = record {
-    count = n;
-    text = gone.text;
-    all = all;
-    before = middle;
-    settled = gone.settled;
-    ended = (subst (λ i. LeavesLevel from i middle after) is left, Appends-kept first here later gone.text gone.written keeps);
-  }
-  ends_at book middle after n all id first here later (tool.Book refusal.Database) gone is (left, keeps) = record {
-    count = n;
-    text = gone.text;
-    all = all;
-    before = middle;
-    settled = gone.settled;
-    ended = (subst (λ i. LeavesLevel from i middle after) is left, Appends-kept first here later gone.text gone.written keeps);
-  }
+  ends_at book middle after n all id first here later tool.WriteFailed gone is (line, settled, level, (k, under, front)) =
+      ends_behind book middle after n all first here later (Err tool.WriteFailed) gone (
+        line,
+        settled,
+        subst (λ i. SettlesLevel limit from i middle line settled after) is level,
+        (k, under, Appends-trans first here later gone.text (take k line) gone.written front),
+      )
+  ends_at book middle after n all id first here later tool.Memory gone is step =
+      ends_behind book middle after n all first here later (Err tool.Memory) gone (left_at book middle after n all id first here later gone is step)
+  ends_at book middle after n all id first here later (tool.Book refusal.Database) gone is step =
+      ends_behind book middle after n all first here later (Err (tool.Book refusal.Database)) gone
+      (left_at book middle after n all id first here later gone is step)
   ends_at book middle after n all id first here later fault gone is never = absurd never
 
   -- ---- all levels
@@ -182,14 +178,9 @@ module _ (limit : ℕ) (from : ℤ) where
           let (after, made, shown_after, stays) = gone clean book shows in (
             after,
             λ are.
-                let it = made are in record {
-                  count = n;
-                  text = it.text;
-                  all = all;
-                  before = after;
-                  settled = it.settled;
-                  ended = (end ∙ length-records book records are, refl, told_status, it.written);
-                },
+                let it = made are in
+                ends_behind book after after n all first here here (Ok status) it
+                (end ∙ length-records book records are, refl, told_status, it.written),
             shown_after,
             stays,
           );
@@ -200,8 +191,7 @@ module _ (limit : ℕ) (from : ℤ) where
 
     module _ (old mid new : State) (n : ℕ) (all : Bool) (kept : Record) (at : slice_get records n ≡ Some kept) (first here later : Option (List ℕ))
         (gone : Gone old mid n all first here) (stop : MayGo old mid) where
-      module _ (result : Result Bool ToolFault)
-          (goes : GoesWhere {X = Bool} (IsRecordIn kept) mid new (λ book after. StepsLevel limit from kept.id book after here later result) (MayStep limit from kept.id) result) where
+      module _ (result : Result Bool ToolFault) (goes : GoesThrough (IsRecordIn kept) limit from kept.id mid new here later result) where
         early : HasCleanDisk new → HasCleanDisk mid
         early clean = omega (arith, clean, goes.stop.clean)
 
@@ -236,8 +226,7 @@ module _ (limit : ℕ) (from : ℤ) where
 
       -- the next one was gone through
       pub gone_more : (settled : Bool)
-          → GoesWhere {X = Bool} (IsRecordIn kept) mid new (λ book after. StepsLevel limit from kept.id book after here later (Ok settled)) (MayStep limit from kept.id)
-          (Ok settled)
+          → GoesThrough (IsRecordIn kept) limit from kept.id mid new here later (Ok settled)
           → Gone old new (n + 1) (all && settled) first later
       gone_more settled goes clean book shows =
           let (middle, made, shows_mid, stays) = gone (omega (arith, clean, goes.stop.clean)) book shows in
@@ -254,8 +243,7 @@ module _ (limit : ℕ) (from : ℤ) where
 
       -- or the call ends at it
       pub gone_ended : (fault : ToolFault)
-          → GoesWhere {X = Bool} (IsRecordIn kept) mid new (λ book after. StepsLevel limit from kept.id book after here later (Err fault)) (MayStep limit from kept.id)
-          (Err fault)
+          → GoesThrough (IsRecordIn kept) limit from kept.id mid new here later (Err fault)
           → GoesWhere {X = ℕ} (λ book. AreRecordsOf book records) old new (λ book after. WritesSettling limit from book after first later (Err fault))
           (SettlesSome limit from) (Err fault)
       gone_ended fault goes = record {

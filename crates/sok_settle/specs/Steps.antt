@@ -61,6 +61,11 @@ pub record Goes {X : Type 0} (old new : State) (Makes MayMake : Book → Book �
 abbrev pub GoesWhere : {X : Type 0} → (Book → Type 0) → State → State → (Book → Book → Type 0) → (Book → Book → Type 0) → Result X ToolFault → Type 0
 GoesWhere P old new Makes MayMake = Goes old new (λ book after. P book → Makes book after) (λ book after. P book → MayMake book after)
 
+-- how a call that goes through the level with an id treats the connection, of the books of which something is true
+abbrev pub GoesThrough : (Book → Type 0) → ℕ → ℤ → ℤ → State → State → Option (List ℕ) → Option (List ℕ) → Result Bool ToolFault → Type 0
+GoesThrough P limit from id old new here later result =
+    GoesWhere {X = Bool} P old new (λ book after. StepsLevel limit from id book after here later result) (MayStep limit from id) result
+
 -- the page at each place from this one on is as it was
 abbrev pub StaysFrom : ℕ → Book → Book → Type 0
 StaysFrom n book after = (m : ℕ) → n ≤ m → slice_get after m ≡ slice_get book m

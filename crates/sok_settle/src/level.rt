@@ -9,8 +9,7 @@ ghost use Rattle.sok_cert.specs.Claim.TheVariants as claim;
 ghost use Rattle.sok_search.specs.Faults.{IsBadLimit};
 ghost use Rattle.sok_search.specs.Outcomes.{IsAnswer, IsLeastSolution};
 ghost use Rattle.sok_store.specs.Known.{IsCertified};
-ghost use Rattle.sok_settle.specs.Steps.{GoesWhere, IsRecordIn, IsTriedAs, MayStep, StepsLevel};
-ghost use Rattle.sok_settle.specs.Steps.{TellsTooLong};
+ghost use Rattle.sok_settle.specs.Steps.{GoesThrough, IsRecordIn, IsTriedAs, TellsTooLong};
 
 use crate::line::{fault_line, limit_line, optimal_line, tell, unsolvable_line};
 use crate::search::search;
@@ -42,10 +41,8 @@ pub(crate) fn settle_kept<S: Alter, W: Write>(
     out: &mut W,
 ) -> Result<bool, ToolFault>
     requires { IsBadLimit limit → ⊥ }
-    ensures { GoesWhere (IsRecordIn kept.now) (state S.Store book.old) (state S.Store book.new)
-        (λ pages after. StepsLevel limit from kept.now.id pages after
-        (W.contents out.old) (W.contents out.new) result)
-        (MayStep limit from kept.now.id) result }
+    ensures { GoesThrough (IsRecordIn kept.now) limit from kept.now.id (state S.Store book.old)
+        (state S.Store book.new) (W.contents out.old) (W.contents out.new) result }
 {
     if kept.id < from {
         return Ok(true);
@@ -69,10 +66,8 @@ fn settle_untested<S: Alter, W: Write>(
     requires good_limit { IsBadLimit limit → ⊥ }
     requires begun { kept.now.id <ℤ from → ⊥ }
     requires untested { kept.now.verdict ≡ Verdict.Untested }
-    ensures { GoesWhere (IsRecordIn kept.now) (state S.Store book.old) (state S.Store book.new)
-        (λ pages after. StepsLevel limit from kept.now.id pages after
-        (W.contents out.old) (W.contents out.new) result)
-        (MayStep limit from kept.now.id) result }
+    ensures { GoesThrough (IsRecordIn kept.now) limit from kept.now.id (state S.Store book.old)
+        (state S.Store book.new) (W.contents out.old) (W.contents out.new) result }
 {
     match level_of(alloc, kept.id, kept.text.as_bytes()) {
         Ok(level) => settle_level(alloc, book, limit, kept.id, &level, out),
@@ -91,11 +86,9 @@ fn settle_level<S: Alter, W: Write>(
 ) -> Result<bool, ToolFault>
     requires good_limit { IsBadLimit limit → ⊥ }
     requires accepted { IsAcceptable level.now }
-    ensures { (from : ℤ) → GoesWhere (IsTriedAs from id level.now)
+    ensures { (from : ℤ) → GoesThrough (IsTriedAs from id level.now) limit from id
         (state S.Store book.old) (state S.Store book.new)
-        (λ pages after. StepsLevel limit from id pages after
-        (W.contents out.old) (W.contents out.new) result)
-        (MayStep limit from id) result }
+        (W.contents out.old) (W.contents out.new) result }
 {
     match search(alloc, level, limit) {
         Ok(outcome) => settle_by(alloc, book, limit, id, level, outcome, out),
@@ -115,11 +108,9 @@ fn settle_by<S: Alter, W: Write>(
 ) -> Result<bool, ToolFault>
     requires accepted { IsAcceptable level.now }
     requires answer { IsAnswer level.now limit outcome }
-    ensures { (from : ℤ) → GoesWhere (IsTriedAs from id level.now)
+    ensures { (from : ℤ) → GoesThrough (IsTriedAs from id level.now) limit from id
         (state S.Store book.old) (state S.Store book.new)
-        (λ pages after. StepsLevel limit from id pages after
-        (W.contents out.old) (W.contents out.new) result)
-        (MayStep limit from id) result }
+        (W.contents out.old) (W.contents out.new) result }
 {
     match outcome {
         Outcome::Solved { dirs, pushes, cert } => {
@@ -151,11 +142,9 @@ fn settle_solved<S: Alter, W: Write>(
 ) -> Result<bool, ToolFault>
     requires least { IsLeastSolution level.now dirs.now pushes }
     requires certified { IsCertified level.now (claim.Pushes pushes) }
-    ensures { (limit : ℕ) (from : ℤ) → GoesWhere (IsTriedAs from id level.now)
+    ensures { (limit : ℕ) (from : ℤ) → GoesThrough (IsTriedAs from id level.now) limit from id
         (state S.Store book.old) (state S.Store book.new)
-        (λ pages after. StepsLevel limit from id pages after
-        (W.contents out.old) (W.contents out.new) result)
-        (MayStep limit from id) result }
+        (W.contents out.old) (W.contents out.new) result }
 {
     if dirs.len() > LETTER_LIMIT {
         return tell_too_long(alloc, id, out);
@@ -175,11 +164,9 @@ fn settle_offered<S: Alter, W: Write>(
     requires few { length dirs.now ≤ letter_limit }
     requires least { IsLeastSolution level.now dirs.now pushes }
     requires certified { IsCertified level.now (claim.Pushes pushes) }
-    ensures { (limit : ℕ) (from : ℤ) → GoesWhere (IsTriedAs from id level.now)
+    ensures { (limit : ℕ) (from : ℤ) → GoesThrough (IsTriedAs from id level.now) limit from id
         (state S.Store book.old) (state S.Store book.new)
-        (λ pages after. StepsLevel limit from id pages after
-        (W.contents out.old) (W.contents out.new) result)
-        (MayStep limit from id) result }
+        (W.contents out.old) (W.contents out.new) result }
 {
     let told = match book.offer_with_best(id, dirs) {
         Ok(told) => told,
@@ -200,11 +187,9 @@ fn settle_unsolvable<S: Alter, W: Write>(
 ) -> Result<bool, ToolFault>
     requires unsolvable { IsUnsolvable level.now }
     requires certified { IsCertified level.now claim.Unsolvable }
-    ensures { (limit : ℕ) (from : ℤ) → GoesWhere (IsTriedAs from id level.now)
+    ensures { (limit : ℕ) (from : ℤ) → GoesThrough (IsTriedAs from id level.now) limit from id
         (state S.Store book.old) (state S.Store book.new)
-        (λ pages after. StepsLevel limit from id pages after
-        (W.contents out.old) (W.contents out.new) result)
-        (MayStep limit from id) result }
+        (W.contents out.old) (W.contents out.new) result }
 {
     match book.prove_known(id, level, Claim::Unsolvable) {
         Ok(()) => tell(&unsolvable_line(id), true, out),

@@ -5,7 +5,6 @@ ghost use Rattle.sok_board.specs.Refusals.{IsAcceptable};
 ghost use Rattle.sok_engine.specs.declared.fault.ToolFault.TheVariants as tool;
 ghost use Rattle.sok_search.specs.Faults.{IsBadLimit};
 ghost use Rattle.sok_search.specs.Outcomes.{IsAnswer};
-ghost use Rattle.sok_search.specs.declared.fault.SolveFault.TheVariants as solve;
 
 use sok_engine::fault::ToolFault;
 use sok_rules::level::Level;
@@ -24,16 +23,7 @@ pub(crate) fn search(alloc: Global, level: &Level, limit: u32) -> Result<Outcome
 {
     match solve(alloc, level, limit) {
         Ok(outcome) => Ok(outcome),
-        Err(fault) => Err(tool_fault(fault)),
-    }
-}
-
-fn tool_fault(fault: SolveFault) -> ToolFault
-    ensures { fault ≡ solve.Memory → result ≡ tool.Memory }
-{
-    match fault {
-        SolveFault::BadLimit => ToolFault::BadLimit,
-        SolveFault::Level(fault) => ToolFault::from(fault),
-        SolveFault::Memory => ToolFault::Memory,
+        Err(SolveFault::Memory) => Err(ToolFault::Memory),
+        Err(_) => unreachable!(),
     }
 }

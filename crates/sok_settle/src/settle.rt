@@ -1,6 +1,6 @@
 //! The levels of a book are settled.
 
-ghost use Rattle.std.specs.Prelude.{◌≡◌, ◌↔◌, ◌&&◌, Err, IfErr, IsTrue, OnOk};
+ghost use Rattle.std.specs.Prelude.{◌≡◌, ◌↔◌, Err, IfErr, IsTrue, OnOk};
 ghost use Rattle.sqlite.specs.Held.{state};
 ghost use Rattle.sok_engine.specs.declared.fault.ToolFault.TheVariants as tool;
 ghost use Rattle.sok_row.specs.Told.{AreRecordsOf};
@@ -82,15 +82,9 @@ fn settle_all<S: Alter, W: Write>(
     let mut all = true;
     for kept in records {
         let settled = settle_kept(alloc, book, limit, from, kept, out)?;
-        all = both(all, settled);
+        all &= settled;
     }
     Ok(settle_status(all))
-}
-
-fn both(all: bool, settled: bool) -> bool
-    ensures { result ≡ (all && settled) }
-{
-    all && settled
 }
 
 fn settle_status(all: bool) -> u8

@@ -28,8 +28,7 @@ loop-kept-preserved g c =
     let here = c.loop-kept in
     let records = c.args.records.now in
     let within : here.kept-index < length records = omega arith in
-    let at : slice_get records here.kept-index ≡ Some c.kept-item.result = slice_get_read records (length records) here.kept-index c.kept-item.result refl within c.kept-item.is in
-    rw c.both-all.ensures (
+    let at : slice_get records here.kept-index ≡ Some c.kept-item.result = slice_get_read records (length records) here.kept-index c.kept-item.result refl within c.kept-item.is in (
       gone_more c.args.limit _ records (state g.S.Store c.args.book.now) (state g.S.Store here.book) (state g.S.Store c.settle_kept.new.book) here.kept-index
           here.all c.kept-item.result at (g.W.Write.contents c.args.out.now) (g.W.Write.contents here.out) (g.W.Write.contents c.settle_kept.new.out)
           here.invariant.0 here.invariant.1 c.in_ok-settled.settled c.in_ok-settled.ensures,
