@@ -21,12 +21,6 @@ pub Writes-file : (reads : Option (List ℕ) → Type 0) (P : List ℕ → Answe
     → reads known → Writes (OfReader known P) old new result → Writes (OfFile reads P) old new result
 Writes-file reads P known old new result may = Writes-weaker (OfReader known P) (OfFile reads P) (λ answer is. (known, may, is)) old new result
 
--- and so where a text was passed on
-pub Writes-file_text : (reads : Option (List ℕ) → Type 0) (P : List ℕ → List ℕ → Answers) (known old new : Option (List ℕ)) (result : Result ℕ ToolFault)
-    (passed text : List ℕ) → passed ≡ text → reads known → Writes (OfReader known (P passed)) old new result → Writes (OfFile reads (P text)) old new result
-Writes-file_text reads P known old new result passed text same may written =
-    Writes-file reads (P text) known old new result may (subst (λ t. Writes (OfReader known (P t)) old new result) same written)
-
 UnlessMuch-text : (cert : Option (List ℕ)) (P : List ℕ → Answers) (much : Bool) (answer : Result Answer ToolFault) → UnlessMuch much (OfReader cert P) answer
     → OfReader cert (λ text. UnlessMuch much (P text)) answer
 UnlessMuch-text cert P true answer much = let (text, told) = some_text cert in (text, told, much)

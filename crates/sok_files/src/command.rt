@@ -42,14 +42,14 @@ pub fn replay<F: Folder + AllocGlobal, W: Write>(
     rt: &F,
     path: &str,
     n: u32,
-    text: &str,
+    text: &[u8],
     out: &mut W,
 ) -> Result<u8, ToolFault>
     ensures { Writes (OfFile (F.reads rt.now path.now) (Within input_limit (IsReplay n text.now)))
         (W.contents out.old) (W.contents out.new) result }
 {
     let mut input = open(rt, path)?;
-    replay_bytes(rt.alloc(), &mut input, n as usize, text.as_bytes(), out)
+    replay_bytes(rt.alloc(), &mut input, n as usize, text, out)
 }
 
 /// Draws the n-th level of a collection as it stands after a text of letters.
@@ -57,14 +57,14 @@ pub fn draw<F: Folder + AllocGlobal, W: Write>(
     rt: &F,
     path: &str,
     n: u32,
-    text: &str,
+    text: &[u8],
     out: &mut W,
 ) -> Result<u8, ToolFault>
     ensures { Writes (OfFile (F.reads rt.now path.now) (Within input_limit (IsDrawing n text.now)))
         (W.contents out.old) (W.contents out.new) result }
 {
     let mut input = open(rt, path)?;
-    draw_bytes(rt.alloc(), &mut input, n as usize, text.as_bytes(), out)
+    draw_bytes(rt.alloc(), &mut input, n as usize, text, out)
 }
 
 /// Judges a certificate for the n-th level of a collection. It is read only where the level has a

@@ -20,7 +20,7 @@ const ABSENT: [Row; 6] = [
     ("sok settle books/book", "", NO_DATABASE, 5),
 ];
 
-const COMMANDS: [Row; 25] = [
+const COMMANDS: [Row; 26] = [
     // the file is made, of a collection without levels
     ("sok add books/book books/cert", "", "", 0),
     ("sok export books/book", "", "", 0),
@@ -91,6 +91,8 @@ const COMMANDS: [Row; 25] = [
         "",
         0,
     ),
+    // the letters are those of the input
+    ("sok offer books/book 2 -", "stored 2 6\n", "", 0),
     // the text is read before the level is looked for, and the file is opened before both
     ("sok offer books/book 9 x", "", "fault 11 BadLetter 0\n", 3),
     ("sok prove books/book 9 books/none", "", OPEN_FAILED, 5),

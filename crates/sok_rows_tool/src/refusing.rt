@@ -9,7 +9,7 @@ const VERSION: &str = "sok 1.0\nproved with rattle-kit-13f logic dac8208d650f15b
 
 /// A line, a part of what is written to the output, or where the status is 2 to the error stream,
 /// and the status.
-const REFUSALS: [(&str, &str, u8); 33] = [
+const REFUSALS: [(&str, &str, u8); 34] = [
     ("sok --help", "Exit status:", 0),
     ("sok --version", VERSION, 0),
     ("sok help solve", "limit S", 0),
@@ -32,6 +32,7 @@ const REFUSALS: [(&str, &str, u8); 33] = [
     ("sok list F G", "unexpected argument 'G'", 2),
     ("sok replay F one R", "invalid value 'one'", 2),
     ("sok replay F 1", "<TEXT>", 2),
+    ("sok replay - 1 -", "read once in a command", 2),
     ("sok solve F 4294967296", "4294967296", 2),
     ("sok solve F 1 --limit x", "invalid value 'x'", 2),
     (

@@ -5,9 +5,11 @@ use sok_sketch::tutorial::Row;
 use std::fs;
 use std::test::Fail;
 
-const REPLAYS: [Row; 9] = [
+const REPLAYS: [Row; 11] = [
     ("sok replay plays/levels 1 R", "solved 1 1\n", "", 0),
     ("sok replay plays/levels 4 ulldRR", "solved 2 6\n", "", 0),
+    ("sok replay plays/levels 4 -", "solved 2 6\n", "", 0),
+    ("sok replay plays/levels 1 -", "", "fault 12 Blocked 0\n", 3),
     ("sok replay plays/levels 4 ul", "open 0 2\n", "", 1),
     (
         "sok replay plays/levels 4 uu",
@@ -42,7 +44,7 @@ const REPLAYS: [Row; 9] = [
     ("sok replay plays/none 1 R", "", OPEN_FAILED, 5),
 ];
 
-const DRAWINGS: [Row; 10] = [
+const DRAWINGS: [Row; 11] = [
     (
         "sok draw draws/levels 4",
         "######\n#    #\n# $@.#\n######\n",
@@ -52,6 +54,12 @@ const DRAWINGS: [Row; 10] = [
     // the player on floor, and the box on the goal
     (
         "sok draw draws/levels 4 ulldRR",
+        "######\n#    #\n#  @*#\n######\n",
+        "",
+        0,
+    ),
+    (
+        "sok draw draws/levels 4 -",
         "######\n#    #\n#  @*#\n######\n",
         "",
         0,

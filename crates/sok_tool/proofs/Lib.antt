@@ -1,2 +1,3 @@
+pub mod Plain
 pub mod Serving
 pub mod Working

@@ -1,9 +1,10 @@
 -- What is answered to a job is what serves its form.
-use Rattle.std.proofs.Common.{ℕ, ℤ, ◌≡◌, ◌∙◌, inl, Bool, FitsSigned, Global, IfSome, String, List, Option, Some, None, Err, option_map, refl}
+use Rattle.std.proofs.Common.{ℕ, ℤ, ◌≡◌, ◌∙◌, inl, Bool, FitsSigned, Global, IfSome, String, List, Option, Some, None, Result, Err, option_map, refl}
 use Rattle.std.proofs.Common.{◌≤◌, ◌∷◌, ap, arith, length, map, pos, string_bytes, subst, sym, w64}
 use Rattle.std.proofs.lemmas.List.{length-map}
 use Rattle.std.proofs.lemmas.Option.{none-some}
 use Rattle.std.specs.Str.Parse.{digits_value}
+use Rattle.sok_engine.specs.declared.fault.ToolFault.{ToolFault}
 use Rattle.sok_engine.specs.declared.fault.ToolFault.TheVariants as tool
 use Rattle.sok_engine.specs.Certified.{Bytes, Stays}
 use Rattle.sok_play.specs.Drawings.{IsDrawing}
@@ -30,6 +31,12 @@ Serves-memory files databases (solve file number limit bound (Some cert)) out er
 Serves-memory files databases (show db (Some id)) out err exit ends kept = (Err tool.Memory, refused tool.Memory (unread refl) refl kept, ends)
 Serves-memory files databases (show db None) out err exit ends kept = (Err tool.Memory, refused tool.Memory (unread refl) refl kept, ends)
 Serves-memory files databases _ out err exit ends kept = (Err tool.Memory, refused tool.Memory (unread refl) refl kept, ends)
+
+-- and so where a command tells of it
+pub Serves-unread : (files : Files) (databases : Databases) (form : Form) (out err : Bytes) (exit : ℕ) (result : Result ℕ ToolFault) → result ≡ Err tool.Memory
+    → Ends result err.old err.new exit → Stays out → Serves files databases form out err exit
+Serves-unread files databases form out err exit result is ends kept =
+    Serves-memory files databases form out err exit (subst (λ r. Ends r err.old err.new exit) is ends) kept
 
 -- a form has a word after the program's name
 asks : (form : Form) → 1 ≤ length (words_of form)

@@ -55,7 +55,7 @@ pub(crate) fn offer<S: Alter + Drop, F: Databases<Opened = Connection<S>> + Allo
     rt: &F,
     db: &str,
     id: i64,
-    text: &str,
+    text: &[u8],
     out: &mut W,
 ) -> Result<u8, ToolFault>
     ensures { WorksOn (place (state S.Store)
@@ -66,7 +66,7 @@ pub(crate) fn offer<S: Alter + Drop, F: Databases<Opened = Connection<S>> + Allo
         (record { old = W.contents out.old; new = W.contents out.new }) result }
 {
     let mut book = book_of(rt, db)?;
-    let told = offer_bytes(rt.alloc(), &mut book, id, text.as_bytes(), out);
+    let told = offer_bytes(rt.alloc(), &mut book, id, text, out);
     rt.close(db, book.into_connection());
     told
 }

@@ -5,12 +5,14 @@
 //! | Module | What it holds |
 //! |---|---|
 //! | `program` | the program: its words, its streams and its exit status |
+//! | `letters` | the letters that a word stands for (private) |
 //! | `keeping` | each command on a book (private) |
 //! | `databases` | databases by their paths |
 #![tactic(auto)]
 
 pub mod databases;
 mod keeping;
+mod letters;
 pub mod program;
 
 pub use sok_engine::{fault, input};

@@ -12,8 +12,9 @@ ghost use Rattle.sok_tool.specs.Commands.{Serves};
 ghost use Rattle.sok_tool.specs.declared.databases.IfAbsent.TheVariants as if_absent;
 
 use crate::databases::Databases;
-use crate::keeping::{add, offer, prove, settle, show, tell};
-use sok_files::command::{check, draw, list, replay, solve};
+use crate::keeping::{add, prove, settle, show, tell};
+use crate::letters::{draw, offer, replay};
+use sok_files::command::{check, list, solve};
 use sok_files::ending::{ended, refused};
 use sok_files::folder::Folder;
 use sok_play::play::play_bytes;
@@ -25,9 +26,9 @@ use std::io::{Read, Write};
 
 /// Runs the program, and gives its exit status. The first word is the program's name. Without
 /// further words it plays a text of letters on a level, both from the input. Else the words are
-/// read by `job` of `sok_words`, and its files and its database are opened, or made, in the order
-/// in which they stand there. Then the database is opened as a book, where there is one, and the
-/// command runs.
+/// read by `job` of `sok_words`. Where TEXT is `-` the letters are read from the input. The files
+/// and the database are opened, or made, in the order in which they stand in the words. Then the
+/// database is opened as a book, where there is one, and the command runs.
 ///
 /// A fault is told as one line on the error stream. A file that can't be opened or read is
 /// `ReadFailed`, one that can't be made or written `WriteFailed`, and a database that can't be
@@ -65,7 +66,7 @@ pub fn run<
         return ended(play_bytes(rt.alloc(), input, out), err);
     }
     match job(rt.alloc(), words) {
-        Ok(job) => served(rt, job, out, err),
+        Ok(job) => served(rt, job, input, out, err),
         Err(refusal) => refused(refusal, out, err),
     }
 }
@@ -74,9 +75,10 @@ pub fn run<
 fn served<
     S: Alter + Drop,
     F: Folder + Databases<Opened = Connection<S>> + AllocGlobal,
+    R: Read,
     W: Write,
     E: Write,
->(rt: &F, job: Job, out: &mut W, err: &mut E) -> u8
+>(rt: &F, job: Job, input: &mut R, out: &mut W, err: &mut E) -> u8
     ensures { (form : Form) → IsPlain form → Means form job
         → Serves (record {
           reads = F.reads rt.now;
@@ -96,15 +98,19 @@ fn served<
     match job {
         Job::List(file) => ended(list(rt, file.as_str(), out), err),
         Job::Replay(file, n, text) => {
-            ended(replay(rt, file.as_str(), n, text.as_str(), out), err)
+            ended(replay(rt, file.as_str(), n, text.as_str(), input, out), err)
         }
-        Job::Draw(file, n, text) => ended(draw(rt, file.as_str(), n, text.as_str(), out), err),
+        Job::Draw(file, n, text) => {
+            ended(draw(rt, file.as_str(), n, text.as_str(), input, out), err)
+        }
         Job::Check(file, n, cert) => { ended(check(rt, file.as_str(), n, cert.as_str(), out), err) }
         Job::Solve(file, n, limit, bound, cert) => {
             ended(solve(rt, file.as_str(), n, limit, bound, cert, out), err)
         }
         Job::Add(db, file) => ended(add(rt, db.as_str(), file.as_str(), out), err),
-        Job::Offer(db, id, text) => ended(offer(rt, db.as_str(), id, text.as_str(), out), err),
+        Job::Offer(db, id, text) => {
+            ended(offer(rt, db.as_str(), id, text.as_str(), input, out), err)
+        }
         Job::Prove(db, id, cert) => ended(prove(rt, db.as_str(), id, cert.as_str(), out), err),
         Job::Settle(db, limit, from) => { ended(settle(rt, db.as_str(), limit, from, out), err) }
         Job::Show(db, id) => match id {

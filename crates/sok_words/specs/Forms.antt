@@ -107,8 +107,10 @@ Means _ _ = ⊥
 abbrev pub IsHyphen : String Global → Type 0
 IsHyphen word = string_bytes word ≡ codes "-"
 
--- a certificate is to be written to the standard input, or read from it with the collection
+-- a certificate is to be written to the standard input, or it or letters are to be read from it with the collection
 abbrev pub MisusesInput : Job → Type 0
+MisusesInput (job.Replay a n text) = IsHyphen a × IsHyphen text
+MisusesInput (job.Draw a n text) = IsHyphen a × IsHyphen text
 MisusesInput (job.Solve a n most bounds (Some path)) = IsHyphen path
 MisusesInput (job.Check a n cert) = IsHyphen a × IsHyphen cert
 MisusesInput _ = ⊥

@@ -73,7 +73,7 @@ pub(crate) const N: Place = Place {
 pub(crate) const TEXT: Place = Place {
     name: "TEXT",
     kind: Kind::Text,
-    help: "The letters l, u, r and d in either case, at most 1,000,000; blanks are skipped",
+    help: "The letters l, u, r and d in either case, at most 1,000,000; blanks are skipped; - reads them from the standard input",
 };
 
 pub(crate) const LETTERS: Place = Place {

@@ -25,7 +25,7 @@ use std::alloc::Global;
 /// Places and PATH that are not empty and do not begin with a hyphen, N and S below 2 ^ 32 and ID
 /// below 2 ^ 63 in digits alone, are read as they stand. S is 100,000 where it is left out, and the
 /// ID behind `--from` 1. Other words are read or refused as `clap` does it; but `-`, which is the
-/// standard input, is refused as PATH, and as FILE and CERT of one command.
+/// standard input, is refused as PATH, and as FILE with TEXT or CERT in one command.
 pub fn job(alloc: Global, words: &[String]) -> Result<Job, JobRefused>
     ensures answers { (program : List ℕ) (form : Form) → IsPlain form
         → map (λ word. string_bytes word) words.now ≡ program ∷ words_of form
@@ -59,6 +59,8 @@ fn misuses_input(job: &Job) -> bool
     ensures { IsTrue result ↔ MisusesInput job.now }
 {
     match job {
+        Job::Replay(file, _, text) => file.as_str() == "-" && text.as_str() == "-",
+        Job::Draw(file, _, text) => file.as_str() == "-" && text.as_str() == "-",
         Job::Solve(_, _, _, _, Some(path)) => path.as_str() == "-",
         Job::Check(file, _, cert) => file.as_str() == "-" && cert.as_str() == "-",
         _ => false,

@@ -3,7 +3,7 @@ use Rattle.sok_engine.specs.Inputs.{Within}
 use Rattle.sok_engine.specs.Limits.{input_limit}
 use Rattle.sok_play.specs.Plays.{IsReplay}
 use Rattle.sok_files.specs.Files.{OfFile}
-use Rattle.sok_files.proofs.Filing.{Writes-file_text, Writes-unopened}
+use Rattle.sok_files.proofs.Filing.{Writes-file, Writes-unopened}
 use Rattle.sok_files.proofs.command.replay.Goals as goal
 
 pub returns-in_err-input : goal.returns-in_err-input
@@ -14,5 +14,5 @@ returns-in_err-input g c =
 
 pub returns : goal.returns
 returns g c =
-    Writes-file_text (g.F.Folder.reads c.args.rt.now c.args.path.now) (λ text. Within input_limit (IsReplay c.args.n text)) _ _ _ c.replay_bytes.result _ _
-    c.as_bytes.ensures.value c.in_ok-input.ensures.opened c.replay_bytes.ensures
+    Writes-file (g.F.Folder.reads c.args.rt.now c.args.path.now) (Within input_limit (IsReplay c.args.n c.args.text.now)) _ _ _ c.replay_bytes.result
+    c.in_ok-input.ensures.opened c.replay_bytes.ensures

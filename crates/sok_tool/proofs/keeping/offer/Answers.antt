@@ -1,9 +1,9 @@
-use Rattle.std.proofs.Common.{ℤ, ℕ, IfErr, List, subst}
+use Rattle.std.proofs.Common.{IfErr}
 use Rattle.sqlite.specs.Held.{state}
 use Rattle.sok_store.specs.Calls.{Stops, Turns}
 use Rattle.sok_keep.specs.Causes.{IsCausedFault}
 use Rattle.sok_keep.specs.Offers.{OffersText, WritesOffer}
-use Rattle.sok_keep.proofs.Ids.{of_passed, passed}
+use Rattle.sok_keep.proofs.Ids.{of_passed}
 use Rattle.sok_tool.proofs.Working.{without_book, works}
 use Rattle.sok_tool.proofs.keeping.offer.Goals as goal
 
@@ -15,12 +15,11 @@ returns g c =
     let call = c.offer_bytes-told in
     let before = g.W.Write.contents c.args.out.now in
     let later = g.W.Write.contents call.new.out in
-    let Offers : ℤ → List ℕ → Type 0 = λ id text. Turns (state g.S.Store c.in_ok-book.book) (state g.S.Store call.new.book)
-    (λ book after. WritesOffer book id text after before later call.result) in
-    let offers = subst (Offers (passed c.args.id)) c.as_bytes.ensures.value call.ensures.writes in
+    let offers = of_passed (λ id. Turns (state g.S.Store c.in_ok-book.book) (state g.S.Store call.new.book)
+    (λ book after. WritesOffer book id c.args.text.now after before later call.result)) c.args.id c.ranges.id call.ensures.writes in
     let stop = of_passed (λ id. Stops (state g.S.Store c.in_ok-book.book) (state g.S.Store call.new.book) (OffersText id c.args.text.now)) c.args.id c.ranges.id
-    (rw c.as_bytes.ensures.value at call.ensures.stop) in
+    call.ensures.stop in
     let cause = of_passed (λ id. IfErr call.result (IsCausedFault (state g.S.Store c.in_ok-book.book) (state g.S.Store call.new.book) (OffersText id c.args.text.now)))
-    c.args.id c.ranges.id (rw c.as_bytes.ensures.value at call.ensures.cause) in
+    c.args.id c.ranges.id call.ensures.cause in
     works _ _ _ _ _ _ c.in_ok-book.book call.new.book _ c.in_ok-book.ensures.opens c.into_connection.ensures c.close.ensures
-    (of_passed (λ id. Offers id c.args.text.now) c.args.id c.ranges.id offers) stop cause
+    offers stop cause

@@ -1,22 +1,31 @@
-use Rattle.std.proofs.Common.{◌∙◌, Some, None, ap, subst}
+use Rattle.std.proofs.Common.{◌∙◌, inl, inr, Some, None, ap, subst}
 use Rattle.sok_words.specs.declared.job.Job.TheVariants as job
 use Rattle.sok_words.specs.Forms.{Means}
-use Rattle.sok_tool.proofs.Serving.{Serves-add, Serves-check, Serves-draw, Serves-export, Serves-offer, Serves-overview, Serves-prove, Serves-replay, Serves-settle, Serves-show, Serves-solve}
+use Rattle.sok_tool.proofs.Plain.{draw_word, offer_word, on_word, replay_word}
+use Rattle.sok_tool.proofs.Serving.{Serves-add, Serves-check, Serves-draw, Serves-export, Serves-offer, Serves-overview, Serves-prove, Serves-replay, Serves-settle, Serves-show, Serves-solve, Serves-unread}
 use Rattle.sok_tool.proofs.program.served.Goals as goal
 
 pub returns-in-Replay : goal.returns-in-Replay
 returns-in-Replay g c = λ form plain means.
     let s = c.in-Replay in
     let meant : Means form (job.Replay s.file s.n s.text) = subst (Means form) s.is means in
-    Serves-replay _ _ form s.file s.n s.text c.as_str-in-Replay.result.now c.as_str-in-Replay-2.result.now _ _ _ meant c.as_str-in-Replay.ensures.value
-    c.as_str-in-Replay-2.ensures.value (c.replay.result, c.replay.ensures, c.ended-in-Replay.ensures)
+    let word = c.as_str-in-Replay-2.ensures.value in
+    elim (on_word _ _ _ _ _ (replay_word form s.file s.n s.text _ plain meant word) c.replay.ensures) [
+      | inl (is, stays) ↦ Serves-unread _ _ form _ _ _ c.replay.result is c.ended-in-Replay.ensures stays
+      | inr does ↦ Serves-replay _ _ form s.file s.n s.text c.as_str-in-Replay.result.now c.as_str-in-Replay-2.result.now _ _ _ meant c.as_str-in-Replay.ensures.value
+          word (c.replay.result, does, c.ended-in-Replay.ensures)
+    ]
 
 pub returns-in-Draw : goal.returns-in-Draw
 returns-in-Draw g c = λ form plain means.
     let s = c.in-Draw in
     let meant : Means form (job.Draw s.file s.n s.text) = subst (Means form) s.is means in
-    Serves-draw _ _ form s.file s.n s.text c.as_str-in-Draw.result.now c.as_str-in-Draw-2.result.now _ _ _ meant c.as_str-in-Draw.ensures.value
-    c.as_str-in-Draw-2.ensures.value (c.draw.result, c.draw.ensures, c.ended-in-Draw.ensures)
+    let word = c.as_str-in-Draw-2.ensures.value in
+    elim (on_word _ _ _ _ _ (draw_word form s.file s.n s.text _ plain meant word) c.draw.ensures) [
+      | inl (is, stays) ↦ Serves-unread _ _ form _ _ _ c.draw.result is c.ended-in-Draw.ensures stays
+      | inr does ↦ Serves-draw _ _ form s.file s.n s.text c.as_str-in-Draw.result.now c.as_str-in-Draw-2.result.now _ _ _ meant c.as_str-in-Draw.ensures.value
+          word (c.draw.result, does, c.ended-in-Draw.ensures)
+    ]
 
 pub returns-in-Check : goal.returns-in-Check
 returns-in-Check g c = λ form plain means.
@@ -43,8 +52,12 @@ pub returns-in-Offer : goal.returns-in-Offer
 returns-in-Offer g c = λ form plain means.
     let s = c.in-Offer in
     let meant : Means form (job.Offer s.db s.id s.text) = subst (Means form) s.is means in
-    Serves-offer _ _ form s.db s.id s.text c.as_str-in-Offer.result.now c.as_str-in-Offer-2.result.now _ _ _ plain meant c.as_str-in-Offer.ensures.value
-    c.as_str-in-Offer-2.ensures.value (c.offer.result, c.offer.ensures, c.ended-in-Offer.ensures)
+    let word = c.as_str-in-Offer-2.ensures.value in
+    elim (on_word _ _ _ _ _ (offer_word form s.db s.id s.text _ plain meant word) c.offer.ensures) [
+      | inl (is, stays) ↦ Serves-unread _ _ form _ _ _ c.offer.result is c.ended-in-Offer.ensures stays
+      | inr does ↦ Serves-offer _ _ form s.db s.id s.text c.as_str-in-Offer.result.now c.as_str-in-Offer-2.result.now _ _ _ plain meant c.as_str-in-Offer.ensures.value
+          word (c.offer.result, does, c.ended-in-Offer.ensures)
+    ]
 
 pub returns-in-Prove : goal.returns-in-Prove
 returns-in-Prove g c = λ form plain means.

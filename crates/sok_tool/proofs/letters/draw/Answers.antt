@@ -1,0 +1,16 @@
+use Rattle.sok_engine.specs.Inputs.{Within}
+use Rattle.sok_engine.specs.Limits.{input_limit}
+use Rattle.sok_engine.specs.Written.{Writes}
+use Rattle.sok_files.specs.Files.{OfFile}
+use Rattle.sok_play.specs.Drawings.{IsDrawing}
+use Rattle.sok_tool.proofs.Plain.{none_read, on_read}
+use Rattle.sok_tool.proofs.letters.draw.Goals as goal
+
+pub returns-in_err-letters : goal.returns-in_err-letters
+returns-in_err-letters g c = none_read _ _ _ _ _ _ c.from_residual.ensures.1 c.in_err-letters.ensures.unread
+
+pub returns : goal.returns
+returns g c =
+    on_read _ _ (λ letters. Writes (OfFile (g.F.Folder.reads c.args.rt.now c.args.path.now) (Within input_limit (IsDrawing c.args.n letters)))
+    (g.W.Write.contents c.args.out.now) (g.W.Write.contents c.draw.new.out) c.draw.result) _ _ _ c.as_slice.result.now c.as_slice.ensures.value
+    c.in_ok-letters.ensures.letters c.draw.ensures

@@ -1,0 +1,92 @@
+//! The letters that a word stands for, and each command on them.
+
+ghost use Rattle.std.specs.Prelude.{IfErr, IfOk};
+ghost use Rattle.sqlite.specs.Held.{state};
+ghost use Rattle.sok_engine.specs.Inputs.{Within};
+ghost use Rattle.sok_engine.specs.Limits.{input_limit};
+ghost use Rattle.sok_engine.specs.Written.{Writes};
+ghost use Rattle.sok_files.specs.Files.{OfFile};
+ghost use Rattle.sok_keep.specs.Offers.{OffersText, WritesOffer};
+ghost use Rattle.sok_play.specs.Drawings.{IsDrawing};
+ghost use Rattle.sok_play.specs.Plays.{IsReplay};
+ghost use Rattle.sok_tool.specs.Databases.{WorksOn, place};
+ghost use Rattle.sok_tool.specs.Letters.{IsLetters, IsUnread, OnLetters};
+ghost use Rattle.sok_tool.specs.declared.databases.IfAbsent.TheVariants as if_absent;
+
+use crate::databases::Databases;
+use crate::keeping;
+use sok_engine::fault::ToolFault;
+use sok_engine::input::read_input;
+use sok_files::command;
+use sok_files::folder::Folder;
+use sqlite::{Alter, Connection};
+use std::alloc::Global;
+use std::io::{Read, Write};
+
+/// The letters that a word stands for: `-` for those that the input has left, at most 16,777,216
+/// bytes, and each other word for itself.
+fn letters_of<R: Read>(alloc: Global, word: &str, input: &mut R) -> Result<Vec<u8>, ToolFault>
+    ensures letters { IfOk result
+        (λ letters. IsLetters word.now (R.remaining input.old) letters.items) }
+    ensures unread { IfErr result (IsUnread word.now (R.remaining input.old)) }
+{
+    if word == "-" {
+        return Ok(read_input(alloc, input)?);
+    }
+    Ok(Vec::from_slice(alloc, word.as_bytes())?)
+}
+
+/// Plays the letters that a word stands for on the n-th level of a collection.
+pub(crate) fn replay<F: Folder + AllocGlobal, R: Read, W: Write>(
+    rt: &F,
+    path: &str,
+    n: u32,
+    word: &str,
+    input: &mut R,
+    out: &mut W,
+) -> Result<u8, ToolFault>
+    ensures { OnLetters word.now (R.remaining input.old) (λ letters.
+        Writes (OfFile (F.reads rt.now path.now) (Within input_limit (IsReplay n letters)))
+        (W.contents out.old) (W.contents out.new) result)
+        (record { old = W.contents out.old; new = W.contents out.new }) result }
+{
+    let letters = letters_of(rt.alloc(), word, input)?;
+    command::replay(rt, path, n, letters.as_slice(), out)
+}
+
+/// Draws the n-th level of a collection as it stands after them.
+pub(crate) fn draw<F: Folder + AllocGlobal, R: Read, W: Write>(
+    rt: &F,
+    path: &str,
+    n: u32,
+    word: &str,
+    input: &mut R,
+    out: &mut W,
+) -> Result<u8, ToolFault>
+    ensures { OnLetters word.now (R.remaining input.old) (λ letters.
+        Writes (OfFile (F.reads rt.now path.now) (Within input_limit (IsDrawing n letters)))
+        (W.contents out.old) (W.contents out.new) result)
+        (record { old = W.contents out.old; new = W.contents out.new }) result }
+{
+    let letters = letters_of(rt.alloc(), word, input)?;
+    command::draw(rt, path, n, letters.as_slice(), out)
+}
+
+/// Offers them to the level of a book with an id.
+pub(crate) fn offer<
+    S: Alter + Drop,
+    F: Databases<Opened = Connection<S>> + AllocGlobal,
+    R: Read,
+    W: Write,
+>(rt: &F, db: &str, id: i64, word: &str, input: &mut R, out: &mut W) -> Result<u8, ToolFault>
+    ensures { OnLetters word.now (R.remaining input.old) (λ letters. WorksOn (place (state S.Store)
+        (F.keeps rt.now if_absent.Refuse db.now) (F.refuses rt.now db.now) (F.leaves rt.now db.now)) ⊥
+        (OffersText id letters)
+        (λ book after.
+        WritesOffer book id letters after (W.contents out.old) (W.contents out.new) result)
+        (record { old = W.contents out.old; new = W.contents out.new }) result)
+        (record { old = W.contents out.old; new = W.contents out.new }) result }
+{
+    let letters = letters_of(rt.alloc(), word, input)?;
+    keeping::offer(rt, db, id, letters.as_slice(), out)
+}
