@@ -6,12 +6,14 @@ use std::fs;
 use std::test::Fail;
 
 /// What the session makes.
-const MADE: [&str; 5] = [
+const MADE: [&str; 7] = [
     FILE,
     "first.cert",
     "second.cert",
     "small.db",
     "small.db-wal",
+    "all.db",
+    "all.db-wal",
 ];
 
 #[test]

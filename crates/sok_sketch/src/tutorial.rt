@@ -22,7 +22,7 @@ pub const TEXT: &str = "\
 ";
 
 /// The commands behind it, in their order.
-pub const SESSION: [Row; 16] = [
+pub const SESSION: [Row; 20] = [
     (
         "sok list small.xsb",
         "1 4 6 1 1 Around the box\n2 3 5 1 1 Stuck at the wall\n",
@@ -31,6 +31,12 @@ pub const SESSION: [Row; 16] = [
     ),
     ("sok replay small.xsb 1 ulldRR", "solved 2 6\n", "", 0),
     ("sok replay small.xsb 1 uu", "", "fault 12 Blocked 1\n", 3),
+    (
+        "sok draw small.xsb 1 ulld",
+        "######\n#    #\n#@$ .#\n######\n",
+        "",
+        0,
+    ),
     (
         "sok solve small.xsb 1 --cert first.cert",
         "solved 2 6\nulldRR\n",
@@ -96,6 +102,14 @@ pub const SESSION: [Row; 16] = [
     (
         "sok export small.db",
         "; Around the box\n######\n#    #\n# $@.#\n######\n\n; Stuck at the wall\n#####\n#@.$#\n#####\n\n",
+        "",
+        0,
+    ),
+    ("sok add all.db small.xsb", "1 id 1\n2 id 2\n", "", 0),
+    ("sok settle all.db", "1 optimal 2 6\n2 unsolvable\n", "", 0),
+    (
+        "sok export all.db --solutions",
+        "; Around the box\n######\n#    #\n# $@.#\n######\nSolution: ulldRR\nPushes: 2 optimal\n\n; Stuck at the wall\n#####\n#@.$#\n#####\nUnsolvable\n\n",
         "",
         0,
     ),
