@@ -58,20 +58,20 @@ pub(crate) fn answer<S: Alter, W: Write>(
         Command::Prove(id, cert) => prove_bytes(alloc, book, id, &mut cert.as_bytes(), out),
         Command::Settle(limit, from) => settle_bytes(alloc, book, limit, from, out),
         Command::Show(id) => show_bytes(alloc, book, id, out),
-        Command::Overview => book_bytes(alloc, book, BookText::Overview, out),
-        Command::Export => export(alloc, book, false, out),
-        Command::Solutions => export(alloc, book, true, out),
+        Command::Overview => tell(alloc, book, BookText::Overview, out),
+        Command::Export => tell(alloc, book, BookText::Export { solutions: false }, out),
+        Command::Solutions => tell(alloc, book, BookText::Export { solutions: true }, out),
     }
 }
 
-/// Exports a book, with its solutions or without.
-fn export<S: Alter, W: Write>(
+/// Writes a text of a book. With the text made here, this takes ten times as long to prove.
+fn tell<S: Alter, W: Write>(
     alloc: Global,
     book: &mut Book<S>,
-    solutions: bool,
+    text: BookText,
     out: &mut W,
 ) -> Result<u8, ToolFault> {
-    book_bytes(alloc, book, BookText::Export { solutions }, out)
+    book_bytes(alloc, book, text, out)
 }
 
 fn is_told<S: Alter>(alloc: Global, book: &mut Book<S>, row: Row) -> bool {
