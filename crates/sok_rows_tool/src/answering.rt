@@ -64,7 +64,7 @@ pub(crate) fn answer<S: Alter, W: Write>(
     }
 }
 
-/// Writes a text of a book. With the text made here, this takes ten times as long to prove.
+/// Writes a text of a book.
 fn tell<S: Alter, W: Write>(
     alloc: Global,
     book: &mut Book<S>,
