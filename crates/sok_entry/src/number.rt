@@ -14,7 +14,8 @@ pub(crate) fn numbers_of(alloc: Global, text: &[u8]) -> Result<Option<Vec<u32>>,
     ensures { IfOk result (λ found. Tells (AreWords text.now)
         (option_map (λ numbers. numbers.items) found)) }
 {
-    let mut numbers = Vec::new(alloc);
+    // A number and its space are two bytes at the least.
+    let mut numbers = Vec::with_capacity(alloc, (text.len() / 2 + 1).min(256))?;
     for word in text.split(|byte| *byte == b' ') {
         let Some(number) = number_of(word) else {
             return Ok(None);

@@ -320,6 +320,7 @@ fn push_numbers(text: &mut Vec<u8>, numbers: &[u32]) -> Result<(), AllocError>
     Ok(())
 }
 
+/// Appends a number behind a space. Most have three digits or fewer, and are pushed as they are.
 fn push_number(text: &mut Vec<u8>, number: usize) -> Result<(), AllocError>
     ensures number { OnOk result (text.new.items ≡ text.old.items ++ spaced (number ∷ [])) }
     ensures capacity { vec_capacity text.old ≤ vec_capacity text.new }
@@ -327,11 +328,23 @@ fn push_number(text: &mut Vec<u8>, number: usize) -> Result<(), AllocError>
         (vec_capacity text.old < vec_len text.old + length (spaced (number ∷ []))) }
     ensures front { OnErr result (Grows text.old.items text.new.items) }
 {
+    if number < 10 {
+        return text.extend_from_slice(&[b' ', b'0' + number as u8]);
+    }
+    if number < 100 {
+        let (tens, ones) = ((number / 10) as u8, (number % 10) as u8);
+        return text.extend_from_slice(&[b' ', b'0' + tens, b'0' + ones]);
+    }
+    if number < 1_000 {
+        let rest = number % 100;
+        let (tens, ones) = ((rest / 10) as u8, (rest % 10) as u8);
+        let hundreds = (number / 100) as u8;
+        return text.extend_from_slice(&[b' ', b'0' + hundreds, b'0' + tens, b'0' + ones]);
+    }
     text.push(b' ')?;
     push_decimal(text, number)
 }
 
-/// Appends a number. Most have one digit or two, which are pushed as they are.
 fn push_decimal(text: &mut Vec<u8>, number: usize) -> Result<(), AllocError>
     ensures number { OnOk result (text.new.items ≡ text.old.items ++ decimal number) }
     ensures capacity { vec_capacity text.old ≤ vec_capacity text.new }
@@ -339,12 +352,6 @@ fn push_decimal(text: &mut Vec<u8>, number: usize) -> Result<(), AllocError>
         (vec_capacity text.old < vec_len text.old + length (decimal number)) }
     ensures refused { OnErr result (text.new.items ≡ text.old.items) }
 {
-    if number < 10 {
-        return text.extend_from_slice(&[b'0' + number as u8]);
-    }
-    if number < 100 {
-        return text.extend_from_slice(&[b'0' + (number / 10) as u8, b'0' + (number % 10) as u8]);
-    }
     let mut digits = Buffer::new();
     text.extend_from_slice(digits.format(number).as_bytes())
 }

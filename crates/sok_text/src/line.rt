@@ -8,6 +8,7 @@ ghost use Rattle.sok_text.specs.Kinds.{kind_of, StartsOther};
 ghost use Rattle.sok_text.specs.declared.kind.Kind.TheVariants as kind;
 
 use crate::kind::{Kind, kind_of};
+use memchr::memchr;
 
 /// A place in a text at the start of a line, and what is known of that line.
 #[derive(Clone, Copy)]
@@ -91,7 +92,7 @@ pub fn cut_at_end(text: &[u8]) -> Option<(&[u8], &[u8])>
 fn line_end(text: &[u8]) -> Option<usize>
     ensures { result ≡ position (λ byte. byte == 10) text.now }
 {
-    text.iter().position(|byte| *byte == b'\n')
+    memchr(b'\n', text)
 }
 
 /// A line without the one carriage return at its end, if it has one.
