@@ -13,4 +13,5 @@ pub mod Raising
 pub mod Rematching
 pub mod Sparing
 pub mod States
+pub mod Telling
 pub mod Words

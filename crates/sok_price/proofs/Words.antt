@@ -5,7 +5,7 @@ pub use Rattle.std.proofs.Common.{ℕ, ◌*◌, ◌++◌, ◌+◌, ◌-◌, ◌<
 pub use Rattle.std.proofs.lemmas.Bool.{cases_Bool, cases_eq, cases_lt, false_from_ne_true, or_cases, or_from, or_left}
 pub use Rattle.std.proofs.lemmas.List.{append-nil, append_assoc, get_or-append_right, get_or-drop, get_or-map, get_or-replicate, get_or-set_other}
 pub use Rattle.std.proofs.lemmas.List.{get_or-set_same, get_or-take, get_or_append_left, get_or_default, get_or_push, length-append, length-drop, length-map}
-pub use Rattle.std.proofs.lemmas.List.{length-replicate, length-set, length_push, with_items_is}
+pub use Rattle.std.proofs.lemmas.List.{length-replicate, length-set, length_push, map-append, take_more, with_items_is}
 pub use Rattle.std.proofs.lemmas.List.Elements.{All-contains, All-from_get_or, All-head, All-push, All-set, All-tail, All-weaker, Contains-append_left}
 pub use Rattle.std.proofs.lemmas.List.Elements.{Contains-get_or}
 pub use Rattle.std.proofs.lemmas.List.Sums.{count_by-le-length, length-filter, sum-map, sum_by-cons, sum_by-le, sum_by-set}
@@ -32,8 +32,8 @@ pub use Rattle.sok_push.specs.{Distances.goal_at, Pushing.Chain, Pushing.TellsDi
 unfoldable pub use Rattle.sok_price.specs.Costs.{cost_in}
 pub use Rattle.sok_price.specs.Costs.{AreCosts, AreOfBoxes, AreSmall, AreTold, IsRow, TellCosts, TellsCost, cost_of}
 unfoldable pub use Rattle.sok_price.specs.Exchanges.{moved_from}
-pub use Rattle.sok_price.specs.Kept.{AreExactly, AreKept, AreListed, AreMarksOf, AreRows, AreSet, AreTabled, IsBounded, IsChange, IsCost, IsMovedTo, IsShaped}
-pub use Rattle.sok_price.specs.Matched.{CanMove, HasWorth, Holds, IsCopied, KeptMatching, Serves, TellsLeast}
+pub use Rattle.sok_price.specs.Kept.{AreExactly, AreKept, AreListed, AreMarksOf, AreRead, AreRows, AreSet, AreTabled, IsBounded, IsChange, IsMovedTo, IsShaped}
+pub use Rattle.sok_price.specs.Matched.{CanMove, HasWorth, Holds, IsCopied, IsMatchedTo, KeptMatching, Serves, TellsLeast}
 pub use Rattle.sok_price.specs.Matchings.{AreFair, AreTight, Costing, IsMatched, IsTight, TellsTaker, low}
 unfoldable pub use Rattle.sok_price.specs.Searches.{joined}
 pub use Rattle.sok_price.specs.Searches.{Growth, HasRoom, IsAhead, IsBegun, IsGrowing, IsNext, IsRaised, IsReached, IsReady, IsRematched, IsSeen, KeepsRoom}

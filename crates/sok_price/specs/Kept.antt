@@ -1,6 +1,6 @@
 -- A matching with a row for each goal of a board: rows of boxes, and spare rows that cost nothing.
-use Rattle.std.specs.Prelude.{ℕ, ◌≡◌, ◌≢◌, ◌≤◌, ◌<◌, ◌+◌, ◌*◌, List, Option, Some, None, Bool, true, false}
-use Rattle.std.specs.Prelude.{All, Contains, IsTrue, length, slice_index, slice_index_or, sum}
+use Rattle.std.specs.Prelude.{ℕ, ◌≡◌, ◌≢◌, ◌≤◌, ◌<◌, ◌+◌, ◌-◌, ◌*◌, List, Option, Some, None, Bool, true, false}
+use Rattle.std.specs.Prelude.{All, Contains, IsTrue, length, map, slice_index, slice_index_or, sum}
 use Rattle.std.specs.List.Sorted.{IsStrictlyIncreasing}
 use Rattle.sok_board.specs.Area.{Numbered, goals_of}
 use Rattle.sok_price.specs.declared.costs.Costs.{Costs}
@@ -88,6 +88,14 @@ pub record IsSettled (end : ℕ) (boxes : List ℕ) (costs : Costs) (rows : List
   pub whole : IsWhole costs rows search
   pub low : search.floor ≤ kept_floor_limit
   pub exactly : AreExactly end rows boxes
+
+-- the prices of some boxes less one amount, and their goals, by the places of their rows
+pub record AreRead (amount : ℕ) (rows : List ℕ) (search : Search) (boxes u goal_of : List ℕ) : Type 0 where
+  pub places : List ℕ
+  pub within : All (λ k. k < length rows) places
+  pub boxes_are : boxes ≡ map (λ k. slice_index rows k) places
+  pub prices_are : u ≡ map (λ k. slice_index search.u.items k - amount) places
+  pub goals_are : goal_of ≡ map (λ k. slice_index search.goal_of.items k) places
 
 -- what is told of boxes: a number that some prices prove, and None where there is a crowd
 abbrev pub IsBounded : Numbered → List ℕ → Option ℕ → Type 0

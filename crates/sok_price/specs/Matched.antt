@@ -1,5 +1,6 @@
 -- A matching that is kept, as it is seen from outside.
-use Rattle.std.specs.Prelude.{ℕ, ◌≡◌, ◌≤◌, ◌<◌, ◌+◌, ◌*◌, List, Option, Some, None, Bool, true, Contains, length, sum, ◌^◌}
+use Rattle.std.specs.Prelude.{ℕ, ◌≡◌, ◌≤◌, ◌<◌, ◌+◌, ◌*◌, List, Option, Some, None, Bool, true, All, Contains, length, sum, ◌^◌}
+use Rattle.std.specs.List.Sorted.{IsStrictlyIncreasing}
 use Rattle.sok_board.specs.Area.{Numbered}
 use Rattle.sok_board.specs.Limits.{square_limit}
 use Rattle.sok_price.specs.declared.costs.Costs.{Costs}
@@ -43,6 +44,16 @@ pub record Holds (b : Numbered) (boxes : List ℕ) (kept : KeptMatching) : Type 
   pub serves : Serves b kept
   pub matched : kept.matched ≡ true
   pub exactly : AreExactly (length b.area) kept.rows boxes
+
+-- a matching of all rows, which are those of some boxes, no two of them on a square
+pub record IsMatchedTo (boxes : List ℕ) (kept : KeptMatching) : Type 0 where
+  pub matched : kept.matched ≡ true
+  pub whole : IsWhole kept.costs kept.rows kept.search
+  pub square : length kept.rows ≡ kept.costs.goals
+  pub are_rows : AreRows kept.squares kept.rows
+  pub exactly : AreExactly kept.squares kept.rows boxes
+  pub exist : All (λ square. square < kept.squares) boxes
+  pub rising : IsStrictlyIncreasing boxes
 
 -- what is told of boxes: the least total, that prices prove and an assignment costs, and None where there is a crowd
 abbrev pub TellsLeast : Numbered → List ℕ → Option ℕ → Type 0

@@ -57,7 +57,7 @@ fn free_goal(row: usize, goal_of: &mut Vec<usize>)
 }
 
 /// The highest of a floor and some prices.
-fn highest(floor: u32, prices: &[u32]) -> u32
+pub(crate) fn highest(floor: u32, prices: &[u32]) -> u32
     ensures risen { floor ≤ result }
     ensures top { All (λ price. price ≤ result) prices.now }
     ensures least { (limit : ℕ) → floor ≤ limit → All (λ price. price ≤ limit) prices.now

@@ -8,9 +8,11 @@ ghost use Rattle.std.specs.Prelude.{
   ◌≤◌,
   vec_capacity,
   All,
-  Contains,
   IfOk,
   IfSome,
+  IsTrue,
+  None,
+  false,
   length,
   replicate,
   slice_index,
@@ -18,13 +20,23 @@ ghost use Rattle.std.specs.Prelude.{
 ghost use Rattle.std.specs.List.Sorted.{IsStrictlyIncreasing};
 ghost use Rattle.sok_board.specs.Area.{Numbered};
 ghost use Rattle.sok_board.specs.BoxSets.{IsMoved};
+ghost use Rattle.sok_board.specs.Limits.{box_limit};
+ghost use Rattle.sok_price.specs.Kept.{IsBounded};
 ghost use Rattle.sok_price.specs.Searches.{growth_of};
 ghost use Rattle.sok_price.specs.Matches.{IsMatch};
-ghost use Rattle.sok_price.specs.Matched.{CanMove, Holds, IsCopied, Serves, TellsLeast};
+ghost use Rattle.sok_price.specs.Matched.{
+  CanMove,
+  Holds,
+  IsCopied,
+  IsMatchedTo,
+  Serves,
+  TellsLeast,
+};
 
 use crate::assign::{Match, assign_rows};
 use crate::costs::Costs;
 use crate::exchange::exchange;
+use crate::reading::{read, row_of};
 use crate::search::{Search, worth};
 use crate::settle::match_boxes;
 use sok_board::area::Sq;
@@ -98,20 +110,7 @@ impl Matching {
         ensures holds { (b : Numbered) → Serves b self.old
             → IfSome result (λ _. Holds b boxes.now self.new) }
     {
-        let boxes = boxes.list();
-        if boxes.len() > self.rows.len() {
-            return None;
-        }
-        self.matched = match_boxes(
-            self.squares,
-            boxes,
-            self.matched,
-            &mut self.marks,
-            &self.costs,
-            &mut self.rows,
-            &mut self.search,
-        );
-        if !self.matched {
+        if !self.match_to(boxes.list()) {
             return None;
         }
         Some(worth(&self.search))
@@ -139,13 +138,58 @@ impl Matching {
     }
 
     /// The least assignment of goals to some boxes with prices that prove it, or a crowd of them,
-    /// as `assign` gives it. The matching stays as it was. It refuses only for want of memory.
+    /// as `assign` gives it. The boxes are matched as by `set`, so prices may be other ones than
+    /// from nothing. It refuses only for want of memory.
     pub fn assign(&mut self, alloc: Global, boxes: &BoxSet) -> Result<Match, Memory>
         requires exist { All (λ square. square < self.old.squares) boxes.now }
-        ensures same { self.new ≡ self.old }
+        ensures serves { (b : Numbered) → Serves b self.old → Serves b self.new }
         ensures least { (b : Numbered) → Serves b self.old → IfOk result (IsMatch b boxes.now) }
     {
-        assign_rows(alloc, &self.costs, &rows_of(alloc, boxes.list())?)
+        let boxes = boxes.list();
+        if !self.match_to(boxes) {
+            return self.assign_anew(alloc, boxes);
+        }
+        match read(alloc, &self.rows, &self.search, boxes)? {
+            Some(found) => Ok(found),
+            None => self.assign_anew(alloc, boxes),
+        }
+    }
+
+    /// Matches some boxes. False where they have a crowd.
+    fn match_to(&mut self, boxes: &[Sq]) -> bool
+        requires exist { All (λ square. square < self.old.squares) boxes.now }
+        requires rising { IsStrictlyIncreasing boxes.now }
+        ensures same { self.new ≡ record self.old {
+          rows = self.new.rows;
+          search = self.new.search;
+          matched = self.new.matched;
+        } }
+        ensures matched { IsTrue result → IsMatchedTo boxes.now self.new }
+        ensures crowd { result ≡ false → (b : Numbered) → Serves b self.old
+            → IsBounded b boxes.now None }
+    {
+        if boxes.len() > self.rows.len() {
+            return false;
+        }
+        self.matched = match_boxes(
+            self.squares,
+            boxes,
+            self.matched,
+            &mut self.marks,
+            &self.costs,
+            &mut self.rows,
+            &mut self.search,
+        );
+        self.matched
+    }
+
+    /// The least assignment of goals to some boxes, or a crowd of them, found from nothing.
+    fn assign_anew(&self, alloc: Global, boxes: &[Sq]) -> Result<Match, Memory>
+        requires exist { All (λ square. square < self.now.squares) boxes.now }
+        requires few { length boxes.now ≤ box_limit }
+        ensures { (b : Numbered) → Serves b self.now → IfOk result (IsMatch b boxes.now) }
+    {
+        assign_rows(alloc, &self.costs, &rows_of(alloc, boxes)?)
     }
 }
 
@@ -163,18 +207,6 @@ fn rows_of(alloc: Global, boxes: &[Sq]) -> Result<Vec<usize>, Memory>
         → slice_index rows.items k ≡ slice_index boxes.now k) }
 {
     Ok(boxes.iter().map(|square| *square as usize).collect(alloc)?)
-}
-
-/// The row of a box.
-fn row_of(rows: &[usize], square: usize) -> usize
-    requires { Contains rows.now square }
-    ensures within { result < length rows.now }
-    ensures row { slice_index rows.now result ≡ square }
-{
-    match rows.iter().position(|row| *row == square) {
-        Some(row) => row,
-        None => unreachable!(),
-    }
 }
 
 /// Copies goals and prices to another search.

@@ -1,29 +1,19 @@
-use Rattle.sok_price.proofs.Words.{All, All-from_get_or, AreCosts, AreOfBoxes, IfOk, IsMatch, KeptMatching, List, Serves, ap, arith, length, subst, sym, ℕ, ◌<◌}
-use Rattle.sok_price.proofs.Words.{◌+◌}
-use Rattle.sok_price.proofs.{CostRows.AreCosts-below, Sparing.AreOfBoxes-rows}
+use Rattle.sok_price.proofs.Words.{All, Contains, IsMatchedTo, IsWhole, List, ap, length, subst, sym, ◌∙◌, ℕ}
+use Rattle.sok_price.specs.contracts.matching.Matching.{the_view}
 use Rattle.sok_price.proofs.matching.Matching.assign.Goals as goal
 
-pub assign_rows-requires-clause-costs : goal.assign_rows-requires-clause-costs
-assign_rows-requires-clause-costs c =
-    let inside = c.self.inside in
-    let rows = c.in_ok-rows_of.field-0.items in
-    let own = c.in_ok-rows_of.ensures in
-    let list = ap (λ (list : List ℕ). length list) c.list.ensures.list in
-    let squares = ap (λ (kept : KeptMatching). kept.squares) c.self.view_is in
-    let exist = subst (All (λ square. square < c.args.self.now.squares)) (sym c.list.ensures.list) c.requires.exist in
-    subst (AreCosts inside.costs) (sym c.deref.ensures.value) (AreCosts-below inside.costs (inside.squares + 1) rows
-    (All-from_get_or (λ row. row < inside.squares + 1) rows 0 (λ k within.
-    let box : k < length c.list.result.now = omega (arith, within, own.whole) in
-    omega (arith, own.each k box, exist k 0 box, squares))) (omega (arith, own.whole, c.list.ensures.few, list)) c.self.invariant.shaped.small
-    c.self.invariant.entries)
+-- the matching that is read is one of the boxes
+matched : (c : goal.After-read-arg-1) → IsMatchedTo c.list-boxes.result.now (the_view c.self.inside)
+matched c = subst (IsMatchedTo c.list-boxes.result.now) (sym c.self.view_is) (c.match_to.ensures.matched c.if-not-match_to.false)
 
-pub returns-clause-least : goal.returns-clause-least
-returns-clause-least c = λ b serves.
-    let boxes = c.list.result.now in
-    let own = c.in_ok-rows_of.ensures in
-    let before = subst (Serves b) (sym c.self.view_is) serves in
-    let exist = subst (λ n. All (λ square. square < n) boxes) serves.squares
-    (subst (All (λ square. square < c.args.self.now.squares)) (sym c.list.ensures.list) c.requires.exist) in
-    subst (λ (bs : List ℕ). IfOk c.assign_rows.result (IsMatch b bs)) c.list.ensures.list (c.assign_rows.ensures b boxes
-    (subst (AreOfBoxes b boxes c.self.inside.costs) (sym c.deref.ensures.value)
-    (AreOfBoxes-rows b boxes c.in_ok-rows_of.field-0.items c.self.inside.costs before.tabled exist own.whole own.each)))
+pub read-requires-clause-whole : goal.read-requires-clause-whole
+read-requires-clause-whole c =
+    let own = c.self.inside in
+    let is = matched c in (
+      own.costs,
+      subst (λ rows. IsWhole own.costs rows own.search) (sym c.deref.ensures.value) is.whole,
+      ap (λ (rows : List ℕ). length rows) c.deref.ensures.value ∙ is.square,
+    )
+
+pub read-requires-clause-rows : goal.read-requires-clause-rows
+read-requires-clause-rows c = subst (λ rows. All (Contains rows) c.list-boxes.result.now) (sym c.deref.ensures.value) (matched c).exactly.each

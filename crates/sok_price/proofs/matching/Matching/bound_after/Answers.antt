@@ -1,7 +1,6 @@
 use Rattle.sok_price.proofs.Words.{All-contains, CanMove, Contains, IsWhole, KeptMatching, List, sym, ◌∙◌, arith, subst, ℕ, AreMoved, HasRoom, Holds}
 use Rattle.sok_price.proofs.Words.{TellsLeast, ap, get_or, length, ◌≡◌}
-use Rattle.sok_price.proofs.Answering.{HasWorth-sums}
-use Rattle.sok_price.proofs.Sparing.{IsWhole-copied, sums-whole, AreKept-moved, IsBounded-closed, TellsLeast-whole}
+use Rattle.sok_price.proofs.Sparing.{IsWhole-copied, HasWorth-whole, AreKept-moved, IsBounded-closed, TellsLeast-whole}
 use Rattle.sok_price.proofs.matching.Matching.bound_after.Goals as goal
 use Rattle.sok_price.proofs.matching.Matching.bound_after.Goals.{then-matched, else-matched}
 
@@ -30,7 +29,7 @@ worth-requires c =
     let moved = tried.ensures.moved in
     let square : length tried.new.rows.items ≡ c.self.inside.costs.goals =
     omega (arith, moved.whole, moved.kept, c.self.invariant.as_many, c.self.invariant.square, c.copy_from_slice.ensures.len) in
-    HasWorth-sums c.self.inside.costs tried.new.rows.items tried.new.search is (sums-whole is.ready square is.whole)
+    HasWorth-whole is square
 
 pub returns-clause-least : goal.returns-clause-least
 returns-clause-least c = λ b boxes after holds moved exist rising.
