@@ -2,7 +2,7 @@
 use Rattle.std.proofs.Common.{ℕ, ◌≡◌, ◌<◌, ◌≤◌, ◌+◌, ◌∙◌, inl, inr, refl, sym, ap, subst, List, [], ◌∷◌, ◌++◌, Option, Some, None, All}
 use Rattle.std.proofs.Common.{Contains, arith, length, slice_get}
 use Rattle.std.proofs.lemmas.List.{length-append}
-use Rattle.std.proofs.lemmas.List.Elements.{All-append, All-cons, All-weaker}
+use Rattle.std.proofs.lemmas.List.Elements.{All-append, All-cons, All-push, All-weaker}
 use Rattle.std.proofs.lemmas.Option.{same_Some, slice_get_within}
 use Rattle.sok_board.specs.Area.{Numbered, IsAccepted}
 use Rattle.sok_cert.specs.Claim.{Claim}
@@ -15,7 +15,7 @@ use Rattle.sok_alone.specs.Losses.{losses_of}
 use Rattle.sok_search.specs.declared.note.Note.{Note}
 use Rattle.sok_search.specs.declared.note.Standing.{Standing}
 use Rattle.sok_search.specs.declared.note.Standing.TheVariants.{Open, Expanded, Dead, Lost}
-use Rattle.sok_search.specs.Finished.{AreDone, AreFirstEntries, HasText, IsAtMost, IsDone, IsEntryAt, IsEntryOf, claim_of}
+use Rattle.sok_search.specs.Finished.{AreDone, AreFirstEntries, AreTaken, HasText, IsAtMost, IsDone, IsEntryAt, IsEntryOf, claim_of}
 use Rattle.sok_search.specs.Halted.{IsLeastOpen}
 use Rattle.sok_search.specs.Limits.{state_limit}
 use Rattle.sok_search.specs.Searches.{Progress, IsBeaten, IsSearch, IsState, Stands}
@@ -101,19 +101,15 @@ pub entry-at : (b : Numbered) (claim : Claim) (p : Progress) (i : ℕ) (key : Ke
 entry-at b claim p i key depth note e state entry other deep noted also = entry-along b claim p i key other depth deep note noted e state also entry
 
 -- no entries, and one more
-pub first-none : (b : Numbered) (claim : Claim) (p : Progress) (entries : List Entry) → entries ≡ [] → AreFirstEntries b claim p 0 entries
-first-none b claim p entries none = subst (AreFirstEntries b claim p 0) (sym none) (record {
-  as_many = refl;
-  each = λ i key depth note e state there. absurd (empty i e there);
-})
+first-none : (b : Numbered) (claim : Claim) (p : Progress) → AreFirstEntries b claim p 0 []
+first-none b claim p = record { as_many = refl; each = λ i key depth note e state there. absurd (empty i e there) }
   where
     empty : (i : ℕ) (e : Entry) → slice_get [] i ≡ Some e → ⊥
     empty i e there = let within = slice_get_within [] i e there in omega (arith, within)
 
-pub first-more : (b : Numbered) (claim : Claim) (p : Progress) (n : ℕ) (entries after : List Entry) (e : Entry) → AreFirstEntries b claim p n entries
-    → IsEntryAt b claim p n e → after ≡ entries ++ e ∷ []
-    → AreFirstEntries b claim p (n + 1) after
-first-more b claim p n entries after e are one more = subst (AreFirstEntries b claim p (n + 1)) (sym more) (record {
+first-more : (b : Numbered) (claim : Claim) (p : Progress) (n : ℕ) (entries : List Entry) (e : Entry) → AreFirstEntries b claim p n entries
+    → IsEntryAt b claim p n e → AreFirstEntries b claim p (n + 1) (entries ++ e ∷ [])
+first-more b claim p n entries e are one = record {
   as_many = let longer = length-append entries (e ∷ []) in let long = are.as_many in omega (arith, longer, long);
   each = λ i key depth note other state there. elim (slice_get-push_cases entries e i other there) [
     | inl before ↦ are.each i key depth note other state before
@@ -121,7 +117,18 @@ first-more b claim p n entries after e are one more = subst (AreFirstEntries b c
         let at : n ≡ i = sym are.as_many ∙ sym last in
         subst (IsEntryOf b claim key depth note) same (one key depth note (subst (λ k. IsState p k key depth note) (sym at) state))
   ];
-})
+}
 
-pub none-fit : (entries : List Entry) → entries ≡ [] → All FitsEntry entries
-none-fit entries none = subst (All FitsEntry) (sym none) (λ k d within. absurd (omega (arith, within)))
+-- none were taken, and one more
+pub taken-none : (Took : List Entry → Type 0) (b : Numbered) (claim : Claim) (p : Progress) → Took [] → AreTaken Took b claim p 0
+taken-none Took b claim p took =
+    record { entries = []; took = took; first = first-none b claim p; fit = λ k d within. absurd (omega (arith, within)) }
+
+pub taken-more : (Took Takes : List Entry → Type 0) (b : Numbered) (claim : Claim) (p : Progress) (n : ℕ) (e : Entry) → AreTaken Took b claim p n
+    → IsEntryAt b claim p n e → FitsEntry e → ((entries : List Entry) → Took entries → Takes (entries ++ e ∷ [])) → AreTaken Takes b claim p (n + 1)
+taken-more Took Takes b claim p n e taken one fits takes = record {
+  entries = taken.entries ++ e ∷ [];
+  took = takes taken.entries taken.took;
+  first = first-more b claim p n taken.entries e taken.first one;
+  fit = All-push FitsEntry taken.entries e taken.fit fits;
+}

@@ -1,5 +1,5 @@
 -- What a search answers, finished or cut off.
-use Rattle.std.proofs.Common.{ℕ, ◌≡◌, ◌<◌, ◌≤◌, refl, sym, ap, subst, Bool, true, false, true≢false, List, [], Option, Some, None, All, arith, length}
+use Rattle.std.proofs.Common.{ℕ, ◌≡◌, ◌<◌, ◌≤◌, refl, sym, ap, subst, Bool, true, false, true≢false, List, [], Option, Some, None, All, MatchBool, arith, length}
 use Rattle.sok_rules.specs.declared.cell.Dir.{Dir}
 use Rattle.sok_rules.specs.Play.{AtLeast, IsUnsolvable}
 use Rattle.sok_rules.specs.States.{MoreStatesThan}
@@ -123,12 +123,34 @@ module _ (b : Numbered) (accepted : IsAccepted b) (limit : ℕ) (p : Progress) (
         → All FitsEntry entries → Certifies b.rows limit (claim.Pushes least) entries
     shown-least whole entries are fit = certifies whole (claim.Pushes least) entries of_all.small are fit
 
--- a certificate of it, where one is wanted, and none where it is not
-pub shows-none : (rows : Rows) (limit : ℕ) (wanted : Bool) (least : ℕ) → wanted ≡ false → ShowsLeast rows limit wanted least None
-shows-none rows limit true least is = absurd (true≢false is)
-shows-none rows limit false least is = refl
+-- what is there where it is wanted, and what is there where it is not
+pub wanted-so : (P Q : Type 0) (wanted : Bool) → wanted ≡ true → P → MatchBool wanted P Q
+wanted-so P Q true is there = there
+wanted-so P Q false is there = absurd (true≢false (sym is))
 
-pub shows-some : (rows : Rows) (limit : ℕ) (wanted : Bool) (least : ℕ) (cert : Cert) → wanted ≡ true
-    → Certifies rows limit (claim.Pushes least) cert.entries.items → ShowsLeast rows limit wanted least (Some cert)
-shows-some rows limit true least cert is certified = certified
-shows-some rows limit false least cert is certified = absurd (true≢false (sym is))
+pub wanted-not : (P Q : Type 0) (wanted : Bool) → wanted ≡ false → Q → MatchBool wanted P Q
+wanted-not P Q true is there = absurd (true≢false is)
+wanted-not P Q false is there = there
+
+-- the entries that were taken are those of a certificate, which shows as much
+abbrev IsKept : Cert → List Entry → Type 0
+IsKept cert entries = cert.entries.items ≡ entries
+
+module _ (rows : Rows) (limit : ℕ) (cert : Cert) where
+  pub kept-solved : (w : List Dir) (n : ℕ) → (entries : List Entry) × IsKept cert entries × IsShownSolved rows limit w n entries
+      → IsShownSolved rows limit w n cert.entries.items
+  kept-solved w n (entries, same, shown) = subst (IsShownSolved rows limit w n) (sym same) shown
+
+  pub kept-unsolvable : (entries : List Entry) × IsKept cert entries × IsShownUnsolvable rows limit entries
+      → IsShownUnsolvable rows limit cert.entries.items
+  kept-unsolvable (entries, same, shown) = subst (IsShownUnsolvable rows limit) (sym same) shown
+
+  pub kept-least : (wanted : Bool) (least : ℕ) → wanted ≡ true
+      → MatchBool wanted ((entries : List Entry) × IsKept cert entries × Certifies rows limit (claim.Pushes least) entries) (IsKept cert [])
+      → ShowsLeast rows limit wanted least (Some cert)
+  kept-least true least is (entries, same, certified) = subst (Certifies rows limit (claim.Pushes least)) (sym same) certified
+  kept-least false least is none = absurd (true≢false (sym is))
+
+pub none-kept : (rows : Rows) (limit : ℕ) (wanted : Bool) (least : ℕ) → wanted ≡ false → ShowsLeast rows limit wanted least None
+none-kept rows limit true least is = absurd (true≢false is)
+none-kept rows limit false least is = refl

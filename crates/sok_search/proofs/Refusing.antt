@@ -87,6 +87,14 @@ no-answer {A} P Q answer error =
 pub no-fault : {A : Type 0} (answer : A) (told : SolveFault) → Ok answer ≡ Err told → ⊥
 no-fault answer told e = cc
 
+-- an answer in the place of another one
+pub told-alike : (A B : Type 0) (rows : Rows) (limit : ℕ) (one : A) (other : B) → TellsFault rows limit (Ok one) → TellsFault rows limit (Ok other)
+told-alike A B rows limit one other tells = record {
+  bad_limit = (λ e. absurd (no-fault other _ e), λ bad. absurd (no-fault one _ (tells.bad_limit.1 bad)));
+  refused = tt;
+  exact = λ _ _. (λ _. (tells.exact (λ e. no-fault one _ e) (λ e. no-fault one _ e)).0 refl, λ _. refl);
+}
+
 -- a limit within the range is not refused
 pub good-within : (rows : Rows) (limit : ℕ) (b : Numbered) → IsAcceptedWithin rows limit b → IsBadLimit limit → ⊥
 good-within rows limit b within (inl zero) = let positive = within.positive in omega (arith, positive, zero)

@@ -1,12 +1,12 @@
 -- What a search shows, finished or cut off, where each of its states is done with for what is claimed.
-use Rattle.std.specs.Prelude.{ℕ, ◌≡◌, ◌≤◌, ◌+◌, List, [], ◌∷◌, Option, Some, None, IsSomeAnd, length, slice_get}
+use Rattle.std.specs.Prelude.{ℕ, ◌≡◌, ◌≤◌, ◌+◌, List, [], ◌∷◌, Option, Some, None, IsSomeAnd, All, length, slice_get}
 use Rattle.sok_board.specs.Area.{Numbered}
 use Rattle.sok_cert.specs.Claim.{Claim}
 use Rattle.sok_cert.specs.Claim.TheVariants.{Pushes, Unsolvable}
 use Rattle.sok_cert.specs.Entry.{Entry}
 use Rattle.sok_cert.specs.Reason.{Reason}
 use Rattle.sok_cert.specs.Reason.TheVariants as reason
-use Rattle.sok_cert.specs.Text.{FitsReason}
+use Rattle.sok_cert.specs.Text.{FitsEntry, FitsReason}
 use Rattle.sok_push.specs.Pushing.{IsStuck}
 use Rattle.sok_price.specs.Matches.{ArePrices}
 use Rattle.sok_price.specs.Prices.{IsCrowd}
@@ -49,6 +49,13 @@ pub record AreFirstEntries (b : Numbered) (claim : Claim) (p : Progress) (n : �
   pub as_many : length entries ≡ n
   pub each : (i : ℕ) (key : Key) (depth : ℕ) (note : Note) (e : Entry) → IsState p i key depth note → slice_get entries i ≡ Some e
       → IsEntryOf b claim key depth note e
+
+-- these entries were taken, each with a text, of the first states
+pub record AreTaken (Took : List Entry → Type 0) (b : Numbered) (claim : Claim) (p : Progress) (n : ℕ) : Type 0 where
+  pub entries : List Entry
+  pub took : Took entries
+  pub first : AreFirstEntries b claim p n entries
+  pub fit : All FitsEntry entries
 
 -- an entry of the state at an index
 abbrev pub IsEntryAt : Numbered → Claim → Progress → ℕ → Entry → Type 0

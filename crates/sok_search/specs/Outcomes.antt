@@ -94,6 +94,15 @@ abbrev pub ShowsLeast : Rows → ℕ → Bool → ℕ → Option Cert → Type 0
 ShowsLeast rows limit wanted least cert =
     MatchBool wanted (IsSomeAnd cert (λ c. Certifies rows limit (claim.Pushes least) c.entries.items)) (cert ≡ None)
 
+-- What is found of a level within a limit, and which entries were taken: those of a certificate that shows it; where it is a limit, only if that is wanted,
+-- and else none.
+abbrev pub IsShown : (List Entry → Type 0) → Rows → ℕ → Bool → Found → Type 0
+IsShown Took rows limit wanted (found.Solved dirs pushes) = (entries : List Entry) × Took entries × IsShownSolved rows limit dirs.items pushes entries
+IsShown Took rows limit wanted found.Unsolvable = (entries : List Entry) × Took entries × IsShownUnsolvable rows limit entries
+IsShown Took rows limit wanted (found.Limit states least) =
+    IsCutShort rows limit states least
+    × MatchBool wanted ((entries : List Entry) × Took entries × Certifies rows limit (claim.Pushes least) entries) (Took [])
+
 -- what is answered of a level within a limit, where a certificate is wanted of what a search shows that was cut off, or not
 abbrev pub IsOutcome : Rows → ℕ → Bool → Outcome → Type 0
 IsOutcome rows limit wanted (Solved dirs pushes cert) = IsShownSolved rows limit dirs.items pushes cert.entries.items

@@ -1,45 +1,46 @@
 //! The certificate of a search whose states are all done with.
 
-ghost use Rattle.std.specs.Prelude.{◌≡◌, ◌<◌, All, IfOk, OnOk, length};
+ghost use Rattle.std.specs.Prelude.{◌≡◌, ◌<◌, [], IfOk, OnOk, length};
 ghost use Rattle.sok_board.specs.Area.{IsAccepted, Numbered};
 ghost use Rattle.sok_cert.specs.Text.{FitsEntry};
 ghost use Rattle.sok_price.specs.Matched.{Serves};
-ghost use Rattle.sok_search.specs.Finished.{AreDone, AreFirstEntries, IsEntryAt};
+ghost use Rattle.sok_search.specs.Finished.{AreDone, AreTaken, IsEntryAt};
 ghost use Rattle.sok_search.specs.Searches.{IsSearching, IsSmallSearch, IsState};
 ghost use Rattle.sok_search.specs.Views.{progress_of};
 
 use crate::barring::reason_of;
+use crate::collecting::Entries;
 use crate::note::Note;
 use crate::search::Search;
 use sok_board::area::Sq;
 use sok_board::board::Board;
 use sok_cert::claim::Claim;
-use sok_cert::entry::{Cert, Entry, Numbers};
+use sok_cert::entry::{Entry, Numbers};
 use sok_price::matching::Matching;
 use sok_push::tables::Tables;
 use sok_rules::fault::Memory;
 use sok_state::key::Key;
 use std::alloc::Global;
 
-/// The certificate: an entry of each state, in order.
-pub(crate) fn certificate(
+/// Has the entries of the certificate taken: one of each state, in order.
+pub(crate) fn certify<C: Entries>(
     alloc: Global,
     board: &Board,
     tables: &Tables,
     claim: Claim,
     search: &Search,
-) -> Result<Cert, Memory>
+    entries: &mut C,
+) -> Result<(), Memory>
     requires accepted { IsAccepted board.now }
     requires tables { tables.now.board ≡ board.now }
     requires search { IsSmallSearch board.now (progress_of search.now) }
     requires done { AreDone board.now claim (progress_of search.now) }
-    ensures entries { IfOk result (λ cert. AreFirstEntries board.now claim (progress_of search.now)
-        (length search.now.table.entries) cert.entries.items) }
-    ensures fit { IfOk result (λ cert. All FitsEntry cert.entries.items) }
+    requires none { C.took [] entries.old }
+    ensures { OnOk result (AreTaken (λ taken. C.took taken entries.new) board.now claim
+        (progress_of search.now) (length search.now.table.entries)) }
 {
     let mut matching = Matching::new(alloc, board, tables)?;
     let mut squares = Vec::new(alloc);
-    let mut entries = Vec::with_capacity(alloc, search.table.len())?;
     for index in 0..search.table.len() {
         let entry = entry_at(
             alloc,
@@ -51,9 +52,9 @@ pub(crate) fn certificate(
             search,
             index,
         )?;
-        entries.push(entry)?;
+        entries.take(entry)?;
     }
-    Ok(Cert { entries })
+    Ok(())
 }
 
 /// The entry of the state at an index.

@@ -3,6 +3,7 @@
 //!
 //! | Module | What it holds |
 //! |---|---|
+//! | `collecting` | where the entries of a certificate are collected |
 //! | `fault` | why a level is not solved |
 //! | `found` | what is found of a level |
 //! | `outcome` | what is answered of a level, with a certificate |
@@ -28,6 +29,7 @@ mod barring;
 mod beginning;
 mod buckets;
 mod certifying;
+pub mod collecting;
 mod expanding;
 pub mod fault;
 pub mod found;

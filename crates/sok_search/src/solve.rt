@@ -1,17 +1,19 @@
 //! The solver.
 
 ghost use Rattle.std.specs.Prelude.{ℕ, ◌≡◌, ◌<◌, ◌≤◌, ◌↔◌, [], Bool, IfOk, IsTrue, length, true};
+ghost use Rattle.sok_rules.specs.Squares.{Rows};
 ghost use Rattle.sok_board.specs.Area.{IsAccepted};
 ghost use Rattle.sok_search.specs.Faults.{IsAcceptedWithin, IsBadLimit, TellsFault};
 ghost use Rattle.sok_search.specs.Limits.{state_limit};
-ghost use Rattle.sok_search.specs.Outcomes.{IsAnswer, IsBounded, IsFound, IsOutcome};
+ghost use Rattle.sok_search.specs.Outcomes.{IsAnswer, IsBounded, IsFound, IsOutcome, IsShown};
 ghost use Rattle.sok_search.specs.Searches.{IsSearch, IsSearching, IsSmallSearch};
 ghost use Rattle.sok_search.specs.Trails.{IsSolvedWithin};
 ghost use Rattle.sok_search.specs.Views.{progress_of, IsCutOff, IsEmpty, IsRunning, TellsFinished};
 ghost use Rattle.sok_search.specs.Views.{TellsSearched};
 
 use crate::beginning::{empty, enter_start};
-use crate::certifying::certificate;
+use crate::certifying::certify;
+use crate::collecting::Entries;
 use crate::expanding::Scratch;
 use crate::fault::SolveFault;
 use crate::found::Found;
@@ -24,6 +26,7 @@ use crate::tracing::{find_solved, trace};
 use crate::trail::letters;
 use sok_board::board::Board;
 use sok_cert::claim::Claim;
+use sok_cert::entry::Cert;
 use sok_push::tables::Tables;
 use sok_rules::cell::Dir;
 use sok_rules::fault::Memory;
@@ -54,6 +57,26 @@ pub fn bound(alloc: Global, level: &Level, limit: u32) -> Result<Outcome, SolveF
     outcome(alloc, level, limit, true)
 }
 
+/// What `solve` answers, or `bound` where a bound is asked for. The entries of the certificate are
+/// taken one after another by a collection that has none, and are listed nowhere else; of a limit,
+/// where no bound is asked for, none is taken. Where it refuses, some may have been taken.
+pub fn solve_into<C: Entries>(
+    alloc: Global,
+    level: &Level,
+    limit: u32,
+    bound: bool,
+    entries: &mut C,
+) -> Result<Found, SolveFault>
+    requires { C.took [] entries.old }
+    ensures shown { IfOk result
+        (IsShown (λ taken. C.took taken entries.new) level.now limit bound) }
+    ensures tells { TellsFault level.now limit result }
+{
+    let board = accept(alloc, level, limit)?;
+    let found = answer(alloc, &board, limit, bound, entries)?;
+    Ok(found)
+}
+
 /// What `solve` answers, without a certificate, which takes time and most of the memory. States in
 /// which a box was pushed to where it reaches no goal, or where it and one or two others are never
 /// solved, were they alone on the board, are not kept. So there may be an answer where `solve` tells
@@ -72,9 +95,40 @@ fn outcome(alloc: Global, level: &Level, limit: u32, wanted: bool) -> Result<Out
     ensures answer { IfOk result (IsOutcome level.now limit wanted) }
     ensures tells { TellsFault level.now limit result }
 {
-    let board = accept(alloc, level, limit)?;
-    let outcome = answer(alloc, &board, limit, wanted)?;
-    Ok(outcome)
+    let mut cert = Cert {
+        entries: Vec::new(alloc),
+    };
+    match solve_into(alloc, level, limit, wanted, &mut cert) {
+        Ok(found) => Ok(certified(found, wanted, cert)),
+        Err(fault) => Err(fault),
+    }
+}
+
+/// What was found, with its certificate.
+fn certified(found: Found, wanted: bool, cert: Cert) -> Outcome
+    ensures { (rows : Rows) (limit : ℕ)
+        → IsShown (λ entries. cert.entries.items ≡ entries) rows limit wanted found
+        → IsOutcome rows limit wanted result }
+{
+    match found {
+        Found::Solved { dirs, pushes } => Outcome::Solved { dirs, pushes, cert },
+        Found::Unsolvable => Outcome::Unsolvable { cert },
+        Found::Limit { states, at_least } => {
+            if wanted {
+                let cert = Some(cert);
+                return Outcome::Limit {
+                    states,
+                    at_least,
+                    cert,
+                };
+            }
+            Outcome::Limit {
+                states,
+                at_least,
+                cert: None,
+            }
+        }
+    }
 }
 
 /// Whether a limit is refused.
@@ -97,38 +151,49 @@ fn accept(alloc: Global, level: &Level, limit: u32) -> Result<Board, SolveFault>
 }
 
 /// The same of a board.
-fn answer(alloc: Global, board: &Board, limit: u32, wanted: bool) -> Result<Outcome, Memory>
+fn answer<C: Entries>(
+    alloc: Global,
+    board: &Board,
+    limit: u32,
+    wanted: bool,
+    entries: &mut C,
+) -> Result<Found, Memory>
     requires positive { 0 < limit }
     requires small { limit ≤ state_limit }
-    ensures { IfOk result (IsOutcome board.now.rows limit wanted) }
+    requires none { C.took [] entries.old }
+    ensures { IfOk result
+        (IsShown (λ taken. C.took taken entries.new) board.now.rows limit wanted) }
 {
     // Its clauses tell that the level is accepted.
     let _level = board.level();
     let tables = Tables::new(alloc, board)?;
     let mut search = empty(alloc, board, true)?;
-    answer_by(alloc, board, &tables, limit, wanted, &mut search)
+    answer_by(alloc, board, &tables, limit, wanted, &mut search, entries)
 }
 
 /// The same, by a search that knows nothing.
-fn answer_by(
+fn answer_by<C: Entries>(
     alloc: Global,
     board: &Board,
     tables: &Tables,
     limit: u32,
     wanted: bool,
     search: &mut Search,
-) -> Result<Outcome, Memory>
+    entries: &mut C,
+) -> Result<Found, Memory>
     requires accepted { IsAccepted board.now }
     requires tables { tables.now.board ≡ board.now }
     requires positive { 0 < limit }
     requires small { limit ≤ state_limit }
     requires empty { IsEmpty board.now search.old }
     requires whole { search.old.whole ≡ true }
-    ensures { IfOk result (IsOutcome board.now.rows limit wanted) }
+    requires none { C.took [] entries.old }
+    ensures { IfOk result
+        (IsShown (λ taken. C.took taken entries.new) board.now.rows limit wanted) }
 {
     match search_all(alloc, board, tables, limit, search)? {
-        Reached::On => conclude(alloc, board, tables, search),
-        Reached::Full => halt(alloc, board, tables, limit, wanted, search),
+        Reached::On => conclude(alloc, board, tables, search, entries),
+        Reached::Full => halt(alloc, board, tables, limit, wanted, search, entries),
     }
 }
 
@@ -168,31 +233,31 @@ fn find_by(
 }
 
 /// The answer of a search that was cut off, with a certificate of what it shows where one is wanted.
-fn halt(
+fn halt<C: Entries>(
     alloc: Global,
     board: &Board,
     tables: &Tables,
     limit: u32,
     wanted: bool,
     search: &Search,
-) -> Result<Outcome, Memory>
+    entries: &mut C,
+) -> Result<Found, Memory>
     requires accepted { IsAccepted board.now }
     requires tables { tables.now.board ≡ board.now }
     requires small { limit ≤ state_limit }
     requires cut { IsCutOff board.now limit true (progress_of search.now) }
-    ensures { IfOk result (IsOutcome board.now.rows limit wanted) }
+    requires none { C.took [] entries.old }
+    ensures { IfOk result
+        (IsShown (λ taken. C.took taken entries.new) board.now.rows limit wanted) }
 {
     let at_least = least_open(search);
-    let cert = if wanted {
+    if wanted {
         let claim = Claim::Pushes(at_least);
-        Some(certificate(alloc, board, tables, claim, search)?)
-    } else {
-        None
-    };
-    Ok(Outcome::Limit {
+        certify(alloc, board, tables, claim, search, entries)?;
+    }
+    Ok(Found::Limit {
         states: limit,
         at_least,
-        cert,
     })
 }
 
@@ -252,31 +317,32 @@ fn find_in(alloc: Global, board: &Board, search: &Search) -> Result<Found, Memor
 }
 
 /// The answer of a finished search.
-fn conclude(
+fn conclude<C: Entries>(
     alloc: Global,
     board: &Board,
     tables: &Tables,
     search: &Search,
-) -> Result<Outcome, Memory>
+    entries: &mut C,
+) -> Result<Found, Memory>
     requires accepted { IsAccepted board.now }
     requires tables { tables.now.board ≡ board.now }
     requires search { IsSmallSearch board.now (progress_of search.now) }
     requires whole { search.now.whole ≡ true }
     requires finished { search.now.queue ≡ [] }
+    requires none { C.took [] entries.old }
     ensures { (limit : ℕ) (wanted : Bool) → IsSearch board.now limit (progress_of search.now)
-        → IfOk result (IsOutcome board.now.rows limit wanted) }
+        → IfOk result (IsShown (λ taken. C.took taken entries.new) board.now.rows limit wanted) }
 {
     match search.best {
         Some(pushes) => {
             let claim = Claim::Pushes(pushes);
-            let cert = certificate(alloc, board, tables, claim, search)?;
+            certify(alloc, board, tables, claim, search, entries)?;
             let dirs = solution(alloc, board, search, pushes)?;
-            Ok(Outcome::Solved { dirs, pushes, cert })
+            Ok(Found::Solved { dirs, pushes })
         }
         None => {
-            let claim = Claim::Unsolvable;
-            let cert = certificate(alloc, board, tables, claim, search)?;
-            Ok(Outcome::Unsolvable { cert })
+            certify(alloc, board, tables, Claim::Unsolvable, search, entries)?;
+            Ok(Found::Unsolvable)
         }
     }
 }

@@ -1,6 +1,6 @@
 -- What is answered to a level that is to be solved.
 use Rattle.std.proofs.Common.{ℕ, ◌≡◌, ◌<◌, ◌↔◌, ◌⊎◌, Bool, true, false, List, Option, Some, None, Result, Ok, Err}
-use Rattle.std.proofs.Common.{IsSome, MatchResult, inl, inr, length, refl, subst, sym}
+use Rattle.std.proofs.Common.{IsSome, MatchBool, MatchResult, inl, inr, length, refl, subst, sym, true≢false}
 use Rattle.std.specs.Option.{IsSomeAnd}
 use Rattle.sok_rules.specs.declared.cell.Dir.{Dir}
 use Rattle.sok_rules.specs.declared.fault.PlayFault.{PlayFault}
@@ -13,10 +13,8 @@ use Rattle.sok_board.specs.declared.fault.BoardFault.TheVariants as board
 use Rattle.sok_board.specs.Refusals.{IsAcceptable}
 use Rattle.sok_search.specs.declared.fault.SolveFault.{SolveFault}
 use Rattle.sok_search.specs.declared.fault.SolveFault.TheVariants as solve
-use Rattle.sok_cert.specs.Cert.{Cert}
-use Rattle.sok_cert.specs.Claim.TheVariants as claim
 use Rattle.sok_search.specs.Faults.{IsBadLimit, IsRefusal}
-use Rattle.sok_search.specs.Outcomes.{Certifies, IsCutShort, ShowsLeast}
+use Rattle.sok_search.specs.Outcomes.{IsCutShort}
 use Rattle.sok_engine.specs.declared.fault.ToolFault.{ToolFault}
 use Rattle.sok_engine.specs.declared.fault.ToolFault.TheVariants as tool
 use Rattle.sok_engine.specs.Certified.{Certified}
@@ -91,15 +89,7 @@ same_certified cert shown text words status exit certs texts statuses = λ i. ce
 pub at_limit : (rows : Rows) (limit states least : ℕ) → IsCutShort rows limit states least → IsCutShort rows limit limit least
 at_limit rows limit states least cut = subst (λ n. IsCutShort rows limit n least) cut.past.is cut
 
--- a certificate of a bound is there exactly where it was asked for
-pub bound_shown : (rows : Rows) (limit : ℕ) (bound : Bool) (least : ℕ) (cert : Cert) → ShowsLeast rows limit bound least (Some cert)
-    → (bound ≡ true) × Certifies rows limit (claim.Pushes least) cert.entries.items
-bound_shown rows limit true least cert shown = (refl, shown)
-bound_shown rows limit false least cert shown = absurd (none-some cert shown)
-  where
-    none-some : (c : Cert) → Some c ≡ None → ⊥
-    none-some c e = cc
-
-pub bound_unasked : (rows : Rows) (limit : ℕ) (bound : Bool) (least : ℕ) → ShowsLeast rows limit bound least None → bound ≡ false
-bound_unasked rows limit true least shown = absurd shown
-bound_unasked rows limit false least shown = refl
+-- what is there where it is asked for
+pub asked : (P Q : Type 0) (wanted : Bool) → wanted ≡ true → MatchBool wanted P Q → P
+asked P Q true is there = there
+asked P Q false is there = absurd (true≢false (sym is))

@@ -1,5 +1,5 @@
 -- Words of public contracts: what is answered to a level that is to be solved, and the certificate that goes with it (Solves).
 pub mod Solves
 -- words of the crate's own contracts
-pub mod Blocks
 pub mod Faults
+pub mod Lines

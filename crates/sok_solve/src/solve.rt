@@ -1,19 +1,19 @@
 //! A solution with the fewest pushes, with its certificate.
 
-ghost use Rattle.std.specs.Prelude.{◌≡◌, IfOk, MatchResult, Ok, string_bytes};
+ghost use Rattle.std.specs.Prelude.{◌≡◌, IfOk, MatchResult, Ok};
 ghost use Rattle.sok_engine.specs.Certified.{WritesBoth};
 ghost use Rattle.sok_engine.specs.Inputs.{OfReader, Within};
 ghost use Rattle.sok_engine.specs.Limits.{input_limit};
 ghost use Rattle.sok_engine.specs.Written.{Gives};
 ghost use Rattle.sok_engine.specs.declared.fault.ToolFault.TheVariants as tool;
 ghost use Rattle.sok_rules.specs.Play.{Solves};
-ghost use Rattle.sok_search.specs.Faults.{TellsFault};
-ghost use Rattle.sok_search.specs.Outcomes.{IsOutcome};
+ghost use Rattle.sok_search.specs.Outcomes.{IsShown};
 ghost use Rattle.sok_solve.specs.Faults.{of_solve};
+ghost use Rattle.sok_solve.specs.Lines.{HasLines};
 ghost use Rattle.sok_solve.specs.Solves.{IsSolve, IsSolveAnswer, TellsOutcome, TellsWithin};
 ghost use Rattle.sok_solve.specs.Solves.{bound_answer, limit_answer, solution_text};
 
-use crate::certificate::ReadyCert;
+use crate::certificate::{EntryLines, ReadyCert};
 use sok_cert::claim::Claim;
 use sok_engine::answer::Answer;
 use sok_engine::fault::ToolFault;
@@ -21,8 +21,8 @@ use sok_engine::input::read_input;
 use sok_rules::cell::Dir;
 use sok_rules::level::Level;
 use sok_search::fault::SolveFault;
-use sok_search::outcome::Outcome;
-use sok_search::solve::solve;
+use sok_search::found::Found;
+use sok_search::solve::solve_into;
 use sok_text::collection::Collection;
 use sok_text::lurd::print_lurd;
 use std::alloc::{AllocError, Global};
@@ -118,21 +118,10 @@ fn answer(
 ) -> Result<CertifiedAnswer, ToolFault>
     ensures { Gives (IsSolveAnswer limit bound level.now) result }
 {
-    match outcome(alloc, level, limit, bound) {
-        Ok(outcome) => told(alloc, level, limit, bound, outcome),
+    let mut taken = EntryLines::new(alloc);
+    match solve_into(alloc, level, limit, bound, &mut taken) {
+        Ok(found) => told(alloc, level, limit, bound, found, taken),
         Err(fault) => Err(tool_fault(fault)),
-    }
-}
-
-/// The outcome of a level, with a certificate of a limit that is met where a bound is asked for.
-fn outcome(alloc: Global, level: &Level, limit: u32, bound: bool) -> Result<Outcome, SolveFault>
-    ensures answer { IfOk result (IsOutcome level.now limit bound) }
-    ensures tells { TellsFault level.now limit result }
-{
-    if bound {
-        sok_search::solve::bound(alloc, level, limit)
-    } else {
-        solve(alloc, level, limit)
     }
 }
 
@@ -146,20 +135,21 @@ pub(crate) fn tool_fault(fault: SolveFault) -> ToolFault
     }
 }
 
-/// What is told of an outcome.
+/// What is told of what was found, with the certificate whose entries were taken.
 fn told(
     alloc: Global,
     level: &Level,
     limit: u32,
     bound: bool,
-    outcome: Outcome,
+    found: Found,
+    taken: EntryLines,
 ) -> Result<CertifiedAnswer, ToolFault>
-    requires { IsOutcome level.now limit bound outcome }
+    requires { IsShown (HasLines taken) level.now limit bound found }
     ensures { TellsWithin (TellsOutcome limit bound level.now) result }
 {
-    match outcome {
-        Outcome::Solved { dirs, pushes, cert } => {
-            let cert = ReadyCert::new(alloc, &Claim::Pushes(pushes), cert)?;
+    match found {
+        Found::Solved { dirs, pushes } => {
+            let cert = ReadyCert::new(alloc, &Claim::Pushes(pushes), taken)?;
             let text = solution_text(alloc, level, dirs.as_slice(), pushes)?;
             let answer = Answer::new(text, 0);
             Ok(CertifiedAnswer {
@@ -167,8 +157,8 @@ fn told(
                 answer,
             })
         }
-        Outcome::Unsolvable { cert } => {
-            let cert = ReadyCert::new(alloc, &Claim::Unsolvable, cert)?;
+        Found::Unsolvable => {
+            let cert = ReadyCert::new(alloc, &Claim::Unsolvable, taken)?;
             let text = String::from_str(alloc, "unsolvable\n")?;
             let answer = Answer::new(text.into_bytes(), 0);
             Ok(CertifiedAnswer {
@@ -176,26 +166,20 @@ fn told(
                 answer,
             })
         }
-        Outcome::Limit {
-            states,
-            at_least,
-            cert,
-        } => match cert {
-            Some(cert) => {
-                let cert = ReadyCert::new(alloc, &Claim::Pushes(at_least), cert)?;
+        Found::Limit { states, at_least } => {
+            if bound {
+                let cert = ReadyCert::new(alloc, &Claim::Pushes(at_least), taken)?;
                 let text = bound_text(alloc, states, at_least)?;
                 let answer = Answer::new(text, 4);
-                Ok(CertifiedAnswer {
+                return Ok(CertifiedAnswer {
                     cert: Some(cert),
                     answer,
-                })
+                });
             }
-            None => {
-                let text = limit_text(alloc, states)?;
-                let answer = Answer::new(text, 4);
-                Ok(CertifiedAnswer { cert: None, answer })
-            }
-        },
+            let text = limit_text(alloc, states)?;
+            let answer = Answer::new(text, 4);
+            Ok(CertifiedAnswer { cert: None, answer })
+        }
     }
 }
 

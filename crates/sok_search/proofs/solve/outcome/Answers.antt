@@ -1,24 +1,13 @@
-use Rattle.std.proofs.Common.{subst}
-use Rattle.sok_rules.specs.Squares.{Rows}
-use Rattle.sok_search.specs.Outcomes.{IsOutcome}
-use Rattle.sok_search.proofs.Refusing.{good-within, handed-on, no-answer, told-also, told-answer, told-memory}
+use Rattle.sok_search.specs.declared.found.Found.{Found}
+use Rattle.sok_search.specs.declared.outcome.Outcome.{Outcome}
+use Rattle.sok_search.proofs.Refusing.{told-alike, told-also}
 use Rattle.sok_search.proofs.solve.outcome.Goals as goal
 
-pub returns-in_err-board : goal.returns-in_err-board
-returns-in_err-board c =
-    let told = told-also _ _ c.args.level.now c.args.limit _ c.in_err-board.ensures.tells in
-    let tells = handed-on _ _ _ c.from_residual.result c.from_residual.ensures.1 told in
-    assumption (tells, no-answer (IsOutcome c.args.level.now c.args.limit c.args.wanted) _ c.from_residual.result c.from_residual.ensures.1)
+pub returns-in-Ok : goal.returns-in-Ok
+returns-in-Ok c = record {
+  answer = c.certified.ensures c.args.level.now c.args.limit c.in-Ok.ensures.shown;
+  tells = told-alike Found Outcome c.args.level.now c.args.limit c.in-Ok.found _ c.in-Ok.ensures.tells;
+}
 
-pub returns-in_err-outcome : goal.returns-in_err-outcome
-returns-in_err-outcome c =
-    let error = c.from_residual-in_err-outcome.ensures.1 in
-    let told = told-memory _ c.args.level.now c.args.limit (good-within c.args.level.now c.args.limit c.in_ok-board.board c.in_ok-board.ensures.board) in
-    let tells = handed-on _ _ _ c.from_residual-in_err-outcome.result error told in
-    assumption (tells, no-answer (IsOutcome c.args.level.now c.args.limit c.args.wanted) _ c.from_residual-in_err-outcome.result error)
-
-pub returns : goal.returns
-returns c =
-    let within = c.in_ok-board.ensures.board in
-    let answer = subst (λ (level : Rows). IsOutcome level c.args.limit c.args.wanted c.in_ok-outcome.outcome) within.rows_are c.in_ok-outcome.ensures in
-    assumption (answer, told-answer c.args.level.now c.args.limit c.in_ok-board.board c.in_ok-outcome.outcome within)
+pub returns-in-Err : goal.returns-in-Err
+returns-in-Err c = record { answer = tt; tells = told-also Found Outcome c.args.level.now c.args.limit c.in-Err.fault c.in-Err.ensures.tells }
