@@ -1,13 +1,13 @@
 //! One level of a book is settled.
 
-ghost use Rattle.std.specs.Prelude.{ℕ, ℤ, ◌≡◌, ◌≤◌, ◌<◌, ◌<ℤ◌, length};
+ghost use Rattle.std.specs.Prelude.{ℕ, ℤ, ◌≡◌, ◌≤◌, ◌<◌, ◌<ℤ◌, false, length, ⊤};
 ghost use Rattle.sqlite.specs.Held.{state};
 ghost use Rattle.sok_rules.specs.Limits.{letter_limit};
 ghost use Rattle.sok_rules.specs.Play.{IsUnsolvable};
 ghost use Rattle.sok_board.specs.Refusals.{IsAcceptable};
 ghost use Rattle.sok_cert.specs.Claim.TheVariants as claim;
 ghost use Rattle.sok_search.specs.Faults.{IsBadLimit};
-ghost use Rattle.sok_search.specs.Outcomes.{IsAnswer, IsLeastSolution};
+ghost use Rattle.sok_search.specs.Outcomes.{IsLeastSolution, IsShown};
 ghost use Rattle.sok_store.specs.Known.{IsCertified};
 ghost use Rattle.sok_settle.specs.Steps.{GoesThrough, IsRecordIn, IsTriedAs, TellsTooLong};
 
@@ -24,7 +24,7 @@ use sok_page::record::Record;
 use sok_rules::cell::Dir;
 use sok_rules::fault::PlayFault;
 use sok_rules::level::Level;
-use sok_search::outcome::Outcome;
+use sok_search::found::Found;
 use sok_store::book::Book;
 use sqlite::Alter;
 use std::alloc::Global;
@@ -91,41 +91,35 @@ fn settle_level<S: Alter, W: Write>(
         (W.contents out.old) (W.contents out.new) result }
 {
     match search(alloc, level, limit) {
-        Ok(outcome) => settle_by(alloc, book, limit, id, level, outcome, out),
+        Ok(found) => settle_by(alloc, book, limit, id, level, found, out),
         Err(fault) => Err(fault),
     }
 }
 
-/// Settles the level with an id by what its search answers.
+/// Settles the level with an id by what its search finds.
 fn settle_by<S: Alter, W: Write>(
     alloc: Global,
     book: &mut Book<S>,
     limit: u32,
     id: i64,
     level: &Level,
-    outcome: Outcome,
+    found: Found,
     out: &mut W,
 ) -> Result<bool, ToolFault>
     requires accepted { IsAcceptable level.now }
-    requires answer { IsAnswer level.now limit outcome }
+    requires shown { IsShown (λ _. ⊤) level.now limit false found }
     ensures { (from : ℤ) → GoesThrough (IsTriedAs from id level.now) limit from id
         (state S.Store book.old) (state S.Store book.new)
         (W.contents out.old) (W.contents out.new) result }
 {
-    match outcome {
-        Outcome::Solved { dirs, pushes, cert } => {
-            // Of the certificate nothing but that there is one is needed.
-            drop(cert);
+    match found {
+        Found::Solved { dirs, pushes } => {
             settle_solved(alloc, book, id, level, &dirs, pushes, out)
         }
-        Outcome::Unsolvable { cert } => {
-            drop(cert);
-            settle_unsolvable(book, id, level, out)
-        }
-        Outcome::Limit {
+        Found::Unsolvable => settle_unsolvable(book, id, level, out),
+        Found::Limit {
             states: _,
             at_least,
-            cert: _,
         } => tell(&limit_line(id, limit, at_least), false, out),
     }
 }
