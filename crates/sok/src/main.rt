@@ -3,7 +3,9 @@
 
 use sok_tool::ending::ended;
 use sok_tool::fault::ToolFault;
+use sok_tool::notes::Notes;
 use sok_tool::program::run;
+use sok_tool::watched::{Watched, WatchedInput, WatchedOutput};
 use std::io::{ErrorKind, Write};
 use std::process::ExitCode;
 use std::{env, io};
@@ -14,13 +16,7 @@ fn main(rt: HostRuntime) -> ExitCode {
     });
     let mut err = rt.stderr();
     let status = match words {
-        Ok(words) => run(
-            &rt,
-            words.as_slice(),
-            &mut rt.stdin(),
-            &mut rt.stdout(),
-            &mut err,
-        ),
+        Ok(words) => run_watched(&rt, words.as_slice(), &mut err),
         Err(error) if error.kind() == ErrorKind::InvalidData => {
             let _ = err.write_all(b"error: a word is not valid UTF-8\n");
             2
@@ -28,4 +24,14 @@ fn main(rt: HostRuntime) -> ExitCode {
         Err(_) => ended(Err(ToolFault::Memory), &mut err),
     };
     ExitCode::from(status)
+}
+
+/// Runs the program, and tells behind its answer what was noted meanwhile.
+fn run_watched<E: Write>(rt: &HostRuntime, words: &[String], err: &mut E) -> u8 {
+    let notes = Notes::new();
+    let mut input = WatchedInput::new(rt.stdin(), "standard input", &notes);
+    let mut out = WatchedOutput::new(rt.stdout(), "standard output", &notes);
+    let status = run(&Watched::new(rt, &notes), words, &mut input, &mut out, err);
+    notes.tell(status, err);
+    status
 }

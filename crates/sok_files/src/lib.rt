@@ -7,9 +7,13 @@
 //! | `ending` | how a run ends, and what it tells on the error stream |
 //! | `file` | opening and making the files that a command names |
 //! | `folder` | files by their paths |
+//! | `notes` | what is told beside the answer |
+//! | `watched` | files and streams that are watched |
 #![tactic(auto)]
 
 pub mod command;
 pub mod ending;
 pub mod file;
 pub mod folder;
+pub mod notes;
+pub mod watched;

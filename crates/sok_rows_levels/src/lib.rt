@@ -13,6 +13,7 @@
 //! | `levels` | which rows are a level |
 //! | `limits` | which certificates have a text |
 //! | `lines` | the list of a collection's levels, and the replay of a text: all that is written |
+//! | `near` | which lines of a text are nearly of a board |
 //! | `patterns` | certificates with patterns, judged |
 //! | `plays` | replays, and play letter by letter with undo and redo |
 //! | `solves` | the fewest pushes of worked levels, or that there are none, and what limits mean |
@@ -40,6 +41,8 @@ mod levels;
 mod limits;
 #[cfg(test)]
 mod lines;
+#[cfg(test)]
+mod near;
 #[cfg(test)]
 mod patterns;
 #[cfg(test)]

@@ -26,6 +26,7 @@
 //! | `statements` | each statement once, with ample memory |
 //! | `stops` | commands that are stopped, and the book that is found then |
 //! | `tables` | tables that are opened as a book, or that are not |
+//! | `told` | what is told beside an answer |
 //! | `tutorial` | the session of the tutorial |
 #![tactic(auto)]
 
@@ -73,5 +74,7 @@ mod statements;
 mod stops;
 #[cfg(test)]
 mod tables;
+#[cfg(test)]
+mod told;
 #[cfg(test)]
 mod tutorial;

@@ -1,7 +1,9 @@
 //! Command lines on the files of a folder, and what the program tells of each.
 
 use sok_sketch::tutorial::Row;
+use sok_tool::notes::Notes;
 use sok_tool::program::run;
+use sok_tool::watched::Watched;
 use std::alloc::{AllocError, Global};
 use std::fs;
 use std::io::{Read, Write};
@@ -46,7 +48,7 @@ pub(crate) fn prepare(rt: &HostRuntime, folder: &str) -> Result<(), Fail> {
     put(rt, folder, "cert", CERT)
 }
 
-fn put(rt: &HostRuntime, folder: &str, name: &str, text: &str) -> Result<(), Fail> {
+pub(crate) fn put(rt: &HostRuntime, folder: &str, name: &str, text: &str) -> Result<(), Fail> {
     let path = format!(in rt.alloc(); "{folder}/{name}")?;
     fs::write(rt, path.as_str(), text)?;
     Ok(())
@@ -70,7 +72,7 @@ pub(crate) fn run_on<R: Read, W: Write, E: Write>(
     out: &mut W,
     err: &mut E,
 ) -> u8 {
-    run(rt, words, input, out, err)
+    run(&Watched::new(rt, &Notes::new()), words, input, out, err)
 }
 
 /// What the program leaves behind.

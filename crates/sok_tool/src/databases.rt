@@ -8,9 +8,11 @@ ghost use Rattle.sok_tool.specs.declared.databases.IfAbsent.{IfAbsent};
 
 use sok_book::fault::BookFault;
 use sok_engine::fault::ToolFault;
+use sok_files::watched::Watched;
 use sok_row::fault::fault_of;
 use sqlite::{Connection, Error, ErrorCode, File, FileStore};
-use std::io::Read;
+use std::fmt::InlineText;
+use std::io::{self, Read};
 use std::time::Duration;
 use std::{fs, thread};
 
@@ -50,8 +52,8 @@ pub trait Databases {
         ensures { leaves self.now path.now connection };
 }
 
-/// No contract knows what the machine's files hold.
-impl Databases for HostRuntime {
+/// Those of the machine, of which no contract knows what they hold. Why one can't be opened is noted.
+impl Databases for Watched<'_, HostRuntime> {
     type Opened = Connection<FileStore<File>>;
 
     ghost keeps = { λ _ _ _ _. ⊤ };
@@ -65,22 +67,69 @@ impl Databases for HostRuntime {
         path: &str,
         absent: IfAbsent,
     ) -> Result<Connection<FileStore<File>>, ToolFault> {
-        let may_open = match found_at(self, path) {
-            Found::Nothing => absent == IfAbsent::Make,
-            Found::Database => true,
-            Found::Other => false,
-        };
-        if !may_open {
-            return Err(ToolFault::Book(BookFault::Database));
+        match connect(self.inner(), path, absent) {
+            Ok(connection) => Ok(connection),
+            Err(cause) => {
+                self.fail(path, Some(cause.error()));
+                Err(cause.fault())
+            }
         }
-        open_in_turn(self, path)
     }
 
-    fn close(&self, _path: &str, connection: Connection<FileStore<File>>)
+    fn close(&self, path: &str, connection: Connection<FileStore<File>>)
         ensures { ⊤ }
     {
         // The log is copied into the database file. Where that fails, the next open reads the log.
-        let _ = connection.close();
+        let cause = match connection.close() {
+            Ok(()) => None,
+            Err(error) => Some(Unopened::Refused(error).error()),
+        };
+        // Where nothing else failed, it was the database, or it was not at fault and is not told.
+        self.fail(path, cause);
+    }
+}
+
+/// Why a database is not opened.
+#[derive(Clone, Copy)]
+enum Unopened {
+    /// There is no file that can be opened, and none may be made.
+    Absent(io::Error),
+    /// The file begins as no database does. Opened as one it would keep an empty log beside it.
+    Other,
+    /// It was refused.
+    Refused(Error),
+}
+
+impl Unopened {
+    fn fault(self) -> ToolFault
+        ensures { (result ≡ tool.Memory) ⊎ (result ≡ tool.Book refusal.Database) }
+    {
+        match self {
+            Unopened::Refused(error) => ToolFault::from(fault_of(error)),
+            _ => ToolFault::Book(BookFault::Database),
+        }
+    }
+
+    /// The cause in words.
+    fn error(self) -> io::Error {
+        match self {
+            Unopened::Absent(error) => error,
+            Unopened::Other => io::Error::other("the file is no database"),
+            Unopened::Refused(error) => io::Error::other(InlineText::<80>::of(error).as_str()),
+        }
+    }
+}
+
+/// Opens the database at a path, or makes an empty one where none is there and one may be made.
+fn connect(
+    rt: &HostRuntime,
+    path: &str,
+    absent: IfAbsent,
+) -> Result<Connection<FileStore<File>>, Unopened> {
+    match found_at(rt, path) {
+        Found::Nothing(error) if absent == IfAbsent::Refuse => Err(Unopened::Absent(error)),
+        Found::Other => Err(Unopened::Other),
+        _ => open_in_turn(rt, path),
     }
 }
 
@@ -90,30 +139,30 @@ const TRIES: u32 = 40;
 /// How long is waited behind such a try, in milliseconds.
 const PAUSE: u64 = 50;
 
+const BUSY: Error = Error::SqliteFailure(ErrorCode::DatabaseBusy);
+
 /// Opens a database. Where another process has it open, it is tried again for some two seconds.
-fn open_in_turn(rt: &HostRuntime, path: &str) -> Result<Connection<FileStore<File>>, ToolFault>
-    ensures { IfErr result (λ fault. (fault ≡ tool.Memory) ⊎ (fault ≡ tool.Book refusal.Database)) }
-{
+fn open_in_turn(rt: &HostRuntime, path: &str) -> Result<Connection<FileStore<File>>, Unopened> {
     for _ in 0..TRIES {
         match Connection::open(rt, path) {
             Ok(connection) => return Ok(connection),
             Err(Error::SqliteFailure(ErrorCode::DatabaseBusy)) => {
                 thread::sleep(rt, Duration::from_millis(PAUSE));
             }
-            Err(error) => return Err(ToolFault::from(fault_of(error))),
+            Err(error) => return Err(Unopened::Refused(error)),
         }
     }
-    Err(ToolFault::Book(BookFault::Database))
+    Err(Unopened::Refused(BUSY))
 }
 
 /// What stands at a path.
 #[derive(Clone, Copy)]
 enum Found {
     /// No file that can be opened.
-    Nothing,
+    Nothing(io::Error),
     /// What may be a database: also an empty file, and one that can't be read.
     Database,
-    /// A file that begins as no database does. Opened as one it would keep an empty log beside it.
+    /// A file that begins as no database does.
     Other,
 }
 
@@ -122,8 +171,9 @@ enum Found {
 const FRONT: [u8; 16] = *b"SQLite format 3\0";
 
 fn found_at(rt: &HostRuntime, path: &str) -> Found {
-    let Ok(mut file) = fs::open(rt, path) else {
-        return Found::Nothing;
+    let mut file = match fs::open(rt, path) {
+        Ok(file) => file,
+        Err(error) => return Found::Nothing(error),
     };
     let mut front = [0; 16];
     match file.read(&mut front) {

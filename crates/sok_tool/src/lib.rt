@@ -16,7 +16,7 @@ mod letters;
 pub mod program;
 
 pub use sok_engine::{fault, input};
-pub use sok_files::{ending, folder};
+pub use sok_files::{ending, folder, notes, watched};
 pub use sok_judge::check;
 pub use sok_play::{drawing, listing, play};
 pub use sok_words::{job, words};

@@ -1,0 +1,170 @@
+//! Files and streams that are watched: each call is passed on, and what fails is noted, and what is
+//! read. So the contracts are those of what is watched.
+
+ghost use Rattle.std.specs.Prelude.{◌≡◌};
+
+use crate::folder::Folder;
+use crate::notes::{Name, Notes};
+use std::alloc::Global;
+use std::io::{self, ErrorKind, Read, Write};
+
+/// A folder, or what else opens by paths, that is watched.
+#[derive(Drop)]
+pub struct Watched<'a, F> {
+    inner: &'a F,
+    notes: &'a Notes,
+}
+
+impl<'a, F> Watched<'a, F> {
+    pub fn new(inner: &'a F, notes: &'a Notes) -> Watched<'a, F>
+        ensures { result.inner.now ≡ inner.now }
+    {
+        Watched { inner, notes }
+    }
+
+    /// What is watched.
+    pub fn inner(&self) -> &'a F
+        ensures { result.now ≡ self.now.inner.now }
+    {
+        self.inner
+    }
+
+    /// Notes that what is at a path failed.
+    pub fn fail(&self, path: &str, cause: Option<io::Error>) {
+        self.notes.fail(Name::of(path), cause);
+    }
+}
+
+impl<'a, F: AllocGlobal> Alloc for Watched<'a, F> {
+    type A = Global;
+
+    fn alloc(&self) -> Global {
+        self.inner.alloc()
+    }
+}
+
+impl<'a, F: Folder> Folder for Watched<'a, F> {
+    type Input = WatchedInput<'a, F::Input>;
+
+    type Output = WatchedOutput<'a, F::Output>;
+
+    ghost reads = { λ watched path known. F.reads watched.inner.now path known };
+
+    ghost lacks = { λ watched path. F.lacks watched.inner.now path };
+
+    ghost makes = { λ watched path file. F.makes watched.inner.now path file.inner };
+
+    fn open(&self, path: &str) -> io::Result<WatchedInput<'a, F::Input>> {
+        match self.inner.open(path) {
+            Ok(file) => Ok(WatchedInput::new(file, path, self.notes)),
+            Err(error) => {
+                self.fail(path, Some(error));
+                Err(error)
+            }
+        }
+    }
+
+    fn create(&self, path: &str) -> io::Result<WatchedOutput<'a, F::Output>> {
+        match self.inner.create(path) {
+            Ok(file) => Ok(WatchedOutput::new(file, path, self.notes)),
+            Err(error) => {
+                self.fail(path, Some(error));
+                Err(error)
+            }
+        }
+    }
+
+    fn is_one(&self, path: &str, other: &str) -> bool {
+        let is_one = self.inner.is_one(path, other);
+        if is_one {
+            self.fail(
+                other,
+                Some(io::Error::other("the collection is in this file")),
+            );
+        }
+        is_one
+    }
+}
+
+/// A reader that is watched.
+#[derive(Drop)]
+pub struct WatchedInput<'a, R> {
+    inner: R,
+    name: Name,
+    notes: &'a Notes,
+}
+
+impl<'a, R> WatchedInput<'a, R> {
+    /// The name is what it is told by.
+    pub fn new(inner: R, name: &str, notes: &'a Notes) -> WatchedInput<'a, R>
+        ensures { result.inner ≡ inner }
+    {
+        WatchedInput {
+            inner,
+            name: Name::of(name),
+            notes,
+        }
+    }
+}
+
+impl<'a, R: Read> Read for WatchedInput<'a, R> {
+    ghost remaining = { λ input. R.remaining input.inner };
+
+    fn read(&mut self, buf: &mut [u8]) -> io::Result<usize> {
+        match self.inner.read(buf) {
+            Ok(count) => {
+                self.notes.pass(&buf[..count]);
+                Ok(count)
+            }
+            Err(error) => {
+                self.notes.fail(self.name, Some(error));
+                Err(error)
+            }
+        }
+    }
+}
+
+/// A writer that is watched.
+#[derive(Drop)]
+pub struct WatchedOutput<'a, W> {
+    inner: W,
+    name: Name,
+    notes: &'a Notes,
+}
+
+impl<'a, W> WatchedOutput<'a, W> {
+    /// The name is what it is told by.
+    pub fn new(inner: W, name: &str, notes: &'a Notes) -> WatchedOutput<'a, W>
+        ensures { result.inner ≡ inner }
+    {
+        WatchedOutput {
+            inner,
+            name: Name::of(name),
+            notes,
+        }
+    }
+}
+
+impl<'a, W: Write> Write for WatchedOutput<'a, W> {
+    ghost contents = { λ output. W.contents output.inner };
+
+    fn write(&mut self, buf: &[u8]) -> io::Result<usize> {
+        match self.inner.write(buf) {
+            Ok(count) => {
+                if count == 0 {
+                    self.notes
+                        .fail(self.name, Some(io::Error::from(ErrorKind::WriteZero)));
+                }
+                Ok(count)
+            }
+            Err(error) => {
+                self.notes.fail(self.name, Some(error));
+                Err(error)
+            }
+        }
+    }
+
+    fn flush(&mut self) -> io::Result<()> {
+        self.inner.flush()
+    }
+}

@@ -1,0 +1,128 @@
+//! What is told beside an answer: what failed, and lines that are nearly of a board.
+
+use crate::rows::{prepare, put, words};
+use sok_sketch::tutorial::Row;
+use sok_tool::notes::Notes;
+use sok_tool::program::run;
+use sok_tool::watched::{Watched, WatchedOutput};
+use std::alloc::AllocError;
+use std::fs;
+use std::io::Write;
+use std::test::Fail;
+
+const TOLD: [Row; 9] = [
+    (
+        "sok list told/none",
+        "",
+        "fault 50 ReadFailed\n  told/none: No such file or directory (os error 2)\n",
+        5,
+    ),
+    // it is opened, and its first read fails
+    (
+        "sok list told",
+        "",
+        "fault 50 ReadFailed\n  told: Is a directory (os error 21)\n",
+        5,
+    ),
+    (
+        "sok check told/levels 1 told/none",
+        "",
+        "fault 50 ReadFailed\n  told/none: No such file or directory (os error 2)\n",
+        5,
+    ),
+    (
+        "sok solve told/levels 1 --cert told/none/cert",
+        "",
+        "fault 51 WriteFailed\n  told/none/cert: No such file or directory (os error 2)\n",
+        5,
+    ),
+    (
+        "sok solve told/levels 1 --cert told/levels",
+        "",
+        "fault 51 WriteFailed\n  told/levels: the collection is in this file\n",
+        5,
+    ),
+    (
+        "sok solve told/levels 1 --cert /dev/full",
+        "",
+        "fault 51 WriteFailed\n  /dev/full: No space left on device (os error 28)\n",
+        5,
+    ),
+    (
+        "sok show told/book 1",
+        "",
+        "fault 32 Database\n  told/book: No such file or directory (os error 2)\n",
+        5,
+    ),
+    (
+        "sok show told/cert 1",
+        "",
+        "fault 32 Database\n  told/cert: the file is no database\n",
+        5,
+    ),
+    (
+        "sok list told/near",
+        "1 2 5 1 1 ##\n",
+        "line 1: byte 0 is no board character\nline 5: byte 2 is no board character\nline 6: byte 5 is no board character\n",
+        0,
+    ),
+];
+
+/// A byte order mark, a tab, a carriage return too many, and titles.
+const NEAR: &str = "\u{feff}#####\n#@$.#\n#####\n; #1\n#@\t$.#\n#####\r\r\nTitle: ##\n";
+
+/// Runs the program over watched files, and gives its status.
+fn run_watched<W: Write + Drop>(
+    rt: &HostRuntime,
+    words: &[String],
+    out: W,
+    err: &mut Vec<u8>,
+) -> u8 {
+    let notes = Notes::new();
+    let mut out = WatchedOutput::new(out, "standard output", &notes);
+    let watched = Watched::new(rt, &notes);
+    let status = run(&watched, words, &mut b"".as_slice(), &mut out, err);
+    notes.tell(status, err);
+    status
+}
+
+/// Whether this is told of a row, over an output of 64 bytes.
+fn is_told(rt: &HostRuntime, row: Row) -> Result<bool, AllocError> {
+    let (line, out, told, status) = row;
+    let words = words(rt.alloc(), line)?;
+    let mut err = Vec::new(rt.alloc());
+    let mut room = [0u8; 64];
+    let is_ended = run_watched(rt, words.as_slice(), room.as_mut_slice(), &mut err) == status;
+    Ok(is_ended && room.starts_with(out.as_bytes()) && err.as_slice() == told.as_bytes())
+}
+
+/// The first row of which something else is told.
+fn first_other(rt: &HostRuntime, rows: &[Row]) -> Result<Option<&'static str>, AllocError> {
+    for row in rows {
+        if !is_told(rt, *row)? {
+            return Ok(Some(row.0));
+        }
+    }
+    Ok(None)
+}
+
+/// What is told where the output is full.
+fn told_when_full(rt: &HostRuntime) -> Result<Vec<u8>, AllocError> {
+    let words = words(rt.alloc(), "sok list told/levels")?;
+    let mut err = Vec::new(rt.alloc());
+    run_watched(rt, words.as_slice(), [0u8; 4].as_mut_slice(), &mut err);
+    Ok(err)
+}
+
+#[test]
+fn failures_and_near_lines(rt: HostRuntime) -> Result<(), Fail> {
+    prepare(&rt, "told")?;
+    put(&rt, "told", "near", NEAR)?;
+    let other = first_other(&rt, &TOLD)?;
+    assert_eq!(rt; other, None);
+    let told = told_when_full(&rt)?;
+    let full = b"fault 51 WriteFailed\n  standard output: write zero\n";
+    assert_eq!(rt; told.as_slice(), full.as_slice());
+    fs::remove_dir_all(&rt, "told")?;
+    Ok(())
+}
