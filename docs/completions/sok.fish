@@ -9,6 +9,7 @@ complete -c sok -n '__fish_seen_subcommand_from solve' -l cert -r -d 'Write the 
 complete -c sok -n __fish_use_subcommand -f -a check -d 'Judges a certificate, which shows how many pushes a level needs'
 complete -c sok -n __fish_use_subcommand -f -a add -d 'Adds the levels of a collection to a book'
 complete -c sok -n __fish_use_subcommand -f -a offer -d 'Offers a solution, which the book keeps if it has fewer pushes'
+complete -c sok -n __fish_use_subcommand -f -a offers -d 'Offers solutions by the line, each as offer does'
 complete -c sok -n __fish_use_subcommand -f -a prove -d 'Judges a certificate for a level of a book, and keeps the verdict'
 complete -c sok -n __fish_use_subcommand -f -a settle -d 'Solves each level of a book that nothing is proved of, and keeps the verdict'
 complete -c sok -n '__fish_seen_subcommand_from settle' -l limit -r -d 'Give up where more than S states are reached, from 1 to 1,000,000 [default: 100000]'

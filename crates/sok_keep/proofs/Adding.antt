@@ -178,7 +178,7 @@ too_long : (much : Bool) (n : ℕ) → nat_lt input_limit n ≡ much → UnlessM
 too_long true n is told = grind (arith, nat_tests)
 too_long false n is told = absurd told
 
-some_longer : (known : Option (List ℕ)) → IfSome known (λ all. input_limit < length all)
+pub some_longer : (known : Option (List ℕ)) → IfSome known (λ all. input_limit < length all)
     → (bytes : List ℕ) × IfSome known (λ all. bytes ≡ all) × (input_limit < length bytes)
 some_longer known much =
     let none : List ℕ → Answers = λ _ _. ⊥ in

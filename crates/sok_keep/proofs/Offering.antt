@@ -21,7 +21,7 @@ use Rattle.sok_keep.specs.Offers.{IsOffer, TellsOffer, WritesOffer, told_offer}
 use Rattle.sok_keep.proofs.Ending.{book_fault, ends_unwritten, lurd_fault, stays_written}
 
 -- it is told of the book after the offer
-tells : (book : Book) (id : ℕ) (letters : List Dir) (told : Standing) (after : Book) → OffersTelling book id letters told after
+pub tells : (book : Book) (id : ℕ) (letters : List Dir) (told : Standing) (after : Book) → OffersTelling book id letters told after
     → TellsOffer book id letters after (told_offer told.offer told.pushes told.moves)
 tells book id letters told after done = record {
   offer = told.offer;

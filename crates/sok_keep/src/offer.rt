@@ -62,7 +62,8 @@ fn offer_line(told: &Standing) -> Line
     line
 }
 
-fn offer_word(offer: Offer) -> &'static str
+/// The word for what became of an offer.
+pub fn offer_word(offer: Offer) -> &'static str
     ensures { result.now ≡ offer_word offer }
 {
     match offer {

@@ -6,6 +6,7 @@ use sok_keep::add::add_bytes;
 use sok_keep::offer::offer_bytes;
 use sok_keep::prove::prove_bytes;
 use sok_keep::show::{book_bytes, show_bytes};
+use sok_settle::offers::offers_bytes;
 use sok_settle::settle::settle_bytes;
 use sok_shelf::text::BookText;
 use sok_store::book::Book;
@@ -19,6 +20,7 @@ use std::test::Fail;
 pub(crate) enum Command<'a> {
     Add(&'a str),
     Offer(i64, &'a str),
+    Offers(&'a str),
     Prove(i64, &'a str),
     Settle(u32, i64),
     Show(i64),
@@ -55,6 +57,7 @@ pub(crate) fn answer<S: Alter, W: Write>(
     match command {
         Command::Add(collection) => add_bytes(alloc, book, &mut collection.as_bytes(), out),
         Command::Offer(id, text) => offer_bytes(alloc, book, id, text.as_bytes(), out),
+        Command::Offers(lines) => offers_bytes(alloc, book, &mut lines.as_bytes(), out),
         Command::Prove(id, cert) => prove_bytes(alloc, book, id, &mut cert.as_bytes(), out),
         Command::Settle(limit, from) => settle_bytes(alloc, book, limit, from, out),
         Command::Show(id) => show_bytes(alloc, book, id, out),

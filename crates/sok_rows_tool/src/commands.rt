@@ -86,6 +86,52 @@ fn a_room_is_added_solved_and_proved(rt: HostRuntime) -> Result<(), Fail> {
     Ok(())
 }
 
+/// Lines that are stored, kept, passed over or refused, of which the last does not end.
+const LINES: &str = "\
+1 rlulldRurrdLulldRR
+1 ulldRurrdLulldRR\r
+
+ \t
+2 ulldRR
+1 ulld
+1 ul?d
+1 uu
+one ulldRR
+4294967295 R
+4294967296 R
+1\tU2ld 2R
+ 1 ulldRR
+1";
+
+/// What is told of them.
+const TOLD: &str = "\
+1 stored 4 18
+1 kept 4 18
+2 fault 30 NoLevel
+1 fault 13 NotSolved
+1 fault 11 BadLetter 2
+1 fault 12 Blocked 1
+0 fault 30 NoLevel
+4294967295 fault 30 NoLevel
+0 fault 30 NoLevel
+1 stored 2 6
+0 fault 11 BadLetter 1
+1 fault 13 NotSolved
+";
+
+#[test]
+fn lines_of_offers_are_answered_one_by_one(rt: HostRuntime) -> Result<(), Fail> {
+    let rows = [
+        (Command::Offers("1 R\n"), "1 fault 30 NoLevel\n", Ok(3)),
+        (Command::Add(ROOM_OF_TWO_ROWS), "1 id 1\n", Ok(0)),
+        (Command::Offers(LINES), TOLD, Ok(3)),
+        (Command::Offers("001 ulldRR\n\n"), "1 kept 2 6\n", Ok(0)),
+        (Command::Offers(""), "", Ok(0)),
+    ];
+    assert_eq!(rt; first_other(rt.alloc(), &rows)?, None);
+    Ok(())
+}
+
 #[test]
 fn levels_without_a_push_and_a_lost_pair_are_proved(rt: HostRuntime) -> Result<(), Fail> {
     let rows = [
@@ -228,6 +274,28 @@ fn offer_twice(rt: &impl Abort, alloc: Global, book: &mut Book<MemStore>) -> Res
     Ok(())
 }
 
+/// Offers two lines of which the second cannot be answered, and then both once more.
+fn offer_lines_twice(
+    rt: &impl Abort,
+    alloc: Global,
+    book: &mut Book<MemStore>,
+) -> Result<(), Fail> {
+    let mut out = Vec::new(alloc);
+    answer(alloc, book, Command::Add(ROOM_OF_TWO_ROWS), &mut out)?;
+    let mut room = [0u8; 18];
+    let offers = Command::Offers("1 rlulldRurrdLulldRR\n1 ulldRR\n");
+    let offered = answer(alloc, book, offers, &mut room.as_mut_slice());
+    assert_eq!(rt; offered, Err(ToolFault::WriteFailed));
+    assert_eq!(rt; room.as_slice(), b"1 stored 4 18\n1 st".as_slice());
+    let again = answer(alloc, book, offers, &mut out);
+    assert_eq!(rt; again, Ok(0));
+    assert_eq!(rt;
+        out.as_slice(),
+        b"1 id 1\n1 kept 2 6\n1 kept 2 6\n".as_slice()
+    );
+    Ok(())
+}
+
 /// Settles a second level whose line cannot be written, and then once more.
 fn settle_twice(rt: &impl Abort, alloc: Global, book: &mut Book<MemStore>) -> Result<(), Fail> {
     let mut out = Vec::new(alloc);
@@ -246,11 +314,14 @@ fn settle_twice(rt: &impl Abort, alloc: Global, book: &mut Book<MemStore>) -> Re
     Ok(())
 }
 
-/// The answer of an offer cannot be written, and the offer stands; and so with a verdict.
+/// The answer of an offer cannot be written, and the offer stands; and so with a verdict, and with
+/// a line of offers.
 #[test]
 fn a_command_stands_without_its_answer(rt: HostRuntime) -> Result<(), Fail> {
     let alloc = rt.alloc();
     let mut book = book_in(alloc, Connection::open_in_memory(alloc)?)?;
     offer_twice(&rt, alloc, &mut book)?;
-    settle_twice(&rt, alloc, &mut book)
+    settle_twice(&rt, alloc, &mut book)?;
+    let mut other = book_in(alloc, Connection::open_in_memory(alloc)?)?;
+    offer_lines_twice(&rt, alloc, &mut other)
 }

@@ -11,16 +11,17 @@ use std::test::Fail;
 const NO_DATABASE: &str = "fault 32 Database\n";
 
 /// Commands on a book that is not there, of which none makes one.
-const ABSENT: [Row; 6] = [
+const ABSENT: [Row; 7] = [
     ("sok export books/book", "", NO_DATABASE, 5),
     ("sok show books/book 1", "", NO_DATABASE, 5),
     ("sok show books/book", "", NO_DATABASE, 5),
     ("sok offer books/book 1 R", "", NO_DATABASE, 5),
+    ("sok offers books/book books/cert", "", NO_DATABASE, 5),
     ("sok prove books/book 1 books/cert", "", NO_DATABASE, 5),
     ("sok settle books/book", "", NO_DATABASE, 5),
 ];
 
-const COMMANDS: [Row; 26] = [
+const COMMANDS: [Row; 28] = [
     // the file is made, of a collection without levels
     ("sok add books/book books/cert", "", "", 0),
     ("sok export books/book", "", "", 0),
@@ -96,6 +97,14 @@ const COMMANDS: [Row; 26] = [
     // the text is read before the level is looked for, and the file is opened before both
     ("sok offer books/book 9 x", "", "fault 11 BadLetter 0\n", 3),
     ("sok prove books/book 9 books/none", "", OPEN_FAILED, 5),
+    ("sok offers books/book books/none", "", OPEN_FAILED, 5),
+    // no line of a certificate is an offer, and each is answered
+    (
+        "sok offers books/book books/cert",
+        "0 fault 11 BadLetter 1\n0 fault 11 BadLetter 1\n0 fault 11 BadLetter 1\n0 fault 30 NoLevel\n",
+        "",
+        3,
+    ),
     // no database, and none can be made
     ("sok export books/cert", "", NO_DATABASE, 5),
     ("sok show books/none/book 1", "", NO_DATABASE, 5),

@@ -37,6 +37,7 @@ fn reads_each_form(rt: HostRuntime) -> Result<(), Fail> {
         ),
         ("sok add B F", "Add(\"B\", \"F\")"),
         ("sok offer B 3 uR", "Offer(\"B\", 3, \"uR\")"),
+        ("sok offers B F", "Offers(\"B\", \"F\")"),
         ("sok prove B 3 C", "Prove(\"B\", 3, \"C\")"),
         ("sok settle B", "Settle(\"B\", 100000, 1)"),
         (

@@ -9,7 +9,7 @@ const VERSION: &str = "sok 1.0\nproved with rattle-kit-13f logic dac8208d650f15b
 
 /// A line, a part of what is written to the output, or where the status is 2 to the error stream,
 /// and the status.
-const REFUSALS: [(&str, &str, u8); 34] = [
+const REFUSALS: [(&str, &str, u8); 35] = [
     ("sok --help", "Exit status:", 0),
     ("sok --version", VERSION, 0),
     ("sok help solve", "limit S", 0),
@@ -20,6 +20,7 @@ const REFUSALS: [(&str, &str, u8); 34] = [
     ("sok check --help", "accepted at least K pushes", 0),
     ("sok add --help", "N id ID", 0),
     ("sok offer --help", "kept PUSHES MOVES", 0),
+    ("sok offers --help", "ID kept PUSHES MOVES", 0),
     ("sok prove --help", "proved optimal K", 0),
     ("sok settle --help", "ID limit S at least K", 0),
     ("sok help settle", "[default: 1]", 0),

@@ -1,13 +1,12 @@
 //! The session of the tutorial, command by command.
 
 use crate::rows::first_other;
-use sok_sketch::tutorial::{FILE, SESSION, TEXT};
+use sok_sketch::tutorial::{FILES, SESSION};
 use std::fs;
 use std::test::Fail;
 
 /// What the session makes.
-const MADE: [&str; 7] = [
-    FILE,
+const MADE: [&str; 6] = [
     "first.cert",
     "second.cert",
     "small.db",
@@ -18,9 +17,14 @@ const MADE: [&str; 7] = [
 
 #[test]
 fn the_session_of_the_tutorial(rt: HostRuntime) -> Result<(), Fail> {
-    fs::write(&rt, FILE, TEXT)?;
+    for (path, typed) in FILES {
+        fs::write(&rt, path, typed)?;
+    }
     let other = first_other(&rt, &SESSION)?;
     for path in MADE {
+        let _ = fs::remove_file(&rt, path);
+    }
+    for (path, _typed) in FILES {
         let _ = fs::remove_file(&rt, path);
     }
     assert_eq!(rt; other, None);

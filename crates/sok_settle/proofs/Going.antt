@@ -1,5 +1,5 @@
--- How a call on one level treats the connection.
-use Rattle.std.proofs.Common.{ℕ, ℤ, ◌≡◌, ◌≢◌, ◌∙◌, inl, inr, List, Bool, Option, Result, Ok, Err, refl, subst, sym}
+-- How a call that goes one step treats the connection.
+use Rattle.std.proofs.Common.{ℕ, ◌≡◌, ◌≢◌, ◌∙◌, inl, inr, List, Bool, Option, Result, Ok, Err, subst, sym}
 use Rattle.std.specs.Io.KnownBytes.{Keeps}
 use Rattle.sqlite.specs.State.{State}
 use Rattle.sqlite.proofs.StateLemmas.{survives_weaker}
@@ -11,22 +11,28 @@ use Rattle.sok_engine.specs.declared.fault.ToolFault.TheVariants as tool
 use Rattle.sok_engine.specs.Faults.{of_book}
 use Rattle.sok_row.specs.Faults.{IsOutside}
 use Rattle.sok_row.specs.Kept.{IsKeptBook}
-use Rattle.sok_store.specs.Calls.{Carries, Changes, Stops}
-use Rattle.sok_store.proofs.Calls.{held_shown, shown, stops_same}
+use Rattle.sok_store.specs.Calls.{Carries, Changes, Stops, Turns}
+use Rattle.sok_store.proofs.Calls.{changes_turns, held_shown, shown}
 use Rattle.sok_keep.specs.Causes.{IsCausedFault}
 use Rattle.sok_keep.proofs.Ending.{book_database}
-use Rattle.sok_settle.specs.Settles.{LeavesLevel, SettlesLevel}
-use Rattle.sok_settle.specs.Steps.{Goes, GoesThrough, MayStep, StepsLevel, TellsLine}
+use Rattle.sok_settle.specs.Going.{Goes, GoesStep, Leave, MayStep, Step, StepsOnce}
+use Rattle.sok_settle.specs.Lines.{TellsLine}
 
--- ---- books that are shown
+-- ---- books that are held, and shown
 
-pub changes_carries : (old new : State) (Makes : Book → Book → Type 0) → Changes old new Makes → Carries old new Makes
-changes_carries old new Makes changes clean book shows =
-    let (after, makes, stores) = changes clean book (held_shown old book shows) in (after, makes, shown new after stores, λ up. stores.1.0)
+abbrev pub Leads : State → State → (Book → Book → Type 0) → Type 0
+Leads old new Makes = Turns old new Makes × Carries old new Makes
+
+pub changes_leads : (old new : State) (Makes : Book → Book → Type 0) → Changes old new Makes → Leads old new Makes
+changes_leads old new Makes changes = (
+  changes_turns old new Makes changes,
+  λ clean book shows.
+      let (after, makes, stores) = changes clean book (held_shown old book shows) in (after, makes, shown new after stores, λ up. stores.1.0),
+)
 
 -- nothing is done
-pub same_carries : (s : State) (Makes : Book → Book → Type 0) → ((book : Book) → Makes book book) → Carries s s Makes
-same_carries s Makes so clean book shows = (book, so book, shows, λ up. up)
+pub same_leads : (s : State) (Makes : Book → Book → Type 0) → ((book : Book) → IsKeptBook book → Makes book book) → Leads s s Makes
+same_leads s Makes so = (λ clean book holds. (book, so book holds.0, holds), λ clean book shows. (book, so book shows.0, shows, λ up. up))
 
 -- ---- faults that are not the database's
 
@@ -40,55 +46,59 @@ pub book_uncaused : (old new : State) (Makes : Book → Book → Type 0) (fault 
     → IsCausedFault old new Makes (of_book fault)
 book_uncaused old new Makes fault other told = absurd (other (book_database fault told))
 
--- ---- a level
+-- ---- a step
 
-module _ (limit : ℕ) (from id : ℤ) where
+module _ (One : Step) (Left : Leave) where
   -- the call ends at it for a cause outside
-  pub left_steps : (book after : Book) (held later : Option (List ℕ)) (fault : BookFault) → IsOutside fault → LeavesLevel from id book after
-      → Keeps held later → StepsLevel limit from id book after held later (Err (of_book fault))
+  pub left_steps : (book after : Book) (held later : Option (List ℕ)) (fault : BookFault) → IsOutside fault → Left book after
+      → Keeps held later → StepsOnce One Left book after held later (Err (of_book fault))
   left_steps book after held later fault (inl memory) left keeps =
-      subst (λ f. StepsLevel limit from id book after held later (Err (of_book f))) (sym memory) (left, keeps)
+      subst (λ f. StepsOnce One Left book after held later (Err (of_book f))) (sym memory) (left, keeps)
   left_steps book after held later fault (inr database) left keeps =
-      subst (λ f. StepsLevel limit from id book after held later (Err (of_book f))) (sym database) (left, keeps)
+      subst (λ f. StepsOnce One Left book after held later (Err (of_book f))) (sym database) (left, keeps)
+
+  -- its line is written
+  told_steps : (line : List ℕ) (well : Bool) (held later : Option (List ℕ)) (result : Result Bool ToolFault) → TellsLine line well held later result
+      → (book after : Book) → One book line well after → StepsOnce One Left book after held later result
+  told_steps line well held later (Ok told) (same, appends) book after makes = (line, subst (λ w. One book line w after) (sym same) makes, appends)
+  told_steps line well held later (Err fault) (same, front) book after makes =
+      subst (λ f. StepsOnce One Left book after held later (Err f)) (sym same) (line, well, makes, front)
 
   module _ (P : Book → Type 0) where
-    -- its line is written
-    pub told_goes : (old new : State) (line : List ℕ) (settled : Bool) (held later : Option (List ℕ)) (result : Result Bool ToolFault)
-        → Carries old new (λ book after. P book → SettlesLevel limit from id book line settled after)
-        → Stops old new (λ book after. P book → MayStep limit from id book after) → TellsLine line settled held later result
-        → GoesThrough P limit from id old new held later result
-    told_goes old new line settled held later (Ok told) carries stop (same, appends) = record {
+    pub told_goes : (old new : State) (line : List ℕ) (well : Bool) (held later : Option (List ℕ)) (result : Result Bool ToolFault)
+        → Leads old new (λ book after. P book → One book line well after)
+        → Stops old new (λ book after. P book → MayStep One Left book after) → TellsLine line well held later result
+        → GoesStep P One Left old new held later result
+    told_goes old new line well held later (Ok told) (turns, carries) stop tells = record {
+      turns = λ clean book holds.
+          let (after, makes, held_after) = turns clean book holds in
+          (after, λ p. told_steps line well held later (Ok told) tells book after (makes p), held_after);
       done = λ clean book shows.
           let (after, makes, shown_after, stays) = carries clean book shows in
-          (after, λ p. (line, subst (λ s. SettlesLevel limit from id book line s after) (sym same) (makes p), appends), shown_after, stays);
-      ended = tt;
+          (after, λ p. told_steps line well held later (Ok told) tells book after (makes p), shown_after, stays);
       stop = stop;
       cause = tt;
     }
-    told_goes old new line settled held later (Err fault) carries stop (same, front) = record {
+    told_goes old new line well held later (Err fault) (turns, carries) stop tells = record {
+      turns = λ clean book holds.
+          let (after, makes, held_after) = turns clean book holds in
+          (after, λ p. told_steps line well held later (Err fault) tells book after (makes p), held_after);
       done = tt;
-      ended = λ clean book shows.
-          let (after, makes, shown_after, stays) = carries clean book shows in (
-            after,
-            λ p. subst (λ f. StepsLevel limit from id book after held later (Err f)) (sym same) (line, settled, makes p, front),
-            held_shown new after shown_after,
-          );
       stop = stop;
-      cause = write_uncaused old new _ fault same;
+      cause = write_uncaused old new _ fault tells.0;
     }
 
-    -- memory is refused before anything is done
-    pub memory_goes : (s : State) (held later : Option (List ℕ)) (fault : ToolFault) → fault ≡ tool.Memory → Keeps held later
-        → GoesThrough P limit from id s s held later (Err fault)
-    memory_goes s held later fault memory keeps = record {
+    -- memory is refused before a line is made
+    pub memory_goes : (old new : State) (held later : Option (List ℕ)) (fault : ToolFault) → fault ≡ tool.Memory → Keeps held later
+        → Turns old new (λ book after. P book → Left book after) → Stops old new (λ book after. P book → MayStep One Left book after)
+        → GoesStep P One Left old new held later (Err fault)
+    memory_goes old new held later fault memory keeps turns stop = record {
+      turns = λ clean book holds.
+          let (after, left, held_after) = turns clean book holds in
+          (after, λ p. subst (λ f. StepsOnce One Left book after held later (Err f)) (sym memory) (left p, keeps), held_after);
       done = tt;
-      ended = λ clean book shows. (
-        book,
-        λ p. subst (λ f. StepsLevel limit from id book book held later (Err f)) (sym memory) (inl refl, keeps),
-        held_shown s book shows,
-      );
-      stop = stops_same s _;
-      cause = memory_uncaused s s _ fault memory;
+      stop = stop;
+      cause = memory_uncaused old new _ fault memory;
     }
 
 -- ---- what is made, said in other words
@@ -96,21 +106,24 @@ module _ (limit : ℕ) (from id : ℤ) where
 module _ (old new : State) (Makes Other MayMake MayOther : Book → Book → Type 0)
     (so : (book after : Book) → IsKeptBook book → Makes book after → Other book after)
     (may : (book after : Book) → IsKeptBook book → MayMake book after → MayOther book after) where
+  other_turns : Turns old new Makes → Turns old new Other
+  other_turns turns clean book holds = let (after, makes, held) = turns clean book holds in (after, so book after holds.0 makes, held)
+
   other_stops : Stops old new MayMake → Stops old new MayOther
   other_stops stop = survives_weaker old new _ _ (λ _ db made book shows.
       let (after, makes, has) = made book shows in (after, may book after shows.0 makes, has)) stop
 
-  pub goes_other : (result : Result Bool ToolFault) → Goes {X = Bool} old new Makes MayMake result → Goes {X = Bool} old new Other MayOther result
+  pub goes_other : {X : Type 0} (result : Result X ToolFault) → Goes {X = X} old new Makes MayMake result → Goes {X = X} old new Other MayOther result
   goes_other (Ok x) goes = record {
+    turns = other_turns goes.turns;
     done = λ clean book shows.
         let (after, makes, shown_after, stays) = goes.done clean book shows in (after, so book after shows.0 makes, shown_after, stays);
-    ended = tt;
     stop = other_stops goes.stop;
     cause = tt;
   }
   goes_other (Err fault) goes = record {
+    turns = other_turns goes.turns;
     done = tt;
-    ended = λ clean book shows. let (after, makes, held) = goes.ended clean book shows in (after, so book after shows.0 makes, held);
     stop = other_stops goes.stop;
     cause = λ told same clean book holds. elim (goes.cause told same clean book holds) [
       | inl (after, makes, big) ↦ inl (after, may book after holds.0 makes, big)

@@ -1,37 +1,33 @@
 -- What holds of a book after some of its levels were settled.
-use Rattle.std.proofs.Common.{ℕ, ℤ, pos, zero, suc, ◌≡◌, ◌≢◌, ◌⊎◌, ◌∙◌, ◌+◌, ◌-◌, ◌<◌, ◌≤◌, ◌<ℤ◌, ◌&&◌, inl, inr, List, [], ◌++◌, Some, Bool, true, false, Ok, Err}
+use Rattle.std.proofs.Common.{ℕ, ℤ, pos, zero, suc, ◌≡◌, ◌≢◌, ◌⊎◌, ◌∙◌, ◌+◌, ◌-◌, ◌<◌, ◌≤◌, ◌<ℤ◌, ◌&&◌, inl, inr, List, [], Some, Bool, true, false, Ok, Err}
 use Rattle.std.proofs.Common.{ap, arith, refl, slice_get, subst, sym}
 use Rattle.std.proofs.lemmas.Bool.{cases_lt}
 use Rattle.std.proofs.lemmas.Option.{none-some, same_Some}
 use Rattle.sok_cert.specs.Claim.{Claim}
 use Rattle.sok_cert.specs.Claim.TheVariants as claim
-use Rattle.sok_book.specs.declared.fault.BookFault.TheVariants as refusal
 use Rattle.sok_book.specs.declared.record.Verdict.TheVariants.{Optimal, Untested, Unsolvable}
-use Rattle.sok_book.specs.Books.{Book, IsTrueBook, Page, page_at}
+use Rattle.sok_book.specs.Books.{Book, Page, page_at}
 use Rattle.sok_book.specs.Commands.{offer, prove, verdict_of}
-use Rattle.sok_book.proofs.Laws.{CommandsKeepTruth-all}
 use Rattle.sok_engine.specs.declared.fault.ToolFault.TheVariants as tool
 use Rattle.sok_store.specs.Calls.{id_number}
 use Rattle.sok_store.specs.Histories.{IsMadeOf}
 use Rattle.sok_store.specs.Histories as histories
 use Rattle.sok_store.specs.Known.{ProvesKnown}
 use Rattle.sok_store.proofs.Found.{page_there}
-use Rattle.sok_settle.specs.Settles.{IsTried, LeavesLevel, SettlesFirst, SettlesLevel, is_optimal, is_passed, is_past_limit, is_too_long, is_unsolvable, more, none}
+use Rattle.sok_settle.specs.Going.{more, none}
+use Rattle.sok_settle.specs.Settles.{IsTried, LeavesLevel, SettlesFirst, SettlesLevel, is_optimal, is_passed, is_past_limit, is_too_long, is_unsolvable, level_leave, level_step}
 use Rattle.sok_settle.specs.Laws.{SettledHaveVerdicts, SettlingsAreSome, SettlingsFold, SettlingsKeepTruth, SettlingsKeepVerdicts}
-use Rattle.sok_settle.proofs.Settling.{else_offered, else_settled}
+use Rattle.sok_settle.proofs.Settling.{else_offered, else_settled, stays}
+use Rattle.sok_settle.proofs.Stepping.{ends_some, made_true, some_made}
 
 -- ---- what was written
 
 pub settlings-are-some : SettlingsAreSome
 settlings-are-some limit from book after old new (Ok status) it =
-    let (end, same, told, written) = it.ended in (it.count, it.text, it.all, it.before, it.settled, inl same)
+    let (end, same, told, written) = it.ended in (it.count, it.text, it.all, it.before, it.gone, inl same)
 settlings-are-some limit from book after old new (Err tool.BadLimit) it = let (bad, none_done, same, keeps) = it.ended in (0, [], true, book, none, inl same)
-settlings-are-some limit from book after old new (Err tool.WriteFailed) it =
-    let (line, settled, level, front) = it.ended in
-    (it.count + 1, it.text ++ line, it.all && settled, after, more it.count it.text line it.all settled it.before after it.settled level, inl refl)
-settlings-are-some limit from book after old new (Err tool.Memory) it = (it.count, it.text, it.all, it.before, it.settled, it.ended.0)
-settlings-are-some limit from book after old new (Err (tool.Book refusal.Database)) it = (it.count, it.text, it.all, it.before, it.settled, it.ended.0)
-settlings-are-some limit from book after old new (Err fault) it = absurd it.ended
+settlings-are-some limit from book after old new (Err fault) it =
+    ends_some (level_step limit from) (level_leave from) (stays limit from) book it.before after it.count it.text it.all old new fault it.gone it.ended
 
 -- ---- commands
 
@@ -47,24 +43,16 @@ level_made limit from id book before after line settled made (is_past_limit page
 level_made limit from id book before after line settled made (is_too_long page letters pushes tried least many says is same) =
     subst (IsMadeOf book) (sym same) made
 
-first_made : (limit : ℕ) (from : ℤ) (book : Book) (n : ℕ) (text : List ℕ) (all : Bool) (after : Book) → SettlesFirst limit from book n text all after
-    → IsMadeOf book after
-first_made limit from book _ _ _ _ none = histories.none
-first_made limit from book _ _ _ _ (more n text line all settled before after first level) =
-    level_made limit from (pos (n + 1)) book before after line settled (first_made limit from book n text all before first) level
-
 left_made : (from id : ℤ) (book before after : Book) → IsMadeOf book before → LeavesLevel from id before after → IsMadeOf book after
 left_made from id book before after made (inl same) = subst (IsMadeOf book) (sym same) made
 left_made from id book before after made (inr (page, tried, letters, answer, offered)) =
     histories.more before after made (offer (id_number id) letters answer offered)
 
 pub settlings-fold : SettlingsFold
-settlings-fold limit from book after (n, text, all, before, first, left) =
-    left_made from (pos (n + 1)) book before after (first_made limit from book n text all before first) left
-
-made_true : (book after : Book) → IsMadeOf book after → IsTrueBook book → IsTrueBook after
-made_true book _ histories.none truth = truth
-made_true book _ (histories.more before after made command) truth = CommandsKeepTruth-all before after (made_true book before made truth) command
+settlings-fold limit from book after some =
+    some_made (level_step limit from) (level_leave from)
+    (λ n start before later line settled made level. level_made limit from (pos (n + 1)) start before later line settled made level)
+    (λ n start before later made left. left_made from (pos (n + 1)) start before later made left) book after some
 
 pub settlings-keep-truth : SettlingsKeepTruth
 settlings-keep-truth limit from book after some = made_true book after (settlings-fold limit from book after some)

@@ -2,6 +2,11 @@ pub mod Certifying
 pub mod Going
 pub mod Laws
 pub mod Levels
+pub mod Lines
+pub mod OfferLaws
 pub mod Offering
 pub mod Passing
 pub mod Settling
+pub mod Stepping
+pub mod Telling
+pub mod Words

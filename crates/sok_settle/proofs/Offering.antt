@@ -25,9 +25,10 @@ use Rattle.sok_store.specs.declared.standing.Standing.{Standing}
 use Rattle.sok_store.proofs.Calls.{held, held_shown, shown, stops_less, stops_same}
 use Rattle.sok_store.proofs.Caused.{cause_before}
 use Rattle.sok_keep.proofs.Ending.{caused_more}
-use Rattle.sok_settle.specs.Settles.{LeavesLevel, SettlesLevel, fault_line, is_optimal, is_past_limit, is_too_long, is_unsolvable, limit_line, optimal_line, too_long, unsolvable_line}
-use Rattle.sok_settle.specs.Steps.{GoesThrough, IsTriedAs, MayStep, TellsLine, TellsTooLong}
-use Rattle.sok_settle.proofs.Going.{changes_carries, left_steps, memory_goes, same_carries, told_goes}
+use Rattle.sok_settle.specs.Lines.{TellsFault, TellsLine, fault_line}
+use Rattle.sok_settle.specs.Settles.{LeavesLevel, SettlesLevel, is_optimal, is_past_limit, is_too_long, is_unsolvable, limit_line, optimal_line, too_long, unsolvable_line}
+use Rattle.sok_settle.specs.Steps.{GoesThrough, IsTriedAs, MaySettle}
+use Rattle.sok_settle.proofs.Going.{changes_leads, left_steps, memory_goes, same_leads, told_goes}
 use Rattle.sok_settle.proofs.Levels.{HasLeast, best_stays, best_told, never_differs, never_refused, never_solved, offered_best}
 
 module _ (limit : ℕ) (from id : ℤ) (rows : Rows) where
@@ -40,21 +41,22 @@ module _ (limit : ℕ) (from id : ℤ) (rows : Rows) where
       → TellsLine (limit_line id limit least) false held later result
       → through_tried s s held later result
   limit_goes s least held later result cut tells =
-      told_goes limit from id (IsTriedAs from id rows) s s (limit_line id limit least) false held later result
-      (same_carries s _ (λ book tried.
+      told_goes (SettlesLevel limit from id) (LeavesLevel from id) (IsTriedAs from id rows) s s (limit_line id limit least) false held later result
+      (same_leads s _ (λ book kept tried.
       let (page, is, same) = tried in
       is_past_limit page least is (subst (λ (r : Rows). IsCutShort r limit limit least) (sym same) cut) refl refl refl))
       (stops_same s _) tells
 
   pub too_long_goes : (s : State) (letters : List Dir) (pushes : ℕ) (held later : Option (List ℕ)) (result : Result Bool ToolFault)
-      → IsLeastSolution rows letters pushes → letter_limit < length letters → TellsTooLong id held later result
+      → IsLeastSolution rows letters pushes → letter_limit < length letters → TellsFault id too_long held later result
       → through_tried s s held later result
   too_long_goes s letters pushes held later result least many (inl (is, keeps)) =
       subst (λ (r : Result Bool ToolFault). through_tried s s held later r) (sym is)
-      (memory_goes limit from id (IsTriedAs from id rows) s held later tool.Memory refl keeps)
+      (memory_goes (SettlesLevel limit from id) (LeavesLevel from id) (IsTriedAs from id rows) s s held later tool.Memory refl keeps
+      (λ clean book holds. (book, λ tried. inl refl, holds)) (stops_same s _))
   too_long_goes s letters pushes held later result least many (inr tells) =
-      told_goes limit from id (IsTriedAs from id rows) s s (fault_line id too_long) false held later result
-      (same_carries s _ (λ book tried.
+      told_goes (SettlesLevel limit from id) (LeavesLevel from id) (IsTriedAs from id rows) s s (fault_line id too_long) false held later result
+      (same_leads s _ (λ book kept tried.
       let (page, is, same) = tried in
       is_too_long page letters pushes is (subst (λ (r : Rows). IsLeastSolution r letters pushes) (sym same) least) many refl refl refl))
       (stops_same s _) tells
@@ -69,7 +71,7 @@ module _ (limit : ℕ) (from id : ℤ) (rows : Rows) where
     left : (book after : Book) → IsTriedAs from id rows book → IsOffered book after → LeavesLevel from id book after
     left book after (page, is, same) (told, tells) = inr (page, is, letters, told.offer, tells.offered)
 
-    offer_stops : Stops old mid (λ book after. IsTriedAs from id rows book → MayStep limit from id book after)
+    offer_stops : Stops old mid (λ book after. IsTriedAs from id rows book → MaySettle limit from id book after)
     offer_stops = stops_less old mid _ _ (λ book after made tried. inl (left book after tried made)) one
 
     -- the letters are not kept, for a cause outside
@@ -77,16 +79,16 @@ module _ (limit : ℕ) (from id : ℤ) (rows : Rows) where
         → calls.Keeps old mid (λ book. IsOutside fault ⊎ IsNotOffered book (id_number id) letters fault) → IsCaused old mid IsOffered fault
         → through_tried old mid held held (Err (of_book fault))
     unoffered_goes held fault keeps caused = record {
-      done = tt;
-      ended = λ clean book shows.
-          let (why, holds) = keeps clean book (held_shown old book shows) in (
+      turns = λ clean book held_now.
+          let (why, holds) = keeps clean book held_now in (
             book,
             λ tried. elim why [
-              | inl outside ↦ left_steps limit from id book book held held fault outside (inl refl) (Keeps-refl held)
+              | inl outside ↦ left_steps (SettlesLevel limit from id) (LeavesLevel from id) book book held held fault outside (inl refl) (Keeps-refl held)
               | inr refused ↦ absurd (never_refused from id rows book letters fault tried least.solves few refused)
             ],
             holds,
           );
+      done = tt;
       stop = offer_stops;
       cause = caused_more old mid _ IsOffered (λ book after made tried. inl (left book after tried made)) fault caused;
     }
@@ -116,7 +118,7 @@ module _ (limit : ℕ) (from id : ℤ) (rows : Rows) where
             fewest = subst (λ (r : Rows). IsFewest r tells.best.pushes) (sym same) (subst (IsFewest rows) (sym count) least.fewest);
           }) (λ i. optimal_line id (tells.pushes i) (tells.moves i)) refl
 
-      proof_stops : Stops old new (λ book after. IsTriedAs from id rows book → MayStep limit from id book after)
+      proof_stops : Stops old new (λ book after. IsTriedAs from id rows book → MaySettle limit from id book after)
       proof_stops = survives_then old mid new _ _ _ (λ _ db made. made) (λ clean db made book shows.
           let (middle, tells, stores) = offered (early clean) book (held_shown old book shows) in
           let (after, proves, has) = made middle (shown mid middle stores) in
@@ -129,19 +131,19 @@ module _ (limit : ℕ) (from id : ℤ) (rows : Rows) where
           → IsCaused mid new (λ book after. ProvesKnown book (id_number id) (claim.Pushes pushes) after) fault
           → through_tried old new held held (Err (of_book fault))
       unproved_goes held_out fault keeps caused = record {
-        done = tt;
-        ended = λ clean book shows.
-            let (middle, tells, stores) = offered (early clean) book (held_shown old book shows) in
+        turns = λ clean book held_now.
+            let (middle, tells, stores) = offered (early clean) book held_now in
             let (why, holds) = keeps clean middle (held mid middle stores) in (
               middle,
               λ tried. elim why [
-                | inl outside ↦ left_steps limit from id book middle held_out held_out fault outside (left book middle tried (told, tells)) (Keeps-refl held_out)
-                | inr refused ↦ absurd (never_differs middle (id_number id) rows pushes fault (least_after book middle shows.0 tried tells) refused)
+                | inl outside ↦ left_steps (SettlesLevel limit from id) (LeavesLevel from id) book middle held_out held_out fault outside (left book middle tried (told, tells)) (Keeps-refl held_out)
+                | inr refused ↦ absurd (never_differs middle (id_number id) rows pushes fault (least_after book middle held_now.0 tried tells) refused)
               ],
               holds,
             );
+        done = tt;
         stop = proof_stops;
-        cause = caused_more old new _ (λ book after. IsTriedAs from id rows book → MayStep limit from id book after) (λ book after made. made) fault
+        cause = caused_more old new _ (λ book after. IsTriedAs from id rows book → MaySettle limit from id book after) (λ book after made. made) fault
             (λ database clean book holds.
             let (middle, tells, stores) = offered (early clean) book holds in
             elim (caused database clean middle (held mid middle stores)) [
@@ -157,8 +159,8 @@ module _ (limit : ℕ) (from id : ℤ) (rows : Rows) where
           → TellsLine (optimal_line id told.pushes told.moves) true held later result
           → through_tried old new held later result
       proved_goes held_out later result proved tells_line =
-          told_goes limit from id (IsTriedAs from id rows) old new (optimal_line id told.pushes told.moves) true held_out later result
-          (changes_carries old new _ (λ clean book holds.
+          told_goes (SettlesLevel limit from id) (LeavesLevel from id) (IsTriedAs from id rows) old new (optimal_line id told.pushes told.moves) true held_out later result
+          (changes_leads old new _ (λ clean book holds.
           let (middle, tells, stores) = offered (early clean) book holds in
           let (after, proves, stores_after) = proved clean middle (held mid middle stores) in
           (after, λ tried. optimal book middle after holds.0 tried tells proves, stores_after)))
@@ -172,10 +174,10 @@ module _ (limit : ℕ) (from id : ℤ) (rows : Rows) where
         → SettlesLevel limit from id book (unsolvable_line id) true after
     none_solves book after (page, is, same) proves = is_unsolvable page is (subst IsUnsolvable (sym same) unsolvable) proves refl refl
 
-    may_none : (book after : Book) → ProvesKnown book (id_number id) claim.Unsolvable after → IsTriedAs from id rows book → MayStep limit from id book after
+    may_none : (book after : Book) → ProvesKnown book (id_number id) claim.Unsolvable after → IsTriedAs from id rows book → MaySettle limit from id book after
     may_none book after proves tried = inr (unsolvable_line id, true, none_solves book after tried proves)
 
-    none_stops : Stops old new (λ book after. IsTriedAs from id rows book → MayStep limit from id book after)
+    none_stops : Stops old new (λ book after. IsTriedAs from id rows book → MaySettle limit from id book after)
     none_stops = stops_less old new _ _ may_none stop
 
     pub none_unproved_goes : (held : Option (List ℕ)) (fault : BookFault)
@@ -183,16 +185,16 @@ module _ (limit : ℕ) (from id : ℤ) (rows : Rows) where
         → IsCaused old new (λ book after. ProvesKnown book (id_number id) claim.Unsolvable after) fault
         → through_tried old new held held (Err (of_book fault))
     none_unproved_goes held fault keeps caused = record {
-      done = tt;
-      ended = λ clean book shows.
-          let (why, holds) = keeps clean book (held_shown old book shows) in (
+      turns = λ clean book held_now.
+          let (why, holds) = keeps clean book held_now in (
             book,
             λ tried. elim why [
-              | inl outside ↦ left_steps limit from id book book held held fault outside (inl refl) (Keeps-refl held)
-              | inr refused ↦ absurd (never_solved from id rows book fault shows.0 tried unsolvable refused)
+              | inl outside ↦ left_steps (SettlesLevel limit from id) (LeavesLevel from id) book book held held fault outside (inl refl) (Keeps-refl held)
+              | inr refused ↦ absurd (never_solved from id rows book fault held_now.0 tried unsolvable refused)
             ],
             holds,
           );
+      done = tt;
       stop = none_stops;
       cause = caused_more old new _ _ may_none fault caused;
     }
@@ -201,7 +203,7 @@ module _ (limit : ℕ) (from id : ℤ) (rows : Rows) where
         → Changes old new (λ book after. ProvesKnown book (id_number id) claim.Unsolvable after) → TellsLine (unsolvable_line id) true held later result
         → through_tried old new held later result
     none_proved_goes held later result proved tells =
-        told_goes limit from id (IsTriedAs from id rows) old new (unsolvable_line id) true held later result
-        (changes_carries old new _ (λ clean book holds.
+        told_goes (SettlesLevel limit from id) (LeavesLevel from id) (IsTriedAs from id rows) old new (unsolvable_line id) true held later result
+        (changes_leads old new _ (λ clean book holds.
         let (after, proves, stores) = proved clean book holds in (after, λ tried. none_solves book after tried proves, stores)))
         none_stops tells

@@ -21,14 +21,14 @@ use Rattle.sok_engine.specs.Faults.{of_book}
 use Rattle.sok_row.specs.Kept.{IsKeptBook}
 use Rattle.sok_row.specs.Told.{IsRecordOf, Told}
 use Rattle.sok_store.specs.Calls.{id_number}
-use Rattle.sok_store.proofs.Calls.{held_shown, stops_same}
+use Rattle.sok_store.proofs.Calls.{stops_same}
 use Rattle.sok_store.proofs.Found.{kept_at, some_of}
 use Rattle.sok_store.proofs.Known.{entry_refused}
 use Rattle.sok_store.proofs.Wide.{wide}
 use Rattle.sok_keep.proofs.Ids.{passed}
-use Rattle.sok_settle.specs.Settles.{is_passed}
-use Rattle.sok_settle.specs.Steps.{GoesThrough, IsRecordIn, IsTriedAs, MayStep, StepsLevel}
-use Rattle.sok_settle.proofs.Going.{book_uncaused, goes_other, left_steps}
+use Rattle.sok_settle.specs.Settles.{LeavesLevel, SettlesLevel, is_passed}
+use Rattle.sok_settle.specs.Steps.{GoesThrough, IsRecordIn, IsTriedAs, MaySettle, StepsLevel}
+use Rattle.sok_settle.proofs.Going.{book_uncaused, goes_other, left_steps, same_leads}
 
 -- ---- the id of a record
 
@@ -87,7 +87,7 @@ read_goes limit from kept rows old new held later result level text begun untest
     (makes (subst (λ i. IsTriedAs from i rows book) (sym same) (tried_as from kept rows level text begun untested book of_book is))))
     (λ book after of_book makes is.
     let same = record_passed kept book of_book is in
-    subst (λ i. MayStep limit from i book after) same
+    subst (λ i. MaySettle limit from i book after) same
     (makes (subst (λ i. IsTriedAs from i rows book) (sym same) (tried_as from kept rows level text begun untested book of_book is))))
     result goes
 
@@ -95,39 +95,31 @@ module _ (limit : ℕ) (from : ℤ) (kept : Record) (s : State) (held : Option (
   -- a level that comes before the first, or has a verdict, is passed over
   pub passed_goes : ((book : Book) → IsKeptBook book → IsRecordIn kept book → (kept.id <ℤ from) ⊎ (kept.verdict ≢ Untested))
       → GoesThrough (IsRecordIn kept) limit from kept.id s s held held (Ok true)
-  passed_goes why = record {
-    done = λ clean book shows. (
-      book,
-      λ is.
-          let (page, there, told) = some_of (page_at book (id_number kept.id)) (λ p. IsRecordOf (id_number kept.id) p kept) is in
-          let verdict_is : kept.verdict ≡ page.verdict = ap (λ (t : Told). t.texts.verdict) told in
-          let other : (kept.id <ℤ from) ⊎ (page.verdict ≢ Untested) = elim (why book shows.0 is) [
-            | inl before ↦ inl before
-            | inr tested ↦ inr (λ untested. tested (verdict_is ∙ untested))
-          ] in
-          ([], is_passed page there other refl refl refl, Appends-nil held),
-      shows,
-      λ up. up,
-    );
-    ended = tt;
-    stop = stops_same s _;
-    cause = tt;
-  }
+  passed_goes why =
+      let step : (book : Book) → IsKeptBook book → IsRecordIn kept book → StepsLevel limit from kept.id book book held held (Ok true) = λ book of_book is.
+      let (page, there, told) = some_of (page_at book (id_number kept.id)) (λ p. IsRecordOf (id_number kept.id) p kept) is in
+      let verdict_is : kept.verdict ≡ page.verdict = ap (λ (t : Told). t.texts.verdict) told in
+      let other : (kept.id <ℤ from) ⊎ (page.verdict ≢ Untested) = elim (why book of_book is) [
+        | inl before ↦ inl before
+        | inr tested ↦ inr (λ untested. tested (verdict_is ∙ untested))
+      ] in
+      ([], is_passed page there other refl refl refl, Appends-nil held) in
+      let (turns, carries) = same_leads s _ step in record { turns = turns; done = carries; stop = stops_same s _; cause = tt }
 
   -- what is not read of a record was refused for want of memory
   pub unread_goes : (number : ℤ) (fault : BookFault)
       → IsBroken number (λ rows. IsLevel rows × IsAcceptable rows × (level_text rows ≡ string_bytes kept.text)) fault
       → GoesThrough (IsRecordIn kept) limit from kept.id s s held held (Err (of_book fault))
   unread_goes number fault broken = record {
-    done = tt;
-    ended = λ clean book shows. (
+    turns = λ clean book holds. (
       book,
       λ is.
           let (page, there, told) = some_of (page_at book (id_number kept.id)) (λ p. IsRecordOf (id_number kept.id) p kept) is in
-          let memory = entry_refused (id_number kept.id) page (kept_at book (id_number kept.id) page shows.0 there) kept told number fault broken in
-          left_steps limit from kept.id book book held held fault (inl memory) (inl refl) (Keeps-refl held),
-      held_shown s book shows,
+          let memory = entry_refused (id_number kept.id) page (kept_at book (id_number kept.id) page holds.0 there) kept told number fault broken in
+          left_steps (SettlesLevel limit from kept.id) (LeavesLevel from kept.id) book book held held fault (inl memory) (inl refl) (Keeps-refl held),
+      holds,
     );
+    done = tt;
     stop = stops_same s _;
     cause = book_uncaused s s _ fault (λ database. elim broken [
       | inl memory ↦ (let no : refusal.Memory ≡ refusal.Database = sym memory ∙ database in absurd cc)

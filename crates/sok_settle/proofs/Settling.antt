@@ -1,18 +1,14 @@
 -- Levels that are settled one after another.
-use Rattle.std.proofs.Common.{ℕ, ℤ, pos, zero, suc, ◌≡◌, ◌∙◌, ◌+◌, ◌-◌, ◌&&◌, inl, inr, List, [], ◌∷◌, ◌++◌, Option, Some, Result, Ok, Err}
-use Rattle.std.proofs.Common.{Bool, true, IfErr, IsSomeAnd, OnOk, ap, arith, length, map, refl, slice_get, subst, sym, take}
-use Rattle.std.proofs.lemmas.Bool.{cases_Bool}
+use Rattle.std.proofs.Common.{ℕ, ℤ, pos, zero, suc, ◌≡◌, ◌∙◌, ◌+◌, ◌-◌, ◌&&◌, inl, inr, List, [], ◌∷◌, Option, Some, Result, Ok, Err}
+use Rattle.std.proofs.Common.{Bool, true, IfErr, IsSomeAnd, OnOk, ap, arith, length, map, refl, slice_get, subst, sym}
 use Rattle.std.proofs.lemmas.Option.{none-some, same_Some}
 use Rattle.std.specs.List.{slice_set}
-use Rattle.std.specs.Io.KnownBytes.{Appends, Keeps}
-use Rattle.std.proofs.KnownBytes.{Appends-kept, Appends-nil, Appends-trans, Keeps-refl}
+use Rattle.std.proofs.KnownBytes.{Appends-nil, Keeps-refl}
 use Rattle.sqlite.specs.State.{State, HasCleanDisk}
-use Rattle.sqlite.proofs.StateLemmas.{survives_then}
 use Rattle.sok_rules.specs.declared.cell.Dir.{Dir}
 use Rattle.sok_cert.specs.Claim.{Claim}
 use Rattle.sok_search.specs.Faults.{IsBadLimit}
 use Rattle.sok_book.specs.declared.fault.BookFault.{BookFault}
-use Rattle.sok_book.specs.declared.fault.BookFault.TheVariants as refusal
 use Rattle.sok_book.specs.declared.record.Offer.{Offer}
 use Rattle.sok_book.specs.Books.{Book, Page, page_at}
 use Rattle.sok_book.specs.Commands.{Offers}
@@ -31,8 +27,11 @@ use Rattle.sok_store.proofs.Caused.{cause_before}
 use Rattle.sok_store.proofs.Found.{some_and}
 use Rattle.sok_keep.specs.Causes.{IsCausedFault}
 use Rattle.sok_keep.proofs.Ending.{caused_more}
-use Rattle.sok_settle.specs.Settles.{EndsSettling, LeavesLevel, SettlesLevel, SettlesSome, WritesSettling, is_optimal, is_passed, is_past_limit, is_too_long, is_unsolvable, more, none, settle_status}
-use Rattle.sok_settle.specs.Steps.{GoesThrough, GoesWhere, HasGone, IsRecordIn, MayStep, StaysFrom, StepsLevel}
+use Rattle.sok_settle.specs.Going.{EndsAt, GoesWhere, HasGone, more, none}
+use Rattle.sok_settle.specs.Settles.{EndsSettling, SettlesFirst, SettlesLevel, SettlesSome, WritesSettling, is_optimal, is_passed, is_past_limit, is_too_long, is_unsolvable, level_leave, level_step, settle_status}
+use Rattle.sok_settle.specs.Steps.{GoesThrough, IsRecordIn, MaySettle, StaysFrom, StepsLevel}
+use Rattle.sok_settle.proofs.Going.{goes_other}
+use Rattle.sok_settle.proofs.Stepping as stepping
 
 -- ---- the other pages
 
@@ -94,208 +93,122 @@ record_in book middle records n kept are at stays =
       id ∙ ap pos last,
     )
 
--- ---- one level more
+-- ---- level by level
 
 module _ (limit : ℕ) (from : ℤ) where
-  grown : (book middle after : Book) (n : ℕ) (all settled : Bool) (line : List ℕ) (first here later : Option (List ℕ)) → HasGone limit from n all book middle first here
-      → SettlesLevel limit from (pos (n + 1)) middle line settled after → Appends here later line
-      → HasGone limit from (n + 1) (all && settled) book after first later
-  grown book middle after n all settled line first here later gone level appends = record {
-    text = gone.text ++ line;
-    settled = more n gone.text line all settled middle after gone.settled level;
-    rest = λ m behind.
-        else_settled limit from (pos (n + 1)) middle after line settled level m (λ same. omega (arith, behind, same)) ∙ gone.rest m (omega (arith, behind));
-    written = Appends-trans first here later gone.text line gone.written appends;
-  }
+  -- only pages before a level changed when those before it were gone through
+  first_stays : (book : Book) (n : ℕ) (text : List ℕ) (all : Bool) (after : Book) → SettlesFirst limit from book n text all after → StaysFrom n book after
+  first_stays book _ _ _ _ none = λ m behind. refl
+  first_stays book _ _ _ _ (more n text line all settled before after first level) = λ m behind.
+      else_settled limit from (pos (n + 1)) before after line settled level m (λ same. omega (arith, behind, same))
+      ∙ first_stays book n text all before first m (omega (arith, behind))
 
-  -- whatever may be made of the next level
-  some_more : (book middle after : Book) (n : ℕ) (all : Bool) (id : ℤ) (first here : Option (List ℕ)) → HasGone limit from n all book middle first here
-      → id ≡ pos (n + 1) → MayStep limit from id middle after → SettlesSome limit from book after
-  some_more book middle after n all id first here gone is (inl left) =
-      (n, gone.text, all, middle, gone.settled, subst (λ i. LeavesLevel from i middle after) is left)
-  some_more book middle after n all id first here gone is (inr (line, settled, level)) =
-      let next = more n gone.text line all settled middle after gone.settled (subst (λ i. SettlesLevel limit from i middle line settled after) is level) in
-      (n + 1, gone.text ++ line, all && settled, after, next, inl refl)
-
-  -- how it ends behind the levels that were gone through
-  ends_behind : (book middle after : Book) (n : ℕ) (all : Bool) (first here later : Option (List ℕ)) (result : Result ℕ ToolFault)
-      → (gone : HasGone limit from n all book middle first here) → EndsSettling limit from book n gone.text all middle after first later result
-      → WritesSettling limit from book after first later result
-  ends_behind book middle after n all first here later result gone ended =
-      record { count = n; text = gone.text; all = all; before = middle; settled = gone.settled; ended = ended }
-
-  -- with none of the next one written
-  left_at : (book middle after : Book) (n : ℕ) (all : Bool) (id : ℤ) (first here later : Option (List ℕ)) (gone : HasGone limit from n all book middle first here)
-      → id ≡ pos (n + 1) → LeavesLevel from id middle after × Keeps here later → LeavesLevel from (pos (n + 1)) middle after × Appends first later gone.text
-  left_at book middle after n all id first here later gone is (left, keeps) =
-      (subst (λ i. LeavesLevel from i middle after) is left, Appends-kept first here later gone.text gone.written keeps)
-
-  -- how it ends at the next level
-  ends_at : (book middle after : Book) (n : ℕ) (all : Bool) (id : ℤ) (first here later : Option (List ℕ)) (fault : ToolFault)
-      → HasGone limit from n all book middle first here → id ≡ pos (n + 1) → StepsLevel limit from id middle after here later (Err fault)
-      → WritesSettling limit from book after first later (Err fault)
-  ends_at book middle after n all id first here later tool.WriteFailed gone is (line, settled, level, (k, under, front)) =
-      ends_behind book middle after n all first here later (Err tool.WriteFailed) gone (
-        line,
-        settled,
-        subst (λ i. SettlesLevel limit from i middle line settled after) is level,
-        (k, under, Appends-trans first here later gone.text (take k line) gone.written front),
-      )
-  ends_at book middle after n all id first here later tool.Memory gone is step =
-      ends_behind book middle after n all first here later (Err tool.Memory) gone (left_at book middle after n all id first here later gone is step)
-  ends_at book middle after n all id first here later (tool.Book refusal.Database) gone is step =
-      ends_behind book middle after n all first here later (Err (tool.Book refusal.Database)) gone
-      (left_at book middle after n all id first here later gone is step)
-  ends_at book middle after n all id first here later fault gone is never = absurd never
-
-  -- ---- all levels
+  -- at a level at which the call ends it may be as it was
+  pub stays : (n : ℕ) (book : Book) → level_leave from n book book
+  stays n book = inl refl
 
   module _ (records : List Record) where
-    abbrev MakesSome : Book → Book → Type 0
-    MakesSome book after = AreRecordsOf book records → SettlesSome limit from book after
+    abbrev ArePages : Book → Type 0
+    ArePages book = AreRecordsOf book records
 
     abbrev pub Gone : State → State → ℕ → Bool → Option (List ℕ) → Option (List ℕ) → Type 0
-    Gone old new n all first here = Carries old new (λ book after. AreRecordsOf book records → HasGone limit from n all book after first here)
+    Gone = stepping.Gone (level_step limit from) (level_leave from) stays ArePages
 
     abbrev pub MayGo : State → State → Type 0
-    MayGo old new = Stops old new (λ book after. AreRecordsOf book records → SettlesSome limit from book after)
+    MayGo = stepping.MayGo (level_step limit from) (level_leave from) stays ArePages
+
+    -- how the call on all levels treats the connection
+    abbrev pub GoesOn : State → State → Option (List ℕ) → Option (List ℕ) → Result ℕ ToolFault → Type 0
+    GoesOn old new first later result =
+        GoesWhere {X = ℕ} ArePages old new (λ book after. WritesSettling limit from book after first later result) (SettlesSome limit from) result
 
     pub gone_none : (s : State) (held_now : Option (List ℕ)) → Gone s s 0 true held_now held_now
-    gone_none s held_now clean book shows = (
-      book,
-      λ are. record { text = []; settled = none; rest = λ m behind. refl; written = Appends-nil held_now },
-      shows,
-      λ up. up,
-    )
+    gone_none = stepping.gone_none (level_step limit from) (level_leave from) stays ArePages
 
     -- all of them were gone through
     pub gone_all : (old new : State) (n : ℕ) (all : Bool) (status : ℕ) (first here : Option (List ℕ)) → n ≡ length records → status ≡ settle_status all
-        → Gone old new n all first here → MayGo old new
-        → GoesWhere {X = ℕ} (λ book. AreRecordsOf book records) old new (λ book after. WritesSettling limit from book after first here (Ok status))
-        (SettlesSome limit from) (Ok status)
-    gone_all old new n all status first here end told_status gone stop = record {
-      done = λ clean book shows.
-          let (after, made, shown_after, stays) = gone clean book shows in (
-            after,
-            λ are.
-                let it = made are in
-                ends_behind book after after n all first here here (Ok status) it
-                (end ∙ length-records book records are, refl, told_status, it.written),
-            shown_after,
-            stays,
-          );
-      ended = tt;
-      stop = stop;
-      cause = tt;
-    }
+        → Gone old new n all first here → MayGo old new → GoesOn old new first here (Ok status)
+    gone_all old new n all status first here end told_status =
+        stepping.gone_all (level_step limit from) (level_leave from) stays ArePages (λ book after. EndsSettling limit from book after first here (Ok status)) old new
+        n all status first here (λ book after text are written. (end ∙ length-records book records are, refl, told_status, written))
 
     module _ (old mid new : State) (n : ℕ) (all : Bool) (kept : Record) (at : slice_get records n ≡ Some kept) (first here later : Option (List ℕ))
         (gone : Gone old mid n all first here) (stop : MayGo old mid) where
-      module _ (result : Result Bool ToolFault) (goes : GoesThrough (IsRecordIn kept) limit from kept.id mid new here later result) where
-        early : HasCleanDisk new → HasCleanDisk mid
-        early clean = omega (arith, clean, goes.stop.clean)
+      -- the next level is that of its record
+      abbrev IsNext : Book → Type 0
+      IsNext middle = IsRecordIn kept middle × (kept.id ≡ pos (n + 1))
 
-        made_some : (book middle after : Book) → (AreRecordsOf book records → HasGone limit from n all book middle first here)
-            → (IsRecordIn kept middle → MayStep limit from kept.id middle after) → MakesSome book after
-        made_some book middle after made may are =
-            let it = made are in
-            let (is, id) = record_in book middle records n kept are at it.rest in
-            some_more book middle after n all kept.id first here it id (may is)
+      link : (book middle : Book) → ArePages book → HasGone (level_step limit from) n all book middle first here → IsNext middle
+      link book middle are it = record_in book middle records n kept are at (first_stays book n it.text all middle it.gone)
 
-        pub next_stops : MayGo old new
-        next_stops = survives_then old mid new _ _ _ (λ _ db made. made) (λ clean db may book shows.
-            let (middle, made, shows_mid, stays) = gone (early clean) book shows in
-            let (after, makes, has) = may middle shows_mid in
-            (after, made_some book middle after made makes, has)) stop goes.stop
+      as_next : (result : Result Bool ToolFault) → GoesThrough (IsRecordIn kept) limit from kept.id mid new here later result
+          → GoesThrough IsNext limit from (pos (n + 1)) mid new here later result
+      as_next result goes =
+          goes_other mid new _ _ _ _ (λ book after of_book makes is. subst (λ i. StepsLevel limit from i book after here later result) is.1 (makes is.0))
+          (λ book after of_book makes is. subst (λ i. MaySettle limit from i book after) is.1 (makes is.0)) result goes
 
-        pub next_caused : IfErr result (IsCausedFault old new MakesSome)
-        next_caused = go result goes.cause
-          where
-            go : (r : Result Bool ToolFault) → IfErr r (IsCausedFault mid new (λ book after. IsRecordIn kept book → MayStep limit from kept.id book after))
-                → IfErr r (IsCausedFault old new MakesSome)
-            go (Ok x) cause = tt
-            go (Err fault) cause = λ told_fault same clean book holds. elim (cases_Bool old.is_open) [
-              | inl up ↦
-                  let (middle, made, shows_mid, stays) = gone (early clean) book (holds.0, holds.1 up) in
-                  elim (cause told_fault same clean middle (held_shown mid middle shows_mid)) [
-                    | inl (after, makes, big) ↦ inl (after, made_some book middle after made makes, big)
-                    | inr why ↦ inr (cause_before old mid new _ _ stop goes.stop clean why)
-                  ]
-              | inr down ↦ inr (inl down)
-            ]
+      pub next_stops : (result : Result Bool ToolFault) → GoesThrough (IsRecordIn kept) limit from kept.id mid new here later result → MayGo old new
+      next_stops result goes =
+          stepping.next_stops (level_step limit from) (level_leave from) stays ArePages old mid new n all first here later gone stop IsNext link result
+          (as_next result goes)
 
-      -- the next one was gone through
-      pub gone_more : (settled : Bool)
-          → GoesThrough (IsRecordIn kept) limit from kept.id mid new here later (Ok settled)
-          → Gone old new (n + 1) (all && settled) first later
-      gone_more settled goes clean book shows =
-          let (middle, made, shows_mid, stays) = gone (omega (arith, clean, goes.stop.clean)) book shows in
-          let (after, makes, shows_after, stays_after) = goes.done clean middle shows_mid in (
-            after,
-            λ are.
-                let it = made are in
-                let (is, id) = record_in book middle records n kept are at it.rest in
-                let (line, level, appends) = makes is in
-                grown book middle after n all settled line first here later it (subst (λ i. SettlesLevel limit from i middle line settled after) id level) appends,
-            shows_after,
-            λ up. stays_after (stays up),
-          )
+      -- it was gone through
+      pub gone_more : (settled : Bool) → GoesThrough (IsRecordIn kept) limit from kept.id mid new here later (Ok settled) → Gone old new (n + 1) (all && settled) first later
+      gone_more settled goes =
+          stepping.gone_more (level_step limit from) (level_leave from) stays ArePages old mid new n all first here later gone stop IsNext link settled
+          (as_next (Ok settled) goes)
 
       -- or the call ends at it
-      pub gone_ended : (fault : ToolFault)
-          → GoesThrough (IsRecordIn kept) limit from kept.id mid new here later (Err fault)
-          → GoesWhere {X = ℕ} (λ book. AreRecordsOf book records) old new (λ book after. WritesSettling limit from book after first later (Err fault))
-          (SettlesSome limit from) (Err fault)
-      gone_ended fault goes = record {
-        done = tt;
-        ended = λ clean book shows.
-            let (middle, made, shows_mid, stays) = gone (omega (arith, clean, goes.stop.clean)) book shows in
-            let (after, makes, holds_after) = goes.ended clean middle shows_mid in (
-              after,
-              λ are.
-                  let it = made are in
-                  let (is, id) = record_in book middle records n kept are at it.rest in
-                  ends_at book middle after n all kept.id first here later fault it id (makes is),
-              holds_after,
-            );
-        stop = next_stops (Err fault) goes;
-        cause = next_caused (Err fault) goes;
-      }
+      pub gone_ended : (fault : ToolFault) → GoesThrough (IsRecordIn kept) limit from kept.id mid new here later (Err fault) → GoesOn old new first later (Err fault)
+      gone_ended fault goes =
+          stepping.gone_ended (level_step limit from) (level_leave from) stays ArePages old mid new n all first here later gone stop IsNext link
+          (λ book after. EndsSettling limit from book after first later (Err fault)) fault
+          (λ book after k text every before ends. ended book after k text every before first later fault ends) (as_next (Err fault) goes)
+        where
+          ended : (book after : Book) (k : ℕ) (text : List ℕ) (every : Bool) (before : Book) (old new : Option (List ℕ)) (f : ToolFault)
+              → EndsAt (level_step limit from k) (level_leave from k) text before after old new f → EndsSettling limit from book after old new (Err f) k text every before
+          ended book after k text every before old new tool.BadLimit never = absurd never
+          ended book after k text every before old new f ends = ends
 
     -- ---- the whole book
 
-    module _ (old mid new : State) (one : Stops old mid MakesNone) (found : Finds old mid (λ book. AreRecordsOf book records)) (first later : Option (List ℕ)) where
-      abbrev GoesOn : Result ℕ ToolFault → Type 0
-      GoesOn result =
-          GoesWhere {X = ℕ} (λ book. AreRecordsOf book records) mid new (λ book after. WritesSettling limit from book after first later result) (SettlesSome limit from) result
+    module _ (old mid new : State) (one : Stops old mid MakesNone) (found : Finds old mid (λ book. AreRecordsOf book records)) (first later : Option (List ℕ))
+        (result : Result ℕ ToolFault) (goes : GoesOn mid new first later result) where
+      early : HasCleanDisk new → HasCleanDisk mid
+      early clean = omega (arith, clean, goes.stop.clean)
 
-      pub whole_stops : (result : Result ℕ ToolFault) → GoesOn result → Stops old new (SettlesSome limit from)
-      whole_stops result goes = stops_later old mid new (SettlesSome limit from) one _ (λ clean db made book shows.
-          let (are, stores) = found (omega (arith, clean, goes.stop.clean)) book (held_shown old book shows) in
+      pub whole_stops : Stops old new (SettlesSome limit from)
+      whole_stops = stops_later old mid new (SettlesSome limit from) one _ (λ clean db made book shows.
+          let (are, stores) = found (early clean) book (held_shown old book shows) in
           let (after, makes, has) = made book (shown mid book stores) in (after, makes are, has)) goes.stop
 
-      pub whole_turns : (result : Result ℕ ToolFault) → GoesOn result → Turns old new (λ book after. WritesSettling limit from book after first later result)
-      whole_turns (Ok status) goes clean book holds =
-          let (are, stores) = found (omega (arith, clean, goes.stop.clean)) book holds in
-          let (after, makes, shows_after, stays) = goes.done clean book (shown mid book stores) in (after, makes are, held_shown new after shows_after)
-      whole_turns (Err fault) goes clean book holds =
-          let (are, stores) = found (omega (arith, clean, goes.stop.clean)) book holds in
-          let (after, makes, holds_after) = goes.ended clean book (shown mid book stores) in (after, makes are, holds_after)
+      pub whole_turns : Turns old new (λ book after. WritesSettling limit from book after first later result)
+      whole_turns clean book holds =
+          let (are, stores) = found (early clean) book holds in
+          let (after, makes, holds_after) = goes.turns clean book (held mid book stores) in (after, makes are, holds_after)
 
-      pub whole_open : (result : Result ℕ ToolFault) → GoesOn result → OnOk result (EndsOpen old new)
-      whole_open (Ok status) goes = λ clean book holds.
-          let (are, stores) = found (omega (arith, clean, goes.stop.clean)) book holds in
-          let (after, makes, shows_after, stays) = goes.done clean book (shown mid book stores) in stays stores.1.0
-      whole_open (Err fault) goes = tt
+      pub whole_open : OnOk result (EndsOpen old new)
+      whole_open = go result goes.done
+        where
+          go : (r : Result ℕ ToolFault) → OnOk r (Carries mid new (λ book after. AreRecordsOf book records → WritesSettling limit from book after first later result))
+              → OnOk r (EndsOpen old new)
+          go (Ok status) done = λ clean book holds.
+              let (are, stores) = found (early clean) book holds in
+              let (after, makes, shows_after, up) = done clean book (shown mid book stores) in up stores.1.0
+          go (Err fault) done = tt
 
-      pub whole_caused : (result : Result ℕ ToolFault) → GoesOn result → IfErr result (IsCausedFault old new (SettlesSome limit from))
-      whole_caused (Ok status) goes = tt
-      whole_caused (Err fault) goes = λ told_fault same clean book holds.
-          let (are, stores) = found (omega (arith, clean, goes.stop.clean)) book holds in
-          elim (goes.cause told_fault same clean book (held mid book stores)) [
-            | inl (after, makes, big) ↦ inl (after, makes are, big)
-            | inr why ↦ inr (cause_before old mid new _ _ one goes.stop clean why)
-          ]
+      pub whole_caused : IfErr result (IsCausedFault old new (SettlesSome limit from))
+      whole_caused = go result goes.cause
+        where
+          go : (r : Result ℕ ToolFault) → IfErr r (IsCausedFault mid new (λ book after. AreRecordsOf book records → SettlesSome limit from book after))
+              → IfErr r (IsCausedFault old new (SettlesSome limit from))
+          go (Ok status) cause = tt
+          go (Err fault) cause = λ told_fault same clean book holds.
+              let (are, stores) = found (early clean) book holds in
+              elim (cause told_fault same clean book (held mid book stores)) [
+                | inl (after, makes, big) ↦ inl (after, makes are, big)
+                | inr why ↦ inr (cause_before old mid new _ _ one goes.stop clean why)
+              ]
 
   -- ---- without records
 
@@ -304,7 +217,7 @@ module _ (limit : ℕ) (from : ℤ) where
       → Turns s s (λ book after. WritesSettling limit from book after held_now held_now (Err tool.BadLimit))
   bad_turns s held_now bad clean book holds = (
     book,
-    record { count = 0; text = []; all = true; before = book; settled = none; ended = (bad, refl, refl, Keeps-refl held_now) },
+    record { count = 0; text = []; all = true; before = book; gone = none; ended = (bad, refl, refl, Keeps-refl held_now) },
     holds,
   )
 
@@ -312,9 +225,9 @@ module _ (limit : ℕ) (from : ℤ) where
   unlisted : (book : Book) (held_now : Option (List ℕ)) (fault : BookFault) → IsOutside fault
       → WritesSettling limit from book book held_now held_now (Err (of_book fault))
   unlisted book held_now fault (inl memory) = subst (λ f. WritesSettling limit from book book held_now held_now (Err (of_book f))) (sym memory)
-      (record { count = 0; text = []; all = true; before = book; settled = none; ended = (inl refl, Appends-nil held_now) })
+      (record { count = 0; text = []; all = true; before = book; gone = none; ended = (inl refl, Appends-nil held_now) })
   unlisted book held_now fault (inr database) = subst (λ f. WritesSettling limit from book book held_now held_now (Err (of_book f))) (sym database)
-      (record { count = 0; text = []; all = true; before = book; settled = none; ended = (inl refl, Appends-nil held_now) })
+      (record { count = 0; text = []; all = true; before = book; gone = none; ended = (inl refl, Appends-nil held_now) })
 
   pub unlisted_turns : (old new : State) (held_now : Option (List ℕ)) (fault : BookFault) → calls.Keeps old new (λ _. IsOutside fault)
       → Turns old new (λ book after. WritesSettling limit from book after held_now held_now (Err (of_book fault)))

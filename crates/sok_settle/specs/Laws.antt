@@ -1,9 +1,10 @@
--- What holds of a book after some of its levels were settled.
+-- What holds of a book after some of its levels were settled, or lines of offers were gone through.
 use Rattle.std.specs.Prelude.{ℕ, ℤ, pos, ◌≡◌, ◌≢◌, ◌⊎◌, ◌≤◌, ◌<ℤ◌, List, Option, Some, Result, true}
 use Rattle.sok_book.specs.declared.record.Verdict.TheVariants.{Untested}
 use Rattle.sok_book.specs.Books.{Book, Page, IsTrueBook, page_at}
 use Rattle.sok_store.specs.Histories.{IsMadeOf}
 use Rattle.sok_engine.specs.declared.fault.ToolFault.{ToolFault}
+use Rattle.sok_settle.specs.Offers.{OffersBytes, WritesOffers}
 use Rattle.sok_settle.specs.Settles.{SettlesFirst, SettlesSome, WritesSettling}
 
 -- whatever was written, and however the call ended, some of the levels were settled
@@ -31,3 +32,19 @@ abbrev pub SettledHaveVerdicts : Type 0
 SettledHaveVerdicts =
     (limit : ℕ) (from : ℤ) (book : Book) (n : ℕ) (text : List ℕ) (after : Book) (id : ℕ) (page : Page) → SettlesFirst limit from book n text true after
     → id ≤ n → page_at after id ≡ Some page → (pos id <ℤ from) ⊎ (page.verdict ≢ Untested)
+
+-- ---- lines of offers
+
+-- whatever was written, and however the call ended, some of the lines were offered
+abbrev pub OffersAreSome : Type 0
+OffersAreSome =
+    (known : Option (List ℕ)) (book after : Book) (old new : Option (List ℕ)) (result : Result ℕ ToolFault) → WritesOffers book known after old new result
+    → OffersBytes known book after
+
+-- it is what accepted commands make of the book before, one after another
+abbrev pub OffersFold : Type 0
+OffersFold = (known : Option (List ℕ)) (book after : Book) → OffersBytes known book after → IsMadeOf book after
+
+-- so a true book stays true
+abbrev pub OffersKeepTruth : Type 0
+OffersKeepTruth = (known : Option (List ℕ)) (book after : Book) → OffersBytes known book after → IsTrueBook book → IsTrueBook after

@@ -1,5 +1,8 @@
--- Words of public contracts: what is told of levels that are settled, and what becomes of the book (Settles), and what holds of the book then (Laws). The
--- proof's own: `Steps`.
+-- Words of public contracts: steps that are gone one after another (Going), what is told of levels that are settled (Settles) and of lines of offers
+-- (Offers), and what becomes of the book, the lines of both (Lines), and what holds of the book then (Laws). The proof's own: `Steps`.
+pub mod Going
 pub mod Laws
+pub mod Lines
+pub mod Offers
 pub mod Settles
 pub mod Steps

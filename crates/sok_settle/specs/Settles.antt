@@ -1,5 +1,5 @@
 -- What is told of the levels of a book as they are settled, one after another, and what becomes of the book.
-use Rattle.std.specs.Prelude.{ℕ, ℤ, pos, ◌≡◌, ◌≢◌, ◌⊎◌, ◌+◌, ◌<◌, ◌<ℤ◌, ◌&&◌, List, [], ◌++◌, Option, Some, Bool, true, false, Result, Ok, Err, codes, length, take}
+use Rattle.std.specs.Prelude.{ℕ, ℤ, pos, ◌≡◌, ◌≢◌, ◌⊎◌, ◌+◌, ◌<◌, ◌<ℤ◌, List, [], ◌++◌, Option, Some, Bool, true, false, Result, Ok, Err, codes, length}
 use Rattle.std.specs.Fmt.{decimal, signed_decimal}
 use Rattle.std.specs.Io.KnownBytes.{Appends, Keeps}
 use Rattle.sok_rules.specs.declared.cell.Dir.{Dir}
@@ -17,10 +17,11 @@ use Rattle.sok_book.specs.Books.{Book, Page, Solution, page_at}
 use Rattle.sok_book.specs.Commands.{Offers}
 use Rattle.sok_engine.specs.declared.fault.ToolFault.{ToolFault}
 use Rattle.sok_engine.specs.declared.fault.ToolFault.TheVariants as tool
-use Rattle.sok_engine.specs.FaultLines.{fault_words}
 use Rattle.sok_store.specs.Calls.{id_number}
 use Rattle.sok_store.specs.Known.{ProvesKnown}
 use Rattle.sok_keep.specs.Offers.{HasBest}
+use Rattle.sok_settle.specs.Going.{EndsAt, GoesFirst, GoesSome, GoesUntil, Leave, Step}
+use Rattle.sok_settle.specs.Lines.{fault_line}
 
 -- the line of a level whose best has the fewest pushes
 abbrev pub optimal_line : ℤ → ℕ → ℕ → List ℕ
@@ -35,10 +36,6 @@ unsolvable_line id = signed_decimal id ++ codes " unsolvable\n"
 abbrev pub limit_line : ℤ → ℕ → ℕ → List ℕ
 limit_line id limit least =
     signed_decimal id ++ (codes " limit " ++ (decimal limit ++ (codes " at least " ++ (decimal least ++ codes "\n"))))
-
--- of one with a fault of its own
-abbrev pub fault_line : ℤ → ToolFault → List ℕ
-fault_line id fault = signed_decimal id ++ (codes " " ++ (fault_words fault ++ codes "\n"))
 
 -- a solution that has more letters than may be kept
 abbrev pub too_long : ToolFault
@@ -73,49 +70,40 @@ pub data SettlesLevel (limit : ℕ) (from id : ℤ) (book : Book) (line : List �
   is_too_long : (page : Page) (letters : List Dir) (pushes : ℕ) → IsTried from id book page → IsLeastSolution page.level letters pushes
       → letter_limit < length letters → line ≡ fault_line id too_long → settled ≡ false → after ≡ book → SettlesLevel limit from id book line settled after
 
--- so many levels were gone through, the first ones, one after another, with these lines, and each of them that was tried is settled, or not each
-pub data SettlesFirst (limit : ℕ) (from : ℤ) (book : Book) : ℕ → List ℕ → Bool → Book → Type 0 where
-  none : SettlesFirst limit from book 0 [] true book
-  more : (n : ℕ) (text line : List ℕ) (all settled : Bool) (before after : Book) → SettlesFirst limit from book n text all before
-      → SettlesLevel limit from (pos (n + 1)) before line settled after → SettlesFirst limit from book (n + 1) (text ++ line) (all && settled) after
-
 -- the call ended at the level with an id: it is as it was, or letters that solve it were offered
 abbrev pub LeavesLevel : ℤ → ℤ → Book → Book → Type 0
 LeavesLevel from id book after =
     (after ≡ book)
     ⊎ ((page : Page) × IsTried from id book page × (letters : List Dir) × (offer : Offer) × Offers book (id_number id) letters offer after)
 
+-- the levels are gone through in order of their ids, which count from 1
+abbrev pub level_step : ℕ → ℤ → ℕ → Step
+level_step limit from n = SettlesLevel limit from (pos (n + 1))
+
+abbrev pub level_leave : ℤ → ℕ → Leave
+level_leave from n = LeavesLevel from (pos (n + 1))
+
+-- so many levels were gone through, the first ones, one after another, with these lines, and each of them that was tried is settled, or not each
+abbrev pub SettlesFirst : ℕ → ℤ → Book → ℕ → List ℕ → Bool → Book → Type 0
+SettlesFirst limit from = GoesFirst (level_step limit from)
+
 -- the first levels were settled, or not, one or more of them, or none, and then the call ended
 abbrev pub SettlesSome : ℕ → ℤ → Book → Book → Type 0
-SettlesSome limit from book after =
-    (n : ℕ) × (text : List ℕ) × (all : Bool) × (before : Book) × SettlesFirst limit from book n text all before × LeavesLevel from (pos (n + 1)) before after
+SettlesSome limit from = GoesSome (level_step limit from) (level_leave from)
 
 abbrev pub settle_status : Bool → ℕ
 settle_status true = 0
 settle_status false = 4
 
--- a front of the line of one more level was written behind the lines before it, and not all of it
-abbrev pub BreaksOff : List ℕ → List ℕ → Option (List ℕ) → Option (List ℕ) → Type 0
-BreaksOff text line old new = (n : ℕ) × (n < length line) × Appends old new (text ++ take n line)
-
--- How the call ends behind so many levels, with these lines, which were written. All levels were gone through; or the limit was refused; or a write failed
--- in the line of the next level; or memory or the database was refused at it.
-abbrev pub EndsSettling : ℕ → ℤ → Book → ℕ → List ℕ → Bool → Book → Book → Option (List ℕ) → Option (List ℕ) → Result ℕ ToolFault → Type 0
-EndsSettling limit from book n text all before after old new (Ok status) =
+-- How the call ends behind so many levels, with these lines, which were written. All levels were gone through; or the limit was refused; or it ends at the
+-- next level.
+abbrev pub EndsSettling : ℕ → ℤ → Book → Book → Option (List ℕ) → Option (List ℕ) → Result ℕ ToolFault → ℕ → List ℕ → Bool → Book → Type 0
+EndsSettling limit from book after old new (Ok status) n text all before =
     (n ≡ length book) × (after ≡ before) × (status ≡ settle_status all) × Appends old new text
-EndsSettling limit from book n text all before after old new (Err tool.BadLimit) = IsBadLimit limit × (n ≡ 0) × (after ≡ book) × Keeps old new
-EndsSettling limit from book n text all before after old new (Err tool.WriteFailed) =
-    (line : List ℕ) × (settled : Bool) × SettlesLevel limit from (pos (n + 1)) before line settled after × BreaksOff text line old new
-EndsSettling limit from book n text all before after old new (Err tool.Memory) = LeavesLevel from (pos (n + 1)) before after × Appends old new text
-EndsSettling limit from book n text all before after old new (Err (tool.Book refusal.Database)) =
-    LeavesLevel from (pos (n + 1)) before after × Appends old new text
-EndsSettling limit from book n text all before after old new (Err fault) = ⊥
+EndsSettling limit from book after old new (Err tool.BadLimit) n text all before = IsBadLimit limit × (n ≡ 0) × (after ≡ book) × Keeps old new
+EndsSettling limit from book after old new (Err fault) n text all before =
+    EndsAt (level_step limit from n) (level_leave from n) text before after old new fault
 
 -- the first levels were gone through, and how it ended then
-pub record WritesSettling (limit : ℕ) (from : ℤ) (book after : Book) (old new : Option (List ℕ)) (result : Result ℕ ToolFault) : Type 0 where
-  pub count : ℕ
-  pub text : List ℕ
-  pub all : Bool
-  pub before : Book
-  pub settled : SettlesFirst limit from book count text all before
-  pub ended : EndsSettling limit from book count text all before after old new result
+abbrev pub WritesSettling : ℕ → ℤ → Book → Book → Option (List ℕ) → Option (List ℕ) → Result ℕ ToolFault → Type 0
+WritesSettling limit from book after old new result = GoesUntil (level_step limit from) (EndsSettling limit from book after old new result) book

@@ -1,5 +1,6 @@
-//! Laws of a book of which levels were settled.
+//! Laws of a book of which levels were settled, or to which lines were offered.
 
+ghost use Rattle.sok_settle.specs.Laws.{OffersAreSome, OffersFold, OffersKeepTruth};
 ghost use Rattle.sok_settle.specs.Laws.{SettledHaveVerdicts, SettlingsAreSome, SettlingsFold};
 ghost use Rattle.sok_settle.specs.Laws.{SettlingsKeepTruth, SettlingsKeepVerdicts};
 
@@ -12,4 +13,12 @@ pub fn settled_books_are_made_by_commands()
     ensures truth { SettlingsKeepTruth }
     ensures kept { SettlingsKeepVerdicts }
     ensures settled { SettledHaveVerdicts }
+{}
+
+/// Whatever lines were offered to a book, it is what accepted commands make of it, one after another.
+/// A true book stays true.
+pub fn offered_books_are_made_by_commands()
+    ensures some { OffersAreSome }
+    ensures folded { OffersFold }
+    ensures truth { OffersKeepTruth }
 {}

@@ -9,16 +9,15 @@ ghost use Rattle.sok_cert.specs.Claim.TheVariants as claim;
 ghost use Rattle.sok_search.specs.Faults.{IsBadLimit};
 ghost use Rattle.sok_search.specs.Outcomes.{IsLeastSolution, IsShown};
 ghost use Rattle.sok_store.specs.Known.{IsCertified};
-ghost use Rattle.sok_settle.specs.Steps.{GoesThrough, IsRecordIn, IsTriedAs, TellsTooLong};
+ghost use Rattle.sok_settle.specs.Steps.{GoesThrough, IsRecordIn, IsTriedAs};
 
-use crate::line::{fault_line, limit_line, optimal_line, tell, unsolvable_line};
+use crate::line::{limit_line, optimal_line, tell, tell_fault, unsolvable_line};
 use crate::search::search;
 use sok_book::fault::BookFault;
 use sok_book::offering::LETTER_LIMIT;
 use sok_book::record::Verdict;
 use sok_cert::claim::Claim;
 use sok_engine::fault::ToolFault;
-use sok_engine::output::write_whole;
 use sok_page::reading::level_of;
 use sok_page::record::Record;
 use sok_rules::cell::Dir;
@@ -141,7 +140,8 @@ fn settle_solved<S: Alter, W: Write>(
         (W.contents out.old) (W.contents out.new) result }
 {
     if dirs.len() > LETTER_LIMIT {
-        return tell_too_long(alloc, id, out);
+        let fault = ToolFault::Book(BookFault::Letters(PlayFault::TooLong));
+        return tell_fault(alloc, id, fault, out);
     }
     settle_offered(book, id, level, dirs, pushes, out)
 }
@@ -189,14 +189,4 @@ fn settle_unsolvable<S: Alter, W: Write>(
         Ok(()) => tell(&unsolvable_line(id), true, out),
         Err(fault) => Err(ToolFault::from(fault)),
     }
-}
-
-/// Tells of a level that its solution has too many letters.
-fn tell_too_long<W: Write>(alloc: Global, id: i64, out: &mut W) -> Result<bool, ToolFault>
-    ensures { TellsTooLong id (W.contents out.old) (W.contents out.new) result }
-{
-    let fault = ToolFault::Book(BookFault::Letters(PlayFault::TooLong));
-    let line = fault_line(alloc, id, fault)?;
-    write_whole(out, line.as_bytes())?;
-    Ok(false)
 }

@@ -1,17 +1,21 @@
-//! The engine that settles the levels of a book: each that nothing is proved of is searched, its
-//! solution is offered, and its verdict is proved.
+//! The engines that go through a book. One settles its levels: each that nothing is proved of is
+//! searched, its solution is offered, and its verdict is proved. The other offers lines of a text.
 //!
 //! | Module | What it holds |
 //! |---|---|
 //! | `law` | what holds of the book then |
 //! | `settle` | the levels of a book are settled |
+//! | `offers` | lines of offers are gone through |
 //! | `level` | one level is settled (private) |
-//! | `line` | the line of a level (private) |
+//! | `line` | the line of a level, or of an offer (private) |
 //! | `search` | the search of a level (private) |
+//! | `word` | the words of a line (private) |
 #![tactic(auto)]
 
 pub mod law;
 mod level;
 mod line;
+pub mod offers;
 mod search;
 pub mod settle;
+mod word;

@@ -1,14 +1,17 @@
-//! The line of a level.
+//! The line of a level that is settled, or of an offer.
 
-ghost use Rattle.std.specs.Prelude.{◌≡◌, IfOk, string_bytes};
-ghost use Rattle.sok_settle.specs.Settles.{fault_line, limit_line, optimal_line};
-ghost use Rattle.sok_settle.specs.Settles.{unsolvable_line};
-ghost use Rattle.sok_settle.specs.Steps.{TellsLine};
+ghost use Rattle.std.specs.Prelude.{◌≡◌, ◌++◌, IfOk, codes, string_bytes};
+ghost use Rattle.std.specs.Fmt.{signed_decimal};
+ghost use Rattle.sok_keep.specs.Offers.{offer_line};
+ghost use Rattle.sok_settle.specs.Lines.{TellsFault, TellsLine, fault_line};
+ghost use Rattle.sok_settle.specs.Settles.{limit_line, optimal_line, unsolvable_line};
 
 use arrayvec::ArrayString;
 use itoa::Buffer;
 use sok_engine::fault::ToolFault;
 use sok_engine::output::write_whole;
+use sok_keep::offer::offer_word;
+use sok_store::standing::Standing;
 use std::alloc::{AllocError, Global};
 use std::io::Write;
 
@@ -54,18 +57,49 @@ pub(crate) fn limit_line(id: i64, limit: u32, at_least: u32) -> Line
     line
 }
 
-/// The line of a level with a fault of its own.
-pub(crate) fn fault_line(alloc: Global, id: i64, fault: ToolFault) -> Result<String, AllocError>
+/// The line of an offer: the id, what became of it, and the pushes and moves of the best after it.
+pub(crate) fn told_line(id: i64, told: &Standing) -> Line
+    ensures { result.bytes ≡ signed_decimal id
+        ++ (codes " " ++ offer_line told.now.offer told.now.pushes told.now.moves) }
+{
+    let mut line = Line::new();
+    line.push_str(Buffer::new().format(id));
+    line.push_str(" ");
+    line.push_str(offer_word(told.offer));
+    line.push_str(" ");
+    line.push_str(Buffer::new().format(told.pushes));
+    line.push_str(" ");
+    line.push_str(Buffer::new().format(told.moves));
+    line.push_str("\n");
+    line
+}
+
+/// The line of what has a fault of its own.
+fn fault_line(alloc: Global, id: i64, fault: ToolFault) -> Result<String, AllocError>
     ensures { IfOk result (λ line. string_bytes line ≡ fault_line id fault) }
 {
     format!(in alloc; "{id} {fault}\n")
 }
 
-/// Writes the line of a level, and gives whether it is settled. A write that fails is `WriteFailed`
+/// Writes a line, and gives whether what it tells is well done. A write that fails is `WriteFailed`
 /// at once, after a front of the line.
-pub(crate) fn tell<W: Write>(line: &Line, settled: bool, out: &mut W) -> Result<bool, ToolFault>
-    ensures { TellsLine line.now.bytes settled (W.contents out.old) (W.contents out.new) result }
+pub(crate) fn tell<W: Write>(line: &Line, well: bool, out: &mut W) -> Result<bool, ToolFault>
+    ensures { TellsLine line.now.bytes well (W.contents out.old) (W.contents out.new) result }
 {
     write_whole(out, line.as_str().as_bytes())?;
-    Ok(settled)
+    Ok(well)
+}
+
+/// Writes the line of a fault, and gives that nothing is well done. It takes memory.
+pub(crate) fn tell_fault<W: Write>(
+    alloc: Global,
+    id: i64,
+    fault: ToolFault,
+    out: &mut W,
+) -> Result<bool, ToolFault>
+    ensures { TellsFault id fault (W.contents out.old) (W.contents out.new) result }
+{
+    let line = fault_line(alloc, id, fault)?;
+    write_whole(out, line.as_bytes())?;
+    Ok(false)
 }

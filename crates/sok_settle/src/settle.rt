@@ -7,8 +7,8 @@ ghost use Rattle.sok_row.specs.Told.{AreRecordsOf};
 ghost use Rattle.sok_search.specs.Faults.{IsBadLimit};
 ghost use Rattle.sok_store.specs.Calls.{EndsOpen, Stops, Turns};
 ghost use Rattle.sok_keep.specs.Causes.{IsCausedFault};
+ghost use Rattle.sok_settle.specs.Going.{GoesWhere};
 ghost use Rattle.sok_settle.specs.Settles.{SettlesSome, WritesSettling, settle_status};
-ghost use Rattle.sok_settle.specs.Steps.{GoesWhere};
 
 use crate::level::settle_kept;
 use sok_engine::fault::ToolFault;

@@ -4,11 +4,11 @@
 /// A command line, what it writes to the output, and to the error stream, and its status.
 pub type Row = (&'static str, &'static str, &'static str, u8);
 
-/// The file that is typed first.
-pub const FILE: &str = "small.xsb";
+/// The files that are typed first, and what is typed into each.
+pub const FILES: [(&str, &str); 2] = [("small.xsb", LEVELS), ("small.lurd", LETTERS)];
 
-/// What is typed into it.
-pub const TEXT: &str = "\
+/// A level that takes two pushes, and one without a solution.
+const LEVELS: &str = "\
 ; Around the box
 ######
 #    #
@@ -21,8 +21,14 @@ pub const TEXT: &str = "\
 #####
 ";
 
-/// The commands behind it, in their order.
-pub const SESSION: [Row; 20] = [
+/// A solution of the first, and letters that do not solve the second.
+const LETTERS: &str = "\
+1 ulldRR
+2 r
+";
+
+/// The commands behind them, in their order.
+pub const SESSION: [Row; 21] = [
     (
         "sok list small.xsb",
         "1 4 6 1 1 Around the box\n2 3 5 1 1 Stuck at the wall\n",
@@ -75,6 +81,12 @@ pub const SESSION: [Row; 20] = [
         0,
     ),
     ("sok offer small.db 1 ulldRR", "stored 2 6\n", "", 0),
+    (
+        "sok offers small.db small.lurd",
+        "1 kept 2 6\n2 fault 13 NotSolved\n",
+        "",
+        3,
+    ),
     (
         "sok prove small.db 1 first.cert",
         "proved optimal 2\n",

@@ -3,10 +3,11 @@ use Rattle.std.proofs.Common.{refl, inl, inr, arith, IsTrue}
 use Rattle.sqlite.specs.Tree.{Trees}
 use Rattle.sqlite.specs.State.{State, HasCleanDisk, Survives}
 use Rattle.sqlite.proofs.StateLemmas.{survives_weaker, survives_then}
+use Rattle.sok_book.specs.declared.fault.BookFault.{BookFault}
 use Rattle.sok_book.specs.Books.{Book}
 use Rattle.sok_sql.specs.Connections.{Rests}
 use Rattle.sok_row.specs.Kept.{HasBook, HoldsBook, ShowsBook, StoresBook, leaves_of}
-use Rattle.sok_store.specs.Calls.{Changes, Finds, Keeps, MakesNone, Stops, Turns}
+use Rattle.sok_store.specs.Calls.{Changes, Finds, Keeps, MakesNone, ShowsOn, Stops, Turns}
 
 -- what is shown is held
 pub held_shown : (s : State) (book : Book) → ShowsBook s book → HoldsBook s book
@@ -29,7 +30,15 @@ finds_keeps old new P finds clean book holds = let (is, stores) = finds clean bo
 pub changes_turns : (old new : State) (Makes : Book → Book → Type 0) → Changes old new Makes → Turns old new Makes
 changes_turns old new Makes changes clean book holds = let (after, makes, stores) = changes clean book holds in (after, makes, held new after stores)
 
+-- what is held is shown then
+pub stores_on : (old new : State) (fault : BookFault) → (HasCleanDisk new → (book : Book) → HoldsBook old book → StoresBook new book) → ShowsOn old new fault
+stores_on old new fault stores =
+    inr (λ clean book shows. let there = stores clean book (held_shown old book shows) in (book, refl, shown new book there, λ _. there.1.0))
+
 -- nothing is done
+pub same_on : (s : State) (fault : BookFault) → ShowsOn s s fault
+same_on s fault = inr (λ clean book shows. (book, refl, shows, λ up. up))
+
 pub stops_same : (s : State) (Makes : Book → Book → Type 0) → Stops s s Makes
 stops_same s Makes = record {
   clean = omega arith;

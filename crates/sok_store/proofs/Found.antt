@@ -22,7 +22,7 @@ use Rattle.sok_row.proofs.Books.{slice_get-leaves_of}
 use Rattle.sok_row.proofs.Pages.{one_page}
 use Rattle.sok_store.specs.Calls.{MakesNone}
 use Rattle.sok_store.specs.Running.{RunsReading}
-use Rattle.sok_store.proofs.Calls.{held, rests_holds, rests_stops, stops_same}
+use Rattle.sok_store.proofs.Calls.{held, rests_holds, rests_stops, same_on, stops_same, stores_on}
 use Rattle.sok_store.proofs.Caused.{row_told, set_get, told}
 
 -- ---- pages by their ids
@@ -120,6 +120,7 @@ module _ (old new : State) (id : ℕ) (low : 0 < id) (rests : Rests old new) whe
     row_reads (Ok kept) read broken = record {
       found = λ clean book holds. let (at, shows_book) = row_in clean book holds in (record_read book id row at kept read, shows_book);
       refused = tt;
+      shows = tt;
       stop = rests_stops old new rests MakesNone;
       cause = tt;
     }
@@ -127,6 +128,7 @@ module _ (old new : State) (id : ℕ) (low : 0 < id) (rests : Rests old new) whe
       found = tt;
       refused = λ clean book holds.
           let (at, shows_book) = row_in clean book holds in (inl (record_refused book id row at fault broken), held new book shows_book);
+      shows = stores_on old new fault (λ clean book holds. (row_in clean book holds).1);
       stop = rests_stops old new rests MakesNone;
       cause = row_told old new MakesNone fault _ _ broken;
     }
@@ -139,6 +141,7 @@ module _ (old new : State) (id : ℕ) (low : 0 < id) (rests : Rests old new) whe
       inr (refl, row_missing book id (λ n is. (shows clean (leaves_of book) n holds.1 is).1)),
       (holds.0, λ _. (shows clean (leaves_of book) (id - 1) holds.1 before).0.1),
     );
+    shows = stores_on old new NoLevel (λ clean book holds. (holds.0, (shows clean (leaves_of book) (id - 1) holds.1 before).0));
     stop = rests_stops old new rests MakesNone;
     cause = λ database. absurd cc;
   }
@@ -148,6 +151,7 @@ module _ (old new : State) (id : ℕ) (low : 0 < id) (rests : Rests old new) whe
   row_unread error fault outside memory why = record {
     found = tt;
     refused = λ clean book holds. (inl outside, rests_holds old new rests clean book holds);
+    shows = inl outside;
     stop = rests_stops old new rests MakesNone;
     cause = told old new MakesNone error fault memory (λ clean book holds. why clean (λ up. (holds.1 up).schema));
   }
@@ -158,6 +162,7 @@ pub reads_nowhere : {X : Type 0} (s : State) (id : ℕ) (Is : Page → X → Typ
 reads_nowhere s id Is none = record {
   found = tt;
   refused = λ clean book holds. (inr (refl, none book holds.0.few), holds);
+  shows = same_on s NoLevel;
   stop = stops_same s MakesNone;
   cause = λ database. absurd cc;
 }

@@ -21,7 +21,7 @@ use Rattle.sok_row.specs.Told.{IsRecordOf, Told}
 use Rattle.sok_store.specs.declared.entry.Entry.{Entry}
 use Rattle.sok_store.specs.Entries.{IsEntryOf, entry_pushes}
 use Rattle.sok_store.specs.Running.{RunsReading}
-use Rattle.sok_store.proofs.Calls.{held}
+use Rattle.sok_store.proofs.Calls.{held, stores_on}
 use Rattle.sok_store.proofs.Found.{page_read, some_and}
 
 -- ---- of the record
@@ -65,6 +65,7 @@ module _ (old new : State) (id : ℕ) (r : Record) (read : RunsReading old new i
         let (page, at, kept, told, shows) = page_read old new id (IsRecordOf id) r read clean book holds in
         (some_and (page_at book id) (λ page. IsEntryOf page entry) page at (is id page kept told), shows);
     refused = tt;
+    shows = tt;
     stop = read.stop;
     cause = tt;
   }
@@ -73,6 +74,7 @@ module _ (old new : State) (id : ℕ) (r : Record) (read : RunsReading old new i
     refused = λ clean book holds.
         let (page, at, kept, told, shows) = page_read old new id (IsRecordOf id) r read clean book holds in
         (inl (inl (refused id page kept told)), held new book shows);
+    shows = stores_on old new fault (λ clean book holds. (read.found clean book holds).1);
     stop = read.stop;
     cause = λ database clean book holds.
         let (page, at, kept, told, shows) = page_read old new id (IsRecordOf id) r read clean book holds in

@@ -8,6 +8,7 @@ use Rattle.sok_page.specs.Titles.{kept_title}
 use Rattle.sok_sql.specs.Causes.{HasCause, IsTooBig}
 use Rattle.sok_sql.specs.Connections.{StaysOpen}
 use Rattle.sok_sql.specs.Leaves.{Leaf}
+use Rattle.sok_row.specs.Faults.{IsOutside}
 use Rattle.sok_row.specs.Kept.{HasBook, HoldsBook, ShowsBook, StoresBook, leaves_of}
 
 -- an id as a number: 0, which is the id of no page, where it is negative
@@ -48,6 +49,10 @@ KeepsOpen old new = HasCleanDisk new → (book : Book) → HoldsBook old book �
 -- a call that was done leaves the connection open, so that what it holds is shown
 abbrev pub EndsOpen : State → State → Type 0
 EndsOpen old new = HasCleanDisk new → (book : Book) → HoldsBook old book → IsTrue new.is_open
+
+-- the connection shows on what it showed, unless the call is refused for a cause that is not of the command
+abbrev pub ShowsOn : State → State → BookFault → Type 0
+ShowsOn old new fault = IsOutside fault ⊎ Carries old new (λ book after. after ≡ book)
 
 -- a stop in the middle of the call leaves the book before it, or one that is made so of it
 abbrev pub Stops : State → State → (Book → Book → Type 0) → Type 0

@@ -12,7 +12,7 @@ use Rattle.sok_book.specs.Books.{Book, Page, page_at}
 use Rattle.sok_book.specs.Commands.{Adds, Offers, Proves}
 use Rattle.sok_book.specs.Refusals.{IsNotAdded, IsNotOffered, IsNotProved}
 use Rattle.sok_row.specs.Faults.{IsOutside}
-use Rattle.sok_store.specs.Calls.{Changes, Finds, IsCaused, Keeps, MakesNone, Stops, id_number}
+use Rattle.sok_store.specs.Calls.{Changes, Finds, IsCaused, Keeps, MakesNone, ShowsOn, Stops, id_number}
 use Rattle.sok_store.specs.Known.{IsNotKnown, ProvesKnown}
 use Rattle.sok_store.specs.Standing.{OffersTelling}
 use Rattle.sok_store.specs.declared.standing.Standing.{Standing}
@@ -22,6 +22,7 @@ use Rattle.sok_store.specs.Entries.{AddsPage, IsCausedAdding, IsCausedSetting, I
 pub record RunsReading {X : Type 0} (old new : State) (id : ℕ) (Is : Page → X → Type 0) (result : Result X BookFault) : Type 0 where
   pub found : IfOk result (λ x. Finds old new (λ book. IsSomeAnd (page_at book id) (λ page. Is page x)))
   pub refused : IfErr result (λ fault. Keeps old new (λ book. IsOutside fault ⊎ ((fault ≡ NoLevel) × IsNone (page_at book id))))
+  pub shows : IfErr result (ShowsOn old new)
   pub stop : Stops old new MakesNone
   pub cause : IfErr result (IsCaused old new MakesNone)
 

@@ -14,7 +14,8 @@ ghost use Rattle.sok_book.specs.declared.record.Offer.{Offer};
 ghost use Rattle.sok_cert.specs.Claim.{Claim};
 ghost use Rattle.sok_row.specs.Faults.{IsOutside};
 ghost use Rattle.sok_row.specs.Told.{AreRecordsOf, IsRecordOf};
-ghost use Rattle.sok_store.specs.Calls.{Changes, Finds, IsCaused, Keeps, MakesNone, Stops};
+ghost use Rattle.sok_store.specs.Calls.{Changes, Finds, IsCaused, Keeps, MakesNone};
+ghost use Rattle.sok_store.specs.Calls.{ShowsOn, Stops};
 ghost use Rattle.sok_store.specs.Calls.{id_number, title_kept};
 ghost use Rattle.sok_store.specs.Known.{IsCertified, IsNotKnown, ProvesKnown};
 ghost use Rattle.sok_store.specs.Opening.{IsCausedOpening, IsUnopened, LeavesOpening, Opens};
@@ -198,6 +199,8 @@ impl<S: Alter> Book<S> {
         ensures refused { IfErr result (λ fault.
             Keeps (state S.Store self.old) (state S.Store self.new)
             (λ book. IsOutside fault ⊎ IsNotOffered book (id_number id) letters.now fault)) }
+        ensures shows { IfErr result
+            (ShowsOn (state S.Store self.old) (state S.Store self.new)) }
         ensures stop { Stops (state S.Store self.old) (state S.Store self.new)
             (λ book after. (told : Standing)
             × OffersTelling book (id_number id) letters.now told after) }

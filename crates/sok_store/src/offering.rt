@@ -1,9 +1,9 @@
 //! A solution is offered.
 
-ghost use Rattle.std.specs.Prelude.{◌≡◌, ◌<◌, MatchOption, true};
+ghost use Rattle.std.specs.Prelude.{◌≡◌, ◌<◌, IfErr, MatchOption, true};
 ghost use Rattle.sqlite.specs.Held.{state};
 ghost use Rattle.sok_book.specs.Commands.{is_better};
-ghost use Rattle.sok_store.specs.Calls.{id_number};
+ghost use Rattle.sok_store.specs.Calls.{ShowsOn, id_number};
 ghost use Rattle.sok_store.specs.Entries.{entry_pushes};
 ghost use Rattle.sok_store.specs.Running.{RunsTelling};
 ghost use Rattle.sok_store.specs.Standing.{StaysBest};
@@ -28,8 +28,9 @@ pub(crate) fn offer_to<S: Alter>(
     id: i64,
     letters: &[Dir],
 ) -> Result<Standing, BookFault>
-    ensures { RunsTelling (state S.Store conn.old) (state S.Store conn.new)
+    ensures runs { RunsTelling (state S.Store conn.old) (state S.Store conn.new)
         (id_number id) letters.now result }
+    ensures shows { IfErr result (ShowsOn (state S.Store conn.old) (state S.Store conn.new)) }
 {
     match place_of(id) {
         Some(place) => offer_at(conn, alloc, place, letters),
@@ -45,8 +46,9 @@ fn offer_at<S: Alter>(
     letters: &[Dir],
 ) -> Result<Standing, BookFault>
     requires { 0 < id }
-    ensures { RunsTelling (state S.Store conn.old) (state S.Store conn.new)
+    ensures runs { RunsTelling (state S.Store conn.old) (state S.Store conn.new)
         id letters.now result }
+    ensures shows { IfErr result (ShowsOn (state S.Store conn.old) (state S.Store conn.new)) }
 {
     let entry = match entry_at(conn, alloc, id) {
         Ok(entry) => entry,

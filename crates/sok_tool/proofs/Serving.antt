@@ -13,10 +13,10 @@ use Rattle.sok_keep.specs.Shows.{IsBookText, IsShow}
 use Rattle.sok_keep.proofs.Ids.{fits, of_passed, passed}
 use Rattle.sok_shelf.specs.declared.text.BookText.TheVariants as texts
 use Rattle.sok_words.specs.declared.job.Job.TheVariants as job
-use Rattle.sok_words.specs.Forms.{Form, IsId, IsPlain, Means, add, check, draw, export, from_of, id_value, limit_of, list, offer, prove, replay, settle, show, solve, words_of}
+use Rattle.sok_words.specs.Forms.{Form, IsId, IsPlain, Means, add, check, draw, export, from_of, id_value, limit_of, list, offer, offers, prove, replay, settle, show, solve, words_of}
 use Rattle.sok_files.specs.Endings.{Ends}
 use Rattle.sok_files.specs.Files.{Files}
-use Rattle.sok_tool.specs.Commands.{RunsAdd, RunsCheck, RunsOffer, RunsPlay, RunsProve, RunsSettle, RunsShowing, RunsSolve, Serves}
+use Rattle.sok_tool.specs.Commands.{RunsAdd, RunsCheck, RunsOffer, RunsOffers, RunsPlay, RunsProve, RunsSettle, RunsShowing, RunsSolve, Serves}
 use Rattle.sok_tool.specs.Databases.{Databases, refused, unread}
 
 -- where memory was refused, nothing is written
@@ -47,6 +47,7 @@ asks (solve file number limit bound cert) = omega arith
 asks (check file number cert) = omega arith
 asks (add db file) = omega arith
 asks (offer db id text) = omega arith
+asks (offers db file) = omega arith
 asks (prove db id cert) = omega arith
 asks (settle db limit from) = omega arith
 asks (show db id) = omega arith
@@ -124,6 +125,14 @@ Serves-offer files databases (offer of number spelled) db id text db_name letter
     same_three (λ d i t. RunsOffer databases d i t out err exit) _ _ _ _ _ _ (db_named ∙ db_is) id_is (named ∙ text_is)
     (of_passed (λ i. RunsOffer databases db_name i letters out err exit) id (plain_id id number plain.1 id_is) runs)
 Serves-offer files databases _ db id text db_name letters out err exit plain means db_named named runs = absurd means
+
+pub Serves-offers : (files : Files) (databases : Databases) (form : Form) (db file : String Global) (db_name name : List ℕ) (out err : Bytes) (exit : ℕ)
+    → Means form (job.Offers db file) → db_name ≡ string_bytes db → name ≡ string_bytes file → RunsOffers files databases db_name name out err exit
+    → Serves files databases form out err exit
+Serves-offers files databases (offers of place) db file db_name name out err exit (db_is, file_is) db_named named runs =
+    subst (λ f. RunsOffers files databases of f out err exit) (named ∙ file_is)
+    (subst (λ d. RunsOffers files databases d name out err exit) (db_named ∙ db_is) runs)
+Serves-offers files databases _ db file db_name name out err exit means db_named named runs = absurd means
 
 pub Serves-prove : (files : Files) (databases : Databases) (form : Form) (db : String Global) (id : ℤ) (cert : String Global) (db_name name : List ℕ)
     (out err : Bytes) (exit : ℕ) → IsPlain form → Means form (job.Prove db id cert) → db_name ≡ string_bytes db → name ≡ string_bytes cert

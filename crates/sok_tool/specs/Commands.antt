@@ -17,13 +17,14 @@ use Rattle.sok_keep.specs.Adds.{AddsBytes, WritesAdding}
 use Rattle.sok_keep.specs.Offers.{OffersText, WritesOffer}
 use Rattle.sok_keep.specs.Proves.{ProvesBytes, WritesProof}
 use Rattle.sok_keep.specs.Shows.{IsBookText, IsShow}
+use Rattle.sok_settle.specs.Offers.{OffersBytes, WritesOffers}
 use Rattle.sok_settle.specs.Settles.{SettlesSome, WritesSettling}
 use Rattle.sok_play.specs.Drawings.{IsDrawing}
 use Rattle.sok_play.specs.Listing.{IsListing}
 use Rattle.sok_play.specs.Plays.{IsReplay}
 use Rattle.sok_shelf.specs.declared.text.BookText.TheVariants.{Overview, Export}
 use Rattle.sok_store.specs.Calls.{MakesNone}
-use Rattle.sok_words.specs.Forms.{Form, add, check, draw, export, from_of, id_value, limit_of, list, offer, prove, replay, settle, show, solve}
+use Rattle.sok_words.specs.Forms.{Form, add, check, draw, export, from_of, id_value, limit_of, list, offer, offers, prove, replay, settle, show, solve}
 use Rattle.sok_tool.specs.Databases.{Databases, OfOpened, Place, WorksOn, at, made_at}
 
 -- what is answered to the job of playing a text: of replaying it, or of drawing the level behind it
@@ -56,6 +57,12 @@ abbrev pub RunsOffer : Databases → List ℕ → ℤ → List ℕ → Bytes →
 RunsOffer databases db id text out err exit =
     RunsOn (at databases db) ⊥ (OffersText id text) (λ book after result. WritesOffer book id text after out.old out.new result) out err exit
 
+-- the lines of a file are offered
+abbrev pub RunsOffers : Files → Databases → List ℕ → List ℕ → Bytes → Bytes → ℕ → Type 0
+RunsOffers files databases db file out err exit =
+    RunsOn (at databases db) (files.lacks file) (λ book after. OfOpened (files.reads file) (λ known. OffersBytes known book after))
+    (λ book after result. OfOpened (files.reads file) (λ known. WritesOffers book known after out.old out.new result)) out err exit
+
 -- the certificate in a file is judged for the level with an id
 abbrev pub RunsProve : Files → Databases → List ℕ → ℤ → List ℕ → Bytes → Bytes → ℕ → Type 0
 RunsProve files databases db id cert out err exit =
@@ -83,6 +90,7 @@ Serves files databases (solve file number limit bound cert) out err exit =
     RunsSolve files file (digits_value 10 number) (limit_of limit) bound cert out err exit
 Serves files databases (add db file) out err exit = RunsAdd files databases db file out err exit
 Serves files databases (offer db id text) out err exit = RunsOffer databases db (id_value id) text out err exit
+Serves files databases (offers db file) out err exit = RunsOffers files databases db file out err exit
 Serves files databases (prove db id cert) out err exit = RunsProve files databases db (id_value id) cert out err exit
 Serves files databases (settle db limit from) out err exit = RunsSettle databases db (limit_of limit) (from_of from) out err exit
 Serves files databases (show db (Some id)) out err exit = RunsShowing databases db (λ book. IsShow book (id_value id)) out err exit

@@ -11,6 +11,7 @@ ghost use Rattle.sok_keep.specs.Adds.{AddsBytes, WritesAdding};
 ghost use Rattle.sok_keep.specs.Offers.{OffersText, WritesOffer};
 ghost use Rattle.sok_keep.specs.Proves.{ProvesBytes, WritesProof};
 ghost use Rattle.sok_keep.specs.Shows.{IsBookText, IsShow};
+ghost use Rattle.sok_settle.specs.Offers.{OffersBytes, WritesOffers};
 ghost use Rattle.sok_settle.specs.Settles.{SettlesSome, WritesSettling};
 ghost use Rattle.sok_tool.specs.Databases.{IsWithoutBook, OfOpened, OpensFound, WorksOn, place};
 ghost use Rattle.sok_tool.specs.declared.databases.IfAbsent.{IfAbsent};
@@ -25,6 +26,7 @@ use sok_keep::add::add_bytes;
 use sok_keep::offer::offer_bytes;
 use sok_keep::prove::prove_bytes;
 use sok_keep::show::{book_bytes, show_bytes};
+use sok_settle::offers::offers_bytes;
 use sok_settle::settle::settle_bytes;
 use sok_shelf::text::BookText;
 use sok_store::book::{Book, OpenRefused};
@@ -67,6 +69,25 @@ pub(crate) fn offer<S: Alter + Drop, F: Databases<Opened = Connection<S>> + Allo
 {
     let mut book = book_of(rt, db)?;
     let told = offer_bytes(rt.alloc(), &mut book, id, text, out);
+    rt.close(db, book.into_connection());
+    told
+}
+
+/// Offers the lines of a text.
+pub(crate) fn offers<
+    S: Alter + Drop,
+    F: Folder + Databases<Opened = Connection<S>> + AllocGlobal,
+    W: Write,
+>(rt: &F, db: &str, path: &str, out: &mut W) -> Result<u8, ToolFault>
+    ensures { WorksOn (place (state S.Store)
+        (F.keeps rt.now if_absent.Refuse db.now) (F.refuses rt.now db.now) (F.leaves rt.now db.now)) (F.lacks rt.now path.now)
+        (λ book after. OfOpened (F.reads rt.now path.now) (λ known. OffersBytes known book after))
+        (λ book after. OfOpened (F.reads rt.now path.now) (λ known.
+        WritesOffers book known after (W.contents out.old) (W.contents out.new) result))
+        (record { old = W.contents out.old; new = W.contents out.new }) result }
+{
+    let (mut book, mut input) = book_and_file(rt, db, IfAbsent::Refuse, path)?;
+    let told = offers_bytes(rt.alloc(), &mut book, &mut input, out);
     rt.close(db, book.into_connection());
     told
 }

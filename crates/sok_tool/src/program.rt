@@ -12,7 +12,7 @@ ghost use Rattle.sok_tool.specs.Commands.{Serves};
 ghost use Rattle.sok_tool.specs.declared.databases.IfAbsent.TheVariants as if_absent;
 
 use crate::databases::Databases;
-use crate::keeping::{add, prove, settle, show, tell};
+use crate::keeping::{add, offers, prove, settle, show, tell};
 use crate::letters::{draw, offer, replay};
 use sok_files::command::{check, list, solve};
 use sok_files::ending::{ended, refused};
@@ -111,6 +111,7 @@ fn served<
         Job::Offer(db, id, text) => {
             ended(offer(rt, db.as_str(), id, text.as_str(), input, out), err)
         }
+        Job::Offers(db, file) => ended(offers(rt, db.as_str(), file.as_str(), out), err),
         Job::Prove(db, id, cert) => ended(prove(rt, db.as_str(), id, cert.as_str(), out), err),
         Job::Settle(db, limit, from) => { ended(settle(rt, db.as_str(), limit, from, out), err) }
         Job::Show(db, id) => match id {

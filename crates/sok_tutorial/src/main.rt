@@ -2,7 +2,7 @@
 //! and what is shown under each.
 #![tactic(auto)]
 
-use sok_sketch::tutorial::{FILE, SESSION, TEXT};
+use sok_sketch::tutorial::{FILES, SESSION};
 use std::alloc::{AllocError, Global};
 use std::process::ExitCode;
 use std::{fs, io};
@@ -45,8 +45,10 @@ fn shown(alloc: Global, page: &str) -> Result<String, AllocError> {
 /// What is typed in the session, and what is printed.
 fn session(alloc: Global) -> Result<String, AllocError> {
     let mut text = String::new(alloc);
-    for part in ["$ cat > ", FILE, " << 'END'\n", TEXT, "END\n"] {
-        text.push_str(part)?;
+    for (path, typed) in FILES {
+        for part in ["$ cat > ", path, " << 'END'\n", typed, "END\n"] {
+            text.push_str(part)?;
+        }
     }
     for (line, out, err, _status) in SESSION {
         for part in ["$ ", line, "\n", out, err] {

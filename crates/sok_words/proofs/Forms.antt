@@ -7,7 +7,7 @@ use Rattle.clap.specs.Walk.{Row, Text, walked}
 use Rattle.clap.specs.Words.{first_of}
 use Rattle.clap.specs.Simple.{subcommand_of}
 use Rattle.clap.specs.Takes.{takes}
-use Rattle.sok_words.specs.Forms.{Answers, Form, IsId, IsNumber, IsPlain, Means, list, replay, draw, solve, check, add, offer, prove, settle, show, export, words_of}
+use Rattle.sok_words.specs.Forms.{Answers, Form, IsId, IsNumber, IsPlain, Means, list, replay, draw, solve, check, add, offer, offers, prove, settle, show, export, words_of}
 use Rattle.sok_words.specs.Rows.{HasId, HasNumber, HasValues}
 use Rattle.sok_words.specs.Shapes.{sok_app}
 use Rattle.sok_words.specs.declared.job.Job.{Job}
@@ -66,6 +66,8 @@ reads program (add db file) (d, f) =
 reads program (offer db id text) (d, i, t) =
     by program (offer db id text) (codes "offer") (value db d ∷ digits id i.0 ∷ value text t ∷ []) refl refl
     (record { passes = (refl, (refl, (rw (id_passes (codes "ID") id i) refl, tt))); ends = refl }) (refl, refl, (i, refl), refl)
+reads program (offers db file) (d, f) =
+    by program (offers db file) (codes "offers") (value db d ∷ value file f ∷ []) refl refl (record { passes = (refl, (refl, tt)); ends = refl }) (refl, refl, refl)
 reads program (prove db id cert) (d, i, c) =
     by program (prove db id cert) (codes "prove") (value db d ∷ digits id i.0 ∷ value cert c ∷ []) refl refl
     (record { passes = (refl, (refl, (rw (id_passes (codes "ID") id i) refl, tt))); ends = refl }) (refl, refl, (i, refl), refl)

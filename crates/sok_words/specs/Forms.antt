@@ -28,6 +28,7 @@ pub data Form : Type 0 where
   check : List ℕ → List ℕ → List ℕ → Form
   add : List ℕ → List ℕ → Form
   offer : List ℕ → List ℕ → List ℕ → Form
+  offers : List ℕ → List ℕ → Form
   prove : List ℕ → List ℕ → List ℕ → Form
   settle : List ℕ → Option (List ℕ) → Option (List ℕ) → Form
   show : List ℕ → Option (List ℕ) → Form
@@ -42,6 +43,7 @@ IsPlain (solve file number limit bound cert) =
 IsPlain (check file number cert) = IsValue file × IsNumber number × IsValue cert
 IsPlain (add db file) = IsValue db × IsValue file
 IsPlain (offer db id text) = IsValue db × IsId id × IsValue text
+IsPlain (offers db file) = IsValue db × IsValue file
 IsPlain (prove db id cert) = IsValue db × IsId id × IsValue cert
 IsPlain (settle db limit from) = IsValue db × IfSome limit IsNumber × IfSome from IsId
 IsPlain (show db id) = IsValue db × IfSome id IsId
@@ -67,6 +69,7 @@ words_of (solve file number limit bound cert) = codes "solve" ∷ file ∷ numbe
 words_of (check file number cert) = codes "check" ∷ file ∷ number ∷ cert ∷ []
 words_of (add db file) = codes "add" ∷ db ∷ file ∷ []
 words_of (offer db id text) = codes "offer" ∷ db ∷ id ∷ text ∷ []
+words_of (offers db file) = codes "offers" ∷ db ∷ file ∷ []
 words_of (prove db id cert) = codes "prove" ∷ db ∷ id ∷ cert ∷ []
 words_of (settle db limit from) = codes "settle" ∷ db ∷ (option_words (codes "--limit") limit ++ option_words (codes "--from") from)
 words_of (show db id) = codes "show" ∷ db ∷ option_to_list id
@@ -97,6 +100,7 @@ Means (solve file number limit bound cert) (job.Solve a n most bounds path) =
 Means (check file number cert) (job.Check a b c) = (string_bytes a ≡ file) × (b ≡ digits_value 10 number) × (string_bytes c ≡ cert)
 Means (add db file) (job.Add a b) = (string_bytes a ≡ db) × (string_bytes b ≡ file)
 Means (offer db id text) (job.Offer a b c) = (string_bytes a ≡ db) × (b ≡ id_value id) × (string_bytes c ≡ text)
+Means (offers db file) (job.Offers a b) = (string_bytes a ≡ db) × (string_bytes b ≡ file)
 Means (prove db id cert) (job.Prove a b c) = (string_bytes a ≡ db) × (b ≡ id_value id) × (string_bytes c ≡ cert)
 Means (settle db limit from) (job.Settle a most first) = (string_bytes a ≡ db) × (most ≡ limit_of limit) × (first ≡ from_of from)
 Means (show db id) (job.Show a b) = (string_bytes a ≡ db) × (b ≡ option_map id_value id)

@@ -3,7 +3,7 @@ use Rattle.std.specs.Prelude.{◌≡◌, ℕ, Bool, true, false, List, Option, S
 use Rattle.std.specs.Str.Parse.{digits_value}
 use Rattle.clap.specs.Words.{Row, Text, first_of, one_of}
 use Rattle.clap.specs.Lexer.{without_minus}
-use Rattle.sok_words.specs.Forms.{Form, IsId, IsNumber, limit_of, list, replay, draw, solve, check, add, offer, prove, settle, show, export}
+use Rattle.sok_words.specs.Forms.{Form, IsId, IsNumber, limit_of, list, replay, draw, solve, check, add, offer, offers, prove, settle, show, export}
 
 -- under the name stand the digits of the number
 abbrev pub HasNumber : List Row → Text → Text → ℕ → Type 0
@@ -58,6 +58,7 @@ HasValues (offer db id text) name rows = (name ≡ codes "offer")
     × (first_of (codes "DB") rows ≡ Some db)
     × HasId rows (codes "ID") id
     × (first_of (codes "TEXT") rows ≡ Some text)
+HasValues (offers db file) name rows = (name ≡ codes "offers") × (first_of (codes "DB") rows ≡ Some db) × (first_of (codes "FILE") rows ≡ Some file)
 HasValues (prove db id cert) name rows = (name ≡ codes "prove")
     × (first_of (codes "DB") rows ≡ Some db)
     × HasId rows (codes "ID") id

@@ -21,7 +21,7 @@ Exit status:
   0  done
   1  no: not solved, certificate refused, offer not better
   2  these words ask for nothing that is known
-  3  an input is refused: the fault says why
+  3  an input is refused, or a line of offers: the fault says why
   4  more states can be reached than the solver may keep, or settle leaves a level untested
   5  a file, a stream or the book's database failed
   6  memory was refused

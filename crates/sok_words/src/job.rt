@@ -21,6 +21,8 @@ pub enum Job {
     Add(String, String),
     /// The path of a book, the id of a level, and a text of letters.
     Offer(String, i64, String),
+    /// The path of a book, and that of lines of offers.
+    Offers(String, String),
     /// The path of a book, the id of a level, and the path of a certificate.
     Prove(String, i64, String),
     /// The path of a book, the most states to keep for a level, and the id of the first level.

@@ -64,6 +64,12 @@ pub(crate) const FILE: Place = Place {
     help: "A collection of levels in XSB text, at most 16,777,216 bytes; - is the standard input",
 };
 
+pub(crate) const OFFERS: Place = Place {
+    name: "FILE",
+    kind: Kind::Text,
+    help: "Lines of an id, a blank and letters, at most 16,777,216 bytes; - is the standard input",
+};
+
 pub(crate) const N: Place = Place {
     name: "N",
     kind: Kind::Number,

@@ -46,6 +46,10 @@ fn job_of(alloc: Global, name: &str, values: &ArgMatches<'_>) -> Result<Job, Job
             let (db, id) = entry_of(alloc, values)?;
             Ok(Job::Offer(db, id, text_of(alloc, values, "TEXT")?))
         }
+        "offers" => {
+            let db = text_of(alloc, values, "DB")?;
+            Ok(Job::Offers(db, text_of(alloc, values, "FILE")?))
+        }
         "prove" => {
             let (db, id) = entry_of(alloc, values)?;
             Ok(Job::Prove(db, id, text_of(alloc, values, "CERT")?))

@@ -4,7 +4,8 @@ ghost use Rattle.std.specs.Prelude.{◌≡◌, IfOk, fold};
 ghost use Rattle.sok_words.specs.Shapes.{Builds, own_app, sok_app, sok_top, with_own};
 
 use crate::place::{
-    BOUND, CERT, DB, FILE, FROM, ID, LETTERS, LIMIT, N, OUTPUT, Place, SHOWN, SOLUTIONS, TEXT,
+    BOUND, CERT, DB, FILE, FROM, ID, LETTERS, LIMIT, N, OFFERS, OUTPUT, Place, SHOWN, SOLUTIONS,
+    TEXT,
 };
 use clap::Command;
 use std::alloc::{AllocError, Global};
@@ -34,7 +35,7 @@ impl Subcommand {
 }
 
 /// The subcommands in the order of the help.
-pub(crate) fn subcommands() -> [Subcommand; 11]
+pub(crate) fn subcommands() -> [Subcommand; 12]
     ensures { fold with_own sok_top result ≡ sok_app }
 {
     [
@@ -130,6 +131,22 @@ Letters that do not solve the level are fault 13 NotSolved (status 1). Another f
 
 Example: sok offer small.db 1 ulldRR",
             places: &[DB, ID, TEXT],
+        },
+        Subcommand {
+            name: "offers",
+            about: "Offers solutions by the line, each as offer does",
+            writes: "\
+Each line of FILE is ID LURD: the id of a level in decimal digits, a blank, and letters as TEXT of
+offer. Blank lines are passed over. For each other line it writes one, as soon as it is done:
+  ID stored PUSHES MOVES   as offer: they are the best now
+  ID kept PUSHES MOVES     as offer: the best stays
+  ID fault NUMBER NAME ..  what offer refuses, which changes nothing; ID is 0 where a line begins
+                           with no decimal number
+The status is 0 where each line is stored or kept, and else 3. A fault of the file or of the book is
+status 3 or 5, and of memory 6: the lines before it stand, and what they tell is kept.
+
+Example: sok offers small.db small.lurd",
+            places: &[DB, OFFERS],
         },
         Subcommand {
             name: "prove",

@@ -18,7 +18,7 @@ use std::alloc::Global;
 /// ```text
 /// list FILE · replay FILE N TEXT · draw FILE N [TEXT]
 /// solve FILE N [--limit S] [--bound] [--cert PATH] · check FILE N CERT
-/// add DB FILE · offer DB ID TEXT · prove DB ID CERT
+/// add DB FILE · offer DB ID TEXT · offers DB FILE · prove DB ID CERT
 /// settle DB [--limit S] [--from ID] · show DB [ID] · export DB [--solutions]
 /// ```
 ///

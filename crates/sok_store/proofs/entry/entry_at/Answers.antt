@@ -10,4 +10,4 @@ returns-in-Ok g c =
 pub returns-in-Err : goal.returns-in-Err
 returns-in-Err g c =
     let read = c.in-Err.ensures in
-    record { found = tt; refused = read.refused; stop = read.stop; cause = read.cause }
+    record { found = tt; refused = read.refused; shows = read.shows; stop = read.stop; cause = read.cause }

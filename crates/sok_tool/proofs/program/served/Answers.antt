@@ -2,7 +2,7 @@ use Rattle.std.proofs.Common.{◌∙◌, inl, inr, Some, None, ap, subst}
 use Rattle.sok_words.specs.declared.job.Job.TheVariants as job
 use Rattle.sok_words.specs.Forms.{Means}
 use Rattle.sok_tool.proofs.Plain.{draw_word, offer_word, on_word, replay_word}
-use Rattle.sok_tool.proofs.Serving.{Serves-add, Serves-check, Serves-draw, Serves-export, Serves-offer, Serves-overview, Serves-prove, Serves-replay, Serves-settle, Serves-show, Serves-solve, Serves-unread}
+use Rattle.sok_tool.proofs.Serving.{Serves-add, Serves-check, Serves-draw, Serves-export, Serves-offer, Serves-offers, Serves-overview, Serves-prove, Serves-replay, Serves-settle, Serves-show, Serves-solve, Serves-unread}
 use Rattle.sok_tool.proofs.program.served.Goals as goal
 
 pub returns-in-Replay : goal.returns-in-Replay
@@ -58,6 +58,13 @@ returns-in-Offer g c = λ form plain means.
       | inr does ↦ Serves-offer _ _ form s.db s.id s.text c.as_str-in-Offer.result.now c.as_str-in-Offer-2.result.now _ _ _ plain meant c.as_str-in-Offer.ensures.value
           word (c.offer.result, does, c.ended-in-Offer.ensures)
     ]
+
+pub returns-in-Offers : goal.returns-in-Offers
+returns-in-Offers g c = λ form plain means.
+    let s = c.in-Offers in
+    let meant : Means form (job.Offers s.db s.file) = subst (Means form) s.is means in
+    Serves-offers _ _ form s.db s.file c.as_str-in-Offers.result.now c.as_str-in-Offers-2.result.now _ _ _ meant c.as_str-in-Offers.ensures.value
+    c.as_str-in-Offers-2.ensures.value (c.offers.result, c.offers.ensures, c.ended-in-Offers.ensures)
 
 pub returns-in-Prove : goal.returns-in-Prove
 returns-in-Prove g c = λ form plain means.
