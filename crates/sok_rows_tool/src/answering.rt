@@ -10,7 +10,7 @@ use sok_settle::offers::offers_bytes;
 use sok_settle::settle::settle_bytes;
 use sok_shelf::text::BookText;
 use sok_store::book::Book;
-use sqlite::{Alter, Connection};
+use sqlite::{Alter, Connection, MemStore};
 use std::alloc::Global;
 use std::io::Write;
 use std::test::Fail;
@@ -44,6 +44,11 @@ pub(crate) fn book_in<S: Alter + Drop>(
         Ok(book) => Ok(book),
         Err(refused) => Err(refused.fault.into()),
     }
+}
+
+/// An empty book in memory.
+pub(crate) fn empty_book(alloc: Global) -> Result<Book<MemStore>, Fail> {
+    book_in(alloc, Connection::open_in_memory(alloc)?)
 }
 
 /// Works on a book. It passes on nothing of the engines' contracts, which no test needs: each test
@@ -97,17 +102,8 @@ fn first_other_of<S: Alter>(
     None
 }
 
-/// The same of a database.
-fn first_other_in<S: Alter + Drop>(
-    alloc: Global,
-    connection: Connection<S>,
-    rows: &[Row],
-) -> Result<Option<Command<'static>>, Fail> {
-    let mut book = book_in(alloc, connection)?;
-    Ok(first_other_of(alloc, &mut book, rows))
-}
-
-/// The first command that tells something else, beginning with an empty book in memory.
+/// The same, beginning with an empty book in memory.
 pub(crate) fn first_other(alloc: Global, rows: &[Row]) -> Result<Option<Command<'static>>, Fail> {
-    first_other_in(alloc, Connection::open_in_memory(alloc)?, rows)
+    let mut book = empty_book(alloc)?;
+    Ok(first_other_of(alloc, &mut book, rows))
 }

@@ -1,7 +1,6 @@
 //! Levels with titles, and a book that is full.
 
-use crate::answering::{Command, answer};
-use crate::tables::opened;
+use crate::answering::{Command, answer, book_in, empty_book};
 use sok_book::fault::BookFault;
 use sok_book::limits::LEVEL_LIMIT;
 use sok_engine::fault::ToolFault;
@@ -14,14 +13,6 @@ use sqlite::{Connection, MemStore};
 use std::alloc::{AllocError, Global};
 use std::process::Abort;
 use std::test::Fail;
-
-/// A table as a book.
-fn book_in(alloc: Global, connection: Connection<MemStore>) -> Result<Book<MemStore>, Fail> {
-    match opened(alloc, connection)? {
-        Ok(book) => Ok(book),
-        Err(refused) => Err(refused.fault.into()),
-    }
-}
 
 /// What comes of adding a board.
 fn added(
@@ -78,7 +69,7 @@ fn add_titled(rt: &impl Abort, alloc: Global, book: &mut Book<MemStore>) -> Resu
 #[test]
 fn the_first_title_is_kept_without_its_ends(rt: HostRuntime) -> Result<(), Fail> {
     let alloc = rt.alloc();
-    let mut book = book_in(alloc, Connection::open_in_memory(alloc)?)?;
+    let mut book = empty_book(alloc)?;
     add_titled(&rt, alloc, &mut book)
 }
 
@@ -138,13 +129,21 @@ fn add_collection(
     book: &mut Book<MemStore>,
     collection: &str,
 ) -> Result<(), Fail> {
-    let full = Err(ToolFault::Book(BookFault::BookFull));
     let mut out = Vec::new(alloc);
     let told = answer(alloc, book, Command::Add(collection), &mut out);
-    assert_eq!(rt; told, full);
+    assert_eq!(rt; told, Err(ToolFault::Book(BookFault::BookFull)));
     let lines = b"1 id 7\n2 fault 3 NoPlayer\n".as_slice();
     assert_eq!(rt; out.as_slice(), lines);
-    // where they can't be written, that is told
+    Ok(())
+}
+
+/// The same where the lines can't be written, which is told.
+fn add_untold(
+    rt: &impl Abort,
+    alloc: Global,
+    book: &mut Book<MemStore>,
+    collection: &str,
+) -> Result<(), Fail> {
     let mut room = [0u8; 10];
     let told = answer(
         alloc,
@@ -162,13 +161,23 @@ fn add_three(rt: &impl Abort, alloc: Global, book: &mut Book<MemStore>) -> Resul
     let there = numbered(alloc, 7)?;
     let more = numbered(alloc, 8)?;
     let collection = format!(in alloc; "{there}\n#####\n#$ .#\n#####\n\n{ONE_PUSH}\n{more}")?;
-    add_collection(rt, alloc, book, collection.as_str())
+    add_collection(rt, alloc, book, collection.as_str())?;
+    add_untold(rt, alloc, book, collection.as_str())
+}
+
+fn full_book(alloc: Global) -> Result<Book<MemStore>, Fail> {
+    book_in(alloc, filled(alloc)?)
+}
+
+/// Adds levels, and then a collection.
+fn add_more(rt: &impl Abort, alloc: Global, book: &mut Book<MemStore>) -> Result<(), Fail> {
+    add_to_full(rt, alloc, book)?;
+    add_three(rt, alloc, book)
 }
 
 #[test]
 fn a_full_book_takes_no_other_level(rt: HostRuntime) -> Result<(), Fail> {
     let alloc = rt.alloc();
-    let mut book = book_in(alloc, filled(alloc)?)?;
-    add_to_full(&rt, alloc, &mut book)?;
-    add_three(&rt, alloc, &mut book)
+    let mut book = full_book(alloc)?;
+    add_more(&rt, alloc, &mut book)
 }

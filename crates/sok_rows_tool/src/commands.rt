@@ -1,13 +1,13 @@
 //! Commands one after another, each on the book that the last one left.
 
-use crate::answering::{Command, Row, answer, book_in, first_other};
+use crate::answering::{Command, Row, answer, empty_book, first_other};
 use sok_book::fault::BookFault;
 use sok_engine::fault::ToolFault;
 use sok_rules::fault::PlayFault;
 use sok_sketch::sketch::{BOX_BEYOND_THE_GOAL, PAIR_THAT_IS_LOST, ROOM_OF_TWO_ROWS, SOLVED};
 use sok_store::book::Book;
 use sok_text::lurd::LurdFault;
-use sqlite::{Connection, MemStore};
+use sqlite::MemStore;
 use std::alloc::Global;
 use std::process::Abort;
 use std::test::Fail;
@@ -314,14 +314,19 @@ fn settle_twice(rt: &impl Abort, alloc: Global, book: &mut Book<MemStore>) -> Re
     Ok(())
 }
 
-/// The answer of an offer cannot be written, and the offer stands; and so with a verdict, and with
-/// a line of offers.
+/// The answer of an offer cannot be written, and the offer stands; and so with a verdict.
 #[test]
 fn a_command_stands_without_its_answer(rt: HostRuntime) -> Result<(), Fail> {
     let alloc = rt.alloc();
-    let mut book = book_in(alloc, Connection::open_in_memory(alloc)?)?;
+    let mut book = empty_book(alloc)?;
     offer_twice(&rt, alloc, &mut book)?;
-    settle_twice(&rt, alloc, &mut book)?;
-    let mut other = book_in(alloc, Connection::open_in_memory(alloc)?)?;
-    offer_lines_twice(&rt, alloc, &mut other)
+    settle_twice(&rt, alloc, &mut book)
+}
+
+/// And so with a line of offers.
+#[test]
+fn a_line_stands_without_its_answer(rt: HostRuntime) -> Result<(), Fail> {
+    let alloc = rt.alloc();
+    let mut book = empty_book(alloc)?;
+    offer_lines_twice(&rt, alloc, &mut book)
 }

@@ -1,11 +1,11 @@
 //! A text of as many letters as may be offered.
 
-use crate::answering::{Command, answer, book_in};
+use crate::answering::{Command, answer, empty_book};
 use sok_engine::fault::ToolFault;
 use sok_sketch::sketch::ROOM_OF_TWO_ROWS;
 use sok_store::book::Book;
 use sok_text::lurd::LurdFault;
-use sqlite::{Connection, MemStore};
+use sqlite::MemStore;
 use std::alloc::Global;
 use std::process::Abort;
 use std::test::Fail;
@@ -40,7 +40,7 @@ fn shows(alloc: Global, book: &mut Book<MemStore>, letters: &str) -> Result<bool
 
 /// A room in a book.
 fn room(alloc: Global) -> Result<Book<MemStore>, Fail> {
-    let mut book = book_in(alloc, Connection::open_in_memory(alloc)?)?;
+    let mut book = empty_book(alloc)?;
     let mut out = Vec::new(alloc);
     answer(alloc, &mut book, Command::Add(ROOM_OF_TWO_ROWS), &mut out)?;
     Ok(book)

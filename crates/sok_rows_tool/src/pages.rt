@@ -77,41 +77,54 @@ fn record(
     Ok(kept)
 }
 
-/// Whether records are exported as a text, with their solutions or without.
-fn is_exported(
-    alloc: Global,
-    records: &[Record],
-    solutions: bool,
-    whole: &str,
-) -> Result<bool, Fail> {
-    Ok(export_text(alloc, records, solutions)?.as_slice() == whole.as_bytes())
-}
-
-/// Whether each record is told in its line of a text.
-fn is_told(alloc: Global, records: &[Record], lines: &str) -> Result<bool, Fail> {
-    Ok(overview_text(alloc, records)?.as_slice() == lines.as_bytes())
-}
-
-#[test]
-fn records_are_shown_exported_and_told(rt: HostRuntime) -> Result<(), Fail> {
-    let mut records = Vec::new(rt.alloc());
+/// Both records.
+fn records(rt: &impl Abort, alloc: Global) -> Result<Vec<Record>, Fail> {
+    let mut records = Vec::new(alloc);
     for (id, row, lines) in [
         (1, ROOM, "title A room\nbest 2 6 ulldRR\nverdict optimal\n"),
         (2, UNTITLED, "best none\nverdict untested\n"),
     ] {
-        records.push(record(&rt, rt.alloc(), id, row, lines)?)?;
+        records.push(record(rt, alloc, id, row, lines)?)?;
     }
-    let whole = format!(in rt.alloc(); "; A room\n{}\n{}\n", ROOM.text, UNTITLED.text)?;
-    assert!(rt; is_exported(rt.alloc(), records.as_slice(), false, whole.as_str())?);
-    let notes = "Solution: ulldRR\nPushes: 2 optimal\n";
-    let whole = format!(in rt.alloc(); "; A room\n{}{notes}\n{}\n", ROOM.text, UNTITLED.text)?;
-    assert!(rt; is_exported(rt.alloc(), records.as_slice(), true, whole.as_str())?);
+    Ok(records)
+}
+
+/// Whether both are exported with these notes behind the first, which are those of its solution, or
+/// none.
+fn are_exported(alloc: Global, records: &[Record], notes: &str) -> Result<bool, Fail> {
+    let told = export_text(alloc, records, !notes.is_empty())?;
+    let whole = format!(in alloc; "; A room\n{}{notes}\n{}\n", ROOM.text, UNTITLED.text)?;
+    Ok(told.as_slice() == whole.as_bytes())
+}
+
+/// Whether each is told in its line of a text.
+fn are_told(alloc: Global, records: &[Record], lines: &str) -> Result<bool, Fail> {
+    Ok(overview_text(alloc, records)?.as_slice() == lines.as_bytes())
+}
+
+/// Asserts what texts are made of both.
+fn assert_texts(rt: &impl Abort, alloc: Global, records: &[Record]) -> Result<(), Fail> {
+    for notes in ["", "Solution: ulldRR\nPushes: 2 optimal\n"] {
+        assert!(rt; are_exported(alloc, records, notes)?, "{notes}");
+    }
     let lines = "1 4 6 1 2 6 optimal A room\n2 3 5 1 - - untested\n";
-    assert!(rt; is_told(rt.alloc(), records.as_slice(), lines)?);
+    assert!(rt; are_told(alloc, records, lines)?);
+    Ok(())
+}
+
+/// Asserts that each is written as the columns that it was read from.
+fn assert_columns(rt: &impl Abort, records: Vec<Record>) {
     for kept in records {
         let again = columns_of(kept);
         assert_eq!(rt; again.pushes.is_some(), again.verdict == 1);
     }
+}
+
+#[test]
+fn records_are_shown_exported_and_told(rt: HostRuntime) -> Result<(), Fail> {
+    let records = records(&rt, rt.alloc())?;
+    assert_texts(&rt, rt.alloc(), &records)?;
+    assert_columns(&rt, records);
     Ok(())
 }
 

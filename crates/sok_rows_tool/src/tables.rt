@@ -18,7 +18,7 @@ INSERT INTO level VALUES (2, '###\n#@#\n#$#\n#.#\n###\n', x'41', 'D', 1, 1, 1);
 type Opened = Result<Book<MemStore>, OpenRefused<MemStore>>;
 
 /// What comes of opening a connection as a book.
-pub(crate) fn opened(alloc: Global, connection: Connection<MemStore>) -> Result<Opened, Fail> {
+fn opened(alloc: Global, connection: Connection<MemStore>) -> Result<Opened, Fail> {
     if !connection.is_autocommit() {
         return Err("a transaction is open".into());
     }
