@@ -1,6 +1,4 @@
-//! Tests of a book: of its pages, of its table in a database, and of the commands on it, in memory;
-//! and of the program over memory and files: what it writes, its exit status, and the fault that it
-//! prints.
+//! Tests of a book, of its table and of the commands on it, and of the program over files.
 //!
 //! | Module | What it tests |
 //! |---|---|
