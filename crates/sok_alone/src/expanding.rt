@@ -1,7 +1,8 @@
 //! The pushes of a state are followed.
 
-ghost use Rattle.std.specs.Prelude.{◌≡◌, ◌<◌, ◌≤◌, All, IfOk, length};
+ghost use Rattle.std.specs.Prelude.{ℕ, List, ◌≡◌, ◌<◌, ◌≤◌, All, IfOk, OnOk, length};
 ghost use Rattle.sok_closed.specs.Lookup.{AreFollowed};
+ghost use Rattle.sok_region.specs.Layouts.{IsLaidOut};
 ghost use Rattle.sok_state.specs.Pushes.{IsLegal};
 ghost use Rattle.sok_alone.specs.Known.{IsAsked, IsKnown, IsReached, roll_of};
 ghost use Rattle.sok_state.specs.declared.key.Key.{Key};
@@ -13,10 +14,10 @@ use sok_bar::inners::is_expanded;
 use sok_board::area::Sq;
 use sok_board::board::Board;
 use sok_push::tables::Tables;
-use sok_region::region::Region;
 use sok_rules::fault::Memory;
+use sok_state::expansion::Expansion;
 use sok_state::key::Key;
-use sok_state::legal::{after, list_pushes};
+use sok_state::legal::after;
 use sok_state::push::Push;
 use sok_state::table::Table;
 use std::alloc::Global;
@@ -50,8 +51,8 @@ fn follow_all(
     Ok(Met::On)
 }
 
-/// Follows each legal push of a known state, if it is to be expanded. The lists are places for its
-/// boxes and pushes.
+/// Follows each legal push of a known state, if it is to be expanded. The list and the expansion are
+/// places for its boxes and its pushes.
 fn expand(
     alloc: Global,
     board: &Board,
@@ -61,21 +62,25 @@ fn expand(
     known: &mut Known,
     index: usize,
     squares: &mut Vec<Sq>,
-    pushes: &mut Vec<Push>,
+    expansion: &mut Expansion,
 ) -> Result<Met, Memory>
     ghost start: { Key }
     requires asked { IsAsked board.now tables.now lives.now start }
     requires known { IsKnown board.now start limit known.old }
     requires exists { index < length known.old.inner.items }
     requires followed { AreFollowed board.now (roll_of known.old) index }
-    ensures { IfOk result (TellsExpanded board.now lives.now start limit known.old index known.new) }
+    requires laid { (boxes : List ℕ) × IsLaidOut board.now boxes expansion.old.layout }
+    ensures laid { OnOk result
+        ((boxes : List ℕ) × IsLaidOut board.now boxes expansion.new.layout) }
+    ensures tells { IfOk result
+        (TellsExpanded board.now lives.now start limit known.old index known.new) }
 {
     if !is_expanded(&known.inner[index].reason) {
         return Ok(Met::On);
     }
     let key = known.table.key(alloc, squares, index)?;
-    let region = Region::of(alloc, board, &key.boxes, key.least)?;
-    list_pushes(board, &key, &region, pushes)?;
+    expansion.open(board, &key)?;
+    let pushes = &expansion.pushes;
     follow_all(alloc, board, tables, lives, limit, known, &key, pushes)
 }
 
@@ -94,7 +99,7 @@ fn expand_all(
     ensures { IfOk result (TellsAll board.now lives.now start limit known.old known.new) }
 {
     let mut squares = Vec::new(alloc);
-    let mut pushes = Vec::new(alloc);
+    let mut expansion = Expansion::new(alloc, board);
     let mut index = 0;
     while index < known.inner.len() {
         match expand(
@@ -106,7 +111,7 @@ fn expand_all(
             known,
             index,
             &mut squares,
-            &mut pushes,
+            &mut expansion,
         )? {
             Met::On => {}
             Met::Ended => return Ok(Met::Ended),

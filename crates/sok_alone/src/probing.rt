@@ -10,10 +10,10 @@ use sok_board::board::Board;
 use sok_board::box_set::BoxSet;
 use sok_closed::solved::is_solved;
 use sok_push::tables::Tables;
-use sok_region::region::Region;
 use sok_rules::fault::Memory;
+use sok_state::expansion::Expansion;
 use sok_state::key::Key;
-use sok_state::legal::{after, list_pushes};
+use sok_state::legal::after;
 use sok_state::push::Push;
 use std::alloc::Global;
 
@@ -30,18 +30,16 @@ pub(crate) fn are_soon_solved(
     requires state { IsKey board.now start.now }
 {
     let mut key = start.copy(alloc)?;
-    let mut region = Region::of(alloc, board, &key.boxes, key.least)?;
-    let mut pushes = Vec::new(alloc);
+    let mut expansion = Expansion::new(alloc, board);
     for _ in 0..board.squares() {
         if is_solved(board, &key.boxes) {
             return Ok(true);
         }
-        list_pushes(board, &key, &region, &mut pushes)?;
-        let Some(push) = nearer(board, tables, &key, &pushes) else {
+        expansion.open(board, &key)?;
+        let Some(push) = nearer(board, tables, &key, &expansion.pushes) else {
             return Ok(false);
         };
         key = after(alloc, board, &key, push)?;
-        region.again(board, &key.boxes, key.least);
     }
     Ok(false)
 }

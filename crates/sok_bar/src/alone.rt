@@ -158,14 +158,10 @@ fn enter_located(
     ensures of_board { IsOfBoard board.now roll.new }
 {
     let Located { boxes, key } = located;
-    if roll.has(key) {
+    if !roll.enter(key, one.depth, is_expanded(&one.reason))? {
         return Ok(false);
     }
-    if !may_stand(alloc, board, tables, one, boxes)? {
-        return Ok(false);
-    }
-    roll.enter(key, one.depth, is_expanded(&one.reason))?;
-    Ok(true)
+    may_stand(alloc, board, tables, one, boxes)
 }
 
 /// Whether a position may stand in a pattern, given with its boxes: it is expanded, with a box off

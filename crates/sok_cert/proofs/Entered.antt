@@ -12,9 +12,10 @@ use Rattle.sok_entry.specs.declared.claim.Claim.{Claim}
 use Rattle.sok_entry.specs.declared.entry.Entry.{Entry}
 use Rattle.sok_entry.specs.declared.fault.CertFault.{CertFault}
 use Rattle.sok_entry.specs.declared.fault.CertFault.TheVariants as fault
+use Rattle.sok_cert.specs.declared.judging.Finding.{Finding}
 use Rattle.sok_cert.specs.declared.judging.Finding.TheVariants.{Fine, Solved, Unreasoned}
 use Rattle.sok_cert.specs.Closed.{IsBarredBy, IsPosition, is_expanded, node_of}
-use Rattle.sok_cert.specs.Judging.{IsFinding, IsLocated}
+use Rattle.sok_cert.specs.Judging.{IsFinding, IsLocated, fault_of}
 use Rattle.sok_cert.specs.Refusals.{IsFaulty, IsNew, IsRepeated, IsSolved, IsUnreasoned}
 use Rattle.sok_cert.specs.Rosters.{AreEntered, TellsEntries}
 use Rattle.sok_cert.proofs.Longer.{IsRefused-append}
@@ -63,7 +64,7 @@ module _ (b : Numbered) (claim : Claim) (entries : List Entry) (roll : Rolled) (
       new-here = IsNew-append node_of b count IsBarred entries (e ∷ []) (length entries) e (omega arith)
           (new-behind node_of b count IsBarred entries roll accepted known e found located absent)
 
-      pub tells-solved : (after : Rolled) (place : ℕ) → place ≡ length roll.marks → IsFinding b claim e Solved
+      tells-solved : (after : Rolled) (place : ℕ) → place ≡ length roll.marks → IsFinding b claim e Solved
           → TellsEntries b claim longer after (Some (fault.SolvedEntry place))
       tells-solved after place is (expanded, solved) = (
         tt,
@@ -71,7 +72,7 @@ module _ (b : Numbered) (claim : Claim) (entries : List Entry) (roll : Rolled) (
             (record { position = located.position; new = new-here; expanded = expanded; solved = solved }),
       )
 
-      pub tells-unreasoned : (after : Rolled) (place : ℕ) → place ≡ length roll.marks → IsFinding b claim e Unreasoned
+      tells-unreasoned : (after : Rolled) (place : ℕ) → place ≡ length roll.marks → IsFinding b claim e Unreasoned
           → TellsEntries b claim longer after (Some (fault.BadReason place))
       tells-unreasoned after place is (barring, fails) = (
         tt,
@@ -79,10 +80,18 @@ module _ (b : Numbered) (claim : Claim) (entries : List Entry) (roll : Rolled) (
             (record { position = located.position; new = new-here; barring = barring; fails = fails }),
       )
 
-      pub tells-fine : (after : Rolled) → IsFinding b claim e Fine → after.entries ≡ roll.entries ++ (found.key, e.depth) ∷ []
+      tells-fine : (after : Rolled) → IsFinding b claim e Fine → after.entries ≡ roll.entries ++ (found.key, e.depth) ∷ []
           → after.marks ≡ roll.marks ++ is_expanded e.reason ∷ [] → TellsEntries b claim longer after None
       tells-fine after reasoned entries_are marks_are =
           AreEntered-more node_of b count IsBarred entries roll accepted known e found located absent after reasoned entries_are marks_are
+
+      -- whichever was found
+      pub tells-found : (after : Rolled) (place : ℕ) → place ≡ length roll.marks → (finding : Finding) → IsFinding b claim e finding
+          → after.entries ≡ roll.entries ++ (found.key, e.depth) ∷ [] → after.marks ≡ roll.marks ++ is_expanded e.reason ∷ []
+          → TellsEntries b claim longer after (fault_of finding place)
+      tells-found after place is Fine reasoned entries_are marks_are = tells-fine after reasoned entries_are marks_are
+      tells-found after place is Solved told entries_are marks_are = tells-solved after place is told
+      tells-found after place is Unreasoned told entries_are marks_are = tells-unreasoned after place is told
 
 -- behind the first fault nothing changes
 pub tells-behind : (b : Numbered) (claim : Claim) (entries more : List Entry) (roll : Rolled) (found : Option CertFault) → is_some found ≡ true

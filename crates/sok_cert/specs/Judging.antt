@@ -1,11 +1,13 @@
 -- What is found of one entry: that it is a position, and whether it may stand.
-use Rattle.std.specs.Prelude.{◌≡◌, false, IsTrue, length}
+use Rattle.std.specs.Prelude.{ℕ, ◌≡◌, Option, Some, None, false, IsTrue, length}
 use Rattle.sok_rules.specs.Play.{AllOnGoals}
 use Rattle.sok_board.specs.Area.{Numbered, boxes_of}
 use Rattle.sok_closed.specs.Placing as placing
 use Rattle.sok_closed.specs.declared.placing.Located.{Located}
 use Rattle.sok_entry.specs.declared.claim.Claim.{Claim}
 use Rattle.sok_entry.specs.declared.entry.Entry.{Entry}
+use Rattle.sok_entry.specs.declared.fault.CertFault.{CertFault}
+use Rattle.sok_entry.specs.declared.fault.CertFault.TheVariants.{BadReason, SolvedEntry}
 use Rattle.sok_cert.specs.declared.judging.Finding.{Finding}
 use Rattle.sok_cert.specs.declared.judging.Finding.TheVariants.{Fine, Solved, Unreasoned}
 use Rattle.sok_cert.specs.Closed.{IsBarredBy, IsReasoned, is_expanded, node_of, entry_position}
@@ -19,3 +21,9 @@ abbrev pub IsFinding : Numbered → Claim → Entry → Finding → Type 0
 IsFinding b claim e Fine = IsReasoned b claim e
 IsFinding b claim e Solved = IsTrue (is_expanded e.reason) × AllOnGoals b.rows (entry_position b e)
 IsFinding b claim e Unreasoned = (is_expanded e.reason ≡ false) × (IsBarredBy b claim e → ⊥)
+
+-- the fault of the entry at an index
+abbrev pub fault_of : Finding → ℕ → Option CertFault
+fault_of Fine index = None
+fault_of Solved index = Some (SolvedEntry index)
+fault_of Unreasoned index = Some (BadReason index)

@@ -4,7 +4,7 @@ ghost use Rattle.std.specs.Prelude.{◌≡◌, ◌++◌, ◌∷◌, [], IfOk, Li
 ghost use Rattle.sok_board.specs.Area.{IsAccepted};
 ghost use Rattle.sok_bar.specs.Memos.{KeepsClosed};
 ghost use Rattle.sok_cert.specs.Closed.{IsPosition};
-ghost use Rattle.sok_cert.specs.Judging.{IsLocated};
+ghost use Rattle.sok_cert.specs.Judging.{IsLocated, fault_of};
 ghost use Rattle.sok_cert.specs.Rosters.{AreEntered, IsOfBoard, TellsEntries};
 ghost use Rattle.sok_entry.specs.declared.entry.Entry.{Entry};
 
@@ -22,7 +22,7 @@ use sok_rules::fault::Memory;
 use std::alloc::Global;
 
 /// Enters the state of an entry into the roll of those before it. If the entry has a fault of its
-/// own, it is told, and the roll stays. The memo keeps the positions of patterns.
+/// own, it is told, and the roll is of no more use. The memo keeps the positions of patterns.
 pub(crate) fn enter(
     alloc: Global,
     board: &Board,
@@ -45,16 +45,22 @@ pub(crate) fn enter(
     let Some(Located { boxes, key }) = locate_entry(alloc, board, entry)? else {
         return Ok(Some(CertFault::BadEntry(index)));
     };
-    if roll.has(&key) {
+    if !roll.enter(&key, entry.depth, is_expanded(&entry.reason))? {
         return Ok(Some(CertFault::Duplicate(index)));
     }
-    match judge(alloc, board, tables, claim, entry, &boxes, memo)? {
-        Finding::Fine => {}
-        Finding::Solved => return Ok(Some(CertFault::SolvedEntry(index))),
-        Finding::Unreasoned => return Ok(Some(CertFault::BadReason(index))),
+    let found = judge(alloc, board, tables, claim, entry, &boxes, memo)?;
+    Ok(fault_of(found, index))
+}
+
+/// The fault that is found of an entry, if there is one.
+fn fault_of(found: Finding, index: usize) -> Option<CertFault>
+    ensures { result ≡ fault_of found index }
+{
+    match found {
+        Finding::Fine => None,
+        Finding::Solved => Some(CertFault::SolvedEntry(index)),
+        Finding::Unreasoned => Some(CertFault::BadReason(index)),
     }
-    roll.enter(&key, entry.depth, is_expanded(&entry.reason))?;
-    Ok(None)
 }
 
 /// The boxes and the state of an entry that is a position with all boxes of the board, and None

@@ -1,6 +1,7 @@
 -- A table of the states of a list, in which the states that pushes lead to are looked up.
-use Rattle.std.specs.Prelude.{ℕ, ◌≡◌, ◌<◌, ◌≤◌, ◌+◌, List, Option, Some, None, Bool, true, false, All, Contains, length, slice_get, IsTrue}
-use Rattle.std.specs.Map.{values_of}
+use Rattle.std.specs.Prelude.{ℕ, ◌≡◌, ◌<◌, ◌≤◌, ◌+◌, ◌++◌, ◌∷◌, [], List, Option, Some, None, Bool, true, false, All, Contains, length, slice_get, IsTrue}
+use Rattle.std.specs.Prelude.{MatchBool}
+use Rattle.std.specs.Map.{keys_of, values_of}
 use Rattle.sok_rules.specs.Play.{Position, step}
 use Rattle.sok_rules.specs.States.{Same}
 use Rattle.sok_board.specs.Area.{Numbered, IsAccepted, spot_of}
@@ -71,6 +72,22 @@ pub record Rolled : Type 0 where
   pub entries : tables.Entries
   pub room : ℕ
   pub marks : List Bool
+
+-- a state that is new goes last, with its depth and mark
+pub record GoesLast (old : Rolled) (key : Key) (depth : ℕ) (expanded : Bool) (new : Rolled) : Type 0 where
+  pub absent : Contains (keys_of old.entries) key → ⊥
+  pub entries : new.entries ≡ old.entries ++ (key, depth) ∷ []
+  pub marks : new.marks ≡ old.marks ++ expanded ∷ []
+
+-- with one that was entered before, the roll stays
+pub record Stays (old : Rolled) (key : Key) (new : Rolled) : Type 0 where
+  pub place : ℕ
+  pub there : tables.IsAt old.entries key place
+  pub unchanged : new ≡ old
+
+-- what entering a state does, which tells whether it is new
+abbrev pub Enters : Rolled → Key → ℕ → Bool → Bool → Rolled → Type 0
+Enters old key depth expanded is_new new = MatchBool is_new (GoesLast old key depth expanded new) (Stays old key new)
 
 -- an expanded state at a place
 pub record IsMarked (roll : Rolled) (i : ℕ) (key : Key) (depth : ℕ) : Type 0 where

@@ -13,37 +13,12 @@ ghost use Rattle.sok_closed.specs.Lookup.{IsLaidAt, TellsFound, TellsFirst, Tell
 use sok_board::board::Board;
 use sok_field::field::Field;
 use sok_region::layout::Layout;
-use sok_region::region::Region;
 use sok_rules::fault::Memory;
+use sok_state::expansion::Expansion;
 use sok_state::key::Key;
-use sok_state::legal::list_pushes;
 use sok_state::push::Push;
 use sok_state::stepping::{square_ahead, step};
 use sok_state::table::Table;
-use std::alloc::Global;
-
-/// What is kept from state to state, so that nothing is made anew: the boxes of the state whose
-/// pushes are followed, laid out; room for the squares that the player comes to after a push; and
-/// the pushes.
-#[derive(Drop)]
-pub(crate) struct Scratch {
-    pub(crate) layout: Layout,
-    pub(crate) seen: Field,
-    pub(crate) pushes: Vec<Push>,
-}
-
-impl Scratch {
-    /// Room for the states of a board. It keeps the allocator for the boxes and the pushes.
-    pub(crate) fn new(alloc: Global, board: &Board) -> Scratch
-        ensures { (boxes : List ℕ) × IsLaidOut board.now boxes result.layout }
-    {
-        Scratch {
-            layout: Layout::new(alloc, board),
-            seen: Field::new(),
-            pushes: Vec::new(alloc),
-        }
-    }
-}
 
 /// Whether the state that a push leads to from the one at an index of a table is in the table, at
 /// most one deeper.
@@ -110,13 +85,12 @@ fn first_missing(
 /// The first legal push of the state at an index of a table that leads to no state of it at most
 /// one deeper.
 pub(crate) fn open_push(
-    alloc: Global,
     board: &Board,
     table: &Table,
     index: usize,
     key: &Key,
     depth: u32,
-    scratch: &mut Scratch,
+    expansion: &mut Expansion,
 ) -> Result<Option<Push>, Memory>
     requires accepted { IsAccepted board.now }
     requires there { IsAt table.now.entries key.now index }
@@ -124,24 +98,22 @@ pub(crate) fn open_push(
     requires few { length key.now.boxes ≤ box_limit }
     requires distinct { HasDistinctKeys table.now.entries }
     requires wide { length board.now.area ≤ table.now.room }
-    requires laid { (boxes : List ℕ) × IsLaidOut board.now boxes scratch.old.layout }
+    requires laid { (boxes : List ℕ) × IsLaidOut board.now boxes expansion.old.layout }
     ensures laid { OnOk result
-        ((boxes : List ℕ) × IsLaidOut board.now boxes scratch.new.layout) }
+        ((boxes : List ℕ) × IsLaidOut board.now boxes expansion.new.layout) }
     ensures first { IfOk result (TellsOpen board.now table.now.entries key.now depth) }
 {
-    let region = Region::of(alloc, board, &key.boxes, key.least)?;
-    list_pushes(board, key, &region, &mut scratch.pushes)?;
-    scratch.layout.lay(board, key.boxes.list())?;
+    expansion.open(board, key)?;
     match first_missing(
         board,
         table,
         index,
         depth,
-        &scratch.pushes,
-        &mut scratch.layout,
-        &mut scratch.seen,
+        &expansion.pushes,
+        &mut expansion.layout,
+        &mut expansion.seen,
     ) {
-        Some(place) => Ok(Some(scratch.pushes[place])),
+        Some(place) => Ok(Some(expansion.pushes[place])),
         None => Ok(None),
     }
 }

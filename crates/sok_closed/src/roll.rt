@@ -1,16 +1,17 @@
 //! The states of a list, with their depths and marks.
 
-ghost use Rattle.std.specs.Prelude.{ℕ, ◌≡◌, ◌<◌, ◌≤◌, ◌↔◌, ◌++◌, ◌∷◌, [], Some, All, Contains, IfOk, IsTrue};
-ghost use Rattle.std.specs.Prelude.{MatchBool, OnErr, OnOk, length, slice_get};
-ghost use Rattle.std.specs.Map.{keys_of, values_of};
+ghost use Rattle.std.specs.Prelude.{ℕ, ◌≡◌, ◌<◌, ◌≤◌, ◌↔◌, [], Some, All, IfOk, IsTrue, OnErr};
+ghost use Rattle.std.specs.Prelude.{length, slice_get};
+ghost use Rattle.std.specs.Map.{values_of};
 ghost use Rattle.sok_board.specs.Area.{IsAccepted};
 ghost use Rattle.sok_board.specs.Limits.{square_limit};
 ghost use Rattle.sok_state.specs.Tables.{IsAt};
-ghost use Rattle.sok_closed.specs.Lookup.{AreKeys, TellsMissed};
+ghost use Rattle.sok_closed.specs.Lookup.{AreKeys, Enters, TellsMissed};
 
-use crate::following::{Scratch, open_push};
+use crate::following::open_push;
 use sok_board::board::Board;
 use sok_rules::fault::Memory;
+use sok_state::expansion::Expansion;
 use sok_state::key::Key;
 use sok_state::push::Push;
 use sok_state::table::Table;
@@ -63,29 +64,21 @@ impl Roll {
         self.marks.len()
     }
 
-    /// Whether a state was entered.
-    pub fn has(&self, key: &Key) -> bool
-        requires { All (λ square. square < self.now.room) key.now.boxes }
-        ensures { MatchBool result ((place : ℕ) × IsAt self.now.entries key.now place)
-            (Contains (keys_of self.now.entries) key.now → ⊥) }
-    {
-        self.table.get(key).is_some()
-    }
-
-    /// Enters a state that is new, behind the others. Want of memory leaves the roll as it was.
-    pub fn enter(&mut self, key: &Key, depth: u32, expanded: bool) -> Result<(), Memory>
-        requires squares { All (λ square. square < self.old.room) key.now.boxes }
-        requires absent { Contains (keys_of self.old.entries) key.now → ⊥ }
-        ensures entered { OnOk result
-            (self.new.entries ≡ self.old.entries ++ (key.now, depth) ∷ []) }
-        ensures marked { OnOk result (self.new.marks ≡ self.old.marks ++ expanded ∷ []) }
+    /// Enters a state behind the others, and tells whether it is new: with one that was entered
+    /// before, the roll stays. Want of memory leaves it as it was, too.
+    pub fn enter(&mut self, key: &Key, depth: u32, expanded: bool) -> Result<bool, Memory>
+        requires { All (λ square. square < self.old.room) key.now.boxes }
+        ensures entered { IfOk result
+            (λ is_new. Enters self.old key.now depth expanded is_new self.new) }
         ensures room { self.new.room ≡ self.old.room }
         ensures refused { OnErr result (self.new ≡ self.old) }
     {
         self.marks.reserve(1)?;
-        self.table.insert(key, depth)?;
-        self.marks.push(expanded)?;
-        Ok(())
+        let (_index, is_new) = self.table.insert(key, depth)?;
+        if is_new {
+            self.marks.push_reserved(expanded);
+        }
+        Ok(is_new)
     }
 
     /// Whether a state was entered at depth 0.
@@ -118,7 +111,7 @@ impl Roll {
         // A table tells with its length that no key stands there twice.
         let _states = self.table.len();
         let mut squares = Vec::new(alloc);
-        let mut scratch = Scratch::new(alloc, board);
+        let mut expansion = Expansion::new(alloc, board);
         for (index, expanded) in self.marks.iter().enumerate() {
             if !*expanded {
                 continue;
@@ -126,7 +119,7 @@ impl Roll {
             let key = self.table.key(alloc, &mut squares, index)?;
             let depth = self.table.depth(index);
             let table = &self.table;
-            if let Some(push) = open_push(alloc, board, table, index, &key, depth, &mut scratch)? {
+            if let Some(push) = open_push(board, table, index, &key, depth, &mut expansion)? {
                 return Ok(Some((index, push)));
             }
         }

@@ -43,7 +43,8 @@ impl Model for Layout {
 impl Layout {
     /// The layout without a box. It keeps the allocator for the list of boxes.
     pub fn new(alloc: Global, board: &Board) -> Layout
-        ensures { IsLaidOut board.now [] result }
+        ensures laid { IsLaidOut board.now [] result }
+        ensures accepted { IsAccepted board.now }
     {
         Layout {
             area: drawing::area(board),

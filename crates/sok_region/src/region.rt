@@ -49,15 +49,6 @@ impl Region {
         Ok(Region { words })
     }
 
-    /// Makes it the region that `of` gives. It takes no memory.
-    pub fn again(&mut self, board: &Board, boxes: &BoxSet, player: Sq)
-        requires { IsPlaced board.now boxes.now player }
-        ensures region { IsRegion board.now boxes.now player self.new }
-        ensures accepted { IsAccepted board.now }
-    {
-        write(&mut self.words, board, boxes, player);
-    }
-
     /// Whether the player comes to a square.
     pub fn has(&self, square: Sq) -> bool
         ensures { IsTrue result ↔ Contains self.now square }

@@ -116,46 +116,6 @@ fn walks_in_regions(rt: HostRuntime) -> Result<(), Fail> {
     Ok(())
 }
 
-/// Makes a region that of a player among the boxes of a board's start.
-fn find_again(
-    rt: &impl Abort,
-    alloc: Global,
-    board: &Board,
-    region: &mut Region,
-    player: Sq,
-) -> Result<(), Fail> {
-    let (_, boxes) = board.start();
-    let boxes = placed(rt, alloc, board, boxes, player)?;
-    region.again(board, &boxes, player);
-    Ok(())
-}
-
-/// Whether a region that is found from a square in place of another one has these squares alone.
-fn is_found_again(
-    rt: &impl Abort,
-    alloc: Global,
-    board: &Board,
-    region: &mut Region,
-    player: Sq,
-    squares: &[Sq],
-) -> Result<bool, Fail> {
-    find_again(rt, alloc, board, region, player)?;
-    Ok(has_only(region, squares))
-}
-
-/// A region takes the place of another one.
-#[test]
-fn region_that_is_found_again(rt: HostRuntime) -> Result<(), Fail> {
-    let board = board(rt.alloc(), sketch::CORRIDOR_WITH_THE_BOX_ON_6)?;
-    let mut region = region(&rt, rt.alloc(), &board, 5)?;
-    let beyond: &[Sq] = &[0, 1, 2, 7, 8, 9, 10, 11];
-    for (player, squares) in [(8, beyond), (4, &[3, 4, 5]), (11, beyond)] {
-        let is_so = is_found_again(&rt, rt.alloc(), &board, &mut region, player, squares)?;
-        assert!(rt; is_so, "{player}");
-    }
-    Ok(())
-}
-
 /// How many letters a walk of a region has.
 fn length(
     alloc: Global,

@@ -180,8 +180,8 @@ module _ (b : Numbered) (old new : Trail) (push : Push) (trail : IsTrail b old) 
 -- a walk to behind a box and a push of it
 module _ (b : Numbered) (accepted : IsAccepted b) (key : Key) (region : List ℕ) (is : IsRegion b key.boxes key.least region)
     (push : Push) (legal : IsLegal b key push) where
-  pub free : IsFree b key region push
-  free = free-legal b accepted.numbered key region is push legal
+  pub free : IsFree b key push
+  free = free-legal b accepted.numbered key is.placed push legal
 
   pub behind-is : beside b push.from (opposite push.dir) ≡ Some free.behind
   behind-is = free.behind_is
@@ -191,7 +191,8 @@ module _ (b : Numbered) (accepted : IsAccepted b) (key : Key) (region : List ℕ
   player-comes player exists same = (is.exact player).1 (exists, same)
 
   pub behind_comes : (behind : ℕ) → beside b push.from (opposite push.dir) ≡ Some behind → Contains region behind
-  behind_comes behind behind_is = subst (Contains region) (same_Some free.behind behind (sym free.behind_is ∙ behind_is)) free.comes
+  behind_comes behind behind_is = subst (Contains region) (same_Some free.behind behind (sym free.behind_is ∙ behind_is))
+      (player-comes free.behind (beside-within b (opposite push.dir) push.from free.behind free.behind_is) free.comes)
 
   pub goes-on : (player behind : ℕ) (walk old new : List Dir) → beside b push.from (opposite push.dir) ≡ Some behind
       → IsWalkBetween b key.boxes player behind walk

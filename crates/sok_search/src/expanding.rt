@@ -15,18 +15,16 @@ use sok_field::field::Field;
 use sok_price::matching::Matching;
 use sok_push::tables::Tables;
 use sok_region::layout::Layout;
-use sok_region::region::Region;
 use sok_rules::fault::Memory;
 use sok_state::key::Key;
 use sok_state::legal::list_pushes;
 use sok_state::push::Push;
 use std::alloc::Global;
 
-/// What is kept from state to state, so that nothing is made anew: the player's region in the state
-/// that is expanded, its pushes, what they are tried with, and room to list the boxes of a state.
+/// What is kept from state to state, so that nothing is made anew: the pushes of the state that is
+/// expanded, what they are tried with, and room to list the boxes of a state.
 #[derive(Drop)]
 pub(crate) struct Scratch {
-    pub(crate) region: Region,
     pub(crate) pushes: Vec<Push>,
     pub(crate) trial: Trial,
     pub(crate) squares: Vec<Sq>,
@@ -38,7 +36,6 @@ impl Scratch {
         requires { tables.now.board ≡ board.now }
         ensures { IfOk result (λ scratch. IsReady board.now scratch.trial) }
     {
-        let key = Key::start(alloc, board)?;
         let trial = Trial {
             layout: Layout::new(alloc, board),
             seen: Field::new(),
@@ -46,7 +43,6 @@ impl Scratch {
             matched: false,
         };
         Ok(Scratch {
-            region: Region::of(alloc, board, &key.boxes, key.least)?,
             pushes: Vec::new(alloc),
             trial,
             squares: Vec::new(alloc),
@@ -106,17 +102,23 @@ pub(crate) fn expand(
     ensures tells { IfOk result (TellsExpanded board.now limit (progress_of search.old) index
         key.now depth (progress_of search.new)) }
 {
-    scratch.region.again(board, &key.boxes, key.least);
-    list_pushes(board, key, &scratch.region, &mut scratch.pushes)?;
-    scratch.trial.layout.lay(board, key.boxes.list())?;
-    scratch.trial.matched = false;
+    let trial = &mut scratch.trial;
+    trial.matched = false;
+    trial.layout.lay(board, key.boxes.list())?;
+    list_pushes(
+        board,
+        key,
+        &trial.layout,
+        &mut trial.seen,
+        &mut scratch.pushes,
+    )?;
     follow(
         alloc,
         board,
         tables,
         limit,
         search,
-        &mut scratch.trial,
+        trial,
         index,
         key,
         depth,

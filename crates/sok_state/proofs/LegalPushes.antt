@@ -18,7 +18,7 @@ use Rattle.sok_board.proofs.Confined.{confines-play}
 use Rattle.sok_board.proofs.Inside.{InArea-open}
 use Rattle.sok_board.proofs.Positions.{known_box, listed_box, no_box}
 use Rattle.sok_board.specs.BoxSets.{IsMoved}
-use Rattle.sok_region.specs.Regions.{IsPlaced, IsRegion}
+use Rattle.sok_region.specs.Regions.{IsPlaced}
 use Rattle.sok_state.specs.declared.key.Key.{Key}
 use Rattle.sok_state.specs.declared.push.Push.{Push}
 use Rattle.sok_state.specs.Keys.{IsKey, IsKeyOf, key_position}
@@ -37,36 +37,35 @@ next_behind b d n m is = ap (λ e. next e (spot_of b m)) (sym (opposite-twice d)
     (beside-next b (opposite d) n m is)
 
 -- the man comes behind the box, and it can go ahead
-pub record IsFree (b : Numbered) (key : Key) (region : List ℕ) (push : Push) : Type 0 where
+pub record IsFree (b : Numbered) (key : Key) (push : Push) : Type 0 where
   pub behind : ℕ
   pub behind_is : beside b push.from (opposite push.dir) ≡ Some behind
-  pub comes : Contains region behind
+  pub comes : Same b.rows (key_position b key) (position_of b behind key.boxes)
   pub onward : IsClear b key push
 
-module _ (b : Numbered) (area : IsArea b.rows b.area) (proper : IsProper b.rows) (key : Key) (region : List ℕ) (is : IsRegion b key.boxes key.least region)
-  where
-    -- such a push of a box is legal
-    pub legal-free : (push : Push) → Contains key.boxes push.from → IsFree b key region push → IsLegal b key push
-    legal-free push among free =
-        let exists : push.from < length b.area = All-contains (λ n. n < length b.area) key.boxes push.from is.placed.boxes_exist among in
-        let there = (is.exact free.behind).0 free.comes in
-        let ahead_exists = beside-within b push.dir push.from free.onward.ahead free.onward.ahead_is in
-        let before : Position = position_of b free.behind key.boxes in
-        record {
-          after = record { man = spot_of b push.from; boxes = moved before.boxes (spot_of b push.from) (spot_of b free.onward.ahead) };
-          leads = record {
-            before = before;
-            same = there.1;
-            steps = step-box b.rows push.dir before (spot_of b push.from) (spot_of b free.onward.ahead) false
-                (next_behind b push.dir push.from free.behind free.behind_is)
-                (InArea-open b.rows proper (spot_of b push.from) (InArea-spot_of b area push.from exists)) (listed_box b free.behind key.boxes push.from among)
-                (beside-next b push.dir push.from free.onward.ahead free.onward.ahead_is)
-                (InArea-open b.rows proper (spot_of b free.onward.ahead) (InArea-spot_of b area free.onward.ahead ahead_exists))
-                (no_box b area free.behind key.boxes is.placed.boxes_exist free.onward.ahead ahead_exists free.onward.clear);
-            man = refl;
-            exists = exists;
-          };
-        }
+-- such a push of a box is legal
+pub legal-free : (b : Numbered) → IsArea b.rows b.area → IsProper b.rows → (key : Key) → IsPlaced b key.boxes key.least → (push : Push)
+    → Contains key.boxes push.from
+    → IsFree b key push → IsLegal b key push
+legal-free b area proper key placed push among free =
+    let exists : push.from < length b.area = All-contains (λ n. n < length b.area) key.boxes push.from placed.boxes_exist among in
+    let ahead_exists = beside-within b push.dir push.from free.onward.ahead free.onward.ahead_is in
+    let before : Position = position_of b free.behind key.boxes in
+    record {
+      after = record { man = spot_of b push.from; boxes = moved before.boxes (spot_of b push.from) (spot_of b free.onward.ahead) };
+      leads = record {
+        before = before;
+        same = free.comes;
+        steps = step-box b.rows push.dir before (spot_of b push.from) (spot_of b free.onward.ahead) false
+            (next_behind b push.dir push.from free.behind free.behind_is)
+            (InArea-open b.rows proper (spot_of b push.from) (InArea-spot_of b area push.from exists)) (listed_box b free.behind key.boxes push.from among)
+            (beside-next b push.dir push.from free.onward.ahead free.onward.ahead_is)
+            (InArea-open b.rows proper (spot_of b free.onward.ahead) (InArea-spot_of b area free.onward.ahead ahead_exists))
+            (no_box b area free.behind key.boxes placed.boxes_exist free.onward.ahead ahead_exists free.onward.clear);
+        man = refl;
+        exists = exists;
+      };
+    }
 
 -- a push is a letter that pushes, from the square of its box, and the boxes are those of the key
 pushes_box : (b : Numbered) (key : Key) (push : Push) (after : Position) → (leads : LeadsTo b key push after)
@@ -99,12 +98,11 @@ clear-legal b area key placed push legal =
     )
 
 -- and the man comes behind it
-pub free-legal : (b : Numbered) → IsArea b.rows b.area → (key : Key) (region : List ℕ) → IsRegion b key.boxes key.least region → (push : Push)
-    → IsLegal b key push → IsFree b key region push
-free-legal b area key region is push legal =
+pub free-legal : (b : Numbered) → IsArea b.rows b.area → (key : Key) → IsPlaced b key.boxes key.least → (push : Push) → IsLegal b key push → IsFree b key push
+free-legal b area key placed push legal =
     let leads = legal.leads in
     let (pushed, from_is, kept) = pushes_box b key push legal.after leads in
-    let man_inside = (confines-play b.rows (key_position b key) leads.before leads.same.0 (InArea-spot_of b area key.least is.placed.player_exists)
+    let man_inside = (confines-play b.rows (key_position b key) leads.before leads.same.0 (InArea-spot_of b area key.least placed.player_exists)
     leads.same.1).man in
     let (behind, behind_number, behind_exists, behind_spot) = number-InArea b area leads.before.man man_inside in
     let stands : leads.before ≡ position_of b behind key.boxes = λ i. record { man = sym behind_spot i; boxes = kept i } in
@@ -112,8 +110,8 @@ free-legal b area key region is push legal =
       behind = behind;
       behind_is = beside-is b (opposite push.dir) push.from pushed.from leads.before.man behind (sym from_is)
           (next-opposite push.dir leads.before.man pushed.from pushed.ahead) behind_number;
-      comes = (is.exact behind).1 (behind_exists, subst (Same b.rows (key_position b key)) stands leads.same);
-      onward = (clear-legal b area key is.placed push legal).1;
+      comes = subst (Same b.rows (key_position b key)) stands leads.same;
+      onward = (clear-legal b area key placed push legal).1;
     }
 
 -- the position to which a push leads, by the numbers of its boxes
@@ -162,12 +160,11 @@ pub key_after : (b : Numbered) (next : Key) (push : Push) (boxes : List ℕ) (af
 key_after b next push boxes after is of_numbers = subst (λ x. IsKeyOf b x next) is of_numbers
 
 -- and so of each
-pub keys_after : {E : Type 0} (b : Numbered) (key : Key) (push : Push) (boxes : List ℕ) (r : Result Key E) → IfOk r (IsKeyOf b (position_of b push.from boxes))
-    → IfOk r (IsKey b) → IfOk r (λ next. next.boxes ≡ boxes) → ((after : Position) → LeadsTo b key push after → position_of b push.from boxes ≡ after)
-    → length boxes ≡ length key.boxes → IfOk r (IsKeyAfter b key push)
-keys_after b key push boxes (Ok next) is of_board same leads as_many = record {
+pub IsKeyAfter-numbers : (b : Numbered) (key next : Key) (push : Push) (boxes : List ℕ) → IsKeyOf b (position_of b push.from boxes) next → IsKey b next
+    → next.boxes ≡ boxes → ((after : Position) → LeadsTo b key push after → position_of b push.from boxes ≡ after) → length boxes ≡ length key.boxes
+    → IsKeyAfter b key push next
+IsKeyAfter-numbers b key next push boxes is of_board same leads as_many = record {
   exact = λ after led. key_after b next push boxes after (leads after led) is;
   of_board = of_board;
   as_many = ap length same ∙ as_many;
 }
-keys_after b key push boxes (Err fault) is of_board same leads as_many = tt

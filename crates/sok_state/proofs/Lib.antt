@@ -1,3 +1,4 @@
+pub mod Drawn
 pub mod LegalPushes
 pub mod Listed
 pub mod Moves

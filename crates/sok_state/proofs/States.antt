@@ -1,15 +1,13 @@
 -- Keys tell states apart.
-use Rattle.std.proofs.Common.{ℕ, ◌≡◌, ◌≤◌, sym, ◌∙◌, subst, List, Contains, arith}
+use Rattle.std.proofs.Common.{ℕ, ◌≡◌, ◌≤◌, sym, ◌∙◌, subst, List, arith}
 use Rattle.sok_rules.specs.Levels.{IsProper}
 use Rattle.sok_rules.specs.Play.{Position}
 use Rattle.sok_rules.specs.States.{Same}
 use Rattle.sok_rules.proofs.Steps.{IsStanding}
 use Rattle.sok_rules.proofs.Walking.{Same-trans, Same-sym, boxes-Same}
 use Rattle.sok_board.specs.Area.{Numbered, IsAccepted, IsArea, position_of}
-use Rattle.sok_region.specs.Regions.{IsRegion}
 use Rattle.sok_state.specs.declared.key.Key.{Key}
 use Rattle.sok_state.specs.Keys.{IsKey, IsKeyOf, TellsStates, key_position}
-use Rattle.sok_region.proofs.Regions.{IsRegion-again}
 use Rattle.sok_state.proofs.Placed.{IsStanding-placed, same_boxes}
 
 -- positions with equal keys are the same state
@@ -55,12 +53,3 @@ tells-states b area proper player boxes key placed of_key other_player other_box
   λ same. keys_equal b area (position_of b player boxes) (position_of b other_player other_boxes) key other
       (IsStanding-placed b area proper player boxes placed) of_key of_other same,
 )
-
--- the least square of a region makes the key
-pub IsKeyOf-region : (b : Numbered) → IsArea b.rows b.area → IsProper b.rows → (player : ℕ) (boxes region : List ℕ) (least : ℕ)
-    → IsRegion b boxes player region → Contains region least → ((s : ℕ) → Contains region s → least ≤ s)
-    → IsKeyOf b (position_of b player boxes) (record { boxes = boxes; least = least })
-IsKeyOf-region b area proper player boxes region least is among lowest =
-    let there = IsRegion-again b boxes player region proper area is least among in
-    let (within, same) = (is.exact least).0 among in
-    record { placed = there.placed; same = same; least = λ s s_within reached. lowest s ((is.exact s).1 (s_within, reached)) }

@@ -107,7 +107,7 @@ module _ (b : Numbered) (accepted : IsAccepted b) (boxes : List ℕ) (player : �
   ))
 
   -- the flood draws the squares of the same state
-  drawn-same : (s : ℕ) → s < length b.area → (has seen (spot_of b s) ≡ true) ↔ Same b.rows (position_of b player boxes) (position_of b s boxes)
+  pub drawn-same : (s : ℕ) → s < length b.area → (has seen (spot_of b s) ≡ true) ↔ Same b.rows (position_of b player boxes) (position_of b s boxes)
   drawn-same s within =
       let are = placed_boxes b boxes player accepted.proper accepted.numbered placed in
       let stands = IsStanding-placed b accepted.numbered accepted.proper player boxes placed in (

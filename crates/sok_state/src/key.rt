@@ -9,10 +9,12 @@ ghost use Rattle.std.specs.Cmp.Rules.{comparing};
 ghost use Rattle.std.proofs.Common.{rules};
 ghost use lib.Pointwise.{pointwise};
 
+use crate::least::least_square;
 use sok_board::area::Sq;
 use sok_board::board::Board;
 use sok_board::box_set::BoxSet;
-use sok_region::region::Region;
+use sok_field::drawing;
+use sok_field::field::Field;
 use sok_rules::fault::Memory;
 use std::alloc::Global;
 
@@ -34,7 +36,7 @@ impl Key {
         ensures of_board { IfOk result (IsKey board.now) }
         ensures tells { IfOk result (TellsState board.now player boxes.now) }
     {
-        key_of(alloc, board, boxes.copy(alloc)?, player)
+        Ok(key_of(board, boxes.copy(alloc)?, player))
     }
 
     /// The key of the start. It refuses only for want of memory.
@@ -45,7 +47,7 @@ impl Key {
     {
         let (player, boxes) = board.start();
         let boxes = BoxSet::of(alloc, boxes)?;
-        key_of(alloc, board, boxes, player)
+        Ok(key_of(board, boxes, player))
     }
 
     /// A copy of the key.
@@ -60,16 +62,17 @@ impl Key {
 }
 
 /// The key with these boxes.
-pub(crate) fn key_of(alloc: Global, board: &Board, boxes: BoxSet, player: Sq) -> Result<Key, Memory>
+pub(crate) fn key_of(board: &Board, boxes: BoxSet, player: Sq) -> Key
     requires { IsPlaced board.now boxes player }
-    ensures boxes { IfOk result (λ key. key.boxes ≡ boxes) }
-    ensures key { IfOk result (IsKeyOf board.now (position_of board.now player boxes)) }
-    ensures of_board { IfOk result (IsKey board.now) }
-    ensures tells { IfOk result (TellsState board.now player boxes) }
+    ensures boxes { result.boxes ≡ boxes }
+    ensures key { IsKeyOf board.now (position_of board.now player boxes) result }
+    ensures of_board { IsKey board.now result }
+    ensures tells { TellsState board.now player boxes result }
 {
-    let region = Region::of(alloc, board, &boxes, player)?;
-    let least = region.least();
-    Ok(Key { boxes, least })
+    let free = drawing::free_squares(board, boxes.list());
+    let mut seen = Field::new();
+    let least = least_square(board, &free, &mut seen, player);
+    Key { boxes, least }
 }
 
 impl PartialEq for Key {

@@ -4,10 +4,12 @@ ghost use Rattle.std.specs.Prelude.{◌≡◌, ◌+◌, ◌*◌, ◌<◌, ◌≤
 ghost use Rattle.std.specs.Prelude.{AllPairs, Contains, length, vec_capacity, vec_len};
 ghost use Rattle.sok_rules.specs.Play.{Position};
 ghost use Rattle.sok_board.specs.Area.{IsAccepted, position_of};
-ghost use Rattle.sok_region.specs.Regions.{IsPlaced, IsRegion};
+ghost use Rattle.sok_region.specs.Layouts.{IsLaidOut};
+ghost use Rattle.sok_region.specs.Regions.{IsPlaced};
+ghost use Rattle.sok_state.specs.declared.key.Key.{Key};
 ghost use Rattle.sok_state.specs.declared.push.Push.{Push};
 ghost use Rattle.sok_state.specs.Keys.{IsKey};
-ghost use Rattle.sok_state.specs.Listing.{IsClear, Lists, place};
+ghost use Rattle.sok_state.specs.Listing.{HasBeside, IsDrawn, Lists, place};
 ghost use Rattle.sok_state.specs.Pushes.{IsKeyAfter, IsLegal, LeadsTo, Precedes};
 
 use crate::key::{Key, key_of};
@@ -15,7 +17,9 @@ use crate::push::Push;
 use sok_board::area::Sq;
 use sok_board::board::Board;
 use sok_board::box_set::BoxSet;
-use sok_region::region::Region;
+use sok_field::drawing;
+use sok_field::field::Field;
+use sok_region::layout::Layout;
 use sok_rules::cell::Dir;
 use sok_rules::fault::Memory;
 use std::alloc::Global;
@@ -29,22 +33,27 @@ pub fn pushes(alloc: Global, board: &Board, key: &Key) -> Result<Vec<Push>, Memo
         → IsLegal board.now key.now push → Contains pushes.items push) }
     ensures in_order { IfOk result (λ pushes. AllPairs Precedes pushes.items) }
 {
-    let region = Region::of(alloc, board, &key.boxes, key.least)?;
+    let mut layout = Layout::new(alloc, board);
+    layout.lay(board, key.boxes.list())?;
+    let mut seen = Field::new();
     let mut pushes = Vec::new(alloc);
-    list_pushes(board, key, &region, &mut pushes)?;
+    list_pushes(board, key, &layout, &mut seen, &mut pushes)?;
     Ok(pushes)
 }
 
-/// Makes a list the pushes that `pushes` gives of a state whose region is at hand. It refuses only
-/// for want of memory, and then the list stays: it asks first for room for four pushes of each box.
+/// Makes a list the pushes that `pushes` gives of a state whose boxes are laid out. The set of
+/// squares is a place for those that the player comes to. It refuses only for want of memory, and
+/// then the list stays: it asks first for room for four pushes of each box.
 pub fn list_pushes(
     board: &Board,
     key: &Key,
-    region: &Region,
+    layout: &Layout,
+    seen: &mut Field,
     pushes: &mut Vec<Push>,
 ) -> Result<(), Memory>
     requires accepted { IsAccepted board.now }
-    requires region { IsRegion board.now key.now.boxes key.now.least region.now }
+    requires key { IsKey board.now key.now }
+    requires laid { IsLaidOut board.now key.now.boxes layout.now }
     ensures legal { OnOk result (All (IsLegal board.now key.now) pushes.new.items) }
     ensures whole { OnOk result ((push : Push)
         → IsLegal board.now key.now push → Contains pushes.new.items push) }
@@ -54,8 +63,10 @@ pub fn list_pushes(
     let boxes = key.boxes.list();
     pushes.reserve(boxes.len() * 4)?;
     pushes.clear();
+    let free = layout.free();
+    drawing::flood_from(seen, free, board, key.least);
     for from in boxes {
-        list_box(board, key, region, *from, pushes);
+        list_box(board, free, seen, *from, pushes);
     }
     Ok(())
 }
@@ -68,7 +79,7 @@ pub fn after(alloc: Global, board: &Board, key: &Key, push: Push) -> Result<Key,
     ensures { IfOk result (IsKeyAfter board.now key.now push) }
 {
     let boxes = boxes_after(alloc, board, key, push)?;
-    key_of(alloc, board, boxes, push.from)
+    Ok(key_of(board, boxes, push.from))
 }
 
 /// The boxes after a push.
@@ -84,61 +95,63 @@ fn boxes_after(alloc: Global, board: &Board, key: &Key, push: Push) -> Result<Bo
     key.boxes.moved(alloc, push.from, ahead)
 }
 
-/// Lists the legal pushes of one box, for which there is room.
-fn list_box(board: &Board, key: &Key, region: &Region, from: Sq, pushes: &mut Vec<Push>)
-    requires region { IsRegion board.now key.now.boxes key.now.least region.now }
-    requires among { Contains key.now.boxes from }
+/// Lists the legal pushes of one box of a state that is drawn, for which there is room.
+fn list_box(board: &Board, free: &Field, seen: &Field, from: Sq, pushes: &mut Vec<Push>)
+    requires accepted { IsAccepted board.now }
+    requires exists { from < length board.now.area }
     requires room { vec_len pushes.old + 4 ≤ vec_capacity pushes.old }
-    ensures listed { Lists board.now key.now (from * 4) pushes.old.items
-        → Lists board.now key.now (from * 4 + 4) pushes.new.items }
+    ensures listed { (key : Key) → IsDrawn board.now key free.now seen.now
+        → Contains key.boxes from → Lists board.now key (from * 4) pushes.old.items
+        → Lists board.now key (from * 4 + 4) pushes.new.items }
     ensures few { vec_len pushes.new ≤ vec_len pushes.old + 4 }
     ensures capacity { vec_capacity pushes.old ≤ vec_capacity pushes.new }
 {
     let dir = Dir::Left;
-    list_push(board, key, region, Push { from, dir }, pushes);
+    list_push(board, free, seen, Push { from, dir }, pushes);
     let dir = Dir::Up;
-    list_push(board, key, region, Push { from, dir }, pushes);
+    list_push(board, free, seen, Push { from, dir }, pushes);
     let dir = Dir::Right;
-    list_push(board, key, region, Push { from, dir }, pushes);
+    list_push(board, free, seen, Push { from, dir }, pushes);
     let dir = Dir::Down;
-    list_push(board, key, region, Push { from, dir }, pushes);
+    list_push(board, free, seen, Push { from, dir }, pushes);
 }
 
-/// Lists a push of a box, for which there is room, if it is legal.
-fn list_push(board: &Board, key: &Key, region: &Region, push: Push, pushes: &mut Vec<Push>)
-    requires region { IsRegion board.now key.now.boxes key.now.least region.now }
-    requires among { Contains key.now.boxes push.from }
+/// Lists a push of a box of a state that is drawn, for which there is room, if it is legal.
+fn list_push(board: &Board, free: &Field, seen: &Field, push: Push, pushes: &mut Vec<Push>)
+    requires accepted { IsAccepted board.now }
+    requires exists { push.from < length board.now.area }
     requires room { vec_len pushes.old < vec_capacity pushes.old }
-    ensures listed { Lists board.now key.now (place push) pushes.old.items
-        → Lists board.now key.now (place push + 1) pushes.new.items }
+    ensures listed { (key : Key) → IsDrawn board.now key free.now seen.now
+        → Contains key.boxes push.from → Lists board.now key (place push) pushes.old.items
+        → Lists board.now key (place push + 1) pushes.new.items }
     ensures few { vec_len pushes.new ≤ vec_len pushes.old + 1 }
     ensures capacity { vec_capacity pushes.old ≤ vec_capacity pushes.new }
 {
-    if is_legal(board, key, region, push) {
+    if is_legal(board, free, seen, push) {
         pushes.push(push).unwrap();
     }
 }
 
-/// Whether a push of a box is legal: the player comes behind the box, and ahead of it is neither a
-/// wall nor a box.
-fn is_legal(board: &Board, key: &Key, region: &Region, push: Push) -> bool
-    requires region { IsRegion board.now key.now.boxes key.now.least region.now }
-    requires among { Contains key.now.boxes push.from }
-    ensures { IsTrue result ↔ IsLegal board.now key.now push }
+/// Whether a push of a box of a state that is drawn is legal: the player comes behind the box, and
+/// ahead of it is neither a wall nor a box.
+fn is_legal(board: &Board, free: &Field, seen: &Field, push: Push) -> bool
+    requires accepted { IsAccepted board.now }
+    requires exists { push.from < length board.now.area }
+    ensures { (key : Key) → IsDrawn board.now key free.now seen.now
+        → Contains key.boxes push.from → IsTrue result ↔ IsLegal board.now key push }
 {
-    match board.neighbour(push.from, push.dir.opposite()) {
-        Some(behind) => region.has(behind) && is_clear(board, key, push),
-        None => false,
-    }
+    has_beside(board, seen, push.from, push.dir.opposite())
+        && has_beside(board, free, push.from, push.dir)
 }
 
-/// Whether ahead of a box is neither a wall nor a box.
-fn is_clear(board: &Board, key: &Key, push: Push) -> bool
-    requires { push.from < length board.now.area }
-    ensures { IsTrue result ↔ IsClear board.now key.now push }
+/// Whether the square beside one is of a set.
+fn has_beside(board: &Board, set: &Field, square: Sq, dir: Dir) -> bool
+    requires accepted { IsAccepted board.now }
+    requires exists { square < length board.now.area }
+    ensures { IsTrue result ↔ HasBeside board.now set.now square dir }
 {
-    match board.neighbour(push.from, push.dir) {
-        Some(ahead) => !key.boxes.has(ahead),
+    match board.neighbour(square, dir) {
+        Some(beside) => set.has(board.spot(beside)),
         None => false,
     }
 }

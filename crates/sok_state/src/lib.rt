@@ -2,8 +2,10 @@
 //!
 //! | Module | What it holds |
 //! |---|---|
+//! | `expansion` | a state whose pushes are followed |
 //! | `key` | the boxes of a state, and the least square that the player can walk to |
 //! | `law` | keys tell states apart |
+//! | `least` | the least square that the player can walk to (private) |
 //! | `legal` | the pushes that are legal from a state, and the states that they lead to |
 //! | `packed` | the key of a state in bits (private) |
 //! | `packed_table` | packed keys of one width in the order of their insertion, with depths (private) |
@@ -12,8 +14,10 @@
 //! | `table` | keys in the order of their insertion, with depths, as narrow as a board allows |
 #![tactic(auto)]
 
+pub mod expansion;
 pub mod key;
 pub mod law;
+mod least;
 pub mod legal;
 mod packed;
 mod packed_table;

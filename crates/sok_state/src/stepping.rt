@@ -1,18 +1,17 @@
 //! The state that a push leads to, found over boxes that are laid out.
 
-ghost use Rattle.std.specs.Prelude.{ℕ, List, ◌≡◌, Some};
-ghost use Rattle.sok_board.specs.Area.{IsAccepted, beside, position_of};
+ghost use Rattle.std.specs.Prelude.{◌≡◌, Some};
+ghost use Rattle.sok_board.specs.Area.{IsAccepted, beside};
 ghost use Rattle.sok_region.specs.Layouts.{IsLaidOut};
-ghost use Rattle.sok_region.specs.Regions.{IsPlaced};
 ghost use Rattle.sok_state.specs.declared.key.Key.{Key};
-ghost use Rattle.sok_state.specs.Keys.{IsKey, IsKeyOf};
+ghost use Rattle.sok_state.specs.Keys.{IsKey};
 ghost use Rattle.sok_state.specs.Pushes.{IsKeyAfter, IsLegal, IsPushable};
 ghost use Rattle.sok_state.specs.Tables.{IsNext};
 
+use crate::least::least_square;
 use crate::push::Push;
 use sok_board::area::Sq;
 use sok_board::board::Board;
-use sok_field::drawing;
 use sok_field::field::Field;
 use sok_region::layout::Layout;
 
@@ -39,24 +38,7 @@ pub fn step(board: &Board, push: Push, to: Sq, layout: &mut Layout, seen: &mut F
         → IsNext key push.from to result next → IsKeyAfter board.now key push next }
 {
     layout.shift(board, push.from, to);
-    let least = least_square(board, layout, seen, push.from);
+    let least = least_square(board, layout.free(), seen, push.from);
     layout.shift(board, to, push.from);
     least
-}
-
-/// The least square to which the player walks from one, among boxes that are laid out.
-fn least_square(board: &Board, layout: &Layout, seen: &mut Field, player: Sq) -> Sq
-    requires accepted { IsAccepted board.now }
-    requires laid { (boxes : List ℕ)
-        × IsPlaced board.now boxes player × IsLaidOut board.now boxes layout.now }
-    ensures { (boxes : List ℕ) → IsPlaced board.now boxes player
-        → IsLaidOut board.now boxes layout.now
-        → IsKeyOf board.now (position_of board.now player boxes)
-        (record { boxes = boxes; least = result }) }
-{
-    drawing::flood_from(seen, layout.free(), board, player);
-    match seen.first() {
-        Some(spot) => board.square(spot).unwrap(),
-        None => unreachable!(),
-    }
 }

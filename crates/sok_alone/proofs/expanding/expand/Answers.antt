@@ -9,22 +9,22 @@ use Rattle.sok_alone.proofs.Growing.{Grows-refl}
 use Rattle.sok_alone.proofs.Knowing.{reached-at}
 use Rattle.sok_alone.proofs.expanding.expand.Goals as goal
 
-pub returns-then-not-is_expanded : goal.returns-then-not-is_expanded
-returns-then-not-is_expanded g c =
+pub returns-then-not-is_expanded-clause-tells : goal.returns-then-not-is_expanded-clause-tells
+returns-then-not-is_expanded-clause-tells g c =
     let known = c.args.known.now in
     record {
       known = c.requires.1.0;
       grows = Grows-refl known;
       followed = followed-unmarked c.args.board.now (roll_of known) c.args.index
           (marked-at known c.args.index c.index.result.now c.requires.1.1.0 c.index.ensures ∙ ap Some (sym c.is_expanded.ensures ∙ c.if-not-is_expanded.true))
-          c.requires.1.1.1;
+          c.requires.1.1.1.0;
     }
 
 pub key-requires-clause-few : goal.key-requires-clause-few
 key-requires-clause-few g c = λ key at. (c.requires.1.0.of_board.keys c.args.index key at).1
 
-pub of-requires : goal.of-requires
-of-requires g c = (c.requires.1.0.of_board.keys c.args.index c.in_ok-key.key c.in_ok-key.ensures).0.is.placed
+pub open-requires-clause-key : goal.open-requires-clause-key
+open-requires-clause-key g c = (c.requires.1.0.of_board.keys c.args.index c.in_ok-key.key c.in_ok-key.ensures).0
 
 pub follow_all-requires : goal.follow_all-requires
 follow_all-requires g c =
@@ -35,17 +35,17 @@ follow_all-requires g c =
         c.requires.1.0,
         (
           reached-at b g.start c.args.limit c.args.known.now c.requires.1.0 c.requires.0.accepted c.args.index key c.in_ok-key.ensures,
-          subst (λ (pushes : List Push). All (IsLegal b key) pushes) (sym c.deref.ensures.value) c.in_ok-list_pushes.ensures.legal,
+          subst (λ (pushes : List Push). All (IsLegal b key) pushes) (sym c.deref.ensures.value) c.in_ok-open.ensures.legal,
         ),
       ),
     )
 
-pub returns : goal.returns
-returns g c =
+pub returns-clause-tells : goal.returns-clause-tells
+returns-clause-tells g c =
     let b = c.args.board.now in
     let key = c.in_ok-key.key in
-    let pushes = c.list_pushes.new.pushes.items in
-    tells-expanded b g.start c.args.limit c.args.known.now c.requires.1.0 c.args.index key c.in_ok-key.ensures c.requires.1.1.1 pushes
-    c.in_ok-list_pushes.ensures.whole c.args.lives.now c.follow_all.new.known c.follow_all.result
+    let pushes = c.open.new.self.pushes.items in
+    tells-expanded b g.start c.args.limit c.args.known.now c.requires.1.0 c.args.index key c.in_ok-key.ensures c.requires.1.1.1.0 pushes
+    c.in_ok-open.ensures.whole c.args.lives.now c.follow_all.new.known c.follow_all.result
     (subst (λ all. IfOk c.follow_all.result (TellsFollowed b c.args.lives.now g.start c.args.limit c.args.known.now key all c.follow_all.new.known)) c.deref.ensures.value
     c.follow_all.ensures)

@@ -8,4 +8,5 @@ loop-index-init g c = record {
   grows = Grows-refl c.args.known.now;
   followed = λ i key depth below marked. absurd (omega (arith, below));
   within = omega arith;
+  laid = c.new-expansion.ensures;
 }

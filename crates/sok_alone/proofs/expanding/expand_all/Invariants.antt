@@ -1,4 +1,5 @@
-use Rattle.std.proofs.Common.{◌≤◌, ◌-◌, length}
+use Rattle.std.proofs.Common.{ℕ, ◌≤◌, ◌-◌, List, length}
+use Rattle.sok_region.specs.Layouts.{IsLaidOut}
 use Rattle.sok_closed.specs.Lookup.{AreFollowed}
 use Rattle.sok_alone.specs.Known.{IsKnown, roll_of}
 use Rattle.sok_alone.specs.Meeting.{Grows}
@@ -13,6 +14,7 @@ invariant-loop-index g l = record {
   grows : Grows l.initial.known l.known;
   followed : AreFollowed l.board (roll_of l.known) l.index;
   within : l.index ≤ length l.known.inner.items;
+  laid : (boxes : List ℕ) × IsLaidOut l.board boxes l.expansion.layout;
 }
 
 abbrev pub decreases-loop-index : goal.decreases-loop-index

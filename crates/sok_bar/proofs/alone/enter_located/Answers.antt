@@ -1,4 +1,4 @@
-use Rattle.std.proofs.Common.{ℕ, ◌<◌, ◌∙◌, ◌++◌, ◌∷◌, [], ap, length, All, arith}
+use Rattle.std.proofs.Common.{ℕ, ◌<◌, ◌∙◌, ◌++◌, ◌∷◌, ◌↔◌, [], All, Bool, Err, IfOk, IsOkAnd, IsTrue, MatchBool, Ok, Result, ap, arith, false, length, refl, sym, true, true≢false}
 use Rattle.sok_closed.specs.declared.placing.Located.{Located}
 use Rattle.sok_board.specs.Area.{Numbered}
 use Rattle.sok_closed.specs.Lookup.{Rolled}
@@ -18,34 +18,39 @@ key-exists b count one found roll located of_board k d within =
     let wide = of_board.wide in
     omega (arith, below, wide)
 
-pub has-requires : goal.has-requires
-has-requires c =
+pub enter-requires : goal.enter-requires
+enter-requires c =
     key-exists c.args.board.now (length c.args.one.now.boxes) c.args.one.now c.args.located.now c.args.roll.now c.requires.located c.requires.of_board
 
-pub enter-requires-clause-squares : goal.enter-requires-clause-squares
-enter-requires-clause-squares c =
-    key-exists c.args.board.now (length c.args.one.now.boxes) c.args.one.now c.args.located.now c.args.roll.now c.requires.located c.requires.of_board
+-- one that may stand is fine, and another is not
+stands-or-not : {A B P E : Type 0} (r : Result Bool E) → IsOkAnd r (λ stands. IsTrue stands ↔ P) → (P → A) → (B → P) → IfOk r (λ fine. MatchBool fine A (B → ⊥))
+stands-or-not (Ok true) told made back = made (told.0 refl)
+stands-or-not (Ok false) told made back = λ b. true≢false (sym (told.1 (back b)))
+stands-or-not (Err e) told made back = tt
 
-pub returns-then-has-clause-tells : goal.returns-then-has-clause-tells
-returns-then-has-clause-tells c = λ before known fine.
+pub returns-then-not-branch-clause-tells : goal.returns-then-not-branch-clause-tells
+returns-then-not-branch-clause-tells c = λ before known fine.
     let b = c.args.board.now in
     let one = c.args.one.now in
-    let (place, there) = present _ _ c.has.result c.has.ensures c.if-has.true in
-    let seen = seen-behind inner_node b (length one.boxes) (IsBarredAlone b) before c.args.roll.now c.requires.accepted known one c.args.located.now place
-    c.requires.located there in
+    let stays = missing _ _ c.in_ok-enter.field-0 c.in_ok-enter.ensures.entered c.if-not-branch.true in
+    let seen = seen-behind inner_node b (length one.boxes) (IsBarredAlone b) before c.args.roll.now c.requires.accepted known one c.args.located.now
+    stays.place c.requires.located stays.there in
     fine.new seen.place seen.earlier seen.before seen.there seen.same
 
 pub returns-clause-tells : goal.returns-clause-tells
 returns-clause-tells c = λ before known.
     let b = c.args.board.now in
     let one = c.args.one.now in
-    AreEntered-more inner_node b (length one.boxes) (IsBarredAlone b) before c.args.roll.now c.requires.accepted known one c.args.located.now c.requires.located
-    (missing _ _ c.has.result c.has.ensures c.if-has.false) c.enter.new.self (c.in_ok-may_stand.ensures.0 c.if-not-branch.false) c.in_ok-enter.ensures.entered
-    (c.in_ok-enter.ensures.marked ∙ ap (λ mark. c.args.roll.now.marks ++ mark ∷ []) c.is_expanded.ensures)
+    let came = present _ _ c.in_ok-enter.field-0 c.in_ok-enter.ensures.entered c.if-not-branch.false in
+    stands-or-not c.may_stand.result c.may_stand.ensures
+    (λ reasoned. AreEntered-more inner_node b (length one.boxes) (IsBarredAlone b) before c.args.roll.now c.requires.accepted known one c.args.located.now
+    c.requires.located came.absent c.enter.new.self reasoned came.entries (came.marks ∙ ap (λ mark. c.args.roll.now.marks ++ mark ∷ []) c.is_expanded.ensures))
+    (λ fine. fine.reasoned)
 
 pub returns-clause-of_board : goal.returns-clause-of_board
 returns-clause-of_board c =
     let b = c.args.board.now in
     let one = c.args.one.now in
+    let came = present _ _ c.in_ok-enter.field-0 c.in_ok-enter.ensures.entered c.if-not-branch.false in
     IsOfBoard-more b c.requires.accepted (length one.boxes) c.requires.few c.args.roll.now c.enter.new.self (inner_node one) c.args.located.now
-    c.requires.located c.requires.of_board c.in_ok-enter.ensures.entered c.in_ok-enter.ensures.room
+    c.requires.located c.requires.of_board came.entries c.in_ok-enter.ensures.room

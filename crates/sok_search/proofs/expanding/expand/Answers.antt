@@ -8,9 +8,12 @@ use Rattle.sok_search.proofs.Adding.{taken-key}
 use Rattle.sok_search.proofs.Trailing.{both-ok, told-expanded}
 use Rattle.sok_search.proofs.expanding.expand.Goals as goal
 
-pub again-requires : goal.again-requires
-again-requires c = (taken-key c.args.board.now c.args.limit c.args.index
-    (progress_of c.args.search.now) c.args.key.now c.args.depth c.requires.state.running.search c.requires.state.there c.requires.state.depth_is).is.placed
+pub list_pushes-requires-clause-key : goal.list_pushes-requires-clause-key
+list_pushes-requires-clause-key c = taken-key c.args.board.now c.args.limit c.args.index
+    (progress_of c.args.search.now) c.args.key.now c.args.depth c.requires.state.running.search c.requires.state.there c.requires.state.depth_is
+
+pub list_pushes-requires-clause-laid : goal.list_pushes-requires-clause-laid
+list_pushes-requires-clause-laid c = subst (λ boxes. IsLaidOut c.args.board.now boxes c.lay.new.self) c.list.ensures.list c.in_ok-lay.ensures.laid
 
 pub lay-requires-clause-exist : goal.lay-requires-clause-exist
 lay-requires-clause-exist c = subst (λ (squares : List ℕ). All (λ square. square < length c.args.board.now.area) squares) (sym c.list.ensures.list)

@@ -1,12 +1,13 @@
-use Rattle.std.proofs.Common.{inl, refl, subst, sym}
+use Rattle.std.proofs.Common.{inl, refl, subst, sym, Contains}
 use Rattle.sok_board.specs.Area.{position_of}
+use Rattle.sok_field.specs.Numbers.{Draws}
 use Rattle.sok_state.specs.Keys.{IsKeyOf}
 use Rattle.sok_state.proofs.LegalPushes.{LeadsTo-position, clear-legal, key_after}
 use Rattle.sok_state.proofs.Stepped.{clear-after, moved-back, next-as_many, next-made, next_of, placed-after}
 use Rattle.sok_state.proofs.stepping.step.Goals as goal
 
-pub least_square-least-requires-clause-laid : goal.least_square-least-requires-clause-laid
-least_square-least-requires-clause-laid c =
+pub least_square-least-requires-clause-drawn : goal.least_square-least-requires-clause-drawn
+least_square-least-requires-clause-drawn c =
     let b = c.args.board.now in
     let (key, can) = c.requires.pushable in
     let push = c.args.push in
@@ -16,8 +17,9 @@ least_square-least-requires-clause-laid c =
     let boxes = (next_of key push.from ahead 0).boxes in (
       boxes,
       placed-after b c.requires.accepted key push ahead boxes can.state can.legal ahead_is next.moved next.rising,
-      c.shift.ensures key.boxes boxes can.laid (clear-legal b c.requires.accepted.numbered key can.state.is.placed push can.legal).0
-          (clear-after b c.requires.accepted key push ahead can.state can.legal ahead_is) next.moved,
+      subst (Draws b (λ n. Contains boxes n → ⊥)) (sym c.free.ensures) (c.shift.ensures key.boxes boxes can.laid
+          (clear-legal b c.requires.accepted.numbered key can.state.is.placed push can.legal).0
+          (clear-after b c.requires.accepted key push ahead can.state can.legal ahead_is) next.moved).free,
     )
 
 pub returns-clause-laid : goal.returns-clause-laid
@@ -43,7 +45,8 @@ returns-clause-next c = λ key next can is.
     let there = (clear-legal b c.requires.accepted.numbered key can.state.is.placed push can.legal).0 in
     let free = clear-after b c.requires.accepted key push ahead can.state can.legal ahead_is in
     let placed = placed-after b c.requires.accepted key push ahead next.boxes can.state can.legal ahead_is is.moved is.rising in
-    let found = c.least_square-least.ensures next.boxes placed (c.shift.ensures key.boxes next.boxes can.laid there free is.moved) in
+    let laid = c.shift.ensures key.boxes next.boxes can.laid there free is.moved in
+    let found = c.least_square-least.ensures next.boxes placed (subst (Draws b (λ n. Contains next.boxes n → ⊥)) (sym c.free.ensures) laid.free) in
     let is_key : IsKeyOf b (position_of b push.from next.boxes) next = subst
     (λ n. IsKeyOf b (position_of b push.from next.boxes) (record { boxes = next.boxes; least = n })) (sym is.least_is) found in
     record {

@@ -1,5 +1,4 @@
 use Rattle.std.proofs.Common.{◌∙◌, sym, ap, subst, length}
-use Rattle.std.proofs.lemmas.Result.{IfOk-weaker}
 use Rattle.sok_rules.proofs.Man.{IsStanding-start}
 use Rattle.sok_rules.proofs.Steps.{IsStanding}
 use Rattle.sok_board.specs.Area.{position_of}
@@ -24,9 +23,8 @@ key_of-requires c =
 pub returns-clause-key : goal.returns-clause-key
 returns-clause-key c =
     let b = c.args.board.now in
-    IfOk-weaker c.key_of.result _ _ (λ key is. subst (λ x. IsKeyOf b x key) (ap (position_of b c.start-player.result.0) c.in_ok-boxes.ensures.list
-    ∙ c.start-player.ensures.position) is) c.key_of.ensures.key
+    subst (λ x. IsKeyOf b x c.key_of.result) (ap (position_of b c.start-player.result.0) c.in_ok-boxes.ensures.list ∙ c.start-player.ensures.position)
+    c.key_of.ensures.key
 
 pub returns-clause-as_many : goal.returns-clause-as_many
-returns-clause-as_many c = IfOk-weaker c.key_of.result _ _ (λ key is. ap length is ∙ ap length c.in_ok-boxes.ensures.list
-    ∙ ap length c.start-player.ensures.boxes) c.key_of.ensures.boxes
+returns-clause-as_many c = ap length c.key_of.ensures.boxes ∙ ap length c.in_ok-boxes.ensures.list ∙ ap length c.start-player.ensures.boxes
