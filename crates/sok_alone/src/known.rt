@@ -50,7 +50,7 @@ pub(crate) fn add(
         (known.new.inner.items ≡ known.old.inner.items ++ inner_at key.now reason ∷ []) }
     ensures room { known.new.table.room ≡ known.old.table.room }
 {
-    let boxes = numbers_of(alloc, key.boxes.list())?;
+    let boxes = Numbers::widened(alloc, key.boxes.list())?;
     let player = u32::from(key.least);
     let depth = 0;
     let (_index, _is_new) = known.table.insert(key, depth)?;
@@ -61,15 +61,4 @@ pub(crate) fn add(
         reason,
     })?;
     Ok(())
-}
-
-/// Squares, as numbers of a list.
-fn numbers_of(alloc: Global, squares: &[Sq]) -> Result<Numbers, Memory>
-    ensures { IfOk result (λ numbers. numbers ≡ squares.now) }
-{
-    let mut numbers = Vec::with_capacity(alloc, squares.len())?;
-    for square in squares {
-        numbers.push(u32::from(*square))?;
-    }
-    Ok(Numbers::from(numbers))
 }

@@ -130,6 +130,17 @@ impl Numbers {
         })
     }
 
+    /// The same numbers as a slice of narrower ones.
+    pub fn widened(alloc: Global, numbers: &[u16]) -> Result<Numbers, AllocError>
+        ensures { IfOk result (λ list. list ≡ numbers.now) }
+    {
+        let mut items = Vec::with_capacity(alloc, numbers.len())?;
+        for number in numbers {
+            items.push(u32::from(*number))?;
+        }
+        Ok(Numbers { items })
+    }
+
     /// The numbers, with no copy made.
     pub fn as_slice(&self) -> &[u32]
         ensures { result.now ≡ self.now }

@@ -49,7 +49,8 @@ fn has_pattern(entries: &[Entry]) -> bool
     entries.iter().any(|entry| is_pattern(&entry.reason))
 }
 
-fn is_pattern(reason: &Reason) -> bool
+/// Whether a reason is a pattern, which version 1 has not.
+pub fn is_pattern(reason: &Reason) -> bool
     ensures { result ≡ is_pattern reason.now }
 {
     matches!(reason, Reason::Pattern { .. })

@@ -1,13 +1,14 @@
 //! A solution is offered to a level of a book.
 
-ghost use Rattle.std.specs.Prelude.{◌≡◌, IfErr, OnOk};
+ghost use Rattle.std.specs.Prelude.{◌≡◌, ◌≤◌, IfErr, OnOk, length};
 ghost use Rattle.sqlite.specs.Held.{state};
 ghost use Rattle.sok_store.specs.Calls.{EndsOpen, Stops, Turns};
 ghost use Rattle.sok_keep.specs.Causes.{IsCausedFault};
 ghost use Rattle.sok_keep.specs.Offers.{OffersText, WritesOffer};
 ghost use Rattle.sok_keep.specs.Offers.{offer_line, offer_status, offer_word};
 
-use crate::line::{Line, write_line};
+use crate::line::write_line;
+use arrayvec::ArrayString;
 use itoa::Buffer;
 use sok_book::record::Offer;
 use sok_engine::fault::ToolFault;
@@ -48,11 +49,13 @@ pub fn offer_bytes<S: Alter, W: Write>(
     }
 }
 
-/// What became of an offer, and the pushes and moves of the best after it.
-fn offer_line(told: &Standing) -> Line
-    ensures { result.bytes ≡ offer_line told.now.offer told.now.pushes told.now.moves }
+/// The line of what became of an offer, with the pushes and moves of the best after it, made without
+/// memory.
+pub fn offer_line(told: &Standing) -> ArrayString<64>
+    ensures line { result.bytes ≡ offer_line told.now.offer told.now.pushes told.now.moves }
+    ensures short { length result.bytes ≤ 40 }
 {
-    let mut line = Line::new();
+    let mut line = ArrayString::new();
     line.push_str(offer_word(told.offer));
     line.push_str(" ");
     line.push_str(Buffer::new().format(told.pushes));
@@ -63,7 +66,7 @@ fn offer_line(told: &Standing) -> Line
 }
 
 /// The word for what became of an offer.
-pub fn offer_word(offer: Offer) -> &'static str
+fn offer_word(offer: Offer) -> &'static str
     ensures { result.now ≡ offer_word offer }
 {
     match offer {

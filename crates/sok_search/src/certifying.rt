@@ -91,7 +91,7 @@ fn entry_at(
         depth,
         note.standing,
     )?;
-    let boxes = numbers_of(alloc, key.boxes.list())?;
+    let boxes = Numbers::widened(alloc, key.boxes.list())?;
     Ok(Entry {
         depth,
         player: u32::from(key.least),
@@ -114,15 +114,4 @@ fn state_at(
 {
     let key = search.table.key(alloc, squares, index)?;
     Ok((key, search.table.depth(index), search.notes[index]))
-}
-
-/// Squares, as numbers of a certificate.
-fn numbers_of(alloc: Global, squares: &[Sq]) -> Result<Numbers, Memory>
-    ensures { IfOk result (λ numbers. numbers ≡ squares.now) }
-{
-    let mut numbers = Vec::with_capacity(alloc, squares.len())?;
-    for square in squares {
-        numbers.push(u32::from(*square))?;
-    }
-    Ok(Numbers::from(numbers))
 }

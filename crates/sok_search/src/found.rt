@@ -2,7 +2,7 @@
 
 use sok_rules::cell::Dir;
 
-/// What is found of a level, with no certificate.
+/// What is found of a level. The certificate of it, where one is made, stands elsewhere.
 #[derive(Debug, Drop)]
 pub enum Found {
     /// Letters that solve the level with the fewest pushes.

@@ -10,7 +10,7 @@ use arrayvec::ArrayString;
 use itoa::Buffer;
 use sok_engine::fault::ToolFault;
 use sok_engine::output::write_whole;
-use sok_keep::offer::offer_word;
+use sok_keep::offer::offer_line;
 use sok_store::standing::Standing;
 use std::alloc::{AllocError, Global};
 use std::io::Write;
@@ -65,12 +65,7 @@ pub(crate) fn told_line(id: i64, told: &Standing) -> Line
     let mut line = Line::new();
     line.push_str(Buffer::new().format(id));
     line.push_str(" ");
-    line.push_str(offer_word(told.offer));
-    line.push_str(" ");
-    line.push_str(Buffer::new().format(told.pushes));
-    line.push_str(" ");
-    line.push_str(Buffer::new().format(told.moves));
-    line.push_str("\n");
+    line.push_str(offer_line(told).as_str());
     line
 }
 

@@ -1,16 +1,15 @@
 //! The text of a certificate, which is made as its entries are found.
 
-ghost use Rattle.std.specs.Prelude.{List, ◌≡◌, [], OnErr, OnOk};
+ghost use Rattle.std.specs.Prelude.{List, ◌≡◌, ◌∷◌, ◌++◌, [], OnErr, OnOk};
 ghost use Rattle.std.specs.Io.KnownBytes.{Appends};
 ghost use Rattle.sok_engine.specs.Written.{AppendsFront};
 ghost use Rattle.sok_cert.specs.Entry.{Entry};
-ghost use Rattle.sok_cert.specs.Text.{is_pattern};
 ghost use Rattle.sok_solve.specs.Lines.{HasLines, TellsReady};
 
 use sok_cert::claim::Claim;
-use sok_cert::entry::{Entry, Reason};
+use sok_cert::entry::Entry;
 use sok_cert::version::Version;
-use sok_cert::writing::{push_end, push_entry, push_front};
+use sok_cert::writing::{is_pattern, push_end, push_entry, push_front};
 use sok_engine::fault::ToolFault;
 use sok_engine::input::CERT_LIMIT;
 use sok_engine::output::{WriteFailed, write_whole};
@@ -37,24 +36,26 @@ impl EntryLines {
             has_pattern: false,
         }
     }
+
+    /// Keeps the lines of one more entry, the last.
+    fn push(&mut self, entry: &Entry) -> Result<(), AllocError>
+        ensures { OnOk result ((entries : List Entry) → HasLines self.old entries
+            → HasLines self.new (entries ++ entry.now ∷ [])) }
+    {
+        self.has_pattern |= is_pattern(&entry.reason);
+        if self.lines.len() > CERT_LIMIT {
+            return Ok(());
+        }
+        push_entry(&mut self.lines, entry)
+    }
 }
 
 impl Entries for EntryLines {
     ghost took = { λ entries taken. HasLines taken entries };
 
     fn take(&mut self, entry: Entry) -> Result<(), AllocError> {
-        self.has_pattern = self.has_pattern || is_pattern(&entry.reason);
-        if self.lines.len() <= CERT_LIMIT {
-            push_entry(&mut self.lines, &entry)?;
-        }
-        Ok(())
+        self.push(&entry)
     }
-}
-
-fn is_pattern(reason: &Reason) -> bool
-    ensures { result ≡ is_pattern reason.now }
-{
-    matches!(reason, Reason::Pattern { .. })
 }
 
 /// A certificate, as it is written: the lines in front of its entries, and all others. It is seen as

@@ -19,7 +19,7 @@ returns-in-Ok-clause-writes g c =
     let spelled : Spells c.args.text.now c.deref.result.now = subst (Spells c.args.text.now) (sym c.deref.ensures.value) c.in_ok-letters.ensures in
     offer_done (state g.S.Store c.args.book.now) (state g.S.Store c.offer_with_best.new.self) c.args.id c.args.text.now c.deref.result.now c.in-Ok.told
     (g.W.Write.contents c.args.out.now) (g.W.Write.contents c.write_line.new.out) c.write_line.result spelled
-    (rw (to_z-of_z w64 c.args.id c.ranges.id) at c.in-Ok.ensures.offered) (rw (c.offer_line.ensures, c.offer_status.ensures) at c.write_line.ensures)
+    (rw (to_z-of_z w64 c.args.id c.ranges.id) at c.in-Ok.ensures.offered) (rw (c.offer_line.ensures.line, c.offer_status.ensures) at c.write_line.ensures)
 
 pub returns-clause-writes : goal.returns-clause-writes
 returns-clause-writes g c =

@@ -1,5 +1,0 @@
-use Rattle.std.proofs.Common.{◌≡◌, take}
-use Rattle.sok_alone.proofs.known.numbers_of.Given as goal
-
-abbrev pub invariant-loop-square : goal.invariant-loop-square
-invariant-loop-square l = l.numbers.items ≡ take l.square-index l.squares
