@@ -2,6 +2,7 @@ pub mod Claims
 pub mod EntryLines
 pub mod EntryNumbers
 pub mod Fitting
+pub mod Fronts
 pub mod HeadNumbers
 pub mod Numbers
 pub mod Openings

@@ -1,23 +1,17 @@
 -- A text in which single spaces stand between numbers.
-use Rattle.std.proofs.Common.{ℕ, ◌≡◌, ◌<◌, List, [], ◌∷◌, ◌++◌, All, false, length, get_or, decimal, drop, map, sym, ap, ◌∙◌, refl, arith}
+use Rattle.std.proofs.Common.{ℕ, ◌≡◌, ◌<◌, ◌≤◌, List, [], ◌∷◌, ◌++◌, All, false, length, get_or, decimal, drop, map, sym, ap, ◌∙◌, refl, arith}
+use Rattle.std.proofs.Math.Seq.{drop-append_seam}
 use Rattle.std.proofs.lemmas.Bool.Decides.{nat_tests}
 use Rattle.std.proofs.lemmas.Fmt.{decimal_injective}
-use Rattle.std.proofs.lemmas.List.{length-map, get_or-map, append-nil}
-use Rattle.std.proofs.lemmas.List.Elements.{All-from_get_or, All-head, All-tail}
-use Rattle.std.proofs.lemmas.List.Splits.{slice_split_none, slice_split_at, join_with_byte-slice_split}
+use Rattle.std.proofs.lemmas.List.{append-nil, drop-map, length-map}
+use Rattle.std.proofs.lemmas.List.Elements.{All-drop, All-from_get_or, All-head, All-tail}
+use Rattle.std.proofs.lemmas.List.Splits.{join_with_byte-slice_split, length-slice_split, slice_split_at, slice_split_none}
 use Rattle.std.proofs.lemmas.Str.Parse.{digit_at}
 use Rattle.std.specs.List.{slice_split, join_with_byte}
 use Rattle.sok_entry.specs.Text.{IsSmall, spaced}
+use Rattle.sok_entry.specs.Fronts.{BeginsWith, EndsNumber}
 use Rattle.sok_entry.specs.Reading.{AreWords, is_space}
 use Rattle.sok_entry.proofs.Numbers.{IsNumeral-decimal}
-
--- each part is a number
-pub word-AreWords : (text : List ℕ) (ns : List ℕ) (i : ℕ) (word : List ℕ) → AreWords text ns → i < length (slice_split is_space text)
-    → word ≡ get_or (slice_split is_space text) i word
-    → IsSmall (get_or ns i 0) × (word ≡ decimal (get_or ns i 0))
-word-AreWords text ns i word words within there =
-    let short : i < length ns = omega (arith, ap length words.1, length-map ns decimal) in
-    (words.0 i 0 short, there ∙ ap (λ ws. get_or ws i word) words.1 ∙ get_or-map decimal ns i 0 word short)
 
 -- there is no space in a decimal
 no_space : (n : ℕ) → IsSmall n → All (λ c. is_space c ≡ false) (decimal n)
@@ -63,3 +57,41 @@ decimals_known (n ∷ ns) (m ∷ ms) small_n small_m same =
 -- a text has one list of numbers at most
 pub AreWords-one : (text ns ms : List ℕ) → AreWords text ns → AreWords text ms → ns ≡ ms
 AreWords-one text ns ms of_ns of_ms = decimals_known ns ms of_ns.0 of_ms.0 (sym of_ns.1 ∙ of_ms.1)
+
+-- the parts of a text that begins with a number
+pub split-last : (text : List ℕ) (n : ℕ) (rest : List ℕ) → BeginsWith text n rest → length rest < 1 → slice_split is_space text ≡ decimal n ∷ []
+split-last text n [] begins none =
+    ap (slice_split is_space) (begins.spelled ∙ append-nil (decimal n)) ∙ slice_split_none is_space (decimal n) (no_space n begins.small)
+split-last text n (c ∷ more) begins none = absurd (omega (arith, none))
+
+pub split-more : (text : List ℕ) (n : ℕ) (rest : List ℕ) → BeginsWith text n rest → 1 ≤ length rest
+    → slice_split is_space text ≡ decimal n ∷ slice_split is_space (drop 1 rest)
+split-more text n [] begins some = absurd (omega (arith, some))
+split-more text n (c ∷ more) begins some =
+    ap (slice_split is_space) begins.spelled ∙ slice_split_at is_space (decimal n) c more (no_space n begins.small) (ap is_space begins.ends)
+
+spaced-ends : (ns : List ℕ) → EndsNumber (spaced ns)
+spaced-ends [] = tt
+spaced-ends (n ∷ ns) = refl
+
+-- a text of numbers begins with one
+begins-words : (text ns : List ℕ) → All IsSmall ns → slice_split is_space text ≡ map decimal ns → (n : ℕ) × (rest : List ℕ) × BeginsWith text n rest
+begins-words text [] small parts = absurd (omega (arith, ap length parts, length-slice_split is_space text))
+begins-words text (n ∷ ns) small parts = (
+  n,
+  spaced ns,
+  record {
+    small = All-head IsSmall n ns small;
+    spelled = ap (drop 1) (spaced-AreWords text n ns (small, parts));
+    ends = spaced-ends ns;
+  },
+)
+
+-- and so does what rests of it behind some of them
+pub begins-rest : (text rest numbers ns : List ℕ) → slice_split is_space text ≡ map decimal numbers ++ slice_split is_space rest → AreWords text ns
+    → (n : ℕ) × (tail : List ℕ) × BeginsWith rest n tail
+begins-rest text rest numbers ns split words =
+    let front = map decimal numbers in
+    let parts : slice_split is_space rest ≡ map decimal (drop (length front) ns) =
+    sym (drop-append_seam front (slice_split is_space rest)) ∙ ap (drop (length front)) (sym split ∙ words.1) ∙ drop-map decimal (length front) ns in
+    begins-words rest (drop (length front) ns) (All-drop IsSmall (length front) ns words.0) parts

@@ -5,3 +5,4 @@ pub mod Stages
 pub mod Text
 -- words of the crate's own contracts
 pub mod Entries
+pub mod Fronts

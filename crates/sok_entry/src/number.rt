@@ -1,56 +1,70 @@
 //! Numbers of a certificate's text.
 
-ghost use Rattle.std.specs.Prelude.{◌≡◌, ◌<◌, ◌↔◌, IfOk, IsTrue, codes, decimal, length};
-ghost use Rattle.std.specs.Prelude.{option_map};
-ghost use Rattle.std.specs.Str.Parse.{AllDigits, digits_value};
-ghost use Rattle.sok_entry.specs.Text.{code, IsSmall};
+ghost use Rattle.std.specs.Prelude.{ℕ, List, ◌≡◌, IfOk, MatchOption, decimal, option_map};
+ghost use Rattle.sok_entry.specs.Text.{IsSmall};
 ghost use Rattle.sok_entry.specs.Reading.{Tells, AreWords};
+ghost use Rattle.sok_entry.specs.Fronts.{BeginsWith, HasDigits};
 
 use crate::limits::LIMIT;
 use std::alloc::{AllocError, Global};
 
-/// The numbers of a text in which single spaces stand between numbers.
+/// The numbers of a text in which single spaces stand between numbers. It is read once, byte by byte.
 pub(crate) fn numbers_of(alloc: Global, text: &[u8]) -> Result<Option<Vec<u32>>, AllocError>
     ensures { IfOk result (λ found. Tells (AreWords text.now)
         (option_map (λ numbers. numbers.items) found)) }
 {
     // A number and its space are two bytes at the least.
     let mut numbers = Vec::with_capacity(alloc, (text.len() / 2 + 1).min(256))?;
-    for word in text.split(|byte| *byte == b' ') {
-        let Some(number) = number_of(word) else {
+    let mut rest = text;
+    loop {
+        let Some((number, behind)) = cut_number(rest) else {
             return Ok(None);
         };
         numbers.push(number)?;
+        let [_space, next @ ..] = behind else {
+            return Ok(Some(numbers));
+        };
+        rest = next;
     }
-    Ok(Some(numbers))
 }
 
 /// The number that a word is in decimal, without leading zeros, if it is at most 1,000,000.
 pub(crate) fn number_of(word: &[u8]) -> Option<u32>
     ensures { Tells (λ n. IsSmall n × (word.now ≡ decimal n)) result }
 {
-    if word.is_empty() {
+    let Some((number, behind)) = cut_number(word) else {
         return None;
-    }
-    if has_leading_zero(word) {
-        return None;
-    }
-    value_of(word)
+    };
+    if behind.is_empty() { Some(number) } else { None }
 }
 
-fn has_leading_zero(word: &[u8]) -> bool
-    ensures { IsTrue result ↔ ((1 < length word.now) × (code word.now ≡ code (codes "0"))) }
+/// The number at the front of a text, in decimal without leading zeros, up to a space or the end, if
+/// it is at most 1,000,000; and what stands from there on.
+fn cut_number(text: &[u8]) -> Option<(u32, &[u8])>
+    ensures { MatchOption result ((n : ℕ) (rest : List ℕ) → BeginsWith text.now n rest → ⊥)
+        (λ cut. BeginsWith text.now cut.0 cut.1.now) }
 {
-    word.len() > 1 && word[0] == b'0'
+    let (number, count) = front_value(text)?;
+    if count == 0 {
+        return None;
+    }
+    if count > 1 && text[0] == b'0' {
+        return None;
+    }
+    Some((number, &text[count..]))
 }
 
-/// The value of decimal digits, if it is at most 1,000,000.
-fn value_of(word: &[u8]) -> Option<u32>
-    ensures { Tells (λ n. IsSmall n × AllDigits 10 word.now × (n ≡ digits_value 10 word.now))
-        result }
+/// The value of the digits at the front of a text, up to a space or the end, if it is at most
+/// 1,000,000; and how many they are.
+fn front_value(text: &[u8]) -> Option<(u32, usize)>
+    ensures { MatchOption result ((n : ℕ) (rest : List ℕ) → BeginsWith text.now n rest → ⊥)
+        (λ told. HasDigits text.now told.0 told.1) }
 {
     let mut number: u32 = 0;
-    for byte in word {
+    for (count, byte) in text.iter().enumerate() {
+        if *byte == b' ' {
+            return Some((number, count));
+        }
         if !byte.is_ascii_digit() {
             return None;
         }
@@ -59,5 +73,5 @@ fn value_of(word: &[u8]) -> Option<u32>
             return None;
         }
     }
-    Some(number)
+    Some((number, text.len()))
 }

@@ -1,27 +1,41 @@
-use Rattle.std.proofs.Common.{◌∙◌, ap, sym, rules, get_or, length}
-use borrow.Author.Tests.{tests}
-use Rattle.std.proofs.lemmas.Iterator.Splits.{YieldsList-from_slice_split}
-use Rattle.std.proofs.lemmas.Iterator.Consumers.{YieldsList-turn, YieldsList-end}
-use Rattle.std.specs.Slice.Iter as slice
+use Rattle.std.proofs.Common.{◌≡◌, ◌++◌, ◌∷◌, ◌∙◌, [], All, List, ℕ, ap, append_assoc, decimal, drop, length, map, subst, sym}
+use Rattle.std.proofs.lemmas.List.{map-append, take_rest}
+use Rattle.std.proofs.lemmas.List.Elements.{All-push}
+use Rattle.std.specs.List.{slice_split}
+use Rattle.sok_entry.specs.Text.{IsSmall}
 use Rattle.sok_entry.specs.Reading.{is_space}
-use Rattle.sok_entry.proofs.Words.{word-AreWords}
+use Rattle.sok_entry.proofs.Words.{begins-rest, split-last, split-more}
 use Rattle.sok_entry.proofs.number.numbers_of.Goals as goal
 
 pub returns-in_default : goal.returns-in_default
-returns-in_default c =
-    let e = c.into_iter-word-iterator.ensures.into_iter_gives in
-    let i = length c.loop-word.yielded in
-    let t = YieldsList-turn (YieldsList-from_slice_split _ is_space c.args.text.now (ap slice.split_rest e ∙ c.split-word-items.ensures.rest)
-    (ap slice.split_done e ∙ c.split-word-items.ensures.done)
-    (ap slice.split_callee e ∙ c.split-word-items.ensures.closure) (λ x b q k. search (rules, tests))) c.loop-word.yielded _ c.loop-word.yielded_by _ _
-    c.in-Some.word c.in-Some.is c.next.ensures.steps in
-    λ ns words. c.in_default.ensures (get_or ns i 0) (word-AreWords c.args.text.now ns i c.in-Some.word.now words t.0 t.1)
+returns-in_default c = λ ns words.
+    let (n, tail, begins) = begins-rest c.args.text.now c.loop-number.rest.now c.loop-number.numbers.items ns c.loop-number.invariant.split words in
+    c.in_default.ensures n tail begins
 
-pub returns : goal.returns
-returns c =
-    let e = c.into_iter-word-iterator.ensures.into_iter_gives in
-    let t = YieldsList-end (YieldsList-from_slice_split _ is_space c.args.text.now (ap slice.split_rest e ∙ c.split-word-items.ensures.rest)
-    (ap slice.split_done e ∙ c.split-word-items.ensures.done)
-    (ap slice.split_callee e ∙ c.split-word-items.ensures.closure) (λ x b q k. search (rules, tests))) c.loop-word.yielded _ c.loop-word.yielded_by _ _
-    c.in-None.is c.next.ensures.steps in
-    (c.loop-word.invariant.small, sym t.0 ∙ c.loop-word.invariant.words)
+pub returns-in_default-behind : goal.returns-in_default-behind
+returns-in_default-behind c =
+    let numbers = c.loop-number.numbers.items in
+    let n = c.in-Some.number in
+    let more = c.in_ok-push.ensures.items in (
+      subst (All IsSmall) (sym more) (All-push IsSmall numbers n c.loop-number.invariant.small c.in-Some.ensures.small),
+      c.loop-number.invariant.split
+          ∙ ap (λ words. map decimal numbers ++ words)
+          (split-last c.loop-number.rest.now n c.in-Some.behind.now c.in-Some.ensures c.in_default-behind.len_below)
+          ∙ sym (map-append decimal numbers (n ∷ [])) ∙ ap (map decimal) (sym more),
+    )
+
+pub loop-number-preserved : goal.loop-number-preserved
+loop-number-preserved c =
+    let numbers = c.loop-number.numbers.items in
+    let n = c.in-Some.number in
+    let behind = c.in-Some.behind.now in
+    let more = c.in_ok-push.ensures.items in
+    let last = slice_split is_space (drop 1 behind) in
+    record {
+      small = subst (All IsSmall) (sym more) (All-push IsSmall numbers n c.loop-number.invariant.small c.in-Some.ensures.small);
+      split = c.loop-number.invariant.split
+          ∙ ap (λ words. map decimal numbers ++ words) (split-more c.loop-number.rest.now n behind c.in-Some.ensures c.in-len1-up.len_at_least)
+          ∙ sym (append_assoc (map decimal numbers) (decimal n ∷ []) last)
+          ∙ ap (λ words. words ++ last) (sym (map-append decimal numbers (n ∷ [])) ∙ ap (map decimal) (sym more))
+          ∙ ap (λ (rest : List ℕ). map decimal c.push.new.self.items ++ slice_split is_space rest) (sym (take_rest behind 1));
+    }
