@@ -1,14 +1,13 @@
-//! The pushes of a state whose region is at hand.
+//! The pushes of a state that is opened.
 
 ghost use Rattle.sok_state.specs.Keys.{IsKey};
 
 use crate::setting::board;
 use sok_board::board::Board;
-use sok_region::region::Region;
 use sok_rules::cell::Dir;
 use sok_sketch::sketch;
+use sok_state::expansion::Expansion;
 use sok_state::key::Key;
-use sok_state::legal::list_pushes;
 use sok_state::push::Push;
 use std::alloc::Global;
 use std::test::Fail;
@@ -33,38 +32,28 @@ const EACH_PUSH: [Push; 4] = [
     },
 ];
 
-/// Whether a kept list is made the pushes of a state, and these are the ones told.
-fn lists(
-    alloc: Global,
-    board: &Board,
-    key: &Key,
-    pushes: &mut Vec<Push>,
-    told: &[Push],
-) -> Result<bool, Fail>
+/// Whether a state that is opened has these pushes, and once more in the same place.
+fn opens_twice(alloc: Global, board: &Board, key: &Key, told: &[Push]) -> Result<bool, Fail>
     requires { IsKey board.now key.now }
 {
-    let region = Region::of(alloc, board, &key.boxes, key.least)?;
-    list_pushes(board, key, &region, pushes)?;
-    Ok(pushes.as_slice() == told)
-}
-
-/// Whether one list is made so, and once more.
-fn lists_twice(alloc: Global, board: &Board, key: &Key, told: &[Push]) -> Result<bool, Fail>
-    requires { IsKey board.now key.now }
-{
-    let mut pushes = Vec::new(alloc);
-    Ok(lists(alloc, board, key, &mut pushes, told)? && lists(alloc, board, key, &mut pushes, told)?)
+    // A board tells with its squares that it is accepted.
+    let _squares = board.squares();
+    let mut expansion = Expansion::new(alloc, board);
+    expansion.open(board, key)?;
+    let once = expansion.pushes.as_slice() == told;
+    expansion.open(board, key)?;
+    Ok(once && expansion.pushes.as_slice() == told)
 }
 
 /// Whether each push is legal from a board's start.
 fn pushes_around(alloc: Global, board: &Board) -> Result<bool, Fail> {
     let key = Key::start(alloc, board)?;
-    lists_twice(alloc, board, &key, &EACH_PUSH)
+    opens_twice(alloc, board, &key, &EACH_PUSH)
 }
 
 /// A box in the open, and the player below it on the left: each push is legal.
 #[test]
-fn pushes_over_kept_lists(rt: HostRuntime) -> Result<(), Fail> {
+fn pushes_of_a_state_that_is_opened_twice(rt: HostRuntime) -> Result<(), Fail> {
     let board = board(rt.alloc(), sketch::BOX_IN_THE_OPEN)?;
     assert!(rt; pushes_around(rt.alloc(), &board)?);
     Ok(())
