@@ -14,7 +14,7 @@
 //! | `pairs` | pairs of boxes that are never solved, taken alone |
 //! | `positions` | positions, and whether a reason holds of one (no test) |
 //! | `prices` | which goal each box could go to at the least cost, and crowds |
-//! | `pushes` | the pushes of a state whose region is at hand, and the state behind one |
+//! | `pushes` | the pushes of a state that is opened |
 //! | `regions` | where the player comes without a push, and by which letters |
 //! | `rounds` | rounds of squares, in rows of words |
 //! | `sets` | sets of boxes |
