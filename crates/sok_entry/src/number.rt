@@ -35,7 +35,11 @@ pub(crate) fn number_of(word: &[u8]) -> Option<u32>
     let Some((number, behind)) = cut_number(word) else {
         return None;
     };
-    if behind.is_empty() { Some(number) } else { None }
+    if behind.is_empty() {
+        Some(number)
+    } else {
+        None
+    }
 }
 
 /// The number at the front of a text, in decimal without leading zeros, up to a space or the end, if
