@@ -1,10 +1,9 @@
 -- Those of some boxes that stand on some squares.
-use Rattle.std.proofs.Common.{ℕ, ◌≡◌, ◌<◌, ◌+◌, ◌++◌, ◌∙◌, ◌==◌, List, [], ◌∷◌, Bool, true, cond, ap, arith, filter, get_or, length, take, Contains}
+use Rattle.std.proofs.Common.{ℕ, ◌≡◌, ◌∙◌, ◌==◌, List, Bool, true, arith, filter, Contains}
 use Rattle.std.specs.List.{list_any}
 use Rattle.std.specs.List.Sorted.{IsStrictlyIncreasing}
 use Rattle.std.proofs.lemmas.Bool.Decides.{nat_tests}
-use Rattle.std.proofs.lemmas.List.{get_or_default, take_more}
-use Rattle.std.proofs.lemmas.List.Elements.{filter-append}
+use Rattle.std.proofs.lemmas.List.{get_or_default}
 use Rattle.std.proofs.lemmas.List.Folds.{Any-from_list_any, list_any_at}
 use Rattle.std.proofs.lemmas.List.Kept.{IsStrictlyIncreasing-filter}
 use Rattle.sok_board.proofs.Lists.{Contains-filter, Contains-from_filter}
@@ -13,11 +12,6 @@ use Rattle.sok_alone.specs.Losses.{AreChosen}
 -- the test by which they are chosen
 abbrev pub is_one_of : List ℕ → ℕ → Bool
 is_one_of squares n = list_any (λ y. y == n) squares
-
--- one box more is looked at
-pub filter-more : (p : ℕ → Bool) (xs : List ℕ) (i d : ℕ) → i < length xs
-    → filter p (take (i + 1) xs) ≡ filter p (take i xs) ++ cond (p (get_or xs i d)) (get_or xs i d ∷ []) []
-filter-more p xs i d within = ap (filter p) (take_more xs i d within) ∙ filter-append p (take i xs) (get_or xs i d ∷ [])
 
 one-of : (squares : List ℕ) (n : ℕ) → is_one_of squares n ≡ true → Contains squares n
 one-of squares n e =

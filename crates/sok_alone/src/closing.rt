@@ -12,7 +12,7 @@ use crate::meeting::Met;
 use sok_board::area::Sq;
 use sok_board::board::Board;
 use sok_board::box_set::BoxSet;
-use sok_entry::entry::Inners;
+use sok_entry::inners::Inners;
 use sok_push::tables::Tables;
 use sok_rules::fault::Memory;
 use sok_state::key::Key;
@@ -74,7 +74,7 @@ pub(crate) fn close_unless(
         inner
     };
     match met? {
-        Met::On => Ok(Some(Inners::new(alloc, inner)?)),
+        Met::On => Ok(Some(Inners::with_lines(alloc, inner)?)),
         Met::Ended => Ok(None),
     }
 }

@@ -1,6 +1,7 @@
 //! What was found.
 
-use sok_entry::entry::{Inners, Numbers};
+use sok_entry::entry::Numbers;
+use sok_entry::inners::Inners;
 
 /// Boxes that are never solved from where the player stands, were they alone on the board: members
 /// of a position's boxes, by their indices from 0, and positions of them that are closed under

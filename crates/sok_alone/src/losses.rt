@@ -15,7 +15,7 @@ use crate::hints::Hints;
 use crate::probing::are_soon_solved;
 use sok_board::board::Board;
 use sok_board::box_set::BoxSet;
-use sok_entry::entry::Inners;
+use sok_entry::inners::Inners;
 use sok_push::tables::Tables;
 use sok_region::region::Region;
 use sok_rules::fault::Memory;

@@ -1,23 +1,24 @@
 -- Boxes are taken away from bit rows until each that is left is held.
-use Rattle.std.proofs.Common.{ℕ, ◌≡◌, ◌<◌, ◌≤◌, ◌+◌, inl, inr, refl, sym, ap, ◌∙◌, subst, List, [], ◌∷◌, Bool, true, false, true≢false, zero, suc, Contains}
+use Rattle.std.proofs.Common.{ℕ, ◌≡◌, ◌<◌, ◌≤◌, ◌+◌, inl, inr, refl, sym, ap, ◌∙◌, subst, List, [], ◌∷◌, ◌++◌, Bool, true, false, true≢false, zero, suc, Contains}
 use Rattle.std.proofs.Common.{Some, arith, filter, length, get_or, slice_get, ◌||◌, if◌then◌else◌, below_more}
 use Rattle.std.specs.List.{range_with_len}
 use Rattle.std.proofs.lemmas.Bool.{cases_Bool, cases_eq}
-use Rattle.std.proofs.lemmas.List.{get_or_default}
-use Rattle.std.proofs.lemmas.List.Elements.{All-contains, Contains-get_or}
+use Rattle.std.proofs.lemmas.List.{append-nil, get_or_default}
+use Rattle.std.proofs.lemmas.List.Elements.{All-contains, Contains-get_or, filter-append}
 use Rattle.std.proofs.lemmas.List.FromFn.{length-range_with_len, get_or-range_with_len}
-use Rattle.std.proofs.lemmas.Option.{same_Some, get_or_from_slice_get, slice_get_within}
+use Rattle.std.proofs.lemmas.Option.{same_Some, get_or_from_slice_get, slice_get-get_or, slice_get_within}
 use Rattle.sok_board.specs.Area.{Numbered, IsArea, spot_of}
 use Rattle.sok_board.proofs.AreaLaws.{number_of-spot_of, same_number}
 use Rattle.sok_board.proofs.Lists.{Contains-filter, Contains-from_filter}
 use Rattle.sok_board.proofs.Numbering.{rising-chosen}
 use Rattle.sok_field.specs.Fields.{has}
+use Rattle.sok_field.specs.Numbers.{Draws}
 use Rattle.sok_price.specs.Prices.{AreMembers, IsMember}
 use Rattle.sok_region.specs.Layouts.{IsLaidOut, Laid}
-use Rattle.sok_bar.specs.Jam.{HasJamWith, IsGoalSquare, IsHeld}
-use Rattle.sok_bar.specs.Narrowed.{HasDrawnOffGoal, IsLeft, IsLeftHeld, IsNarrowed, IsTaken, KeepsJams, TellsPass, TellsTaken}
+use Rattle.sok_bar.specs.Jam.{AreHeld, HasJams, HasJamWith, IsGoalSquare, IsHeld}
+use Rattle.sok_bar.specs.Narrowed.{HasDrawnOffGoal, IsLeft, IsNarrowed, IsTaken, KeepsJams, TellsPass, TellsTaken, drawn_members}
 use Rattle.sok_bar.specs.Settings.{IsDrawn}
-use Rattle.sok_bar.proofs.Removal.{IsHeld-more}
+use Rattle.sok_bar.proofs.Removal.{IsHeld-more, range-more}
 use Rattle.sok_bar.proofs.Rising.{Contains-member, index_of}
 
 -- one more, or none
@@ -117,29 +118,46 @@ TellsPass-more b area boxes n old mid new before one within pass told = elim (ca
     or_off false = refl
 
 -- all boxes are drawn at first
-pub KeepsJams-laid : (b : Numbered) → IsArea b.rows b.area → (boxes : List ℕ) (laid : Laid) → IsLaidOut b boxes laid → KeepsJams b boxes laid.boxed
-KeepsJams-laid b area boxes laid out = record {
+pub KeepsJams-drawn : (b : Numbered) → IsArea b.rows b.area → (boxes rows : List ℕ) → ((s : ℕ) → Contains boxes s → s < length b.area)
+    → Draws b (Contains boxes) rows → KeepsJams b boxes rows
+KeepsJams-drawn b area boxes rows exist drawn = record {
   among = λ s (within, there).
-      let (n, number, one) = (out.boxed (spot_of b s)).0 there in
+      let (n, number, one) = (drawn (spot_of b s)).0 there in
       subst (Contains boxes) (same_Some n s (sym number ∙ number_of-spot_of b area s within)) one;
   most = λ members jam s member.
       let one = Contains-member boxes members s member in
-      let within = All-contains (λ n. n < length b.area) laid.boxes s out.exist ((out.listed s).1 one) in
-      (within, (out.boxed (spot_of b s)).1 (s, number_of-spot_of b area s within, one));
+      let within = exist s one in
+      (within, (drawn (spot_of b s)).1 (s, number_of-spot_of b area s within, one));
 }
+
+pub laid-exist : (b : Numbered) (boxes : List ℕ) (laid : Laid) → IsLaidOut b boxes laid → (s : ℕ) → Contains boxes s → s < length b.area
+laid-exist b boxes laid out s one = All-contains (λ n. n < length b.area) laid.boxes s out.exist ((out.listed s).1 one)
+
+pub KeepsJams-laid : (b : Numbered) → IsArea b.rows b.area → (boxes : List ℕ) (laid : Laid) → IsLaidOut b boxes laid → KeepsJams b boxes laid.boxed
+KeepsJams-laid b area boxes laid out = KeepsJams-drawn b area boxes laid.boxed (laid-exist b boxes laid out) out.boxed
 
 -- a box of a jam is held by the boxes that are drawn
 pub loose-alone : (b : Numbered) (boxes rows : List ℕ) (s : ℕ) → KeepsJams b boxes rows → (IsHeld b (IsDrawn b rows) s → ⊥) → HasJamWith b boxes s → ⊥
 loose-alone b boxes rows s keeps loose (members, jam, member) =
     loose (IsHeld-more b (IsMember boxes members) (IsDrawn b rows) (keeps.most members jam) s (jam.held s member))
 
+-- the first places that pass a test, with one place more
+pub filter-range_more : (p : ℕ → Bool) (n : ℕ)
+    → (p n ≡ true → filter p (range_with_len 0 n) ++ n ∷ [] ≡ filter p (range_with_len 0 (n + 1)))
+    × (p n ≡ false → filter p (range_with_len 0 n) ≡ filter p (range_with_len 0 (n + 1)))
+filter-range_more p n =
+    let more = sym (ap (filter p) (range-more n) ∙ filter-append p (range_with_len 0 n) (n ∷ [])) in (
+      λ on. ap (λ t. filter p (range_with_len 0 n) ++ (if t then n ∷ [] else [])) (sym on) ∙ more,
+      λ off. sym (append-nil (filter p (range_with_len 0 n))) ∙ ap (λ t. filter p (range_with_len 0 n) ++ (if t then n ∷ [] else [])) (sym off) ∙ more,
+    )
+
 -- the members that are drawn
 module _ (b : Numbered) (boxes rows : List ℕ) (exist : (s : ℕ) → Contains boxes s → s < length b.area) (keeps : KeepsJams b boxes rows) where
   test : ℕ → Bool
   test i = has rows (spot_of b (get_or boxes i 0))
 
-  chosen : List ℕ
-  chosen = filter test (range_with_len 0 (length boxes))
+  abbrev chosen : List ℕ
+  chosen = drawn_members b boxes rows
 
   chosen-at : (i s : ℕ) → slice_get boxes i ≡ Some s → test i ≡ has rows (spot_of b s)
   unfolding test
@@ -151,7 +169,7 @@ module _ (b : Numbered) (boxes rows : List ℕ) (exist : (s : ℕ) → Contains 
       (i, omega (arith, within, length-range_with_len 0 (length boxes)), get_or-range_with_len 0 (length boxes) i i within ∙ counted)
 
   drawn-member : (s : ℕ) → IsDrawn b rows s → IsMember boxes chosen s
-  unfolding chosen
+  unfolding test
   drawn-member s drawn =
       let (i, at) = index_of boxes s (keeps.among s drawn) in (
         i,
@@ -160,14 +178,14 @@ module _ (b : Numbered) (boxes rows : List ℕ) (exist : (s : ℕ) → Contains 
       )
 
   member-drawn : (s : ℕ) → IsMember boxes chosen s → IsDrawn b rows s
-  unfolding chosen
+  unfolding test
   member-drawn s (i, one, at) = (
     exist s (Contains-member boxes chosen s (i, one, at)),
     sym (chosen-at i s at) ∙ (Contains-from_filter test (range_with_len 0 (length boxes)) i one).1,
   )
 
   listed : AreMembers boxes chosen
-  unfolding chosen
+  unfolding test
   listed = record {
     rising = rising-chosen test (length boxes);
     within = λ k d inside.
@@ -177,18 +195,38 @@ module _ (b : Numbered) (boxes rows : List ℕ) (exist : (s : ℕ) → Contains 
         omega (arith, j_within, long, at, is);
   }
 
-  -- where all that are left are held, they are a jam, if one of them stands off a goal
+  -- where all that are left are held, the members are held, and those of each jam are among them
+  pub AreHeld-left : ((t : ℕ) → IsDrawn b rows t → IsHeld b (IsDrawn b rows) t) → AreHeld b boxes chosen
+  AreHeld-left held t member = IsHeld-more b (IsDrawn b rows) (IsMember boxes chosen) drawn-member t (held t (member-drawn t member))
+
+  pub HasJams-left : HasJams b boxes chosen
+  unfolding test
+  HasJams-left = record {
+    listed = listed;
+    most = λ jam is_jam i one.
+        let within = All-contains (λ n. n < length boxes) jam i is_jam.listed.within one in
+        let s = get_or boxes i 0 in
+        let at = slice_get-get_or boxes i 0 within in
+        Contains-filter test (range_with_len 0 (length boxes)) i (in_range i within) (keeps.most jam is_jam s (i, one, at)).1;
+  }
+
+  -- so they are a jam, if one of them stands off a goal
   pub HasJamWith-left : (s : ℕ) → ((t : ℕ) → IsDrawn b rows t → IsHeld b (IsDrawn b rows) t) → IsDrawn b rows s → (off : ℕ) → IsDrawn b rows off
       → (IsGoalSquare b off → ⊥) → HasJamWith b boxes s
   HasJamWith-left s held here off off_drawn off_goal = (
     chosen,
-    record {
-      listed = listed;
-      held = λ t member. IsHeld-more b (IsDrawn b rows) (IsMember boxes chosen) drawn-member t (held t (member-drawn t member));
-      off_goal = (off, drawn-member off off_drawn, off_goal);
-    },
+    record { listed = listed; held = AreHeld-left held; off_goal = (off, drawn-member off off_drawn, off_goal) },
     drawn-member s here,
   )
+
+-- each box that is left is held, where those are that a list has
+pub each-held : (b : Numbered) (boxes others rows : List ℕ) → KeepsJams b boxes rows → ((t : ℕ) → Contains boxes t → Contains others t)
+    → ((k : ℕ) → k < length others → IsDrawn b rows (get_or others k 0) → IsHeld b (IsDrawn b rows) (get_or others k 0))
+    → (t : ℕ) → IsDrawn b rows t → IsHeld b (IsDrawn b rows) t
+each-held b boxes others rows keeps listed held t drawn =
+    let (k, within, is) = listed t (keeps.among t drawn) in
+    let at : get_or others k 0 ≡ t = get_or_default others k 0 t within ∙ is in
+    subst (IsHeld b (IsDrawn b rows)) at (held k within (subst (IsDrawn b rows) (sym at) drawn))
 
 pub IsNarrowed-same : (b : Numbered) (s : ℕ) (squares boxes rows old new : List ℕ) (stays : Bool) → squares ≡ boxes → rows ≡ old
     → IsNarrowed b squares s rows new stays → IsNarrowed b boxes s old new stays
@@ -200,18 +238,12 @@ module _ (b : Numbered) (area : IsArea b.rows b.area) (boxes : List ℕ) (laid :
   left : KeepsJams b boxes held
   left = narrowed.jams boxes (KeepsJams-laid b area boxes laid out)
 
-  each_held : IsLeftHeld b laid.boxes s held → (t : ℕ) → IsDrawn b held t → IsHeld b (IsDrawn b held) t
-  each_held all t drawn =
-      let (k, within, is) = (out.listed t).1 (left.among t drawn) in
-      let at : get_or laid.boxes k 0 ≡ t = get_or_default laid.boxes k 0 t within ∙ is in
-      subst (IsHeld b (IsDrawn b held)) at (all.held k within (subst (IsDrawn b held) (sym at) drawn))
-
   -- what is left of a layout is a jam
   pub HasJamWith-narrowed : stays ≡ true → HasDrawnOffGoal b laid.boxes held → HasJamWith b boxes s
   HasJamWith-narrowed stayed (off, one, off_drawn, off_goal) =
       let all = narrowed.left stayed in
-      HasJamWith-left b boxes held (λ t listed. All-contains (λ n. n < length b.area) laid.boxes t out.exist ((out.listed t).1 listed)) left s (each_held all)
-      all.drawn off off_drawn off_goal
+      HasJamWith-left b boxes held (laid-exist b boxes laid out) left s (each-held b boxes laid.boxes held left (λ t. (out.listed t).1) all.held) all.drawn off
+      off_drawn off_goal
 
   -- and each jam is left
   pub narrowed-jam : HasJamWith b boxes s → (stays ≡ true) × HasDrawnOffGoal b laid.boxes held

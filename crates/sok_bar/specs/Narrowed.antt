@@ -1,5 +1,6 @@
 -- Boxes in bit rows, of which those are taken away that are not held.
 use Rattle.std.specs.Prelude.{ℕ, ◌≡◌, ◌<◌, ◌≤◌, ◌↔◌, List, Bool, true, false, IsTrue, Contains, filter, length, slice_index}
+use Rattle.std.specs.List.{range_with_len}
 use Rattle.sok_rules.specs.declared.cell.Spot.{Spot}
 use Rattle.sok_board.specs.Area.{Numbered, spot_of}
 use Rattle.sok_field.specs.Fields.{has}
@@ -11,6 +12,10 @@ use Rattle.sok_bar.specs.Settings.{IsDrawn}
 pub record KeepsJams (b : Numbered) (boxes rows : List ℕ) : Type 0 where
   pub among : (s : ℕ) → IsDrawn b rows s → Contains boxes s
   pub most : (members : List ℕ) → IsJam b boxes members → (s : ℕ) → IsMember boxes members s → IsDrawn b rows s
+
+-- the indices of the boxes of a list that are drawn
+abbrev pub drawn_members : Numbered → List ℕ → List ℕ → List ℕ
+drawn_members b boxes rows = filter (λ i. has rows (spot_of b (slice_index boxes i))) (range_with_len 0 (length boxes))
 
 -- how many boxes of a list are drawn
 abbrev pub drawn_of : Numbered → List ℕ → List ℕ → ℕ

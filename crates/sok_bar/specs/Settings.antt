@@ -29,8 +29,3 @@ abbrev pub AreHolders : List ℕ → Holders → Type 0
 AreHolders boxes Every = Unit {0}
 AreHolders boxes (Members members) = AreMembers boxes members.now
 AreHolders boxes (Drawn squares) = Unit {0}
-
--- the indices of all boxes
-pub record AreAllMembers (boxes members : List ℕ) : Type 0 where
-  pub listed : AreMembers boxes members
-  pub each : (i : ℕ) → i < length boxes → Contains members i

@@ -20,7 +20,8 @@ use sok_board::box_set::BoxSet;
 use sok_closed::placing::{Located, locate};
 use sok_closed::roll::Roll;
 use sok_closed::solved::is_solved;
-use sok_entry::entry::{Inner, InnerReason, Inners};
+use sok_entry::entry::{Inner, InnerReason};
+use sok_entry::inners::Inners;
 use sok_push::tables::Tables;
 use sok_rules::fault::Memory;
 use sok_state::key::Key;
@@ -105,8 +106,8 @@ fn enter_all(
     Ok(true)
 }
 
-/// Enters the state of a position into the roll of those before it, if it has no fault of its own,
-/// and tells whether it has none. It refuses only for want of memory.
+/// Enters the state of a position into the roll of those before it, and tells whether it has no
+/// fault of its own: if it has one, the roll is of no more use. It refuses only for want of memory.
 fn enter_alone(
     alloc: Global,
     board: &Board,

@@ -1,21 +1,26 @@
 //! Boxes that hold each other for ever.
 
 ghost use Rattle.std.specs.Prelude.{ℕ, List, ◌≡◌, ◌<◌, ◌≤◌, ◌↔◌, IsTrue, IfOk, IfNone};
-ghost use Rattle.std.specs.Prelude.{IfSome, All, Contains, length, vec_len};
+ghost use Rattle.std.specs.Prelude.{IfSome, All, Contains, length};
+ghost use Rattle.sok_board.specs.Area.{IsAccepted};
 ghost use Rattle.sok_board.specs.Limits.{box_limit};
 ghost use Rattle.sok_price.specs.Prices.{AreMembers, IsMember};
 ghost use Rattle.sok_bar.specs.Bars.{Barring};
 ghost use Rattle.sok_bar.specs.Jam.{AreHeld, HasJams, HasOneOffGoal, IsJam};
-ghost use Rattle.sok_bar.specs.Settings.{AreAllMembers, IsSetting};
+ghost use Rattle.sok_bar.specs.Narrowed.{drawn_members};
+ghost use Rattle.sok_bar.specs.Settings.{IsSetting};
 
 use crate::bar::Bar;
-use crate::held::{Holders, are_held, is_held};
+use crate::held::{Holders, are_held, is_drawn, is_held};
+use crate::layout_jam::take_loose;
 use crate::members::{are_members, is_member};
 use crate::rest::Rest;
 use sok_board::area::{SQUARE_LIMIT, Sq};
 use sok_board::board::Board;
 use sok_board::box_set::BoxSet;
+use sok_field::field::Field;
 use sok_push::tables::Tables;
+use sok_region::layout::put_boxes;
 use sok_rules::fault::Memory;
 use std::alloc::Global;
 
@@ -72,8 +77,7 @@ pub fn find_jam(
         → IsJam board.now boxes.now members → ⊥)) }
 {
     let boxes = boxes.list();
-    let all = all_members(alloc, boxes)?;
-    let members = held_members(board, tables, boxes, all);
+    let members = held_members(alloc, board, tables, boxes)?;
     if has_one_off_goal(board, boxes, &members) {
         return Ok(Some(members));
     }
@@ -128,52 +132,45 @@ fn has_one_off_goal(board: &Board, boxes: &[Sq], members: &[u32]) -> bool
 
 /// The most boxes of which each is held by the others: what is left of all boxes when those that
 /// are not held are taken away, until there is none.
-fn held_members(board: &Board, tables: &Tables, boxes: &[Sq], all: Vec<u32>) -> Vec<u32>
+fn held_members(
+    alloc: Global,
+    board: &Board,
+    tables: &Tables,
+    boxes: &[Sq],
+) -> Result<Vec<u32>, Memory>
     requires setting { IsSetting board.now tables.now boxes.now }
-    requires all { AreAllMembers boxes.now all.items }
-    ensures jams { HasJams board.now boxes.now result.items }
-    ensures held { AreHeld board.now boxes.now result.items }
+    ensures jams { IfOk result (λ members. HasJams board.now boxes.now members.items) }
+    ensures held { IfOk result (λ members. AreHeld board.now boxes.now members.items) }
 {
-    let mut members = all;
+    // A board is of an accepted level.
+    let _squares = board.squares();
+    let mut held = Field::new();
+    put_boxes(&mut held, board, boxes);
     'passes: loop {
-        let before = members.len();
-        members = without_loose(board, tables, boxes, members);
-        if members.len() == before {
-            return members;
+        if !take_loose(board, tables, boxes, &mut held) {
+            return drawn_members(alloc, board, boxes, &held);
         }
     }
 }
 
-/// What is left of some members when each of them in turn is taken away that is not held by those
-/// that are left. Where none is taken away, all are held.
-fn without_loose(board: &Board, tables: &Tables, boxes: &[Sq], members: Vec<u32>) -> Vec<u32>
-    requires setting { IsSetting board.now tables.now boxes.now }
-    requires jams { HasJams board.now boxes.now members.items }
-    ensures jams { HasJams board.now boxes.now result.items }
-    ensures fewer { vec_len result ≤ vec_len members }
-    ensures held { vec_len result ≡ vec_len members → AreHeld board.now boxes.now result.items }
-{
-    let mut left = members;
-    let mut place = 0;
-    while place < left.len() {
-        let square = boxes[left[place] as usize];
-        if is_held(board, tables, boxes, Holders::Members(&left), square) {
-            place += 1;
-        } else {
-            left.remove(place);
-        }
-    }
-    left
-}
-
-/// The indices of all boxes.
-fn all_members(alloc: Global, boxes: &[Sq]) -> Result<Vec<u32>, Memory>
-    requires { length boxes.now ≤ box_limit }
-    ensures { IfOk result (λ members. AreAllMembers boxes.now members.items) }
+/// The indices of the boxes that are drawn.
+fn drawn_members(
+    alloc: Global,
+    board: &Board,
+    boxes: &[Sq],
+    rows: &Field,
+) -> Result<Vec<u32>, Memory>
+    requires accepted { IsAccepted board.now }
+    requires exist { All (λ square. square < length board.now.area) boxes.now }
+    requires few { length boxes.now ≤ box_limit }
+    ensures { IfOk result
+        (λ members. members.items ≡ drawn_members board.now boxes.now rows.now) }
 {
     let mut members = Vec::with_capacity(alloc, boxes.len())?;
-    for index in 0..boxes.len() {
-        members.push(index as u32)?;
+    for (index, square) in boxes.iter().enumerate() {
+        if is_drawn(board, rows, *square) {
+            members.push(index as u32)?;
+        }
     }
     Ok(members)
 }

@@ -54,7 +54,7 @@ fn narrow(board: &Board, tables: &Tables, boxes: &[Sq], square: Sq, held: &mut F
 
 /// Takes each of some boxes away that is not held by those that are left. Tells whether there was
 /// one.
-fn take_loose(board: &Board, tables: &Tables, boxes: &[Sq], held: &mut Field) -> bool
+pub(crate) fn take_loose(board: &Board, tables: &Tables, boxes: &[Sq], held: &mut Field) -> bool
     requires accepted { IsAccepted board.now }
     requires tables { tables.now.board ≡ board.now }
     requires exist { All (λ square. square < length board.now.area) boxes.now }

@@ -11,7 +11,7 @@ use crate::inners::are_same;
 use sok_board::area::Sq;
 use sok_board::board::Board;
 use sok_board::box_set::BoxSet;
-use sok_entry::entry::Inners;
+use sok_entry::inners::Inners;
 use sok_push::tables::Tables;
 use sok_rules::fault::Memory;
 use sok_state::key::Key;

@@ -1,8 +1,8 @@
 //! The squares of the boxes of a position.
 
-ghost use Rattle.std.specs.Prelude.{◌≡◌, ◌≤◌, ◌↔◌, IfOk, IsTrue, Contains, length};
+ghost use Rattle.std.specs.Prelude.{◌≡◌, ◌<◌, ◌≤◌, ◌↔◌, All, IfOk, IsTrue, Contains, length};
 ghost use Rattle.std.specs.List.Sorted.{IsStrictlyIncreasing};
-ghost use Rattle.sok_board.specs.Limits.{box_limit};
+ghost use Rattle.sok_board.specs.Limits.{box_limit, square_limit};
 ghost use Rattle.sok_board.specs.BoxSets.{IsMoved, put_in_order};
 
 use crate::area::Sq;
@@ -36,6 +36,20 @@ impl BoxSet {
         ensures list { IfOk result (λ set. set ≡ squares.now) }
     {
         let squares = SmallVec::from_slice(alloc, squares)?;
+        Ok(BoxSet { squares })
+    }
+
+    /// The set of some squares, of which the numbers are given. It refuses only for want of memory.
+    pub fn numbered(alloc: Global, numbers: &[u32]) -> Result<BoxSet, Memory>
+        requires small { All (λ number. number < square_limit) numbers.now }
+        requires rising { IsStrictlyIncreasing numbers.now }
+        requires few { length numbers.now ≤ box_limit }
+        ensures list { IfOk result (λ set. set ≡ numbers.now) }
+    {
+        let mut squares = SmallVec::new(alloc);
+        for number in numbers {
+            squares.push(*number as Sq)?;
+        }
         Ok(BoxSet { squares })
     }
 

@@ -27,5 +27,5 @@ mod roster;
 pub mod stream;
 
 pub use sok_entry::{
-    claim, entry, fault, law as text_law, limits, reading, stage, version, writing,
+    claim, entry, fault, inners, law as text_law, limits, reading, stage, version, writing,
 };

@@ -31,6 +31,8 @@ pub(crate) struct Progress {
     /// As many as there are lines that ended: a list of nothing, which takes no memory.
     pub(crate) ended: Vec<()>,
     pub(crate) line: Vec<u8>,
+    /// A place for the numbers of a line.
+    pub(crate) numbers: Vec<u32>,
     pub(crate) wrong: Option<CertFault>,
     pub(crate) roster: Roster,
 }
@@ -45,6 +47,7 @@ impl Progress {
             stage: Stage::AtHeader,
             ended: Vec::new(alloc),
             line: Vec::new(alloc),
+            numbers: Vec::new(alloc),
             wrong: None,
             roster: Roster::new(alloc, board),
         }
@@ -114,6 +117,7 @@ impl Progress {
             alloc,
             board,
             tables,
+            &mut self.numbers,
             &mut self.stage,
             lines,
             &mut self.roster,
@@ -163,11 +167,12 @@ fn is_too_long(stage: &Stage, line: &[u8]) -> bool
 }
 
 /// Reads a line that has its end, behind so many, and judges the entry if it is the last line of
-/// one. If the text goes wrong with it, that fault is told.
+/// one. If the text goes wrong with it, that fault is told. The list is a place for its numbers.
 fn judge_line(
     alloc: Global,
     board: &Board,
     tables: &Tables,
+    numbers: &mut Vec<u32>,
     stage: &mut Stage,
     lines: usize,
     roster: &mut Roster,
@@ -185,7 +190,7 @@ fn judge_line(
     ensures of_board { IsRosterOf board.now roster.new }
 {
     let now = mem::replace(stage, Stage::AtHeader);
-    match now.line(alloc, line, lines)? {
+    match now.line(alloc, numbers, line, lines)? {
         LineRead::Listed(claim, entry, next) => {
             roster.enter(alloc, board, tables, claim, &entry)?;
             *stage = next;

@@ -52,11 +52,6 @@ pub stands : {E : Type 0} (node : E → Node) (b : Numbered) (count : ℕ) (entr
 stands node b count entries table looking e listed =
     node-stands b looking.accepted count (node e) (All-contains (λ one. IsPosition b count (node one)) entries e looking.positions listed)
 
-pub position-at : {E : Type 0} (node : E → Node) (b : Numbered) (count : ℕ) (entries : List E) (table : Entries) → IsLooking node b count entries table
-    → (i : ℕ) (e : E) → slice_get entries i ≡ Some e → IsPosition b count (node e)
-position-at node b count entries table looking i e there =
-    All-contains (λ one. IsPosition b count (node one)) entries e looking.positions (Contains-at entries e i there)
-
 -- the key at an entry's place is that of its node
 pub key-at : {E : Type 0} (node : E → Node) (b : Numbered) (count : ℕ) (entries : List E) (table : Entries) → IsLooking node b count entries table → (i : ℕ) (e : E) (key : Key)
     → slice_get entries i ≡ Some e → IsAt table key i → IsKeyOf b (node_position b (node e)) key

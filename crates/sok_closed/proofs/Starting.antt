@@ -13,7 +13,7 @@ use Rattle.sok_state.specs.Tables.{Entries, IsAt}
 use Rattle.sok_state.proofs.States.{keys_equal, Same-keys}
 use Rattle.sok_closed.specs.Rolls.{IsStarter, Node, node_position}
 use Rattle.sok_closed.specs.Lookup.{IsLooking}
-use Rattle.sok_closed.proofs.Looking.{entry_at, same_index}
+use Rattle.sok_closed.proofs.Looking.{entry_at}
 use Rattle.sok_closed.proofs.Followed.{key-at, stands}
 
 pub at-within : (table : Entries) (key : Key) (index : ℕ) → IsAt table key index → index < length table
@@ -34,14 +34,6 @@ starter-at node b count entries table looking from standing key is e starter =
     starter.same) in
     (j, subst (λ k. IsAt table k j) equal entry.there, entry.depth)
 
--- where that key is missing, no entry starts
-pub none-starts : {E : Type 0} (node : E → Node) (b : Numbered) (count : ℕ) (entries : List E) (table : Entries) → IsLooking node b count entries table → (from : Position) → IsStanding b.rows from → (key : Key)
-    → IsKeyOf b from key
-    → (Contains (keys_of table) key → ⊥) → (e : E) → IsStarter node b from entries e → ⊥
-none-starts node b count entries table looking from standing key is absent e starter =
-    let (j, at, _) = starter-at node b count entries table looking from standing key is e starter in
-    absent (Contains-at (keys_of table) key j at)
-
 -- where it stands, its entry starts at depth 0
 pub one-starts : {E : Type 0} (node : E → Node) (b : Numbered) (count : ℕ) (entries : List E) (table : Entries) → IsLooking node b count entries table → (from : Position) → IsStanding b.rows from → (key : Key)
     → IsKeyOf b from key
@@ -61,11 +53,3 @@ one-starts node b count entries table looking from standing key is index deep at
             (key-at node b count entries table looking index f key there at);
       },
     )
-
-pub starts-at-zero : {E : Type 0} (node : E → Node) (b : Numbered) (count : ℕ) (entries : List E) (table : Entries) → IsLooking node b count entries table → (from : Position) → IsStanding b.rows from → (key : Key)
-    → IsKeyOf b from key
-    → (index deep : ℕ) → IsAt table key index → slice_get (values_of table) index ≡ Some deep → (e : E) × IsStarter node b from entries e → deep ≡ 0
-starts-at-zero node b count entries table looking from standing key is index deep at depth_is (e, starter) =
-    let (j, e_at, e_depth) = starter-at node b count entries table looking from standing key is e starter in
-    let same : index ≡ j = same_index table looking.entered.distinct key index j at e_at in
-    same_Some deep (node e).depth (sym depth_is ∙ ap (slice_get (values_of table)) same ∙ e_depth) ∙ starter.first

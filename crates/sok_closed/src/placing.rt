@@ -40,8 +40,7 @@ pub fn locate(
     if !is_position(board, count, player, boxes) {
         return Ok(None);
     }
-    let squares = squares_of(alloc, boxes)?;
-    let boxes = BoxSet::of(alloc, &squares)?;
+    let boxes = BoxSet::numbered(alloc, boxes)?;
     let key = Key::of(alloc, board, &boxes, player as Sq)?;
     Ok(Some(Located { boxes, key }))
 }
@@ -76,16 +75,4 @@ pub fn rises(numbers: &[u32]) -> bool
         }
     }
     true
-}
-
-/// Numbers of squares, as squares.
-fn squares_of(alloc: Global, numbers: &[u32]) -> Result<Vec<Sq>, Memory>
-    requires { All (λ number. number < square_limit) numbers.now }
-    ensures { IfOk result (λ squares. squares.items ≡ numbers.now) }
-{
-    let mut squares = Vec::with_capacity(alloc, numbers.len())?;
-    for number in numbers {
-        squares.push(*number as Sq)?;
-    }
-    Ok(squares)
 }

@@ -68,15 +68,6 @@ pub Writes-one : (P : Answers) (old new : Option (List ℕ)) (answer : Answer) (
 Writes-one P old new answer (Ok status) made written = (answer, made, written.0, written.1)
 Writes-one P old new answer (Err fault) made written = subst (EndsBy P old new) (sym written.0) (answer, made, written.1)
 
--- all of an input was read and answered, and the answer was written
-pub Writes-answer : (limit : ℕ) (P : List ℕ → Answers) (input old new : Option (List ℕ)) (read : List ℕ) (answer : Answer) (result : Result ℕ ToolFault)
-    → IfSome input (λ bytes. read ≡ bytes) → length read ≤ limit → P read (Ok answer) → WritesOne answer old new result
-    → IfSome input (λ bytes. Writes (Within limit P bytes) old new result)
-Writes-answer limit P None old new read answer result all few answered written = tt
-Writes-answer limit P (Some bytes) old new read answer result all few answered written =
-    subst (λ input. Writes (Within limit P input) old new result) all
-    (Writes-one (Within limit P read) old new answer result (Within-few limit P read (Ok answer) few answered) written)
-
 -- all that a reader has left was read and answered, and the answer was written
 pub Writes-read : (limit : ℕ) (P : List ℕ → Answers) (input old new : Option (List ℕ)) (read : List ℕ) (answer : Answer) (result : Result ℕ ToolFault)
     → IfSome input (λ bytes. read ≡ bytes) → length read ≤ limit → P read (Ok answer) → WritesOne answer old new result

@@ -4,6 +4,7 @@ pub mod EntryNumbers
 pub mod Fitting
 pub mod Fronts
 pub mod HeadNumbers
+pub mod Inside
 pub mod Numbers
 pub mod Openings
 pub mod Printable

@@ -1,5 +1,5 @@
 -- Reading a text line by line.
-use Rattle.std.proofs.Common.{ℕ, ◌≡◌, ◌≤◌, ◌+◌, ◌==◌, ◌∙◌, sym, ap, refl, subst, List, [], ◌∷◌, ◌++◌, length, arith}
+use Rattle.std.proofs.Common.{ℕ, ◌≡◌, ◌≤◌, ◌+◌, ◌==◌, ◌∙◌, sym, ap, subst, List, [], ◌∷◌, ◌++◌, length, arith}
 use Rattle.std.proofs.lemmas.List.{append_assoc, length-append, length_push}
 use Rattle.std.proofs.lemmas.List.Sums.{count_by-le-length}
 use Rattle.std.specs.Str.Lines.{lines, strip_carriage_return}
@@ -7,10 +7,9 @@ use Rattle.sok_text.specs.Lines.{IsCutAtEnd, IsUnended}
 use Rattle.sok_entry.specs.declared.entry.Entry.{Entry}
 use Rattle.sok_entry.specs.declared.fault.CertFault.{CertFault}
 use Rattle.sok_entry.specs.declared.stage.Stage.{Stage}
-use Rattle.sok_entry.specs.declared.stage.Stage.TheVariants.{AtHeader}
 use Rattle.sok_entry.specs.Reading.{GoesWrong, ended_lines}
 use Rattle.sok_entry.specs.Stages.{AreWrong, IsSplit, IsStage}
-use Rattle.sok_entry.proofs.Splits.{IsSplit-end, IsSplit-more, IsSplit-start}
+use Rattle.sok_entry.proofs.Splits.{IsSplit-end, IsSplit-more}
 
 -- a front of so many whole lines that bring a certificate so far, and the rest of the text
 pub record Reached (text : List ℕ) (stage : Stage) (es : List Entry) (count : ℕ) (rest : List ℕ) : Type 0 where
@@ -20,9 +19,6 @@ pub record Reached (text : List ℕ) (stage : Stage) (es : List Entry) (count : 
   pub split : IsSplit front passed []
   pub at : IsStage passed es stage
   pub counted : length passed ≡ count
-
-pub Reached-start : (text : List ℕ) → Reached text AtHeader [] 0 text
-Reached-start text = record { front = []; passed = []; whole = refl; split = IsSplit-start; at = (refl, refl); counted = refl }
 
 module _ (text : List ℕ) (stage : Stage) (es : List Entry) (count : ℕ) (rest : List ℕ) (reached : Reached text stage es count rest) where
   module _ (part behind : List ℕ) (cut : IsCutAtEnd rest part behind) where

@@ -6,3 +6,4 @@ pub mod Text
 -- words of the crate's own contracts
 pub mod Entries
 pub mod Fronts
+pub mod Inside

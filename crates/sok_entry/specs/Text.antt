@@ -1,5 +1,5 @@
 -- The text of a certificate: which lines it has.
-use Rattle.std.specs.Prelude.{ℕ, ◌≡◌, ◌≤◌, List, [], ◌∷◌, ◌++◌, All, Bool, true, false, codes, decimal, if◌then◌else◌, length, map, slice_index}
+use Rattle.std.specs.Prelude.{ℕ, ◌≡◌, ◌≤◌, List, [], ◌∷◌, ◌++◌, All, Bool, true, false, codes, decimal, if◌then◌else◌, length, map}
 use Rattle.std.specs.List.{flat_map, list_any}
 use Rattle.std.specs.Str.Lines.{lines}
 use Rattle.sok_entry.specs.declared.claim.Claim.{Claim}
@@ -13,6 +13,7 @@ use Rattle.sok_entry.specs.declared.entry.Reason.TheVariants.{Expanded, Spent, B
 use Rattle.sok_entry.specs.declared.head.Head.{Head}
 use Rattle.sok_entry.specs.declared.version.Version.{Version}
 use Rattle.sok_entry.specs.declared.version.Version.TheVariants.{One, Two}
+pub use Rattle.sok_entry.specs.Inside.{code, ended, line_feed, spaced}
 
 unfoldable pub header : Version → List ℕ
 header One = codes "sokoban-certificate 1"
@@ -24,10 +25,6 @@ last_line = codes "end"
 unfoldable pub claim_line : Claim → List ℕ
 claim_line (Pushes k) = codes "pushes " ++ decimal k
 claim_line Unsolvable = codes "unsolvable"
-
--- the code of a text's first character
-abbrev pub code : List ℕ → ℕ
-code text = slice_index text 0
 
 -- the letter of a reason
 abbrev pub letter_of : Reason → ℕ
@@ -55,10 +52,6 @@ numbers_of_position e = e.depth ∷ e.player ∷ length e.boxes ∷ e.boxes
 abbrev pub numbers_of : Entry → List ℕ
 numbers_of e = numbers_of_position e ++ numbers_of_reason e.reason
 
--- each number after a space
-abbrev pub spaced : List ℕ → List ℕ
-spaced ns = flat_map (λ n. codes " " ++ decimal n) ns
-
 -- the first line of an entry, and the only one unless it is a pattern
 unfoldable pub entry_line : Entry → List ℕ
 entry_line e = letter_of e.reason ∷ spaced (numbers_of e)
@@ -68,9 +61,13 @@ reason_alike inside.Expanded = Expanded
 reason_alike (inside.Crowd members) = Crowd members
 reason_alike (inside.Frozen members) = Frozen members
 
+-- the entry with these parts
+abbrev pub entry_of : ℕ → ℕ → List ℕ → Reason → Entry
+entry_of depth player boxes reason = record { depth = depth; player = player; boxes = boxes; reason = reason }
+
 -- the entry that has the form of an inner position
 abbrev pub entry_alike : Inner → Entry
-entry_alike i = record { depth = i.depth; player = i.player; boxes = i.boxes; reason = reason_alike i.reason }
+entry_alike i = entry_of i.depth i.player i.boxes (reason_alike i.reason)
 
 abbrev pub inner_line : Inner → List ℕ
 inner_line i = entry_line (entry_alike i)
@@ -97,20 +94,16 @@ head_line h = code (codes "p") ∷ spaced (numbers_of_head h)
 
 -- the pattern with this first line, where there are as many inner positions as it counts
 abbrev pub entry_with : Head → List Inner → Entry
-entry_with h inner = record { depth = h.depth; player = h.player; boxes = h.boxes; reason = Pattern h.members inner }
-
--- LF
-abbrev pub line_feed : ℕ
-line_feed = 10
+entry_with h inner = entry_of h.depth h.player h.boxes (Pattern h.members inner)
 
 -- a text that has grown at its end, or not at all
 pub record Grows (old new : List ℕ) : Type 0 where
   pub more : List ℕ
   pub is : new ≡ old ++ more
 
--- a line with LF behind it
-abbrev pub ended : List ℕ → List ℕ
-ended line = line ++ line_feed ∷ []
+-- the lines of inner positions, with LF behind each
+abbrev pub inner_text : List Inner → List ℕ
+inner_text inner = flat_map ended (map inner_line inner)
 
 -- the lines of an entry, with LF behind each
 abbrev pub entry_text : Entry → List ℕ

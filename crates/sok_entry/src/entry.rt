@@ -2,9 +2,9 @@
 
 ghost use Rattle.std.specs.Prelude.{◌≡◌, IfOk};
 
+use crate::inners::Inners;
 use std::alloc::{AllocError, Global};
 use std::marker::Model;
-use std::rc::Rc;
 
 /// Positions with what shows that the claim holds from each of them.
 #[derive(Debug, Drop)]
@@ -62,48 +62,6 @@ pub enum InnerReason {
     Crowd { members: Numbers },
     /// Some of these boxes block one another for ever. Members as in a crowd.
     Frozen { members: Numbers },
-}
-
-/// Positions of some boxes alone, in order, which many entries may share. They are seen as a list.
-#[derive(Debug, Drop)]
-pub struct Inners {
-    items: Rc<Vec<Inner>>,
-}
-
-impl Model for Inners {
-    ghost use Rattle.std.specs.Prelude.{List};
-    ghost use Rattle.sok_entry.specs.declared.entry.Inner.{Inner};
-
-    ghost Value = { List Inner };
-
-    ghost view = { λ inners. inners.items.value.items };
-}
-
-impl Inners {
-    /// These positions, put where they can be shared.
-    pub fn new(alloc: Global, items: Vec<Inner>) -> Result<Inners, AllocError>
-        ensures { IfOk result (λ inners. inners ≡ items.items) }
-    {
-        match Rc::new(alloc, items) {
-            Ok(items) => Ok(Inners { items }),
-            Err(_) => Err(AllocError),
-        }
-    }
-
-    /// The same positions, with no copy made.
-    pub fn share(&self) -> Result<Inners, AllocError>
-        ensures { IfOk result (λ inners. inners ≡ self.now) }
-    {
-        let items = self.items.clone()?;
-        Ok(Inners { items })
-    }
-
-    /// The positions, with no copy made.
-    pub fn as_slice(&self) -> &[Inner]
-        ensures { result.now ≡ self.now }
-    {
-        &self.items
-    }
 }
 
 /// Numbers in order. They are seen as a list.

@@ -10,7 +10,7 @@ ghost use Rattle.sok_entry.specs.Reading.{IsInnerLine};
 use crate::claim::Claim;
 use crate::entry::{Entry, Inner, InnerReason, Numbers, Reason};
 use crate::head::{Head, Opening};
-use crate::number::{number_of, numbers_of};
+use crate::number::{number_of, read_numbers};
 use crate::version::Version;
 use std::alloc::{AllocError, Global};
 
@@ -60,19 +60,21 @@ fn pushes_of(word: &[u8]) -> Option<Claim>
     }
 }
 
-/// What a line begins in this version, if it is the first line of an entry.
+/// What a line begins in this version, if it is the first line of an entry. The list is a place for
+/// its numbers, here and below.
 pub(crate) fn opening_of_line(
     alloc: Global,
+    numbers: &mut Vec<u32>,
     version: Version,
     line: &[u8],
 ) -> Result<Option<Opening>, AllocError>
     ensures { IfOk result (Tells (Begins version line.now)) }
 {
-    match entry_of_line(alloc, line)? {
+    match entry_of_line(alloc, numbers, line)? {
         Some(entry) => Ok(Some(Opening::Whole(entry))),
         None => match version {
             Version::One => Ok(None),
-            Version::Two => match head_of_line(alloc, line)? {
+            Version::Two => match head_of_line(alloc, numbers, line)? {
                 Some(head) => Ok(Some(Opening::Begun(head))),
                 None => Ok(None),
             },
@@ -81,10 +83,14 @@ pub(crate) fn opening_of_line(
 }
 
 /// The inner position of a line, if it is one.
-pub(crate) fn inner_of_line(alloc: Global, line: &[u8]) -> Result<Option<Inner>, AllocError>
+pub(crate) fn inner_of_line(
+    alloc: Global,
+    numbers: &mut Vec<u32>,
+    line: &[u8],
+) -> Result<Option<Inner>, AllocError>
     ensures { IfOk result (Tells (IsInnerLine line.now)) }
 {
-    match entry_of_line(alloc, line)? {
+    match entry_of_line(alloc, numbers, line)? {
         Some(entry) => Ok(inner_of(entry)),
         None => Ok(None),
     }
@@ -115,7 +121,11 @@ fn inner_reason_of(reason: Reason) -> Option<InnerReason>
 }
 
 /// The first line of a pattern, if a line is one.
-fn head_of_line(alloc: Global, line: &[u8]) -> Result<Option<Head>, AllocError>
+fn head_of_line(
+    alloc: Global,
+    numbers: &mut Vec<u32>,
+    line: &[u8],
+) -> Result<Option<Head>, AllocError>
     ensures { IfOk result (Tells (IsHeadLine line.now)) }
 {
     if line.len() < 2 {
@@ -127,14 +137,18 @@ fn head_of_line(alloc: Global, line: &[u8]) -> Result<Option<Head>, AllocError>
     if line[1] != b' ' {
         return Ok(None);
     }
-    match numbers_of(alloc, &line[2..])? {
-        Some(numbers) => head_of(alloc, numbers.as_slice()),
-        None => Ok(None),
+    if !read_numbers(numbers, &line[2..])? {
+        return Ok(None);
     }
+    head_of(alloc, numbers)
 }
 
 /// The entry of a line, if it is one and no pattern.
-fn entry_of_line(alloc: Global, line: &[u8]) -> Result<Option<Entry>, AllocError>
+fn entry_of_line(
+    alloc: Global,
+    numbers: &mut Vec<u32>,
+    line: &[u8],
+) -> Result<Option<Entry>, AllocError>
     ensures { IfOk result (Tells (IsEntryLine line.now)) }
 {
     if line.len() < 2 {
@@ -143,10 +157,10 @@ fn entry_of_line(alloc: Global, line: &[u8]) -> Result<Option<Entry>, AllocError
     if line[1] != b' ' {
         return Ok(None);
     }
-    match numbers_of(alloc, &line[2..])? {
-        Some(numbers) => entry_of(alloc, line[0], numbers.as_slice()),
-        None => Ok(None),
+    if !read_numbers(numbers, &line[2..])? {
+        return Ok(None);
     }
+    entry_of(alloc, line[0], numbers)
 }
 
 /// The numbers of a position, and those that stand behind them.

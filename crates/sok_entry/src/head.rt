@@ -3,7 +3,8 @@
 ghost use Rattle.std.specs.Prelude.{◌≡◌, IfOk};
 ghost use Rattle.sok_entry.specs.Text.{entry_with};
 
-use crate::entry::{Entry, Inner, Inners, Numbers, Reason};
+use crate::entry::{Entry, Inner, Numbers, Reason};
+use crate::inners::Inners;
 use std::alloc::{AllocError, Global};
 
 /// The first line of a pattern: the position, the members, and how many lines of inner positions

@@ -7,6 +7,7 @@
 //! | `fault` | why a text is no certificate, and why a certificate is refused |
 //! | `grammar` | the lines of a certificate, read (private) |
 //! | `head` | entries of which the first line was read |
+//! | `inners` | the inner positions of a pattern, which many entries may share |
 //! | `law` | what is written is read again, and each text has one reading |
 //! | `limits` | which certificates have a text |
 //! | `number` | numbers of a text (private) |
@@ -21,6 +22,7 @@ pub mod entry;
 pub mod fault;
 mod grammar;
 pub mod head;
+pub mod inners;
 pub mod law;
 pub mod limits;
 mod number;

@@ -1,28 +1,28 @@
 //! Numbers of a certificate's text.
 
-ghost use Rattle.std.specs.Prelude.{ℕ, List, ◌≡◌, IfOk, MatchOption, decimal, option_map};
+ghost use Rattle.std.specs.Prelude.{ℕ, List, ◌≡◌, IfOk, MatchBool, MatchOption, decimal};
 ghost use Rattle.sok_entry.specs.Text.{IsSmall};
 ghost use Rattle.sok_entry.specs.Reading.{Tells, AreWords};
 ghost use Rattle.sok_entry.specs.Fronts.{BeginsWith, HasDigits};
 
 use crate::limits::LIMIT;
-use std::alloc::{AllocError, Global};
+use std::alloc::AllocError;
 
-/// The numbers of a text in which single spaces stand between numbers. It is read once, byte by byte.
-pub(crate) fn numbers_of(alloc: Global, text: &[u8]) -> Result<Option<Vec<u32>>, AllocError>
-    ensures { IfOk result (λ found. Tells (AreWords text.now)
-        (option_map (λ numbers. numbers.items) found)) }
+/// Reads the numbers of a text in which single spaces stand between numbers, and tells whether it is
+/// one. The list is a place for them. The text is read once, byte by byte.
+pub(crate) fn read_numbers(numbers: &mut Vec<u32>, text: &[u8]) -> Result<bool, AllocError>
+    ensures { IfOk result (λ read. MatchBool read (AreWords text.now numbers.new.items)
+        ((ns : List ℕ) → AreWords text.now ns → ⊥)) }
 {
-    // A number and its space are two bytes at the least.
-    let mut numbers = Vec::with_capacity(alloc, (text.len() / 2 + 1).min(256))?;
+    numbers.clear();
     let mut rest = text;
     loop {
         let Some((number, behind)) = cut_number(rest) else {
-            return Ok(None);
+            return Ok(false);
         };
         numbers.push(number)?;
         let [_space, next @ ..] = behind else {
-            return Ok(Some(numbers));
+            return Ok(true);
         };
         rest = next;
     }

@@ -41,9 +41,11 @@ fn certificate_of(alloc: Global, text: &[u8]) -> Result<(Claim, Cert), CertFault
     let mut stage = Stage::AtHeader;
     let mut lines = 0;
     let mut entries = Vec::new(alloc);
+    let mut numbers = Vec::new(alloc);
     let mut rest = text;
     while let Some((line, behind)) = cut_at_end(rest) {
-        stage = read_line(alloc, stage, without_return(line), lines, &mut entries)?;
+        let line = without_return(line);
+        stage = read_line(alloc, &mut numbers, stage, line, lines, &mut entries)?;
         lines += 1;
         rest = behind;
     }
@@ -51,9 +53,11 @@ fn certificate_of(alloc: Global, text: &[u8]) -> Result<(Claim, Cert), CertFault
     Ok((claim, Cert { entries }))
 }
 
-/// Reads one more line, behind so many. An entry that it ends goes to the entries.
+/// Reads one more line, behind so many. An entry that it ends goes to the entries. The list of
+/// numbers is a place for those of the line.
 fn read_line(
     alloc: Global,
+    numbers: &mut Vec<u32>,
     stage: Stage,
     line: &[u8],
     lines: usize,
@@ -64,7 +68,7 @@ fn read_line(
         → MatchResult result (IsStage (ls ++ line.now ∷ []) entries.new.items)
         (λ fault. (fault ≡ cert.Memory) ⊎ AreWrong (ls ++ line.now ∷ []) fault) }
 {
-    match stage.line(alloc, line, lines)? {
+    match stage.line(alloc, numbers, line, lines)? {
         LineRead::Listed(_, entry, next) => {
             entries.push(entry)?;
             Ok(next)

@@ -47,18 +47,26 @@ pub enum LineRead {
 }
 
 impl Stage {
-    /// Reads one more line, without its end, behind so many lines. It refuses only for want of
-    /// memory, and then the stage is gone.
-    pub fn line(self, alloc: Global, line: &[u8], lines: usize) -> Result<LineRead, AllocError>
+    /// Reads one more line, without its end, behind so many lines. The list is a place for its
+    /// numbers. It refuses only for want of memory, and then the stage is gone.
+    pub fn line(
+        self,
+        alloc: Global,
+        numbers: &mut Vec<u32>,
+        line: &[u8],
+        lines: usize,
+    ) -> Result<LineRead, AllocError>
         requires { lines < 2 ^ 63 }
         ensures { ReadsOn self lines line.now result }
     {
         match self {
             Stage::AtHeader => Ok(at_header(line)),
             Stage::AtClaim(version) => Ok(at_claim(version, line)),
-            Stage::AtEntries(version, claim) => at_entries(alloc, version, claim, line, lines),
+            Stage::AtEntries(version, claim) => {
+                at_entries(alloc, numbers, version, claim, line, lines)
+            }
             Stage::AtInner { claim, head, inner } => {
-                at_inner(alloc, claim, head, inner, line, lines)
+                at_inner(alloc, numbers, claim, head, inner, line, lines)
             }
             Stage::AtEnd(_) => Ok(LineRead::Wrong(CertFault::Line(lines + 1))),
         }
@@ -118,6 +126,7 @@ fn at_claim(version: Version, line: &[u8]) -> LineRead
 
 fn at_entries(
     alloc: Global,
+    numbers: &mut Vec<u32>,
     version: Version,
     claim: Claim,
     line: &[u8],
@@ -129,7 +138,7 @@ fn at_entries(
     if line == END {
         return Ok(LineRead::Passed(Stage::AtEnd(claim)));
     }
-    match opening_of_line(alloc, version, line)? {
+    match opening_of_line(alloc, numbers, version, line)? {
         Some(Opening::Whole(entry)) => {
             Ok(LineRead::Listed(claim, entry, Stage::AtEntries(version, claim)))
         }
@@ -140,6 +149,7 @@ fn at_entries(
 
 fn at_inner(
     alloc: Global,
+    numbers: &mut Vec<u32>,
     claim: Claim,
     head: Head,
     inner: Vec<Inner>,
@@ -150,7 +160,7 @@ fn at_inner(
     ensures { ReadsOn (at.AtInner claim head inner) lines line.now result }
 {
     let mut inner = inner;
-    match inner_of_line(alloc, line)? {
+    match inner_of_line(alloc, numbers, line)? {
         Some(position) => {
             inner.push(position)?;
             inside(alloc, claim, head, inner)

@@ -4,13 +4,14 @@
 ghost use Rattle.std.specs.Prelude.{◌≡◌, ◌+◌, ◌<◌, ◌≤◌, ◌++◌, ◌∷◌, [], IfOk, OnErr, OnOk, length, map};
 ghost use Rattle.std.specs.Prelude.{vec_capacity, vec_len, decimal};
 ghost use Rattle.std.specs.List.{flat_map, list_any};
-ghost use Rattle.sok_entry.specs.Text.{header, claim_line, entry_line, entry_text, last_line};
+ghost use Rattle.sok_entry.specs.Text.{header, claim_line, entry_line, entry_of, entry_text, last_line};
 ghost use Rattle.sok_entry.specs.Text.{letter_of, numbers_of_reason, spaced, ended};
-ghost use Rattle.sok_entry.specs.Text.{inner_line, inner_of, is_pattern, reason_alike};
+ghost use Rattle.sok_entry.specs.Text.{inner_line, inner_of, inner_text, is_pattern, reason_alike};
 ghost use Rattle.sok_entry.specs.Text.{text_of, version_of, Fits, Grows, Spells};
 
 use crate::claim::Claim;
 use crate::entry::{Cert, Entry, Inner, InnerReason, Reason};
+use crate::inners::Inners;
 use crate::version::Version;
 use itoa::Buffer;
 use sok_rules::fault::Memory;
@@ -26,7 +27,13 @@ pub fn write(alloc: Global, claim: &Claim, cert: &Cert) -> Result<Vec<u8>, Memor
     let mut text = Vec::new(alloc);
     push_front(&mut text, version_of(&cert.entries), claim)?;
     for entry in &cert.entries {
-        push_entry(&mut text, entry)?;
+        push_entry(
+            &mut text,
+            entry.depth,
+            entry.player,
+            entry.boxes.as_slice(),
+            &entry.reason,
+        )?;
     }
     push_end(&mut text)?;
     Ok(text)
@@ -102,17 +109,25 @@ fn push_claim(text: &mut Vec<u8>, claim: &Claim) -> Result<(), AllocError>
     }
 }
 
-/// Appends the lines of an entry. It succeeds where there is room for them. A refusal leaves the text
-/// as it was: the front of the lines that is appended by then is taken back.
-pub fn push_entry(text: &mut Vec<u8>, entry: &Entry) -> Result<(), AllocError>
-    ensures lines { OnOk result (text.new.items ≡ text.old.items ++ entry_text entry.now) }
+/// Appends the lines of an entry, which is told by its parts. It succeeds where there is room for
+/// them. A refusal leaves the text as it was: the front of the lines that is appended by then is
+/// taken back.
+pub fn push_entry(
+    text: &mut Vec<u8>,
+    depth: u32,
+    player: u32,
+    boxes: &[u32],
+    reason: &Reason,
+) -> Result<(), AllocError>
+    ensures lines { OnOk result (text.new.items ≡ text.old.items
+        ++ entry_text (entry_of depth player boxes.now reason.now)) }
     ensures capacity { vec_capacity text.old ≤ vec_capacity text.new }
-    ensures full { OnErr result
-        (vec_capacity text.old < vec_len text.old + length (entry_text entry.now)) }
+    ensures full { OnErr result (vec_capacity text.old < vec_len text.old
+        + length (entry_text (entry_of depth player boxes.now reason.now))) }
     ensures refused { OnErr result (text.new.items ≡ text.old.items) }
 {
     let kept = text.len();
-    let pushed = push_lines(text, entry);
+    let pushed = push_lines(text, depth, player, boxes, reason);
     if pushed.is_err() {
         text.truncate(kept);
     }
@@ -120,34 +135,60 @@ pub fn push_entry(text: &mut Vec<u8>, entry: &Entry) -> Result<(), AllocError>
 }
 
 /// Appends the lines of an entry, or a front of them where memory is refused.
-fn push_lines(text: &mut Vec<u8>, entry: &Entry) -> Result<(), AllocError>
-    ensures lines { OnOk result (text.new.items ≡ text.old.items ++ entry_text entry.now) }
+fn push_lines(
+    text: &mut Vec<u8>,
+    depth: u32,
+    player: u32,
+    boxes: &[u32],
+    reason: &Reason,
+) -> Result<(), AllocError>
+    ensures lines { OnOk result (text.new.items ≡ text.old.items
+        ++ entry_text (entry_of depth player boxes.now reason.now)) }
     ensures capacity { vec_capacity text.old ≤ vec_capacity text.new }
-    ensures full { OnErr result
-        (vec_capacity text.old < vec_len text.old + length (entry_text entry.now)) }
+    ensures full { OnErr result (vec_capacity text.old < vec_len text.old
+        + length (entry_text (entry_of depth player boxes.now reason.now))) }
     ensures front { OnErr result (Grows text.old.items text.new.items) }
 {
-    push_line(text, entry)?;
-    push_inner(text, inner_of(&entry.reason))
+    push_line(text, depth, player, boxes, reason)?;
+    push_inner(text, reason)
 }
 
-/// The inner positions of a pattern.
-fn inner_of(reason: &Reason) -> &[Inner]
-    ensures { result.now ≡ inner_of reason.now }
+/// Appends the lines of the inner positions of a reason, which a pattern has.
+fn push_inner(text: &mut Vec<u8>, reason: &Reason) -> Result<(), AllocError>
+    ensures lines { OnOk result
+        (text.new.items ≡ text.old.items ++ inner_text (inner_of reason.now)) }
+    ensures capacity { vec_capacity text.old ≤ vec_capacity text.new }
+    ensures full { OnErr result (vec_capacity text.old
+        < vec_len text.old + length (inner_text (inner_of reason.now))) }
+    ensures front { OnErr result (Grows text.old.items text.new.items) }
 {
-    match reason {
-        Reason::Pattern { inner, .. } => inner.as_slice(),
-        _ => &[],
+    let Reason::Pattern { inner, .. } = reason else {
+        return Ok(());
+    };
+    match inner.lines() {
+        Some(lines) => text.extend_from_slice(lines),
+        None => push_inner_lines(text, inner.as_slice()),
+    }
+}
+
+impl Inners {
+    /// These positions, put where they can be shared, and their lines, which are written again and
+    /// again.
+    pub fn with_lines(alloc: Global, items: Vec<Inner>) -> Result<Inners, AllocError>
+        ensures { IfOk result (λ inners. inners ≡ items.items) }
+    {
+        let mut lines = Vec::new(alloc);
+        push_inner_lines(&mut lines, &items)?;
+        Inners::of(alloc, items, Some(lines))
     }
 }
 
 /// Appends the lines of inner positions.
-fn push_inner(text: &mut Vec<u8>, inner: &[Inner]) -> Result<(), AllocError>
-    ensures lines { OnOk result
-        (text.new.items ≡ text.old.items ++ flat_map ended (map inner_line inner.now)) }
+fn push_inner_lines(text: &mut Vec<u8>, inner: &[Inner]) -> Result<(), AllocError>
+    ensures lines { OnOk result (text.new.items ≡ text.old.items ++ inner_text inner.now) }
     ensures capacity { vec_capacity text.old ≤ vec_capacity text.new }
-    ensures full { OnErr result (vec_capacity text.old
-        < vec_len text.old + length (flat_map ended (map inner_line inner.now))) }
+    ensures full { OnErr result
+        (vec_capacity text.old < vec_len text.old + length (inner_text inner.now)) }
     ensures front { OnErr result (Grows text.old.items text.new.items) }
 {
     for position in inner {
@@ -205,22 +246,22 @@ fn push_inner_reason(text: &mut Vec<u8>, reason: &InnerReason) -> Result<(), All
 
 /// Appends the first line of an entry, or a front of it where memory is refused.
 #[tactic(auto, unfolding(crate::specs::Text::entry_line))]
-fn push_line(text: &mut Vec<u8>, entry: &Entry) -> Result<(), AllocError>
-    ensures line { OnOk result (text.new.items ≡ text.old.items ++ ended (entry_line entry.now)) }
+fn push_line(
+    text: &mut Vec<u8>,
+    depth: u32,
+    player: u32,
+    boxes: &[u32],
+    reason: &Reason,
+) -> Result<(), AllocError>
+    ensures line { OnOk result (text.new.items ≡ text.old.items
+        ++ ended (entry_line (entry_of depth player boxes.now reason.now))) }
     ensures capacity { vec_capacity text.old ≤ vec_capacity text.new }
-    ensures full { OnErr result
-        (vec_capacity text.old < vec_len text.old + length (ended (entry_line entry.now))) }
+    ensures full { OnErr result (vec_capacity text.old < vec_len text.old
+        + length (ended (entry_line (entry_of depth player boxes.now reason.now)))) }
     ensures front { OnErr result (Grows text.old.items text.new.items) }
 {
-    let letter = letter_of(&entry.reason);
-    push_position(
-        text,
-        letter,
-        entry.depth,
-        entry.player,
-        entry.boxes.as_slice(),
-    )?;
-    push_reason(text, &entry.reason)?;
+    push_position(text, letter_of(reason), depth, player, boxes)?;
+    push_reason(text, reason)?;
     push_line_feed(text)
 }
 

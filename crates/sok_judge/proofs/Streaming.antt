@@ -1,10 +1,9 @@
 -- A certificate that is judged as it is read from a reader.
-use Rattle.std.proofs.Common.{ℕ, ◌≡◌, ◌+◌, ◌<◌, ◌≤◌, ◌∙◌, List, [], ◌++◌, Option, Some, None, IfSome, length, length-append, arith, ap, refl, sym, subst}
-use Rattle.std.specs.Io.KnownBytes.{Consumes, IsAtEnd}
-use Rattle.std.proofs.KnownBytes.{Consumes-all, Consumes-nil, Consumes-trans}
+use Rattle.std.proofs.Common.{ℕ, ◌≡◌, ◌+◌, ◌<◌, ◌∙◌, List, [], ◌++◌, Option, Some, None, IfSome, length, length-append, arith, ap, refl, sym, subst}
+use Rattle.std.specs.Io.KnownBytes.{Consumes}
+use Rattle.std.proofs.KnownBytes.{Consumes-nil, Consumes-trans}
 use Rattle.sok_board.specs.Area.{Numbered}
 use Rattle.sok_cert.specs.Streams.{StandsFor, Streamed}
-use Rattle.sok_judge.specs.Streams.{IsStreamOf}
 
 -- the stream stands for the bytes that were read, which are so many
 pub record ReadSo (old now : Option (List ℕ)) (b : Numbered) (s : Streamed) (total : ℕ) : Type 0 where
@@ -33,17 +32,6 @@ ReadSo-more old now next b s t total count part so consumed size board takes = r
   count = let before = so.count in omega (arith, length-append so.text part);
   board = board ∙ so.board;
   stands = subst (λ x. StandsFor x (so.text ++ part) t.progress) (sym board) (takes so.text so.stands);
-}
-
--- all was read
-pub ReadSo-end : (old now : Option (List ℕ)) (limit : ℕ) (b : Numbered) (s : Streamed) (total : ℕ) → ReadSo old now b s total → IsAtEnd now → total ≤ limit
-    → IsStreamOf old limit b s
-ReadSo-end old now limit b s total so end few = record {
-  text = so.text;
-  all = Consumes-all old now so.text [] so.text so.consumed end refl;
-  few = let count = so.count in omega arith;
-  board = so.board;
-  stands = so.stands;
 }
 
 -- more was read than is allowed

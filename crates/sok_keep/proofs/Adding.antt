@@ -1,6 +1,6 @@
 -- Levels that are added one after another.
-use Rattle.std.proofs.Common.{ℕ, ℤ, ◌≡◌, ◌≢◌, ◌⊎◌, ◌∙◌, ◌+◌, ◌<◌, ◌≤◌, inl, inr, List, [], ◌++◌, Option, Result, Ok, Err}
-use Rattle.std.proofs.Common.{Bool, true, false, IfErr, IfSome, OnErr, OnOk, ap, arith, length, nat_lt, refl, subst, sym}
+use Rattle.std.proofs.Common.{ℕ, ℤ, ◌≡◌, ◌≢◌, ◌⊎◌, ◌+◌, ◌<◌, ◌≤◌, inl, inr, List, [], ◌++◌, Option, Result, Ok, Err}
+use Rattle.std.proofs.Common.{Bool, true, false, IfErr, IfSome, OnErr, OnOk, arith, length, nat_lt, refl, subst, sym}
 use Rattle.std.proofs.lemmas.Bool.Decides.{nat_tests}
 use Rattle.std.proofs.KnownBytes.{Appends-nil, Keeps-refl}
 use Rattle.std.specs.Io.KnownBytes.{Appends}

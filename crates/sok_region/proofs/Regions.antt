@@ -1,15 +1,17 @@
 -- A region as the squares that a flood draws.
-use Rattle.std.proofs.Common.{ℕ, ◌≡◌, ◌<◌, ◌*◌, ◌↔◌, refl, sym, ap, ◌∙◌, subst, List, Bool, true, true≢false, Option, Some, None, IsSome, Vec, Contains}
+use Rattle.std.proofs.Common.{ℕ, ◌≡◌, ◌<◌, ◌*◌, ◌↔◌, refl, sym, ap, ◌∙◌, subst, List, [], Bool, true, true≢false, Option, Some, None, IsSome, Vec, Contains}
 use Rattle.std.proofs.Common.{arith, length}
 use Rattle.std.specs.List.{range_with_len}
 use Rattle.std.specs.List.Sorted.{IsStrictlyIncreasing}
 use Rattle.std.proofs.lemmas.Option.{same_Some}
 use Rattle.sok_rules.specs.declared.cell.Dir.{Dir}
+use Rattle.sok_rules.specs.declared.cell.Spot.{Spot}
 use Rattle.sok_rules.specs.Levels.{IsProper}
 use Rattle.sok_rules.specs.Play.{Position}
+use Rattle.sok_rules.specs.States.{Same}
 use Rattle.sok_rules.proofs.Steps.{IsStanding}
 use Rattle.sok_rules.proofs.Walking.{IsStanding-Same, Same-refl, Same-sym, Same-trans}
-use Rattle.sok_board.specs.Area.{Numbered, IsArea, position_of, spot_of}
+use Rattle.sok_board.specs.Area.{Numbered, IsArea, number_of, position_of, spot_of}
 use Rattle.sok_board.proofs.AreaLaws.{same_number, number_of-spot_of, spot_of-number_of}
 use Rattle.sok_board.proofs.Lists.{Contains-filter, Contains-from_filter}
 use Rattle.sok_board.proofs.Numbering.{Contains-range, rising-chosen}
@@ -66,65 +68,60 @@ through-exact b area boxes free drawn n within =
       λ out. (drawn (spot_of b n)).1 (n, numbered, out),
     )
 
--- a flood over the squares without boxes draws the region
-pub IsRegion-drawn : (b : Numbered) (boxes : List ℕ) (player : ℕ) (free seen words : List ℕ) → IsProper b.rows → IsArea b.rows b.area
-    → IsPlaced b boxes player → Draws b (λ n. Contains boxes n → ⊥) free
-    → ((lets : ℕ → Bool) → Draws b (λ n. lets n ≡ true) free → Draws b (Leads b lets player) seen)
-    → ((n : ℕ) → (has_number words n ≡ true) ↔ ((n < length b.area) × (has seen (spot_of b n) ≡ true))) → IsRegion b boxes player (squares_of words)
-IsRegion-drawn b boxes player free seen words proper area placed drawn flooded written =
-    let are = placed_boxes b boxes player proper area placed in
-    let stands = IsStanding-placed b area proper player boxes placed in
-    let lets : ℕ → Bool = λ n. has free (spot_of b n) in
-    let through = through-exact b area boxes free drawn in
-    let reached = flooded lets (Draws-through b area boxes free drawn) in
-    record {
-      placed = placed;
-      rising = squares_of-rising words;
-      exact = λ s. (
-        λ there.
-            let (within, here) = (written s).0 ((Contains-squares_of words s).0 there) in
+-- a flood over the squares without boxes draws those of the same state
+module _ (b : Numbered) (boxes : List ℕ) (player : ℕ) (free seen : List ℕ) (proper : IsProper b.rows) (area : IsArea b.rows b.area)
+    (placed : IsPlaced b boxes player) (drawn : Draws b (λ n. Contains boxes n → ⊥) free)
+    (flooded : (lets : ℕ → Bool) → Draws b (λ n. lets n ≡ true) free → Draws b (Leads b lets player) seen) where
+  abbrev lets : ℕ → Bool
+  lets n = has free (spot_of b n)
+
+  through : (n : ℕ) → n < length b.area → (lets n ≡ true) ↔ (Contains boxes n → ⊥)
+  through = through-exact b area boxes free drawn
+
+  reached : Draws b (Leads b lets player) seen
+  reached = flooded lets (Draws-through b area boxes free drawn)
+
+  pub drawn-same : (s : ℕ) → s < length b.area → (has seen (spot_of b s) ≡ true) ↔ Same b.rows (position_of b player boxes) (position_of b s boxes)
+  drawn-same s within =
+      let are = placed_boxes b boxes player proper area placed in
+      let stands = IsStanding-placed b area proper player boxes placed in (
+        λ here.
             let (n, number, (w, leads)) = (reached (spot_of b s)).0 here in
             let same : n ≡ s = same_Some n s (sym number ∙ number_of-spot_of b area s within) in
             let (legal, quiet) = run-trail b boxes are lets (λ m m_within e. (through m m_within).0 e) w player s (leads ∙ ap Some same) in
-            (within, (w, legal, quiet)),
-        λ (within, same).
+            (w, legal, quiet),
+        λ same.
             let arrives = trail-run b boxes are lets same.0 player (position_of b s boxes) placed.player_exists
-            (λ n n_within reached. (through n n_within).1 (not_listed b boxes n
-            (IsStanding-Same b.rows (position_of b player boxes) (position_of b n boxes) stands reached))) same.1 same.2 in
+            (λ n n_within walked. (through n n_within).1 (not_listed b boxes n
+            (IsStanding-Same b.rows (position_of b player boxes) (position_of b n boxes) stands walked))) same.1 same.2 in
             let is : s ≡ arrives.to = same_player b boxes area s arrives.to within arrives.within arrives.is in
-            (Contains-squares_of words s).1
-            ((written s).1 (within, (reached (spot_of b s)).1 (s, number_of-spot_of b area s within, (same.0, arrives.leads ∙ ap Some (sym is))))),
-      );
-    }
+            (reached (spot_of b s)).1 (s, number_of-spot_of b area s within, (same.0, arrives.leads ∙ ap Some (sym is))),
+      )
+
+  -- the player's square is one of them
+  pub player-drawn : has seen (spot_of b player) ≡ true
+  player-drawn = (reached (spot_of b player)).1 (player, number_of-spot_of b area player placed.player_exists, ([], refl))
+
+  -- each has a number
+  pub drawn-numbered : (s : Spot) → has seen s ≡ true → (n : ℕ) × (number_of b s ≡ Some n)
+  drawn-numbered s here = let (n, number, _) = (reached s).0 here in (n, number)
+
+  -- written by number they are the region
+  pub IsRegion-drawn : (words : List ℕ) → ((n : ℕ) → (has_number words n ≡ true) ↔ ((n < length b.area) × (has seen (spot_of b n) ≡ true)))
+      → IsRegion b boxes player (squares_of words)
+  IsRegion-drawn words written = record {
+    placed = placed;
+    rising = squares_of-rising words;
+    exact = λ s. (
+      λ there. let (within, here) = (written s).0 ((Contains-squares_of words s).0 there) in (within, (drawn-same s within).0 here),
+      λ (within, same). (Contains-squares_of words s).1 ((written s).1 (within, (drawn-same s within).1 same)),
+    );
+  }
 
 -- a region has the player's square
 pub HasSquare-region : (b : Numbered) (boxes : List ℕ) (player : ℕ) (words : List ℕ) → IsRegion b boxes player (squares_of words) → HasSquare words
 HasSquare-region b boxes player words region =
     (player, (Contains-squares_of words player).0 ((region.exact player).1 (region.placed.player_exists, Same-refl b.rows (position_of b player boxes))))
-
--- a region is that of each of its squares
-pub IsRegion-again : (b : Numbered) (boxes : List ℕ) (player : ℕ) (region : List ℕ) → IsProper b.rows → IsArea b.rows b.area
-    → IsRegion b boxes player region → (other : ℕ) → Contains region other → IsRegion b boxes other region
-IsRegion-again b boxes player region proper area is other there =
-    let (within, same) = (is.exact other).0 there in
-    let from = position_of b player boxes in
-    let to = position_of b other boxes in
-    let stands = IsStanding-placed b area proper player boxes is.placed in
-    let back = Same-sym b.rows from to stands same in
-    record {
-      placed = record {
-        rising = is.placed.rising;
-        boxes_exist = is.placed.boxes_exist;
-        player_exists = within;
-        free = not_listed b boxes other
-            (IsStanding-Same b.rows from to stands same);
-      };
-      rising = is.rising;
-      exact = λ s. (
-        λ at. let (s_within, reached) = (is.exact s).0 at in (s_within, Same-trans b.rows to from (position_of b s boxes) back reached),
-        λ (s_within, reached). (is.exact s).1 (s_within, Same-trans b.rows from to (position_of b s boxes) same reached),
-      );
-    }
 
 -- letters over squares of a region are legal, and none of them pushes
 pub IsWalkBetween-trail : (b : Numbered) (boxes : List ℕ) (player : ℕ) (words : List ℕ) → IsProper b.rows → IsArea b.rows b.area

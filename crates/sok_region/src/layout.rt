@@ -111,8 +111,8 @@ impl Layout {
     }
 }
 
-/// Puts boxes into a set without squares.
-fn put_boxes(field: &mut Field, board: &Board, boxes: &[Sq])
+/// Puts the squares of boxes into a set without squares.
+pub fn put_boxes(field: &mut Field, board: &Board, boxes: &[Sq])
     requires accepted { IsAccepted board.now }
     requires exist { All (λ square. square < length board.now.area) boxes.now }
     requires empty { Draws board.now (Contains []) field.old }

@@ -52,13 +52,6 @@ pub place-from : (book : Book) (rows : Rows) (id : ℕ) → StandsAt book rows i
 place-from book rows zero stands = absurd stands
 place-from book rows (suc n) stands = let (page, found) = found_in book rows n (slice_get book n) refl stands in (n, page, refl, found)
 
--- a kept book has a level once
-pub stands_once : (book : Book) (rows : Rows) (id other : ℕ) → IsKeptBook book → StandsAt book rows id → StandsAt book rows other → id ≡ other
-stands_once book rows id other kept stands there =
-    let (n, page, id_is, found) = place-from book rows id stands in
-    let (m, copy, other_is, again) = place-from book rows other there in
-    id_is ∙ ap suc (kept.once n m page copy found.there again.there (found.level ∙ sym again.level)) ∙ sym other_is
-
 -- ---- books that may be kept
 
 apart : (book : Book) (last : Page) (n : ℕ) (page : Page) → IsUnknown book last.level → slice_get book n ≡ Some page → page.level ≡ last.level → ⊥

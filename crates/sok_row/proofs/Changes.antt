@@ -3,9 +3,6 @@ use Rattle.std.proofs.Common.{◌≡◌, refl, sym, ℕ, List, Option, Some, Non
 use Rattle.std.proofs.lemmas.Option.{none-some}
 use Rattle.sok_rules.specs.Squares.{Rows}
 use Rattle.sok_rules.specs.Levels.{IsLevel}
-use Rattle.sok_rules.specs.Play.{start}
-use Rattle.sok_text.specs.Canonical.{level_text}
-use Rattle.sok_text.specs.Marked.{marked_text}
 use Rattle.sok_board.specs.Refusals.{IsAcceptable}
 use Rattle.sok_cert.specs.Claim.{Claim}
 use Rattle.sok_cert.specs.Claim.TheVariants.{Pushes, Unsolvable as NoSolution}
@@ -14,18 +11,12 @@ use Rattle.sok_book.specs.declared.record.Verdict.TheVariants.{Untested}
 use Rattle.sok_book.specs.Books.{Page, Solution}
 use Rattle.sok_book.specs.Commands.{Meets, best_pushes, new_page, verdict_of}
 use Rattle.sok_page.specs.Kept.{IsKeptPage, IsKeptSolution}
-use Rattle.sok_page.specs.Rows.{verdict_number}
 use Rattle.sok_page.specs.Titles.{IsTitle}
-use Rattle.sok_sql.specs.Leaves.{new_leaf, with_best, with_verdict}
-use Rattle.sok_row.specs.Kept.{leaf_of}
 
 -- ---- a new page
 
 pub IsKeptPage-new : (rows : Rows) (title : Option (List ℕ)) → IsLevel rows → IsAcceptable rows → IfSome title IsTitle → IsKeptPage (new_page rows title)
 IsKeptPage-new rows title level accepted of_title = record { level = level; accepted = accepted; title = of_title; best = tt; verdict = refl }
-
-pub leaf_of-new_page : (rows : Rows) (title : Option (List ℕ)) → leaf_of (new_page rows title) ≡ new_leaf (level_text rows) title
-leaf_of-new_page rows title = refl
 
 -- ---- with another best solution, and no verdict
 
@@ -35,10 +26,6 @@ solved page best = record page { best = Some best; verdict = Untested }
 pub IsKeptPage-solved : (page : Page) (best : Solution) → IsKeptPage page → IsKeptSolution page.level best → IsKeptPage (solved page best)
 IsKeptPage-solved page best kept of_best =
     record { level = kept.level; accepted = kept.accepted; title = kept.title; best = of_best; verdict = refl }
-
-pub leaf_of-solved : (page : Page) (best : Solution)
-    → leaf_of (solved page best) ≡ with_best (marked_text page.level (start page.level) best.letters) best.pushes best.moves (leaf_of page)
-leaf_of-solved page best = refl
 
 -- ---- with another verdict
 
@@ -68,6 +55,3 @@ IsKeptPage-judged page NoSolution kept meets = record {
     go : (best : Option Solution) → option_map (λ b. b.pushes) best ≡ None → not (is_some best) ≡ true
     go None is = refl
     go (Some best) is = absurd (none-some best.pushes (sym is))
-
-pub leaf_of-judged : (page : Page) (verdict : Verdict) → leaf_of (judged page verdict) ≡ with_verdict (verdict_number verdict) (leaf_of page)
-leaf_of-judged page verdict = refl

@@ -93,11 +93,6 @@ pub holds-none : (test : Cell → Bool) (rows : Rows) (s : Spot) → cell_at row
 unfolding holds
 holds-none test rows s none = ap (λ o. option_map_or test o false) none
 
--- a test of the cell that is seen at a place
-pub holds-cell : (test : Cell → Bool) (rows : Rows) (s : Spot) (o : Option Cell) → cell_at rows s ≡ o → option_map_or test o false ≡ holds test rows s
-unfolding holds
-holds-cell test rows s o at = ap (λ p. option_map_or test p false) (sym at)
-
 pub is_open-is : (cell : Cell) → is_open cell ≡ not (is_wall cell)
 is_open-is Wall = refl
 is_open-is Floor = refl

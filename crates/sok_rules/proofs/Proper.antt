@@ -138,24 +138,11 @@ pieces-missing false true has_box e = cc
 pieces-missing false false true e = cc
 pieces-missing false false false e = cc
 
-pieces-wall : (none many has_box : Bool) (row : ℕ) → fault_of_pieces none many has_box ≡ Some (NoWall row) → ⊥
-pieces-wall true many has_box row e = cc
-pieces-wall false true has_box row e = cc
-pieces-wall false false true row e = cc
-pieces-wall false false false row e = cc
-
 first-missing : (tall wide : Bool) (unwalled : Option ℕ) (men : ℕ) (has_box : Bool) → first_fault tall wide unwalled men has_box ≡ Some NoSuchLevel → ⊥
 first-missing true wide unwalled men has_box e = cc
 first-missing false true unwalled men has_box e = cc
 first-missing false false (Some r) men has_box e = cc
 first-missing false false None men has_box e = pieces-missing (men == 0) (nat_lt 1 men) has_box e
-
-first-wall : (tall wide : Bool) (unwalled : Option ℕ) (men : ℕ) (has_box : Bool) (row : ℕ)
-    → first_fault tall wide unwalled men has_box ≡ Some (NoWall row) → unwalled ≡ Some row
-first-wall true wide unwalled men has_box row e = absurd cc
-first-wall false true unwalled men has_box row e = absurd cc
-first-wall false false (Some r) men has_box row e = let same : r ≡ row = cc in ap Some same
-first-wall false false None men has_box row e = absurd (pieces-wall (men == 0) (nat_lt 1 men) has_box row e)
 
 -- the fault of rows that are no level
 fault-from_level_of : (rows : Rows) (fault : LevelFault) → level_of rows ≡ Err fault → fault_of (map trimmed rows) ≡ Some fault
@@ -174,14 +161,6 @@ level_of-missing rows e =
     let clean = map trimmed rows in
     first-missing (nat_lt 64 (length clean)) (list_any (λ row. nat_lt 64 (length row)) clean) (row_without_wall clean) (count_in is_man clean)
     (list_any (list_any is_box) clean) (fault-from_level_of rows NoSuchLevel e)
-
--- and for a row without a wall only where there is one
-pub level_of-wall : (rows : Rows) (row : ℕ) → level_of rows ≡ Err (NoWall row) → row_without_wall (map trimmed rows) ≡ Some row
-unfolding fault_of
-level_of-wall rows row e =
-    let clean = map trimmed rows in
-    first-wall (nat_lt 64 (length clean)) (list_any (λ r. nat_lt 64 (length r)) clean) (row_without_wall clean) (count_in is_man clean)
-    (list_any (list_any is_box) clean) row (fault-from_level_of rows (NoWall row) e)
 
 -- a level is read as it is
 pub level_of-IsLevel : (rows : Rows) → IsLevel rows → level_of rows ≡ Ok rows

@@ -3,8 +3,7 @@ use Rattle.std.proofs.Common.{ℕ, ◌≡◌, ◌≤◌, ◌+◌, ◌∙◌, ap,
 use Rattle.std.proofs.Common.{get_or, length, set, slice_get, take}
 use Rattle.std.specs.List.{flat_map}
 use Rattle.std.specs.Option.{option_to_list}
-use Rattle.std.proofs.lemmas.List.{append-nil, length-append, take_all}
-use Rattle.std.proofs.lemmas.List.Concat.{flat_map-append}
+use Rattle.std.proofs.lemmas.List.{length-append, take_all}
 use Rattle.std.proofs.lemmas.List.Elements.{Contains-append_left, Contains-append_right, Contains-append_cases}
 use Rattle.std.proofs.lemmas.Option.{none-some, same_Some}
 use Rattle.sok_search.specs.Steps.{HasOneMore}
@@ -83,11 +82,6 @@ popped f xs k x y whole None there is e some = absurd (some refl)
 popped f xs k x y whole (Some i) there is e some =
     let one : HasOneMore (f y) i (f x) = subst (HasOneMore (f y) i) (sym e) (one-more-push (f y) i) in
     subst (HasOneMore (flat_map f (set xs k y)) i) is (one-less-set f xs k x y i there one)
-
--- one list more that is empty
-pub empty-more : {X : Type 0} (f : X → List ℕ) (xs after : List X) (x : X) → after ≡ xs ++ x ∷ [] → f x ≡ [] → flat_map f after ≡ flat_map f xs
-empty-more f xs after x more empty =
-    ap (flat_map f) more ∙ flat_map-append f xs (x ∷ []) ∙ ap (λ ys. flat_map f xs ++ (ys ++ [])) empty ∙ append-nil (flat_map f xs)
 
 -- no list of the first ones has an element
 pub none-first : {X : Type 0} (f : X → List ℕ) (xs : List X) (n : ℕ) → n ≡ 0 → flat_map f (take n xs) ≡ []

@@ -15,7 +15,7 @@ use Rattle.sok_alone.specs.Losses.{losses_of}
 use Rattle.sok_search.specs.declared.note.Note.{Note}
 use Rattle.sok_search.specs.declared.note.Standing.{Standing}
 use Rattle.sok_search.specs.declared.note.Standing.TheVariants.{Open, Expanded, Dead, Lost}
-use Rattle.sok_search.specs.Finished.{AreDone, AreFirstEntries, AreTaken, HasText, IsAtMost, IsDone, IsEntryAt, IsEntryOf, claim_of}
+use Rattle.sok_search.specs.Finished.{AreDone, AreFirstEntries, AreTaken, HasText, IsAtMost, IsDone, IsEntryAt, IsEntryOf, TakesEntry, claim_of}
 use Rattle.sok_search.specs.Halted.{IsLeastOpen}
 use Rattle.sok_search.specs.Limits.{state_limit}
 use Rattle.sok_search.specs.Searches.{Progress, IsBeaten, IsSearch, IsState, Stands}
@@ -58,17 +58,6 @@ done-least b limit p least search of_all i key depth note state =
     (record { key = key; depth = depth; note = note; state = state; bound = bound; is_open = is; needs = refl }))
     (search.noted i key depth note state).stands
 
--- what stands at an index is one state alone
-entry-along : (b : Numbered) (claim : Claim) (p : Progress) (i : ℕ) (key other : Key) (depth deep : ℕ) (note noted : Note) (e : Entry)
-    → IsState p i key depth note → IsState p i other deep noted
-    → IsEntryOf b claim key depth note e → IsEntryOf b claim other deep noted e
-entry-along b claim p i key other depth deep note noted e state also entry =
-    let keys = same_Some key other (sym state.there ∙ also.there) in
-    let depths = same_Some depth deep (sym state.depth_is ∙ also.depth_is) in
-    let notes = same_Some note noted (sym state.note_is ∙ also.note_is) in
-    subst (λ k. IsEntryOf b claim k deep noted e) keys
-    (subst (λ d. IsEntryOf b claim key d noted e) depths (subst (λ n. IsEntryOf b claim key depth n e) notes entry))
-
 -- it has a text
 pub entry-fits : (b : Numbered) → IsAccepted b → (limit : ℕ) (p : Progress) (i : ℕ) (key : Key) (depth : ℕ) (note : Note) (e : Entry) → IsSearch b limit p
     → limit ≤ state_limit → IsState p i key depth note → e.depth ≡ depth
@@ -96,9 +85,15 @@ entry-fits b accepted limit p i key depth note e search small state depth_is pla
       inner = reason.2;
     }
 
-pub entry-at : (b : Numbered) (claim : Claim) (p : Progress) (i : ℕ) (key : Key) (depth : ℕ) (note : Note) (e : Entry)
-    → IsState p i key depth note → IsEntryOf b claim key depth note e → IsEntryAt b claim p i e
-entry-at b claim p i key depth note e state entry other deep noted also = entry-along b claim p i key other depth deep note noted e state also entry
+-- what stands at an index is one state alone
+pub entry-at : (b : Numbered) (claim : Claim) (p : Progress) (i : ℕ) (key : Key) (depth : ℕ) (note : Note) (e : Entry) → IsState p i key depth note
+    → IsEntryOf b claim key depth note e → IsEntryAt b claim p i e
+entry-at b claim p i key depth note e state entry other deep noted also =
+    let keys = same_Some key other (sym state.there ∙ also.there) in
+    let depths = same_Some depth deep (sym state.depth_is ∙ also.depth_is) in
+    let notes = same_Some note noted (sym state.note_is ∙ also.note_is) in
+    subst (λ k. IsEntryOf b claim k deep noted e) keys
+    (subst (λ d. IsEntryOf b claim key d noted e) depths (subst (λ n. IsEntryOf b claim key depth n e) notes entry))
 
 -- no entries, and one more
 first-none : (b : Numbered) (claim : Claim) (p : Progress) → AreFirstEntries b claim p 0 []
@@ -124,11 +119,11 @@ pub taken-none : (Took : List Entry → Type 0) (b : Numbered) (claim : Claim) (
 taken-none Took b claim p took =
     record { entries = []; took = took; first = first-none b claim p; fit = λ k d within. absurd (omega (arith, within)) }
 
-pub taken-more : (Took Takes : List Entry → Type 0) (b : Numbered) (claim : Claim) (p : Progress) (n : ℕ) (e : Entry) → AreTaken Took b claim p n
-    → IsEntryAt b claim p n e → FitsEntry e → ((entries : List Entry) → Took entries → Takes (entries ++ e ∷ [])) → AreTaken Takes b claim p (n + 1)
-taken-more Took Takes b claim p n e taken one fits takes = record {
-  entries = taken.entries ++ e ∷ [];
-  took = takes taken.entries taken.took;
-  first = first-more b claim p n taken.entries e taken.first one;
-  fit = All-push FitsEntry taken.entries e taken.fit fits;
+pub taken-more : (Took Takes : List Entry → Type 0) (b : Numbered) (claim : Claim) (p : Progress) (n : ℕ) → AreTaken Took b claim p n
+    → TakesEntry Took Takes b claim p n → AreTaken Takes b claim p (n + 1)
+taken-more Took Takes b claim p n taken more = record {
+  entries = taken.entries ++ more.entry ∷ [];
+  took = more.takes taken.entries taken.took;
+  first = first-more b claim p n taken.entries more.entry taken.first more.is;
+  fit = All-push FitsEntry taken.entries more.entry taken.fit more.fits;
 }

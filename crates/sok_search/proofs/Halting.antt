@@ -1,13 +1,11 @@
 -- The least that open states need.
-use Rattle.std.proofs.Common.{ℕ, ◌≡◌, ◌<◌, ◌≤◌, ◌+◌, ◌∙◌, inl, inr, refl, sym, ap, subst, Some, min, arith, length, slice_get}
-use Rattle.std.proofs.Math.Nat.{min-eq_left, min-eq_right, min-le_left, min-le_right, le-min}
+use Rattle.std.proofs.Common.{ℕ, ◌≡◌, ◌<◌, ◌+◌, ◌∙◌, inl, inr, refl, sym, ap, subst, Some, min, arith, length, slice_get}
+use Rattle.std.proofs.Math.Nat.{min-eq_left, min-eq_right, min-le_left, min-le_right}
 use Rattle.std.proofs.lemmas.Bool.{cases_eq, cases_lt}
 use Rattle.std.proofs.lemmas.Option.{same_Some}
 use Rattle.std.specs.Map.{values_of}
 use Rattle.sok_board.specs.Area.{Numbered}
-use Rattle.sok_cert.specs.Text.{number_limit}
 use Rattle.sok_search.specs.declared.note.Note.{Note}
-use Rattle.sok_search.specs.declared.note.Standing.{Standing}
 use Rattle.sok_search.specs.declared.note.Standing.TheVariants.{Open}
 use Rattle.sok_search.specs.Halted.{IsLeastOfFirst, IsOpenAt}
 use Rattle.sok_search.specs.Searches.{IsSearch, Progress}
@@ -46,9 +44,6 @@ pub closed-at : (p : Progress) (i n : ℕ) (note : Note) → slice_get p.notes i
 closed-at p i n note note_is other at =
     let same : note ≡ at.note = same_Some note at.note (sym note_is ∙ at.state.note_is) in
     other at.bound (ap (λ (noted : Note). noted.standing) same ∙ at.is_open)
-
-pub least-none : (p : Progress) → IsLeastOfFirst p 0 number_limit
-least-none p = record { small = omega arith; below = λ i n none at. absurd (omega (arith, none)); reached = inl refl }
 
 -- one state more, which is open
 pub least-open : (p : Progress) (count least n : ℕ) → IsLeastOfFirst p count least → IsOpenAt p count n → IsLeastOfFirst p (count + 1) (min least n)

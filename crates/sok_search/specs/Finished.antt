@@ -1,5 +1,5 @@
 -- What a search shows, finished or cut off, where each of its states is done with for what is claimed.
-use Rattle.std.specs.Prelude.{ℕ, ◌≡◌, ◌≤◌, ◌+◌, List, [], ◌∷◌, Option, Some, None, IsSomeAnd, All, length, slice_get}
+use Rattle.std.specs.Prelude.{ℕ, ◌≡◌, ◌≤◌, ◌+◌, List, [], ◌∷◌, ◌++◌, Option, Some, None, IsSomeAnd, All, length, slice_get}
 use Rattle.sok_board.specs.Area.{Numbered}
 use Rattle.sok_cert.specs.Claim.{Claim}
 use Rattle.sok_cert.specs.Claim.TheVariants.{Pushes, Unsolvable}
@@ -60,6 +60,13 @@ pub record AreTaken (Took : List Entry → Type 0) (b : Numbered) (claim : Claim
 -- an entry of the state at an index
 abbrev pub IsEntryAt : Numbered → Claim → Progress → ℕ → Entry → Type 0
 IsEntryAt b claim p index e = (key : Key) (depth : ℕ) (note : Note) → IsState p index key depth note → IsEntryOf b claim key depth note e
+
+-- one entry more was taken, that of the state at an index, which has a text
+pub record TakesEntry (Took Takes : List Entry → Type 0) (b : Numbered) (claim : Claim) (p : Progress) (index : ℕ) : Type 0 where
+  pub entry : Entry
+  pub is : IsEntryAt b claim p index entry
+  pub fits : FitsEntry entry
+  pub takes : (entries : List Entry) → Took entries → Takes (entries ++ entry ∷ [])
 
 -- what is claimed is no more than this
 abbrev pub IsAtMost : Claim → ℕ → Type 0

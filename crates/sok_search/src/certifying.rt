@@ -2,9 +2,8 @@
 
 ghost use Rattle.std.specs.Prelude.{◌≡◌, ◌<◌, [], IfOk, OnOk, length};
 ghost use Rattle.sok_board.specs.Area.{IsAccepted, Numbered};
-ghost use Rattle.sok_cert.specs.Text.{FitsEntry};
 ghost use Rattle.sok_price.specs.Matched.{Serves};
-ghost use Rattle.sok_search.specs.Finished.{AreDone, AreTaken, IsEntryAt};
+ghost use Rattle.sok_search.specs.Finished.{AreDone, AreTaken, TakesEntry};
 ghost use Rattle.sok_search.specs.Searches.{IsSearching, IsSmallSearch, IsState};
 ghost use Rattle.sok_search.specs.Views.{progress_of};
 
@@ -15,7 +14,6 @@ use crate::search::Search;
 use sok_board::area::Sq;
 use sok_board::board::Board;
 use sok_cert::claim::Claim;
-use sok_cert::entry::{Entry, Numbers};
 use sok_price::matching::Matching;
 use sok_push::tables::Tables;
 use sok_rules::fault::Memory;
@@ -41,33 +39,37 @@ pub(crate) fn certify<C: Entries>(
 {
     let mut matching = Matching::new(alloc, board, tables)?;
     let mut squares = Vec::new(alloc);
+    let mut boxes = Vec::new(alloc);
     for index in 0..search.table.len() {
-        let entry = entry_at(
+        take_entry(
             alloc,
             board,
             tables,
             &mut matching,
             &mut squares,
+            &mut boxes,
             claim,
             search,
             index,
+            entries,
         )?;
-        entries.take(entry)?;
     }
     Ok(())
 }
 
-/// The entry of the state at an index.
-fn entry_at(
+/// Has the entry of the state at an index taken. The two lists are places for its boxes.
+fn take_entry<C: Entries>(
     alloc: Global,
     board: &Board,
     tables: &Tables,
     matching: &mut Matching,
     squares: &mut Vec<Sq>,
+    boxes: &mut Vec<u32>,
     claim: Claim,
     search: &Search,
     index: usize,
-) -> Result<Entry, Memory>
+    entries: &mut C,
+) -> Result<(), Memory>
     requires accepted { IsAccepted board.now }
     requires tables { tables.now.board ≡ board.now }
     requires serves { Serves board.now matching.old }
@@ -75,8 +77,8 @@ fn entry_at(
     requires done { AreDone board.now claim (progress_of search.now) }
     requires within { index < length search.now.table.entries }
     ensures serves { OnOk result (Serves board.now matching.new) }
-    ensures entry { IfOk result (IsEntryAt board.now claim (progress_of search.now) index) }
-    ensures fits { IfOk result FitsEntry }
+    ensures takes { OnOk result (TakesEntry (λ taken. C.took taken entries.old)
+        (λ taken. C.took taken entries.new) board.now claim (progress_of search.now) index) }
 {
     let (key, depth, note) = state_at(alloc, search, squares, index)?;
     let reason = reason_of(
@@ -91,13 +93,21 @@ fn entry_at(
         depth,
         note.standing,
     )?;
-    let boxes = Numbers::widened(alloc, key.boxes.list())?;
-    Ok(Entry {
-        depth,
-        player: u32::from(key.least),
-        boxes,
-        reason,
-    })
+    widen(boxes, key.boxes.list())?;
+    entries.take(alloc, depth, u32::from(key.least), boxes, reason)?;
+    Ok(())
+}
+
+/// Sets a list to the same numbers as a slice of narrower ones.
+fn widen(numbers: &mut Vec<u32>, squares: &[Sq]) -> Result<(), Memory>
+    ensures { OnOk result (numbers.new.items ≡ squares.now) }
+{
+    numbers.clear();
+    numbers.reserve(squares.len())?;
+    for square in squares {
+        numbers.push(u32::from(*square))?;
+    }
+    Ok(())
 }
 
 /// What stands at an index. Its boxes are listed in a room for squares first.

@@ -2,9 +2,10 @@
 
 ghost use Rattle.std.specs.Prelude.{List, ◌≡◌, ◌∷◌, ◌++◌, [], OnOk};
 ghost use Rattle.sok_cert.specs.Entry.{Entry};
+ghost use Rattle.sok_cert.specs.Text.{entry_of};
 
-use sok_cert::entry::{Cert, Entry};
-use std::alloc::AllocError;
+use sok_cert::entry::{Cert, Entry, Numbers, Reason};
+use std::alloc::{AllocError, Global};
 
 /// What takes the entries of a certificate, one after another, and keeps them or what is made of
 /// them, as their text.
@@ -12,18 +13,38 @@ pub trait Entries {
     // These entries were taken, in this order.
     ghost took: { List Entry → Self → Type 0 };
 
-    /// Takes one more, the last. It refuses only for want of memory.
-    fn take(&mut self, entry: Entry) -> Result<(), AllocError>
+    /// Takes one more, the last, which is told by its parts. It refuses only for want of memory.
+    fn take(
+        &mut self,
+        alloc: Global,
+        depth: u32,
+        player: u32,
+        boxes: &[u32],
+        reason: Reason,
+    ) -> Result<(), AllocError>
         ensures { OnOk result ((entries : List Entry) → took entries self.old
-            → took (entries ++ entry ∷ []) self.new) };
+            → took (entries ++ entry_of depth player boxes.now reason ∷ []) self.new) };
 }
 
 /// They are kept as they are.
 impl Entries for Cert {
     ghost took = { λ entries cert. cert.entries.items ≡ entries };
 
-    fn take(&mut self, entry: Entry) -> Result<(), AllocError> {
-        self.entries.push(entry)?;
+    fn take(
+        &mut self,
+        alloc: Global,
+        depth: u32,
+        player: u32,
+        boxes: &[u32],
+        reason: Reason,
+    ) -> Result<(), AllocError> {
+        let boxes = Numbers::copied(alloc, boxes)?;
+        self.entries.push(Entry {
+            depth,
+            player,
+            boxes,
+            reason,
+        })?;
         Ok(())
     }
 }

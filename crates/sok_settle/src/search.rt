@@ -6,7 +6,7 @@ ghost use Rattle.sok_engine.specs.declared.fault.ToolFault.TheVariants as tool;
 ghost use Rattle.sok_search.specs.Faults.{IsBadLimit};
 ghost use Rattle.sok_search.specs.Outcomes.{IsShown};
 
-use sok_cert::entry::Entry;
+use sok_cert::entry::Reason;
 use sok_engine::fault::ToolFault;
 use sok_rules::level::Level;
 use sok_search::collecting::Entries;
@@ -22,7 +22,14 @@ struct Nothing;
 impl Entries for Nothing {
     ghost took = { λ _ _. ⊤ };
 
-    fn take(&mut self, _entry: Entry) -> Result<(), AllocError> {
+    fn take(
+        &mut self,
+        _alloc: Global,
+        _depth: u32,
+        _player: u32,
+        _boxes: &[u32],
+        _reason: Reason,
+    ) -> Result<(), AllocError> {
         Ok(())
     }
 }

@@ -1,5 +1,5 @@
 -- The text of a certificate, as it is made while its entries are found.
-use Rattle.std.specs.Prelude.{ℕ, ◌≡◌, ◌≤◌, ◌<◌, ◌⊎◌, List, ◌++◌, Result, Ok, Err, length}
+use Rattle.std.specs.Prelude.{ℕ, ◌≡◌, ◌≤◌, ◌<◌, ◌⊎◌, List, Result, Ok, Err, length}
 use Rattle.std.specs.List.{flat_map, list_any}
 use Rattle.sok_cert.specs.Claim.{Claim}
 use Rattle.sok_cert.specs.Entry.{Entry}

@@ -4,10 +4,11 @@ ghost use Rattle.std.specs.Prelude.{List, ◌≡◌, ◌∷◌, ◌++◌, [], On
 ghost use Rattle.std.specs.Io.KnownBytes.{Appends};
 ghost use Rattle.sok_engine.specs.Written.{AppendsFront};
 ghost use Rattle.sok_cert.specs.Entry.{Entry};
+ghost use Rattle.sok_cert.specs.Text.{entry_of};
 ghost use Rattle.sok_solve.specs.Lines.{HasLines, TellsReady};
 
 use sok_cert::claim::Claim;
-use sok_cert::entry::Entry;
+use sok_cert::entry::Reason;
 use sok_cert::version::Version;
 use sok_cert::writing::{is_pattern, push_end, push_entry, push_front};
 use sok_engine::fault::ToolFault;
@@ -21,14 +22,14 @@ use std::marker::Model;
 /// The lines of the entries that were taken, and whether one of them is a pattern. Once they have
 /// more bytes than a certificate that is read, no more are kept.
 #[derive(Debug, Drop)]
-pub(crate) struct EntryLines {
+pub struct EntryLines {
     lines: Vec<u8>,
     has_pattern: bool,
 }
 
 impl EntryLines {
     /// Of no entries.
-    pub(crate) fn new(alloc: Global) -> EntryLines
+    pub fn new(alloc: Global) -> EntryLines
         ensures { HasLines result [] }
     {
         EntryLines {
@@ -38,30 +39,43 @@ impl EntryLines {
     }
 
     /// Keeps the lines of one more entry, the last.
-    fn push(&mut self, entry: &Entry) -> Result<(), AllocError>
+    fn push(
+        &mut self,
+        depth: u32,
+        player: u32,
+        boxes: &[u32],
+        reason: &Reason,
+    ) -> Result<(), AllocError>
         ensures { OnOk result ((entries : List Entry) → HasLines self.old entries
-            → HasLines self.new (entries ++ entry.now ∷ [])) }
+            → HasLines self.new (entries ++ entry_of depth player boxes.now reason.now ∷ [])) }
     {
-        self.has_pattern |= is_pattern(&entry.reason);
+        self.has_pattern |= is_pattern(reason);
         if self.lines.len() > CERT_LIMIT {
             return Ok(());
         }
-        push_entry(&mut self.lines, entry)
+        push_entry(&mut self.lines, depth, player, boxes, reason)
     }
 }
 
 impl Entries for EntryLines {
     ghost took = { λ entries taken. HasLines taken entries };
 
-    fn take(&mut self, entry: Entry) -> Result<(), AllocError> {
-        self.push(&entry)
+    fn take(
+        &mut self,
+        _alloc: Global,
+        depth: u32,
+        player: u32,
+        boxes: &[u32],
+        reason: Reason,
+    ) -> Result<(), AllocError> {
+        self.push(depth, player, boxes, &reason)
     }
 }
 
 /// A certificate, as it is written: the lines in front of its entries, and all others. It is seen as
 /// its text.
 #[derive(Debug, Drop)]
-pub(crate) struct ReadyCert {
+pub struct ReadyCert {
     front: Vec<u8>,
     lines: Vec<u8>,
 }
@@ -76,11 +90,7 @@ impl Model for ReadyCert {
 
 impl ReadyCert {
     /// The text is refused with `TooMuch` where it is longer than one that is read.
-    pub(crate) fn new(
-        alloc: Global,
-        claim: &Claim,
-        taken: EntryLines,
-    ) -> Result<ReadyCert, ToolFault>
+    pub fn new(alloc: Global, claim: &Claim, taken: EntryLines) -> Result<ReadyCert, ToolFault>
         ensures { TellsReady claim.now (HasLines taken) result }
     {
         let EntryLines {
@@ -102,7 +112,7 @@ impl ReadyCert {
     }
 
     /// Writes the text. Where a write fails, a front of it is written.
-    pub(crate) fn write<W: Write>(&self, out: &mut W) -> Result<(), WriteFailed>
+    pub fn write<W: Write>(&self, out: &mut W) -> Result<(), WriteFailed>
         ensures ok { OnOk result (Appends (W.contents out.old) (W.contents out.new) self.now) }
         ensures err { OnErr result
             (AppendsFront (W.contents out.old) (W.contents out.new) self.now) }

@@ -2,11 +2,11 @@
 //!
 //! | Module | What it holds |
 //! |---|---|
-//! | `certificate` | a certificate that is written a block of lines at a time (private) |
+//! | `certificate` | the text of a certificate, made as its entries are found |
 //! | `find` | the solution with the fewest pushes, alone |
 //! | `solve` | the solution with the fewest pushes, and its certificate |
 #![tactic(auto)]
 
-mod certificate;
+pub mod certificate;
 pub mod find;
 pub mod solve;

@@ -1,6 +1,6 @@
 -- Why a query of the table is refused.
 use Rattle.std.proofs.Common.{◌≡◌, ◌⊎◌, inl, inr, ℕ, List, [], true, false, None, Ok, Err, Result, length}
-use Rattle.std.proofs.Common.{refl, sym, ap, subst, subst₂, ◌∙◌, append-nil, arith, ◌+◌, ◌<◌, ◌≤◌, ◌^◌, pos, ◌∷◌}
+use Rattle.std.proofs.Common.{refl, sym, ap, subst, subst₂, ◌∙◌, append-nil, arith, ◌+◌, ◌<◌, ◌≤◌, pos, ◌∷◌}
 use Rattle.std.proofs.Common.{Bool, bytes_eq, if◌then◌else◌, slice_get, IfErr, IfSome, IsTrue, Some}
 use Rattle.sqlite.specs.declared.types.Value.TheVariants.{Int, Text as Words}
 use Rattle.std.proofs.lemmas.Bool.{cases_Bool}
@@ -17,12 +17,12 @@ use Rattle.sqlite.specs.Tree.{Trees}
 use Rattle.sqlite.specs.Effect.{RefusesToRead}
 use Rattle.sqlite.specs.Listing.{understood, reads_listing, IsSourceOf}
 use Rattle.sqlite.specs.State as st
-use Rattle.sqlite.specs.State.{State, Fails, FailsToQuery, FailsToShow, IsNoStatement, IsNotRun, IsUnchanged, store_error}
+use Rattle.sqlite.specs.State.{State, Fails, FailsToQuery, FailsToShow, IsNoStatement, IsNotRun, store_error}
 use Rattle.sqlite.specs.Clock.{timed}
 use Rattle.sqlite.proofs.Callers.{IsPlain, command_of}
 use Rattle.sqlite.specs.declared.error.Error.TheVariants.{SqlInputError}
 use Rattle.sqlite_resolve.specs.declared.error.CompileError.TheVariants.{NoSuchTable}
-use Rattle.sok_sql.specs.Leaves.{Leaf, level_schema, no_schema, ids_with, last_ids}
+use Rattle.sok_sql.specs.Leaves.{Leaf, level_schema, no_schema, ids_with}
 use Rattle.sok_sql.specs.Causes.{IsEmpty, IsMissing, HasTable, IsExcused, IsMemory}
 use Rattle.sok_sql.proofs.Texts.{IsPosed, select_of, names, pick_query, whole, one_text, one_is, one_plain, one_unlisted, one_posed}
 use Rattle.sok_sql.proofs.Texts.{missing_is, all_text, all_query, all_is, all_plain, all_unlisted, all_posed}
@@ -153,10 +153,6 @@ ids_fit text from top (leaf ∷ more) few = go (bytes_eq leaf.text text) (ids_fi
         → IfSome (slice_get (if same then from ∷ ids_with text (from + 1) more else ids_with text (from + 1) more) 0) (λ id. id < top)
     go true later = omega (arith, few)
     go false later = later
-
-pub last_fits : (leaves : List Leaf) → length leaves < 2 ^ 32 → IfSome (slice_get (last_ids leaves) 0) (λ id. id < 2 ^ 32)
-last_fits [] few = tt
-last_fits (leaf ∷ more) few = few
 
 pub memory_excused : {A : Type 0} (old new : State) (r : Result A Error) → IfErr r IsMemory → IfErr r (IsExcused old new)
 memory_excused old new (Ok x) why = tt

@@ -6,13 +6,12 @@ use Rattle.sok_board.proofs.Beside.{beside-within}
 use Rattle.sok_field.specs.Numbers.{Draws}
 use Rattle.sok_field.specs.Trails.{Leads}
 use Rattle.sok_region.specs.Regions.{IsPlaced}
-use Rattle.sok_region.proofs.Regions.{through-exact}
+use Rattle.sok_region.proofs.Regions.{drawn-same, through-exact}
 use Rattle.sok_state.specs.declared.key.Key.{Key}
 use Rattle.sok_state.specs.declared.push.Push.{Push}
 use Rattle.sok_state.specs.Listing.{HasBeside, IsDrawn}
 use Rattle.sok_state.specs.Pushes.{IsLegal}
 use Rattle.sok_state.proofs.LegalPushes.{free-legal, legal-free}
-use Rattle.sok_state.proofs.Stepped.{drawn-same}
 
 module _ (b : Numbered) (accepted : IsAccepted b) (key : Key) (free seen : List ℕ) (drawn : IsDrawn b key free seen) (push : Push) where
   pub legal-drawn : Contains key.boxes push.from → HasBeside b seen push.from (opposite push.dir) → HasBeside b free push.from push.dir → IsLegal b key push
@@ -55,5 +54,5 @@ pub IsDrawn-flooded : (b : Numbered) → IsAccepted b → (key : Key) (free seen
 IsDrawn-flooded b accepted key free seen placed drawn flooded = record {
   placed = placed;
   left = drawn;
-  reached = drawn-same b accepted key.boxes key.least free seen placed drawn flooded;
+  reached = drawn-same b key.boxes key.least free seen accepted.proper accepted.numbered placed drawn flooded;
 }

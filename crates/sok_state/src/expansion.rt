@@ -37,8 +37,8 @@ impl Expansion {
         }
     }
 
-    /// Takes a state: its boxes are laid out, and its pushes are those that `pushes` gives. It
-    /// refuses only for want of memory.
+    /// Takes a state: its boxes are laid out, and its legal pushes are listed. It refuses only for
+    /// want of memory, and is then of no more use.
     pub fn open(&mut self, board: &Board, key: &Key) -> Result<(), Memory>
         requires accepted { IsAccepted board.now }
         requires key { IsKey board.now key.now }

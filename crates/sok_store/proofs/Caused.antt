@@ -7,13 +7,11 @@ use Rattle.std.proofs.lemmas.Option.{none-some, same_Some}
 use Rattle.sqlite.specs.declared.error.Error.{Error}
 use Rattle.sqlite.specs.State.{State, HasCleanDisk, Survives}
 use Rattle.sqlite.specs.Tree.{Trees}
-use Rattle.sok_board.specs.declared.fault.BoardFault.{BoardFault}
 use Rattle.sok_board.specs.declared.fault.BoardFault.TheVariants as board
 use Rattle.sok_text.specs.Canonical.{level_text}
 use Rattle.sok_book.specs.declared.fault.BookFault.{BookFault}
 use Rattle.sok_book.specs.declared.fault.BookFault.TheVariants.{BadBook, Database, Memory}
 use Rattle.sok_book.specs.Books.{Book, Page}
-use Rattle.sok_book.specs.Faults.{of_board}
 use Rattle.sok_page.proofs.Rows.{one_level}
 use Rattle.sok_sql.specs.Causes.{AreApart, HasCause, IsExcused, IsMemory}
 use Rattle.sok_sql.specs.Leaves.{Leaf}
@@ -60,10 +58,6 @@ module _ (old new : State) (Makes : Book → Book → Type 0) where
   pub row_told : (fault : BookFault) (id : ℤ) (X : Type 0) → (fault ≡ Memory) ⊎ ((fault ≡ BadBook id) × X) → IsCaused old new Makes fault
   row_told fault id X (inl memory) database = absurd cc
   row_told fault id X (inr bad) database = absurd (let e = bad.0 in cc)
-
-pub of_board-inside : (fault : BoardFault) → of_board fault ≢ Database
-of_board-inside board.Memory database = absurd cc
-of_board-inside fault database = absurd cc
 
 -- ---- of a book that may be kept
 

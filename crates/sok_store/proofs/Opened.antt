@@ -1,5 +1,5 @@
 -- A table that is read is that of a book.
-use Rattle.std.proofs.Common.{◌≡◌, ◌⊎◌, inl, inr, sym, ap, subst, ◌∙◌, List, [], map, IsTrue, arith}
+use Rattle.std.proofs.Common.{◌≡◌, inl, inr, sym, ap, subst, ◌∙◌, List, [], map, IsTrue, arith}
 use Rattle.std.specs.List.Sorted.{IsPermutation}
 use Rattle.sqlite.specs.Order.{Row}
 use Rattle.sqlite.specs.Effect.{Database}
@@ -70,15 +70,6 @@ caused : (old new : State) (error : Error) (fault : BookFault) → (IsMemory err
     → HasCause old new
 caused old new error fault memory database (inl none) = absurd (let e = memory none in cc)
 caused old new error fault memory database (inr why) = why
-
--- the rows were not read
-pub unread_caused : (old new : State) (error : Error) (fault : BookFault) → (IsMemory error → fault ≡ Memory)
-    → (HasCleanDisk new → HasTable old → IsExcused old new error) → (HasCleanDisk new → IsEmpty old → IsMissing error ⊎ IsExcused old new error)
-    → (IsMissing error → ⊥) → IsCausedOpening old new fault
-unread_caused old new error fault memory table empty there database clean (inl none) =
-    elim (empty clean (λ _. none)) [ inl missing ↦ absurd (there missing) | inr why ↦ caused old new error fault memory database why ]
-unread_caused old new error fault memory table empty there database clean (inr has) =
-    caused old new error fault memory database (table clean (λ _. has))
 
 -- the table was not made
 pub unmade_caused : (old mid new : State) (missing error : Error) (fault : BookFault) → IsSettled old → IsMissing missing

@@ -1,7 +1,7 @@
 -- A text and its lines: the first line, and a front of whole lines.
 use Rattle.std.proofs.Common.{ℕ, ◌≡◌, ◌<◌, ◌≤◌, ◌+◌, List, [], ◌∷◌, ◌++◌, Some, None, true, false, if◌then◌else◌, nat_lt}
 use Rattle.std.proofs.Common.{length, take, drop, position, sym, ap, ◌∙◌, refl, subst, inl, inr, arith}
-use Rattle.std.proofs.lemmas.Bool.{cases_Bool, cases_lt, eqb-true, ne_eqb}
+use Rattle.std.proofs.lemmas.Bool.{cases_Bool, eqb-true, ne_eqb}
 use Rattle.std.proofs.Common.{◌-◌, ◌==◌, slice_index}
 use Rattle.std.proofs.lemmas.Bool.Decides.{nat_tests}
 use Rattle.std.proofs.lemmas.Option.{none-some}
@@ -147,35 +147,6 @@ length-strip line = elim (cases_Bool (slice_index line (length line - 1) == 13))
   | inl return ↦ omega (arith, ap (λ b. length (if b then take (length line - 1) line else line)) return, length-take (length line - 1) line)
   | inr plain ↦ omega (arith, ap (λ b. length (if b then take (length line - 1) line else line)) plain)
 ]
-
--- a first line that has its end is shorter than the text
-pub length-first_line-ended : (text : List ℕ) → end_of text < length text → length (first_line text) < length text
-length-first_line-ended text ended =
-    let found : nat_lt (end_of text) (length text) ≡ true = grind (arith, nat_tests) in
-    omega (arith, ap length (first_line-found text found), length-strip (before_first is_newline text), length-take (end_of text) text)
-
--- and one that has none is all of it
-pub length-first_line-unended : (text : List ℕ) → length text ≤ end_of text → length (first_line text) ≡ length text
-length-first_line-unended text past =
-    let none : nat_lt (end_of text) (length text) ≡ false = grind (arith, nat_tests) in
-    ap length (first_line-past text none)
-
--- nothing stands behind a line that has no end
-pub after_line-unended : (text : List ℕ) → length text ≤ length (first_line text) → after_line text ≡ []
-unfolding after_line
-after_line-unended text long = elim (cases_lt (end_of text) (length text)) [
-  | inl ended ↦ absurd (omega (arith, length-first_line-ended text ended))
-  | inr past ↦ drop_all (end_of text + 1) text (omega arith)
-]
-
--- the first of the lines, and those behind it
-pub lines-cons : (text line : List ℕ) (ls : List (List ℕ)) → lines text ≡ line ∷ ls → (first_line text ≡ line) × (lines (after_line text) ≡ ls)
-lines-cons [] line ls same = absurd (omega (arith, ap length same))
-lines-cons (byte ∷ text) line ls same =
-    let cons : first_line (byte ∷ text) ∷ lines (after_line (byte ∷ text)) ≡ line ∷ ls = sym (lines-first (byte ∷ text) (omega arith)) ∙ same in
-    let first : first_line (byte ∷ text) ≡ line = cc in
-    let rest : lines (after_line (byte ∷ text)) ≡ ls = cc in
-    (first, rest)
 
 -- ---- cut at the first LF
 

@@ -50,9 +50,6 @@ pub record IsUnpacked (part left : List ℕ) (row : List Cell) : Type 0 where
   pub full : 0 < floor → length row ≡ 64
   pub short : length row ≤ 64
 
-pub IsUnpacked-start : (part : List ℕ) → IsUnpacked part part []
-IsUnpacked-start part = record { floor = 0; whole = refl; full = λ some. absurd (omega arith); short = omega arith }
-
 -- nothing more is left
 pub IsLike-end : (part left : List ℕ) (row : List Cell) → IsUnpacked part left row → cells_behind [] left ≡ [] → IsLike row (cells_behind [] part)
 IsLike-end part left row read none =
@@ -152,9 +149,6 @@ pub record AreUnpacked (line left : List ℕ) (rows : Rows) : Type 0 where
   pub done : Rows
   pub whole : packed_rows line ≡ done ++ packed_rows left
   pub like : AreLike rows done
-
-pub AreUnpacked-start : (line : List ℕ) → AreUnpacked line line []
-AreUnpacked-start line = record { done = []; whole = refl; like = tt }
 
 pub AreUnpacked-more : {A : Type 0} (line left part behind : List ℕ) (rows grown : List (Vec Cell A)) (row : Vec Cell A) → AreUnpacked line left (cells_of rows)
     → parts_between left ≡ part ∷ parts_between behind → IsLike row.items (cells_behind [] part) → grown ≡ rows ++ row ∷ []

@@ -1,9 +1,8 @@
-use Rattle.std.proofs.Common.{vec_len}
-use Rattle.sok_bar.specs.Jam.{HasJams}
+use Rattle.sok_bar.specs.Narrowed.{KeepsJams, drawn_of}
 use Rattle.sok_bar.proofs.frozen.held_members.Given as goal
 
 abbrev pub invariant-passes : goal.invariant-passes
-invariant-passes l = HasJams l.board l.boxes l.members.items
+invariant-passes l = KeepsJams l.board l.boxes l.held
 
 abbrev pub decreases-passes : goal.decreases-passes
-decreases-passes l = vec_len l.members
+decreases-passes l = drawn_of l.board l.boxes l.held

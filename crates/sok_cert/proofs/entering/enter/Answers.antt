@@ -1,4 +1,4 @@
-use Rattle.std.proofs.Common.{◌∙◌, ◌++◌, ◌∷◌, [], ap, subst, length, MatchOption}
+use Rattle.std.proofs.Common.{subst, length, MatchOption}
 use Rattle.sok_board.specs.Area.{boxes_of}
 use Rattle.sok_closed.proofs.Entered.{missing, present}
 use Rattle.sok_closed.proofs.Fine.{IsOfBoard-more}

@@ -1,4 +1,4 @@
-use Rattle.std.proofs.Common.{ℕ, ◌<◌, All, List, None, Some, ap, arith, length, subst, sym}
+use Rattle.std.proofs.Common.{All, List, None, Some, ap, arith, length, subst, sym}
 use Rattle.std.proofs.lemmas.List.Elements.{All-contains}
 use Rattle.std.proofs.lemmas.Option.{slice_get_within}
 use Rattle.sok_state.specs.declared.push.Push.{Push}

@@ -17,22 +17,22 @@ returns-then-line-ne32 c =
     let bytes = two_bytes line (omega arith) in
     λ e is. c.if-line-ne32.true (IsEntryLine-reads (get_or line 0 0) (get_or line 1 0) text e (subst (λ l. IsEntryLine l e) bytes is)).1
 
-pub returns-in-None : goal.returns-in-None
-returns-in-None c =
+pub returns-then-not-branch : goal.returns-then-not-branch
+returns-then-not-branch c =
     let line = c.args.line.now in
     let text = drop 2 line in
     let bytes = two_bytes line (omega arith) in
-    let no_words = rw (c.in-None.is, take_rest line 2) at c.in_ok-numbers.ensures in
+    let no_words = rw (c.if-not-branch.true, take_rest line 2) at c.in_ok-read_numbers.ensures in
     λ e is. no_words (numbers_of e) (IsEntryLine-reads (get_or line 0 0) (get_or line 1 0) text e (subst (λ l. IsEntryLine l e) bytes is)).2
 
-pub returns-in-Some : goal.returns-in-Some
-returns-in-Some c =
+pub returns : goal.returns
+returns c =
     let line = c.args.line.now in
     let letter = get_or line 0 0 in
     let text = drop 2 line in
     let bytes = two_bytes line (omega arith) ∙ ap (λ b. letter ∷ b ∷ text) c.if-line-ne32.false in
-    let words = rw (c.in-Some.is, take_rest line 2) at c.in_ok-numbers.ensures in
-    IfOk-weaker c.entry_of.result (λ found. found ≡ entry_of letter c.as_slice.result.now) (Tells (IsEntryLine line))
+    let words = rw (c.if-not-branch.false, take_rest line 2) at c.in_ok-read_numbers.ensures in
+    IfOk-weaker c.entry_of.result (λ found. found ≡ entry_of letter c.deref.result.now) (Tells (IsEntryLine line))
     (λ found made. subst (λ l. Tells (IsEntryLine l) found) (sym bytes)
-    (Tells-entry_of letter text c.in-Some.numbers.items words found (made ∙ ap (entry_of letter) c.as_slice.ensures.value)))
+    (Tells-entry_of letter text c.read_numbers.new.numbers.items words found (made ∙ ap (entry_of letter) c.deref.ensures.value)))
     c.entry_of.ensures

@@ -22,20 +22,20 @@ returns-then-line-ne32 c =
     let bytes = two_bytes line (omega arith) in
     λ h is. c.if-line-ne32.true (IsHeadLine-reads (get_or line 0 0) (get_or line 1 0) (drop 2 line) h (subst (λ l. IsHeadLine l h) bytes is)).1
 
-pub returns-in-None : goal.returns-in-None
-returns-in-None c =
+pub returns-then-not-branch : goal.returns-then-not-branch
+returns-then-not-branch c =
     let line = c.args.line.now in
     let bytes = two_bytes line (omega arith) in
-    let no_words = rw (c.in-None.is, take_rest line 2) at c.in_ok-numbers.ensures in
+    let no_words = rw (c.if-not-branch.true, take_rest line 2) at c.in_ok-read_numbers.ensures in
     λ h is. no_words (numbers_of_head h) (IsHeadLine-reads (get_or line 0 0) (get_or line 1 0) (drop 2 line) h (subst (λ l. IsHeadLine l h) bytes is)).2
 
-pub returns-in-Some : goal.returns-in-Some
-returns-in-Some c =
+pub returns : goal.returns
+returns c =
     let line = c.args.line.now in
     let text = drop 2 line in
     let bytes = two_bytes line (omega arith) ∙ (λ i. c.if-line-ne112.false i ∷ c.if-line-ne32.false i ∷ text) in
-    let words = rw (c.in-Some.is, take_rest line 2) at c.in_ok-numbers.ensures in
-    IfOk-weaker c.head_of.result (λ found. found ≡ head_of c.as_slice.result.now) (Tells (IsHeadLine line))
+    let words = rw (c.if-not-branch.false, take_rest line 2) at c.in_ok-read_numbers.ensures in
+    IfOk-weaker c.head_of.result (λ found. found ≡ head_of c.deref.result.now) (Tells (IsHeadLine line))
     (λ found made. subst (λ l. Tells (IsHeadLine l) found) (sym bytes)
-    (Tells-head_of text c.in-Some.numbers.items words found (made ∙ ap head_of c.as_slice.ensures.value)))
+    (Tells-head_of text c.read_numbers.new.numbers.items words found (made ∙ ap head_of c.deref.ensures.value)))
     c.head_of.ensures

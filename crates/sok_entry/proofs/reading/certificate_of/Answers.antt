@@ -15,7 +15,7 @@ returns-in_err-stage c =
       | inl memory ↦ inl memory
       | inr wrong ↦
           inr (Reached-wrong c.args.text.now now.stage now.entries.items now.lines now.rest.now reached c.in-Some.line.now c.in-Some.behind.now c.in-Some.ensures fault
-          (subst (λ line. AreWrong (reached.passed ++ line ∷ []) fault) c.without_return.ensures wrong))
+          (subst (λ line. AreWrong (reached.passed ++ line ∷ []) fault) c.without_return-line.ensures wrong))
     ])
 
 pub loop-line-preserved : goal.loop-line-preserved
@@ -25,7 +25,7 @@ loop-line-preserved c =
     let stage = c.in_ok-stage.stage in
     let entries = c.read_line.new.entries.items in
     Reached-more c.args.text.now now.stage now.entries.items now.lines now.rest.now reached c.in-Some.line.now c.in-Some.behind.now c.in-Some.ensures stage entries
-    (subst (λ line. IsStage (reached.passed ++ line ∷ []) entries stage) c.without_return.ensures (c.in_ok-stage.ensures reached.passed reached.counted reached.at))
+    (subst (λ line. IsStage (reached.passed ++ line ∷ []) entries stage) c.without_return-line.ensures (c.in_ok-stage.ensures reached.passed reached.counted reached.at))
 
 pub returns-in_err-claim : goal.returns-in_err-claim
 returns-in_err-claim c =

@@ -1,8 +1,6 @@
-use Rattle.std.proofs.Common.{◌≡◌, ◌<◌, Err, Ok, arith, length, subst, sym}
+use Rattle.std.proofs.Common.{◌≡◌, ◌<◌, Err, Ok, arith, length}
 use Rattle.std.proofs.lemmas.Result.{err_from_is_err_and}
 use Rattle.sqlite.specs.Held.{state}
-use Rattle.sok_store.specs.Calls.{Turns}
-use Rattle.sok_keep.specs.Adding.{LeavesLevels}
 use Rattle.sok_keep.proofs.Adding.{all_added, first_more, first_none, first_stopped, first_unsaid}
 use Rattle.sok_store.proofs.Calls.{stops_same}
 use Rattle.sok_keep.proofs.Treating.{all_treats, memory_treats, next_carries, next_caused, next_stops, none_carried}

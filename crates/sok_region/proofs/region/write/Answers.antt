@@ -23,5 +23,5 @@ returns-clause-region c =
     let accepted = c.free_squares-free.ensures.accepted in
     let free = c.free_squares-free.result in
     let drawn = subst (λ boxes. Draws b (λ n. Contains boxes n → ⊥) free) c.list.ensures.list c.free_squares-free.ensures.drawn in
-    IsRegion-drawn b c.args.boxes.now c.args.player free c.flood_from.new.seen c.write.new.words accepted.proper accepted.numbered c.requires.placed drawn
-    c.flood_from.ensures c.write.ensures
+    IsRegion-drawn b c.args.boxes.now c.args.player free c.flood_from.new.seen accepted.proper accepted.numbered c.requires.placed drawn
+    c.flood_from.ensures c.write.new.words c.write.ensures

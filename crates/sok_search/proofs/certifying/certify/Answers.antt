@@ -12,10 +12,9 @@ loop-index-init g c = record {
 
 pub loop-index-preserved : goal.loop-index-preserved
 loop-index-preserved g c = record {
-  taken = taken-more (λ entries. g.C.Entries.took entries c.loop-index.entries) (λ entries. g.C.Entries.took entries c.take.new.self)
-      c.args.board.now c.args.claim (progress_of c.args.search.now) c.loop-index.index c.in_ok-entry.entry c.loop-index.invariant.taken
-      c.in_ok-entry.ensures.entry c.in_ok-entry.ensures.fits c.in_ok-take.ensures;
-  serves = c.in_ok-entry.ensures.serves;
+  taken = taken-more (λ entries. g.C.Entries.took entries c.loop-index.entries) (λ entries. g.C.Entries.took entries c.take_entry.new.entries)
+      c.args.board.now c.args.claim (progress_of c.args.search.now) c.loop-index.index c.loop-index.invariant.taken c.in_ok-take_entry.ensures.takes;
+  serves = c.in_ok-take_entry.ensures.serves;
 }
 
 pub returns : goal.returns

@@ -6,7 +6,6 @@ use Rattle.sok_state.specs.Tables.{Entries, Enters, GoesLast, Stays, Tabled}
 use Rattle.sok_alone.specs.Losses.{losses_of}
 use Rattle.sok_search.specs.declared.search.Search.{Search}
 use Rattle.sok_search.specs.Searches.{Frame}
-use Rattle.sok_search.specs.Steps.{holding}
 use Rattle.sok_state.specs.Pushes.{IsPushable}
 use Rattle.sok_search.specs.Views.{progress_of}
 use Rattle.sok_search.proofs.Adding.{added-made, note-within, taken, taken-deep, taken-pushable}

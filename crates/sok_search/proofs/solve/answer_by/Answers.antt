@@ -1,4 +1,4 @@
-use Rattle.std.proofs.Common.{subst, true, ◌∙◌}
+use Rattle.std.proofs.Common.{subst, ◌∙◌}
 use Rattle.sok_search.specs.Views.{IsSearched, TellsSearched, progress_of}
 use Rattle.sok_search.proofs.solve.answer_by.Given as given
 use Rattle.sok_search.proofs.solve.answer_by.Goals as goal

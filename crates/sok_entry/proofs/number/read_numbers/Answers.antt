@@ -5,7 +5,7 @@ use Rattle.std.specs.List.{slice_split}
 use Rattle.sok_entry.specs.Text.{IsSmall}
 use Rattle.sok_entry.specs.Reading.{is_space}
 use Rattle.sok_entry.proofs.Words.{begins-rest, split-last, split-more}
-use Rattle.sok_entry.proofs.number.numbers_of.Goals as goal
+use Rattle.sok_entry.proofs.number.read_numbers.Goals as goal
 
 pub returns-in_default : goal.returns-in_default
 returns-in_default c = λ ns words.

@@ -1,7 +1,7 @@
 use Rattle.std.proofs.Common.{◌≡◌, ◌≤◌, ◌++◌, map, take, vec_capacity}
 use Rattle.std.specs.List.{flat_map}
 use Rattle.sok_entry.specs.Text.{ended, inner_line}
-use Rattle.sok_entry.proofs.writing.push_inner.Given as goal
+use Rattle.sok_entry.proofs.writing.push_inner_lines.Given as goal
 
 abbrev pub invariant-loop-position : goal.invariant-loop-position
 invariant-loop-position l = record {

@@ -2,7 +2,7 @@ use Rattle.std.proofs.Common.{◌≡◌, ◌++◌, All, decimal, length, map}
 use Rattle.std.specs.List.{slice_split}
 use Rattle.sok_entry.specs.Text.{IsSmall}
 use Rattle.sok_entry.specs.Reading.{is_space}
-use Rattle.sok_entry.proofs.number.numbers_of.Given as goal
+use Rattle.sok_entry.proofs.number.read_numbers.Given as goal
 
 abbrev pub invariant-loop-number : goal.invariant-loop-number
 invariant-loop-number l = record {

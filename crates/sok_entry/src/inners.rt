@@ -1,0 +1,84 @@
+//! The inner positions of a pattern, which many entries may share.
+
+ghost use Rattle.std.specs.Prelude.{◌≡◌, IfOk, IfSome};
+ghost use Rattle.sok_entry.specs.Inside.{lines_inside};
+
+use crate::entry::Inner;
+use std::alloc::{AllocError, Global};
+use std::marker::Model;
+use std::rc::Rc;
+
+/// Positions of some boxes alone, in order, which many entries may share, and their lines, if they
+/// are kept. They are seen as a list.
+#[derive(Debug, Drop)]
+pub struct Inners {
+    shared: Rc<Shared>,
+}
+
+#[derive(Debug, Drop)]
+struct Shared {
+    items: Vec<Inner>,
+    lines: Option<Vec<u8>>,
+}
+
+impl Model for Inners {
+    ghost use Rattle.std.specs.Prelude.{◌≡◌, IfSome, List};
+    ghost use Rattle.sok_entry.specs.declared.entry.Inner.{Inner};
+    ghost use Rattle.sok_entry.specs.Inside.{lines_inside};
+
+    ghost Value = { List Inner };
+
+    ghost view = { λ inners. inners.shared.value.items.items };
+
+    ghost invariant = { λ inners. IfSome inners.shared.value.lines
+        (λ lines. lines.items ≡ lines_inside inners.shared.value.items.items) };
+}
+
+impl Inners {
+    /// These positions, put where they can be shared. Their lines are not kept.
+    pub fn new(alloc: Global, items: Vec<Inner>) -> Result<Inners, AllocError>
+        ensures { IfOk result (λ inners. inners ≡ items.items) }
+    {
+        Inners::of(alloc, items, None)
+    }
+
+    /// These positions, and their lines, if they are to be kept.
+    pub(crate) fn of(
+        alloc: Global,
+        items: Vec<Inner>,
+        lines: Option<Vec<u8>>,
+    ) -> Result<Inners, AllocError>
+        requires { IfSome lines (λ lines. lines.items ≡ lines_inside items.items) }
+        ensures { IfOk result (λ inners. inners ≡ items.items) }
+    {
+        match Rc::new(alloc, Shared { items, lines }) {
+            Ok(shared) => Ok(Inners { shared }),
+            Err(_) => Err(AllocError),
+        }
+    }
+
+    /// The same positions, with no copy made.
+    pub fn share(&self) -> Result<Inners, AllocError>
+        ensures { IfOk result (λ inners. inners ≡ self.now) }
+    {
+        let shared = self.shared.clone()?;
+        Ok(Inners { shared })
+    }
+
+    /// The positions, with no copy made.
+    pub fn as_slice(&self) -> &[Inner]
+        ensures { result.now ≡ self.now }
+    {
+        &self.shared.items
+    }
+
+    /// Their lines, if they are kept.
+    pub(crate) fn lines(&self) -> Option<&[u8]>
+        ensures { IfSome result (λ lines. lines.now ≡ lines_inside self.now) }
+    {
+        match &self.shared.lines {
+            Some(lines) => Some(lines.as_slice()),
+            None => None,
+        }
+    }
+}
