@@ -5,7 +5,7 @@ use Rattle.sok_price.proofs.Words.{get_or_default, get_or-drop, get_or-map, leng
 use Rattle.sok_price.proofs.Words.{length-range_with_len, Numbered, goals_of, Contains-filter, Contains-from_filter, below-chosen, rising-chosen, goal_at}
 use Rattle.sok_price.proofs.Words.{Chain, TellsDistance, Branch, TellCosts, Costing, low, IsCrowd, Growth, IsSeen, ReachesNoOther, branch_at, is_marked, is_met}
 use Rattle.sok_price.proofs.Words.{All, sum, sum_by-le, Match, Prices, Crowd, Search, ArePrices, HasPrices, IsMatch, AreFair, IsAssignment, Priced, IsReady}
-use Rattle.sok_price.proofs.Words.{members_of, Costs, cost_of, growth_of, HasWorth, IsWhole}
+use Rattle.sok_price.proofs.Words.{members_of, Costs, cost_of, growth_of, HasWorth, IsWhole, square_limit}
 use Rattle.sok_price.proofs.{Branching.box-at, Branching.boxes_of, Branching.boxes-apart, Branching.branch-met, Branching.few-branches}
 use Rattle.sok_price.proofs.{Branching.length-boxes_of, Branching.met-branch, Branching.no_branch, Branching.price-at, Branching.member-within}
 use Rattle.sok_price.proofs.{CostRows.AreShort-costs, CostRows.short-some, Places.Contains-map, Places.pigeonhole, Places.listed, Places.prices_of-all}
@@ -41,7 +41,7 @@ length-tree_goals branches = length-map (drop 1 branches) (λ (b : Branch). b.go
 
 module _ {cost : Costing} {members goals : ℕ} {g : Growth} (growing : IsSeen cost members goals g) (closed : ReachesNoOther g) where
   -- a goal that a box of the tree reaches is one of the tree
-  goal-closed : (at goal pushes : ℕ) → at < length g.branches → goal < goals → cost (branch_at g.branches at).member goal ≡ Some pushes → pushes ≤ 1024
+  goal-closed : (at goal pushes : ℕ) → at < length g.branches → goal < goals → cost (branch_at g.branches at).member goal ≡ Some pushes → pushes ≤ square_limit
       → Contains (tree_goals g.branches) goal
   goal-closed at goal pushes within inside way short = elim (cases_Bool (is_marked g.taken goal)) [
     | inl taken ↦
@@ -58,7 +58,8 @@ module _ {cost : Costing} {members goals : ℕ} {g : Growth} (growing : IsSeen c
         let far = closed goal (omega (arith, inside, growing.matched.a_price_a_goal)) free in
         let price = price-at (low members g.floor) g.v goal growing.low.goals in
         let few = few-branches g.goal_of g.branches members growing.tree growing.more in
-        absurd (omega (arith, bound, far, growing.rises.above at within, price, few, growing.few, growing.bounded, within, short))
+        let close = growing.rises.close 0 at growing.tree.some within in
+        absurd (omega (arith, bound, far, close, growing.rises.root, price, few, growing.few, growing.bounded, short))
   ]
 
   -- no box of the tree reaches all goals for nothing, where there are as many boxes as goals: all goals would be of the tree
@@ -207,7 +208,7 @@ HasWorth-sums costs rows search whole has =
     let few = whole.shaped.few in
     let fits = sum_by-le (λ price. price) 1073741824 g.u (λ k d within.
     let here = whole.ready.low.boxes k d within in omega (arith, here, few, whole.ready.bounded)) in
-    let bound = sum_by-le (λ d. d) 1024 has.distances (λ k d within.
+    let bound = sum_by-le (λ d. d) square_limit has.distances (λ k d within.
     let exact = has.exact k (omega (arith, within, has.whole)) in
     let short = AreShort-costs whole.shaped k (get_or g.goal_of k 0) (get_or has.distances k 0) exact.0 in
     let same = get_or_default has.distances k d 0 within in

@@ -2,14 +2,14 @@ use Rattle.sok_price.proofs.Words.{AreCosts, AreTold, IsRow, TellsCost, AreTable
 use Rattle.sok_price.proofs.Words.{Costs, cost_in, cost_of, length, get_or, mul-le-mul_left, none-some, same_Some, length-append, length_push}
 use Rattle.sok_price.proofs.Words.{length-range_with_len, count_by-le-length, length-filter, holds, is_goal, goals_of, spot_of, range_with_len, common_steps}
 use Rattle.sok_price.proofs.Words.{get_or-replicate, length-replicate, ℕ, ◌≡◌, ◌<◌, ◌≤◌, ◌+◌, ◌*◌, ◌++◌, ◌∙◌, sym, ap, subst, List, Option, Some, None, arith}
-use Rattle.sok_price.proofs.Words.{replicate, ◌-◌, inl, inr, refl, [], ◌∷◌, IfSome, All, All-weaker, AreRows, AreSmall, Costing, cases_eq}
+use Rattle.sok_price.proofs.Words.{replicate, ◌-◌, inl, inr, refl, [], ◌∷◌, IfSome, All, All-weaker, AreRows, AreSmall, Costing, cases_eq, square_limit}
 use Rattle.sok_price.proofs.Branching.{some-within}
 
 -- The costs of boxes, row by row, and those of all squares of a board with a last row that costs nothing.
 
 -- the costs are those of distances on a board
 abbrev pub AreShort : Costing → Type 0
-AreShort cost = (member goal pushes : ℕ) → cost member goal ≡ Some pushes → pushes ≤ 1024
+AreShort cost = (member goal pushes : ℕ) → cost member goal ≡ Some pushes → pushes ≤ square_limit
 
 pub AreShort-costs : {costs : Costs} {rows : List ℕ} → AreCosts costs rows → AreShort (cost_of costs rows)
 unfolding cost_in
@@ -48,7 +48,7 @@ cost-last entries row goals members goal whole =
     let place : (members * goals + goal) - (members * goals) ≡ goal = omega arith in
     get_or-append_right entries row (members * goals) (members * goals + goal) None whole (omega arith) ∙ ap (λ n. get_or row n None) place
 
-pub short-some : (cost : Option ℕ) (pushes : ℕ) → IfSome cost (λ n. n ≤ 1024) → cost ≡ Some pushes → pushes ≤ 1024
+pub short-some : (cost : Option ℕ) (pushes : ℕ) → IfSome cost (λ n. n ≤ square_limit) → cost ≡ Some pushes → pushes ≤ square_limit
 short-some None pushes short there = absurd (none-some pushes there)
 short-some (Some n) pushes short there = let same = same_Some n pushes there in omega (arith, short, same)
 
@@ -72,7 +72,7 @@ AreTold-more {b = b} {square_of = square_of} {goals = goals} {members = members}
     })
 
 -- rows before an end, up to which there are entries
-pub AreCosts-below : (costs : Costs) (end : ℕ) (rows : List ℕ) → All (λ row. row < end) rows → length rows ≤ 1024 → AreSmall costs.entries.items
+pub AreCosts-below : (costs : Costs) (end : ℕ) (rows : List ℕ) → All (λ row. row < end) rows → length rows ≤ square_limit → AreSmall costs.entries.items
     → end * costs.goals ≤ length costs.entries.items → AreCosts costs rows
 AreCosts-below costs end rows below few small room = record {
   exist = All-weaker (λ row. row < end) (λ row. (row + 1) * costs.goals ≤ length costs.entries.items) (λ row within.

@@ -2,7 +2,7 @@
 use Rattle.sok_price.proofs.Words.{ℕ, ◌≡◌, ◌≢◌, ◌<◌, ◌≤◌, ◌+◌, ◌*◌, ◌-◌, ◌∙◌, ◌++◌, inl, inr, refl, sym, ap, subst, List, [], ◌∷◌, Some, true}
 use Rattle.sok_price.proofs.Words.{arith, length, get_or, set, cases_eq, get_or_append_left, get_or_push, length_push, length-set, Branch, Slack, Near, Costing}
 use Rattle.sok_price.proofs.Words.{Growth, IsAhead, IsNext, IsSeen, joined, slack_at, is_marked, branch_at, AreRises, AreTaken, IsBound, IsSlack, IsTree}
-use Rattle.sok_price.proofs.Words.{Option, None, get_or_default, TellsTaker, TellsNext, TellsNearest, false, get_or-set_same}
+use Rattle.sok_price.proofs.Words.{Option, None, get_or_default, TellsTaker, TellsNext, TellsNearest, false, get_or-set_same, square_limit}
 use Rattle.sok_price.proofs.Branching.{few-branches, goal-within, no_branch, marked-set_kept, marked-set_cases, marked-set_clear}
 use Rattle.sok_price.proofs.CostRows.{AreShort}
 
@@ -131,9 +131,6 @@ module _ {cost : Costing} {members goals : ℕ} {g : Growth} {near : Near} {memb
       let own = growing.matched.exact member is.earlier in
       let own_short = is.short member (get_or g.goal_of member 0) own.pushes own.way in
       let goal_price = ap (λ k. get_or g.v k 0) is.has in
-      let above = growing.rises.above near.slack.from from in
-      let below = growing.rises.below near.slack.from from in
-      let root = ap (λ (b : Branch). get_or g.u b.member 0) (branch-old g near member 0 growing.tree.some) in
       let last_rise = ap (λ (b : Branch). b.rise) (branch-new g near member (length bs - 1) (omega (arith, long))) in
       let fair : (goal pushes : ℕ) → goal < length g.v → cost member goal ≡ Some pushes → get_or g.u member 0 ≤ get_or g.v goal 0 + pushes =
       λ goal pushes inside way. growing.matched.fair member goal pushes (omega (arith, is.earlier, growing.more, growing.matched.a_price_a_box)) inside way in
@@ -154,12 +151,16 @@ module _ {cost : Costing} {members goals : ℕ} {g : Growth} {near : Near} {memb
             (λ _ pushes way. let bound = fair near.goal pushes next.within way in omega (arith, bound)) to to_in later) at at_in;
         last = λ at inside. each_branch g near member (λ _ b. b.rise ≤ (branch_at bs (length bs - 1)).rise)
             (λ k k_in. omega (arith, rises-next growing next k k_in, last_rise)) (omega (arith, last_rise)) at inside;
-        above = λ at inside. each_branch g near member (λ k b. get_or g.u (branch_at bs 0).member 0 + b.rise ≤ get_or g.u b.member 0 + 1024 * k)
-            (λ k k_in. omega (arith, growing.rises.above k k_in, root)) (omega (arith, next.way.exact, own.exact, goal_price, above, from, short, root)) at
-            inside;
-        below = λ at inside. each_branch g near member (λ k b. get_or g.u b.member 0 ≤ get_or g.u (branch_at bs 0).member 0 + b.rise + 1024 * k)
-            (λ k k_in. omega (arith, growing.rises.below k k_in, root)) (omega (arith, next.way.exact, own.exact, own_short, goal_price, below, from, root))
-            at inside;
+        root = ap (λ (b : Branch). b.rise) (branch-old g near member 0 growing.tree.some) ∙ growing.rises.root;
+        close = λ at to at_in to_in. each_branch g near member
+            (λ _ a. get_or g.u a.member 0 + (branch_at bs to).rise ≤ get_or g.u (branch_at bs to).member 0 + a.rise + square_limit * (length bs - 1))
+            (λ k k_in. each_branch g near member
+            (λ _ b. get_or g.u (branch_at g.branches k).member 0 + b.rise ≤ get_or g.u b.member 0 + (branch_at g.branches k).rise + square_limit * (length bs - 1))
+            (λ t t_in. omega (arith, growing.rises.close k t k_in t_in, long))
+            (let parent = growing.rises.close k near.slack.from k_in from in omega (arith, next.way.exact, own.exact, short, goal_price, parent, long)) to to_in)
+            (each_branch g near member (λ _ b. get_or g.u member 0 + b.rise ≤ get_or g.u b.member 0 + near.slack.rise + square_limit * (length bs - 1))
+            (λ t t_in. let parent = growing.rises.close near.slack.from t from t_in in
+            omega (arith, next.way.exact, own.exact, own_short, goal_price, parent, long)) (omega arith) to to_in) at at_in;
       }
 
   -- once it has joined, all but the new box are looked at

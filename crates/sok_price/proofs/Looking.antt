@@ -2,7 +2,7 @@
 use Rattle.sok_price.proofs.Words.{ℕ, ◌≡◌, ◌<◌, ◌≤◌, ◌+◌, ◌∙◌, refl, sym, ap, subst, List, [], ◌∷◌, false, true≢false, arith, length, get_or, replicate}
 use Rattle.sok_price.proofs.Words.{common_steps, length-replicate, Branch, Slack, Costing, Growth, IsAhead, IsBegun, IsReady, slack_at, unreached, branch_at}
 use Rattle.sok_price.proofs.Words.{AreRises, IsTree, ◌-◌, ◌⊎◌, inl, inr, Bool, Option, Some, None, nat_tests, none-some, same_Some, get_or_default, low, IsSeen}
-use Rattle.sok_price.proofs.Words.{closer, smaller, is_marked, IsBound, IsSlack}
+use Rattle.sok_price.proofs.Words.{closer, smaller, is_marked, square_limit, IsBound, IsSlack}
 use Rattle.sok_price.proofs.Branching.{few-branches, member-within, no_branch, price-at}
 
 -- a list of one thing has it or nothing at each place
@@ -28,15 +28,15 @@ rises-fresh cost u v root = record {
   way = λ at later within. absurd (omega (arith, later, within));
   bound = λ at to _ later within. absurd (omega (arith, later, within));
   last = λ at within. grind (arith, common_steps);
-  above = λ at within. grind (arith, common_steps);
-  below = λ at within. grind (arith, common_steps);
+  root = refl;
+  close = λ at to at_in to_in. grind (arith, common_steps, at_in, to_in);
 }
 
 -- what no box is looked at from
 abbrev unseen : Slack
 unseen = record { rise = unreached; from = 0 }
 
-pub IsAhead-begun : {cost : Costing} {members goals : ℕ} {g after : Growth} → IsReady cost members goals g → members ≤ 1024 → length g.goal_of < members
+pub IsAhead-begun : {cost : Costing} {members goals : ℕ} {g after : Growth} → IsReady cost members goals g → members ≤ square_limit → length g.goal_of < members
     → IsBegun g after → IsAhead cost members goals after
 IsAhead-begun {cost = cost} {members = members} {goals = goals} {g = g} ready few more begun =
     let far : (goal : ℕ) → unreached ≤ (slack_at (replicate (length g.slacks) unseen) goal).rise = λ goal.
@@ -172,7 +172,8 @@ module _ {cost : Costing} {members goals : ℕ} {g : Growth} (growing : IsAhead 
       let last : last_of g < length g.branches = omega (arith, growing.tree.some) in
       let own = price-at (low members g.floor) g.u (newest g).member growing.low.boxes in
       let few = few-branches g.goal_of g.branches members growing.tree growing.more in
-      omega (arith, bound, own, growing.rises.above (last_of g) last, few, last, growing.few, growing.bounded, ap (λ (b : Branch). b.rise) is)
+      let close = growing.rises.close 0 (last_of g) growing.tree.some last in
+      omega (arith, bound, own, close, growing.rises.root, few, growing.few, growing.bounded, ap (λ (b : Branch). b.rise) is)
 
   -- slacks that are looked at from the newest branch as it is read
   pub closer-read : (branch : Branch) (from price : ℕ) (row : List (Option ℕ)) (slacks : List Slack) → newest g ≡ branch → last_of g ≡ from

@@ -114,10 +114,9 @@ module _ {cost : Costing} {members goals : ℕ} {g : Growth} {near : Near} {u v 
         let way = are.next.way in
         let short = are.short (branch_at g.branches near.slack.from).member near.goal way.pushes way.way in
         let rise = rise-of at within in
-        let below = are.growing.rises.below at within in
-        let above = are.growing.rises.above near.slack.from way.within in
+        let close = are.growing.rises.close at near.slack.from within way.within in
         let few = few-branches g.goal_of g.branches members are.growing.tree are.growing.more in
-        grind (arith, are.raised.boxes.raised at (omega arith) within, is, way.exact, short, rise, below, above, way.within, within, few, idle)
+        grind (arith, are.raised.boxes.raised at (omega arith) within, is, way.exact, short, rise, close, few, idle)
   ]
 
   -- after a raise to a goal that no box has prices are low
@@ -142,10 +141,10 @@ pub rise-small : {cost : Costing} {members goals : ℕ} {g : Growth} {near : Nea
 rise-small {members = members} {g = g} {near = near} short growing next =
     let way = next.way in
     let pushes = short (branch_at g.branches near.slack.from).member near.goal way.pushes way.way in
-    let above = growing.rises.above near.slack.from way.within in
+    let close = growing.rises.close 0 near.slack.from growing.tree.some way.within in
     let few = few-branches g.goal_of g.branches members growing.tree growing.more in
     let price = price-at (low members g.floor) g.v near.goal growing.low.goals in
-    omega (arith, way.exact, way.within, pushes, above, few, growing.few, growing.bounded, price)
+    omega (arith, way.exact, pushes, close, growing.rises.root, few, growing.few, growing.bounded, price)
 
 -- all of a search after its prices are raised
 abbrev pub lifted : Growth → List ℕ → List ℕ → Growth

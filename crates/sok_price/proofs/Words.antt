@@ -26,7 +26,7 @@ pub use Rattle.sok_board.proofs.{Accepted.decoration-outside, AreaLaws.InArea-ne
 pub use Rattle.sok_board.proofs.{Lists.AllPairs-head, Lists.AllPairs-tail, Lists.Contains-filter, Lists.Contains-from_filter, Numbering.Contains-goals_of}
 pub use Rattle.sok_board.proofs.{Numbering.below-chosen, Numbering.filter-range_more, Numbering.rising-chosen, Positions.among_numbers}
 pub use Rattle.sok_board.specs.Area.{InArea, IsArea, Numbered, goals_of, is_among, is_decoration, position_of, spot_of}
-pub use Rattle.sok_board.specs.BoxSets.{IsMoved}
+pub use Rattle.sok_board.specs.{BoxSets.IsMoved, Limits.square_limit}
 pub use Rattle.sok_push.proofs.{PushingLaws.lone_push-push}
 pub use Rattle.sok_push.specs.{Distances.goal_at, Pushing.Chain, Pushing.TellsDistance, Pushing.lone_push, Pushing.lone_pushes}
 unfoldable pub use Rattle.sok_price.specs.Costs.{cost_in}

@@ -20,7 +20,3 @@ search_price_limit = 1073741824
 -- how far the price of a tree's root may rise
 abbrev pub rise_limit : ℕ
 rise_limit = 2147483648
-
--- how far apart prices may be for each goal of a tree: two of the longest ways
-abbrev pub spread : ℕ
-spread = 2048

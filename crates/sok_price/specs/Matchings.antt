@@ -1,6 +1,6 @@
 -- Prices of boxes and goals, and a goal of its own for each of the first boxes.
 use Rattle.std.specs.Prelude.{ℕ, ◌≡◌, ◌≢◌, ◌≤◌, ◌<◌, ◌+◌, ◌*◌, List, Option, Some, None, All, AllPairs, Contains, length, slice_index, slice_index_or}
-use Rattle.sok_price.specs.Limits.{spread}
+use Rattle.sok_board.specs.Limits.{square_limit}
 
 -- what each box, by its index, costs at each goal, by its index
 abbrev pub Costing : Type 0
@@ -31,9 +31,9 @@ pub record IsMatched (cost : Costing) (members goals floor : ℕ) (u v goal_of :
   pub exact : AreTight cost u v goal_of
   pub idle : (goal : ℕ) → goal < goals → (Contains goal_of goal → ⊥) → slice_index v goal ≤ floor
 
--- prices between two searches: those of a tree are at most 1,024 apart for each of its goals, and the goal at the end costs no more than the floor
+-- prices between two searches: those of a tree are at most a longest way apart for each of its goals, and the goal at the end costs no more than the floor
 abbrev pub low : ℕ → ℕ → ℕ
-low members floor = floor + spread * members
+low members floor = floor + square_limit * members
 
 -- no price is above a limit
 pub record AreWithin (limit : ℕ) (u v : List ℕ) : Type 0 where

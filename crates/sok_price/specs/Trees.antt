@@ -46,17 +46,18 @@ abbrev pub IsBound : Costing → List ℕ → List ℕ → List Branch → ℕ �
 IsBound cost u v branches rise at goal = (pushes : ℕ) → cost (branch_at branches at).member goal ≡ Some pushes
     → rise + slice_index u (branch_at branches at).member ≤ (branch_at branches at).rise + slice_index v goal + pushes
 
--- the rises of the branches: each is that of the way from its parent, no box of the tree reaches its goal earlier, and the last is the highest
+-- the rises of the branches: each is that of the way from its parent, no box of the tree reaches its goal earlier, and the last is the highest; behind their
+-- rises the prices of two boxes are at most a longest way apart for each goal of the tree
 pub record AreRises (cost : Costing) (u v : List ℕ) (branches : List Branch) : Type 0 where
   pub way : (at : ℕ) → 0 < at → at < length branches
       → IsSlack cost u v branches (branch_at branches at).goal (record { rise = (branch_at branches at).rise; from = (branch_at branches at).parent })
   pub bound : (at to : ℕ) → at < length branches → 0 < to → to < length branches
       → IsBound cost u v branches (branch_at branches to).rise at (branch_at branches to).goal
   pub last : (at : ℕ) → at < length branches → (branch_at branches at).rise ≤ (branch_at branches (length branches - 1)).rise
-  pub above : (at : ℕ) → at < length branches
-      → slice_index u (branch_at branches 0).member + (branch_at branches at).rise ≤ slice_index u (branch_at branches at).member + square_limit * at
-  pub below : (at : ℕ) → at < length branches
-      → slice_index u (branch_at branches at).member ≤ slice_index u (branch_at branches 0).member + (branch_at branches at).rise + square_limit * at
+  pub root : (branch_at branches 0).rise ≡ 0
+  pub close : (at to : ℕ) → at < length branches → to < length branches
+      → slice_index u (branch_at branches at).member + (branch_at branches to).rise
+      ≤ slice_index u (branch_at branches to).member + (branch_at branches at).rise + square_limit * (length branches - 1)
 
 -- prices of boxes or goals of some branches are raised by what is left of a rise behind each, and the others stay
 pub record AreRaised (place : Branch → ℕ) (total : ℕ) (branches : List Branch) (first end : ℕ) (before after : List ℕ) : Type 0 where
