@@ -1,17 +1,21 @@
 -- A certificate that is judged as it is read.
-use Rattle.std.proofs.Common.{ℕ, ◌≡◌, ◌+◌, ◌∙◌, sym, ap, refl, subst, List, [], ◌∷◌, ◌++◌, Option, Some, None, is_some, true, false, true≢false, MatchOption, arith}
-use Rattle.std.proofs.lemmas.List.{append_assoc, append-nil, length_push}
+use Rattle.std.proofs.Common.{ℕ, ◌≡◌, ◌+◌, ◌∙◌, sym, ap, refl, subst, List, [], ◌∷◌, ◌++◌, Option, Some, None, is_some, true, false, true≢false, All, MatchOption, length, map, arith}
+use Rattle.std.proofs.lemmas.List.{append_assoc, append-nil, length-append, length-map, length_push}
 use Rattle.std.specs.Str.Lines.{lines, strip_carriage_return}
 use Rattle.sok_text.specs.Lines.{IsCutAtEnd, IsUnended}
 use Rattle.sok_board.specs.Area.{Numbered}
 use Rattle.sok_entry.specs.declared.claim.Claim.{Claim}
 use Rattle.sok_entry.specs.declared.entry.Entry.{Entry}
+use Rattle.sok_entry.specs.declared.entry.Inner.{Inner}
 use Rattle.sok_entry.specs.declared.fault.CertFault.{CertFault}
 use Rattle.sok_entry.specs.declared.stage.Stage.TheVariants.{AtHeader}
 use Rattle.sok_entry.specs.Reading.{GoesWrong}
 use Rattle.sok_entry.specs.Stages.{AreWrong, IsSplit}
+use Rattle.sok_entry.specs.Text.{inner_line, inner_text, FitsInner}
+use Rattle.sok_entry.proofs.Printable.{IsSplit-inner}
 use Rattle.sok_entry.proofs.Splits.{IsSplit-end, IsSplit-more, IsSplit-start}
 use Rattle.sok_cert.specs.Rosters.{Rostered, TellsEntries}
+use Rattle.sok_cert.specs.Parts.{IsTaken}
 use Rattle.sok_cert.specs.Streams.{AreJudged, IsReadSo, Progressed, StandsBy, StandsFor}
 
 -- what stands for a text that is written in another way
@@ -79,45 +83,51 @@ stands-more b text part line p none unended is stands =
     let so = IsReadSo-more b text part line p (IsReadSo-unless b p text none stands) unended is in
     read-stands b (record p { line = line }) (text ++ part) p.wrong none so
 
+-- whole lines that are judged, or with which the text goes wrong
+module _ (b : Numbered) (text : List ℕ) (next : Progressed) (passed : List (List ℕ)) (split : IsSplit text passed []) (empty : next.line ≡ [])
+    (count : length passed ≡ next.lines)
+  where
+    ends : (wrong : Option CertFault)
+        → MatchOption wrong ((es : List Entry) × AreJudged b next.stage next.roster passed es) (AreWrong passed) → StandsBy b text next wrong
+    ends None (es, judged) = record { passed = passed; entries = es; split = subst (IsSplit text passed) (sym empty) split; count = count; judged = judged }
+    ends (Some fault) wrong = λ more.
+        let ended = split.ended more in
+        wrong (text ++ more) (lines more) (split.has_lines more) (omega (arith, ended))
+
+    pub stands-whole : MatchOption next.wrong ((es : List Entry) × AreJudged b next.stage next.roster passed es) (AreWrong passed) → StandsFor b text next
+    stands-whole told = ends next.wrong told
+
 -- the line ends
 module _ (b : Numbered) (text : List ℕ) (p next : Progressed) (so : IsReadSo b text p) (empty : next.line ≡ []) (more_lines : next.lines ≡ p.lines + 1)
   where
     abbrev passed : List (List ℕ)
     passed = so.passed ++ strip_carriage_return p.line ∷ []
 
-    ends : (wrong : Option CertFault)
-        → MatchOption wrong ((es : List Entry) × AreJudged b next.stage next.roster passed es) (AreWrong passed)
-        → StandsBy b (text ++ 10 ∷ []) next wrong
-    ends None (es, judged) = record {
-      passed = passed;
-      entries = es;
-      split = subst (IsSplit (text ++ 10 ∷ []) passed) (sym empty) (IsSplit-end text so.passed p.line so.split);
-      count = length_push so.passed (strip_carriage_return p.line) ∙ ap (λ n. n + 1) so.count ∙ sym more_lines;
-      judged = judged;
-    }
-    ends (Some fault) wrong = λ more.
-        let split = IsSplit-end text so.passed p.line so.split in
-        let count = split.ended more in
-        wrong ((text ++ 10 ∷ []) ++ more) (lines more) (split.has_lines more) (omega (arith, count))
-
     pub stands-end : MatchOption next.wrong ((es : List Entry) × AreJudged b next.stage next.roster passed es) (AreWrong passed)
         → StandsFor b (text ++ 10 ∷ []) next
-    stands-end told = ends next.wrong told
+    stands-end told =
+        stands-whole b (text ++ 10 ∷ []) next passed (IsSplit-end text so.passed p.line so.split) empty
+        (length_push so.passed (strip_carriage_return p.line) ∙ ap (λ n. n + 1) so.count ∙ sym more_lines) told
+
+-- the lines of all inner positions of a pattern
+pub stands-inner : (b : Numbered) (text : List ℕ) (p next : Progressed) (so : IsReadSo b text p) (inner : List Inner) → p.line ≡ [] → next.line ≡ []
+    → next.lines ≡ p.lines + length inner → All FitsInner inner
+    → MatchOption next.wrong ((es : List Entry) × AreJudged b next.stage next.roster (so.passed ++ map inner_line inner) es)
+    (AreWrong (so.passed ++ map inner_line inner))
+    → StandsFor b (text ++ inner_text inner) next
+stands-inner b text p next so inner none empty more_lines fit told =
+    stands-whole b (text ++ inner_text inner) next (so.passed ++ map inner_line inner)
+    (IsSplit-inner text so.passed inner fit (subst (IsSplit text so.passed) none so.split)) empty
+    (omega (arith, length-append so.passed (map inner_line inner), length-map inner inner_line, so.count, more_lines)) told
 
 -- ---- along a piece
 
--- the part of a piece before a rest is taken
-pub record Taken (b : Numbered) (old now : Progressed) (piece rest : List ℕ) : Type 0 where
-  pub done : List ℕ
-  pub whole : piece ≡ done ++ rest
-  pub stands : (text : List ℕ) → StandsFor b text old → StandsFor b (text ++ done) now
+pub IsTaken-start : (b : Numbered) (p : Progressed) (piece : List ℕ) → IsTaken b p p piece piece
+IsTaken-start b p piece = record { done = []; whole = refl; stands = λ text stands. StandsFor-same b p text (text ++ []) (sym (append-nil text)) stands }
 
-pub Taken-start : (b : Numbered) (p : Progressed) (piece : List ℕ) → Taken b p p piece piece
-Taken-start b p piece = record { done = []; whole = refl; stands = λ text stands. StandsFor-same b p text (text ++ []) (sym (append-nil text)) stands }
-
-pub Taken-line : (b : Numbered) (old now next : Progressed) (piece rest part behind : List ℕ) → Taken b old now piece rest → IsCutAtEnd rest part behind
-    → ((text : List ℕ) → StandsFor b text now → StandsFor b (text ++ part ++ 10 ∷ []) next) → Taken b old next piece behind
-Taken-line b old now next piece rest part behind taken cut more = record {
+pub IsTaken-line : (b : Numbered) (old now next : Progressed) (piece rest part behind : List ℕ) → IsTaken b old now piece rest → IsCutAtEnd rest part behind
+    → ((text : List ℕ) → StandsFor b text now → StandsFor b (text ++ part ++ 10 ∷ []) next) → IsTaken b old next piece behind
+IsTaken-line b old now next piece rest part behind taken cut more = record {
   done = taken.done ++ part ++ 10 ∷ [];
   whole = taken.whole ∙ ap (λ bytes. taken.done ++ bytes) cut.whole ∙ sym (append_assoc taken.done part (10 ∷ behind))
       ∙ sym (append_assoc (taken.done ++ part) (10 ∷ []) behind);
@@ -128,6 +138,17 @@ Taken-line b old now next piece rest part behind taken cut more = record {
       (more (text ++ done) (taken.stands text stands));
 }
 
-pub Taken-all : (b : Numbered) (old now : Progressed) (piece rest : List ℕ) (taken : Taken b old now piece rest) (text : List ℕ)
+pub IsTaken-all : (b : Numbered) (old now : Progressed) (piece rest : List ℕ) (taken : IsTaken b old now piece rest) (text : List ℕ)
     → (text ++ taken.done) ++ rest ≡ text ++ piece
-Taken-all b old now piece rest taken text = append_assoc text taken.done rest ∙ ap (λ bytes. text ++ bytes) (sym taken.whole)
+IsTaken-all b old now piece rest taken text = append_assoc text taken.done rest ∙ ap (λ bytes. text ++ bytes) (sym taken.whole)
+
+-- more of it is taken
+pub IsTaken-on : (b : Numbered) (old now next : Progressed) (piece rest behind : List ℕ) → IsTaken b old now piece rest → IsTaken b now next rest behind
+    → IsTaken b old next piece behind
+IsTaken-on b old now next piece rest behind taken more = record {
+  done = taken.done ++ more.done;
+  whole = taken.whole ∙ ap (λ bytes. taken.done ++ bytes) more.whole ∙ sym (append_assoc taken.done more.done behind);
+  stands = λ text stands.
+      StandsFor-same b next ((text ++ taken.done) ++ more.done) (text ++ (taken.done ++ more.done)) (append_assoc text taken.done more.done)
+      (more.stands (text ++ taken.done) (taken.stands text stands));
+}

@@ -1,11 +1,11 @@
 -- What the parts of a stream are seen as, and what they keep to.
-use Rattle.std.specs.Prelude.{vec_len}
+use Rattle.std.specs.Prelude.{ℕ, ◌≡◌, ◌++◌, List, vec_len}
 use Rattle.sok_board.specs.Area.{Numbered}
 use Rattle.sok_bar.specs.Memos.{KeepsClosed}
 use Rattle.sok_cert.specs.declared.progress.Progress.{Progress}
 use Rattle.sok_cert.specs.declared.roster.Roster.{Roster}
 use Rattle.sok_cert.specs.Rosters.{IsOfBoard, Rostered}
-use Rattle.sok_cert.specs.Streams.{Progressed}
+use Rattle.sok_cert.specs.Streams.{Progressed, StandsFor}
 
 abbrev pub rostered_of : Roster → Rostered
 rostered_of r = record { roll = r.roll; fault = r.fault }
@@ -17,3 +17,9 @@ pub record IsRosterOf (b : Numbered) (r : Roster) : Type 0 where
 
 abbrev pub progressed_of : Progress → Progressed
 progressed_of p = record { stage = p.stage; lines = vec_len p.ended; line = p.line.items; wrong = p.wrong; roster = rostered_of p.roster }
+
+-- the part of a piece before a rest of it is taken
+pub record IsTaken (b : Numbered) (old now : Progressed) (piece rest : List ℕ) : Type 0 where
+  pub done : List ℕ
+  pub whole : piece ≡ done ++ rest
+  pub stands : (text : List ℕ) → StandsFor b text old → StandsFor b (text ++ done) now

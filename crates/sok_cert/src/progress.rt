@@ -5,21 +5,26 @@ ghost use Rattle.std.specs.Prelude.{MatchResult, OnOk, length};
 ghost use Rattle.sok_text.specs.Lines.{IsUnended};
 ghost use Rattle.sok_board.specs.Area.{IsAccepted, Numbered};
 ghost use Rattle.sok_entry.specs.Reading.{GoesWrong};
-ghost use Rattle.sok_entry.specs.Stages.{AreWrong, IsSplit, IsStage};
+ghost use Rattle.sok_entry.specs.Stages.{AreWrong, IsRead, IsSplit, IsStage, MayClaim};
+ghost use Rattle.sok_entry.specs.declared.claim.Claim.{Claim};
 ghost use Rattle.sok_entry.specs.declared.fault.CertFault.TheVariants as cert;
 ghost use Rattle.sok_entry.specs.declared.entry.Entry.{Entry};
-ghost use Rattle.sok_cert.specs.Parts.{IsRosterOf, progressed_of, rostered_of};
+ghost use Rattle.sok_entry.specs.declared.stage.Stage.{Stage};
+ghost use Rattle.sok_cert.specs.Parts.{IsRosterOf, IsTaken, progressed_of, rostered_of};
+ghost use Rattle.sok_cert.specs.Rosters.{TellsEntries};
 ghost use Rattle.sok_cert.specs.Streams.{AreJudged, EndsFor, StandsFor, ending_of};
 
 use crate::roster::Roster;
 use sok_board::board::Board;
 use sok_entry::claim::Claim;
+use sok_entry::entry::Reason;
 use sok_entry::fault::CertFault;
+use sok_entry::known::Known;
 use sok_entry::stage::{LineRead, Stage};
 use sok_push::tables::Tables;
 use sok_rules::fault::Memory;
 use sok_text::line::{cut_at_end, without_return};
-use std::alloc::Global;
+use std::alloc::{AllocError, Global};
 use std::mem;
 
 /// How far a certificate has come: what comes next in it, the bytes of the line that is not ended
@@ -33,6 +38,8 @@ pub(crate) struct Progress {
     pub(crate) line: Vec<u8>,
     /// A place for the numbers of a line.
     pub(crate) numbers: Vec<u32>,
+    /// The inner positions of patterns that were read, which may come again.
+    pub(crate) known: Known,
     pub(crate) wrong: Option<CertFault>,
     pub(crate) roster: Roster,
 }
@@ -48,6 +55,7 @@ impl Progress {
             ended: Vec::new(alloc),
             line: Vec::new(alloc),
             numbers: Vec::new(alloc),
+            known: Known::new(alloc),
             wrong: None,
             roster: Roster::new(alloc, board),
         }
@@ -72,7 +80,7 @@ impl Progress {
         let mut rest = piece;
         while let Some((part, behind)) = cut_at_end(rest) {
             self.end_line(alloc, board, tables, part)?;
-            rest = behind;
+            rest = self.pass_known(alloc, board, tables, behind)?;
         }
         self.keep(rest)
     }
@@ -118,6 +126,7 @@ impl Progress {
             board,
             tables,
             &mut self.numbers,
+            &mut self.known,
             &mut self.stage,
             lines,
             &mut self.roster,
@@ -125,6 +134,46 @@ impl Progress {
         )?;
         self.line.clear();
         Ok(())
+    }
+
+    /// Passes the lines of the inner positions of a pattern, all of them, where it is begun and they
+    /// are known. The rest of the piece behind them is left.
+    fn pass_known<'p>(
+        &mut self,
+        alloc: Global,
+        board: &Board,
+        tables: &Tables,
+        rest: &'p [u8],
+    ) -> Result<&'p [u8], Memory>
+        requires accepted { IsAccepted board.now }
+        requires tables { tables.now.board ≡ board.now }
+        requires of_board { IsRosterOf board.now self.old.roster }
+        ensures takes { IfOk result (λ behind. IsTaken board.now (progressed_of self.old)
+            (progressed_of self.new) rest.now behind.now) }
+        ensures of_board { IsRosterOf board.now self.new.roster }
+    {
+        if self.wrong.is_some() || !self.line.is_empty() {
+            return Ok(rest);
+        }
+        let Some(count) = self.stage.awaited() else {
+            return Ok(rest);
+        };
+        let Some((inner, behind)) = self.known.at(rest, count) else {
+            return Ok(rest);
+        };
+        let lines = self.ended.len() + inner.as_slice().len();
+        self.ended.resize(lines, ())?;
+        let now = mem::replace(&mut self.stage, Stage::AtHeader);
+        let read = now.pass(inner)?;
+        self.wrong = judge_read(
+            alloc,
+            board,
+            tables,
+            read,
+            &mut self.stage,
+            &mut self.roster,
+        )?;
+        Ok(behind)
     }
 
     /// Keeps bytes of a line that is not ended yet. Of one of the first two lines it keeps no more
@@ -167,12 +216,14 @@ fn is_too_long(stage: &Stage, line: &[u8]) -> bool
 }
 
 /// Reads a line that has its end, behind so many, and judges the entry if it is the last line of
-/// one. If the text goes wrong with it, that fault is told. The list is a place for its numbers.
+/// one. If the text goes wrong with it, that fault is told. The list is a place for its numbers, and
+/// the inner positions of a pattern are known from then on.
 fn judge_line(
     alloc: Global,
     board: &Board,
     tables: &Tables,
     numbers: &mut Vec<u32>,
+    known: &mut Known,
     stage: &mut Stage,
     lines: usize,
     roster: &mut Roster,
@@ -190,7 +241,43 @@ fn judge_line(
     ensures of_board { IsRosterOf board.now roster.new }
 {
     let now = mem::replace(stage, Stage::AtHeader);
-    match now.line(alloc, numbers, line, lines)? {
+    let read = now.line(alloc, numbers, line, lines)?;
+    keep(alloc, known, &read)?;
+    judge_read(alloc, board, tables, read, stage, roster)
+}
+
+/// Keeps the inner positions of a pattern whose last line was read.
+fn keep(alloc: Global, known: &mut Known, read: &LineRead) -> Result<(), AllocError> {
+    if let LineRead::Listed(_, entry, _) = read
+        && let Reason::Pattern { inner, .. } = &entry.reason
+    {
+        return known.keep(alloc, inner);
+    }
+    Ok(())
+}
+
+/// Judges the entry whose last line was read, if it was one, and tells what comes next. If the text
+/// goes wrong, that fault is told.
+fn judge_read(
+    alloc: Global,
+    board: &Board,
+    tables: &Tables,
+    read: LineRead,
+    stage: &mut Stage,
+    roster: &mut Roster,
+) -> Result<Option<CertFault>, Memory>
+    requires accepted { IsAccepted board.now }
+    requires tables { tables.now.board ≡ board.now }
+    requires of_board { IsRosterOf board.now roster.old }
+    ensures judged { (now : Stage) (ls : List (List ℕ)) (entries : List Entry)
+        → ((claim : Claim) → MayClaim now claim
+        → TellsEntries board.now claim entries roster.old.roll roster.old.fault)
+        → IsRead ls entries now read
+        → IfOk result (λ wrong. MatchOption wrong ((es : List Entry)
+        × AreJudged board.now stage.new (rostered_of roster.new) ls es) (AreWrong ls)) }
+    ensures of_board { IsRosterOf board.now roster.new }
+{
+    match read {
         LineRead::Listed(claim, entry, next) => {
             roster.enter(alloc, board, tables, claim, &entry)?;
             *stage = next;

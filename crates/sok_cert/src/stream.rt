@@ -25,8 +25,9 @@ use std::marker::Model;
 
 /// A certificate for a board, judged as its bytes come, in whatever pieces. Each entry is judged
 /// when its line ends, and of those that are fine only the states are kept. The first fault of an
-/// entry is kept, and reading goes on, since the faults of the text come first. A stream is seen as
-/// its board and how far the certificate has come.
+/// entry is kept, and reading goes on, since the faults of the text come first. Inner positions of
+/// patterns are kept too, up to a limit: where the same lines come again, they are passed as a whole.
+/// A stream is seen as its board and how far the certificate has come.
 #[derive(Drop)]
 pub struct Stream<'a> {
     alloc: Global,

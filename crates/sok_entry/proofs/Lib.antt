@@ -5,6 +5,7 @@ pub mod Fitting
 pub mod Fronts
 pub mod HeadNumbers
 pub mod Inside
+pub mod KnownLists
 pub mod Numbers
 pub mod Openings
 pub mod Printable

@@ -49,7 +49,7 @@ IsHeadLine-one line h k of_h of_k =
 pub same_head : (h k : Head) → FitsHead h → FitsHead k → head_line h ≡ head_line k → h ≡ k
 same_head h k fits_h fits_k same = IsHeadLine-one (head_line h) h k (fits_h, refl) (fits_k, same)
 
-plain-letter : (reason : Reason) → is_pattern reason ≡ false → letter_of reason ≡ 112 → ⊥
+pub plain-letter : (reason : Reason) → is_pattern reason ≡ false → letter_of reason ≡ 112 → ⊥
 plain-letter Expanded simple same = omega arith
 plain-letter Spent simple same = omega arith
 plain-letter (Bound u v) simple same = omega arith
@@ -123,7 +123,7 @@ same_inner i j fits_i fits_j same =
     (IsInnerLine-entry (inner_line i) j (fits_j, same)))
 
 -- as many lines of inner positions, before further lines
-inner_apart : (is js : List Inner) (rs ss : List (List ℕ)) → All FitsInner is → All FitsInner js → length is ≡ length js
+pub inner_apart : (is js : List Inner) (rs ss : List (List ℕ)) → All FitsInner is → All FitsInner js → length is ≡ length js
     → map inner_line is ++ rs ≡ map inner_line js ++ ss → (is ≡ js) × (rs ≡ ss)
 inner_apart [] [] rs ss fit_i fit_j many same = (refl, same)
 inner_apart [] (j ∷ js) rs ss fit_i fit_j many same = absurd (omega arith)

@@ -1,9 +1,9 @@
 -- The lines of a certificate, and the text that they make.
 use Rattle.std.proofs.Common.{ℕ, ◌≡◌, ◌≤◌, ◌-◌, List, [], ◌∷◌, ◌++◌, All, Bool, true, false, ◌==◌, if◌then◌else◌, codes, decimal, length, get_or, map, nat_le}
-use Rattle.std.proofs.Common.{slice_index, suc, take, ap, ◌∙◌, refl, arith}
+use Rattle.std.proofs.Common.{slice_index, suc, take, ap, ◌∙◌, refl, sym, subst, arith}
 use Rattle.std.proofs.lemmas.Bool.{ne_eqb, leb-true, and_parts, or_parts}
 use Rattle.std.proofs.lemmas.Bool.Decides.{nat_tests}
-use Rattle.std.proofs.lemmas.List.{append_assoc}
+use Rattle.std.proofs.lemmas.List.{append_assoc, append-nil}
 use Rattle.std.proofs.lemmas.List.Elements.{All-nil, All-cons, All-append, All-head, All-tail, All-from_get_or, All-map}
 use Rattle.std.proofs.lemmas.List.Splits.{slice_split_at, length-slice_split}
 use Rattle.std.proofs.lemmas.Str.Parse.{digit_at}
@@ -19,9 +19,11 @@ use Rattle.sok_entry.specs.declared.entry.Reason.{Reason}
 use Rattle.sok_entry.specs.declared.entry.Reason.TheVariants.{Expanded, Spent, Bound, Crowd, Frozen, Pattern}
 use Rattle.sok_entry.specs.declared.version.Version.{Version}
 use Rattle.sok_entry.specs.declared.version.Version.TheVariants.{One, Two}
-use Rattle.sok_entry.specs.Text.{IsSmall, header, last_line, claim_line, entry_alike, entry_line, entry_lines, ended, inner_line, inner_of, is_pattern, lines_of}
+use Rattle.sok_entry.specs.Text.{IsSmall, header, last_line, claim_line, entry_alike, entry_line, entry_lines, ended, inner_line, inner_of, inner_text, is_pattern, lines_of}
 use Rattle.sok_entry.specs.Text.{text_of, letter_of, numbers_of, spaced, version_of, FitsClaim, FitsEntry, FitsInner, FitsVersion, Fits, Spells}
+use Rattle.sok_entry.specs.Stages.{IsSplit}
 use Rattle.sok_entry.proofs.Numbers.{IsNumeral-decimal}
+use Rattle.sok_entry.proofs.Splits.{IsSplit-end, IsSplit-more}
 
 -- no control characters: so a line has no LF, and no CR at its end
 abbrev IsPrintable : List ℕ → Type 0
@@ -53,6 +55,20 @@ lines-flat_map [] printable = refl
 lines-flat_map (line ∷ ls) printable =
     lines-ended line (flat_map ended ls) (All-head IsPrintable line ls printable)
     ∙ ap (λ rest. line ∷ rest) (lines-flat_map ls (All-tail IsPrintable line ls printable))
+
+-- whole lines behind a text of whole lines
+IsSplit-ended : (text : List ℕ) (ls more : List (List ℕ)) → All IsPrintable more → IsSplit text ls [] → IsSplit (text ++ flat_map ended more) (ls ++ more) []
+IsSplit-ended text ls [] printable split =
+    subst (λ t. IsSplit t (ls ++ []) []) (sym (append-nil text)) (subst (λ passed. IsSplit text passed []) (sym (append-nil ls)) split)
+IsSplit-ended text ls (line ∷ more) printable split =
+    let first = All-head IsPrintable line more printable in
+    let whole = IsSplit-end (text ++ line) ls line (IsSplit-more text line ls [] split (no_newline line first)) in
+    let one : IsSplit (text ++ ended line) (ls ++ line ∷ []) [] =
+    subst (λ t. IsSplit t (ls ++ line ∷ []) []) (append_assoc text line (10 ∷ []))
+    (subst (λ last. IsSplit ((text ++ line) ++ 10 ∷ []) (ls ++ last ∷ []) []) (strip-printable line first) whole) in
+    let rest = IsSplit-ended (text ++ ended line) (ls ++ line ∷ []) more (All-tail IsPrintable line more printable) one in
+    subst (λ t. IsSplit t (ls ++ line ∷ more) []) (append_assoc text (ended line) (flat_map ended more))
+    (subst (λ passed. IsSplit ((text ++ ended line) ++ flat_map ended more) passed []) (append_assoc ls (line ∷ []) more) rest)
 
 IsPrintable-decimal : (n : ℕ) → IsSmall n → IsPrintable (decimal n)
 IsPrintable-decimal n small =
@@ -103,6 +119,11 @@ IsPrintable-claim_line Unsolvable fits = IsPrintable-test (codes "unsolvable") r
 inner_printable : (inner : List Inner) → All FitsInner inner → All IsPrintable (map inner_line inner)
 inner_printable inner fit =
     All-map IsPrintable inner_line inner (λ k d within. IsPrintable-entry_line (entry_alike (get_or inner k d)) (fit k d within))
+
+-- the lines of inner positions behind a text of whole lines
+pub IsSplit-inner : (text : List ℕ) (ls : List (List ℕ)) (inner : List Inner) → All FitsInner inner → IsSplit text ls []
+    → IsSplit (text ++ inner_text inner) (ls ++ map inner_line inner) []
+IsSplit-inner text ls inner fit split = IsSplit-ended text ls (map inner_line inner) (inner_printable inner fit) split
 
 entry_printable : (e : Entry) → FitsEntry e → All IsPrintable (entry_lines e)
 entry_printable e fits =

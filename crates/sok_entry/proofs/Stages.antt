@@ -1,5 +1,6 @@
 -- What a line is at a stage, and what a text is that ends there.
-use Rattle.std.proofs.Common.{ℕ, ◌≡◌, ◌≢◌, ◌<◌, ◌≤◌, ◌+◌, ◌-◌, ◌∙◌, inl, inr, sym, ap, refl, subst, List, [], ◌∷◌, ◌++◌, All, false, length, drop, arith}
+use Rattle.std.proofs.Common.{ℕ, ◌≡◌, ◌≢◌, ◌<◌, ◌≤◌, ◌+◌, ◌-◌, ◌∙◌, inl, inr, sym, ap, refl, subst, List, [], ◌∷◌, ◌++◌, All, Bool, true, false, Some, None, if◌then◌else◌, ◌==◌, length, map, drop, arith}
+use Rattle.std.proofs.lemmas.Bool.{cases_Bool}
 use Rattle.std.proofs.lemmas.Grind.{flat_map-append}
 use Rattle.std.proofs.lemmas.List.{append_assoc, append-nil, length-append, length_push, map_push}
 use Rattle.std.proofs.lemmas.List.Elements.{All-nil, All-push}
@@ -26,7 +27,8 @@ use Rattle.sok_entry.specs.Text.{FitsVersion, Spells}
 use Rattle.sok_entry.specs.Reading.{Begins, FitsHead, IsClaimLine, IsEntryLine, IsHeadLine, IsInnerLine, IsUnfinished, unfinished_lines}
 use Rattle.sok_entry.specs.Reading.{IsWrong, missing, cut, other, behind, inside, IsWrongInside, missing_inside, cut_inside, other_inside, GoesWrong, at_header}
 use Rattle.sok_entry.specs.Reading.{behind_header, ended_lines}
-use Rattle.sok_entry.specs.Stages.{AreRead, AreWrong, IsRead, IsSplit, IsStage}
+use Rattle.sok_entry.specs.Stages.{AreRead, AreWrong, IsRead, IsSplit, IsStage, awaited}
+use Rattle.sok_entry.proofs.EntryNumbers.{no_elements}
 use Rattle.sok_entry.proofs.Openings.{begun-lines, whole-lines}
 use Rattle.sok_entry.proofs.Splits.{ended_lines-split, lines-split, lines-unended}
 
@@ -89,6 +91,15 @@ plain-allowed : (version : Version) (e : Entry) → is_pattern e.reason ≡ fals
 plain-allowed One e simple = simple
 plain-allowed Two e simple = tt
 
+-- a pattern of which so many inner positions come next has none yet
+pub awaited-begun : (claim : Claim) (head : Head) (inner : Vec Inner) (n : ℕ) → awaited (AtInner claim head inner) ≡ Some n → (inner.items ≡ []) × (n ≡ head.count)
+awaited-begun claim head inner n is =
+    let told : (b : Bool) → length inner.items == 0 ≡ b → (if b then Some head.count else None) ≡ Some n = λ b same. ap (λ t. if t then Some head.count else None) (sym same) ∙ is in
+    elim (cases_Bool (length inner.items == 0)) [
+      | inl none ↦ let count : Some head.count ≡ Some n = told true none in (no_elements inner.items none, cc)
+      | inr some ↦ let count : None ≡ Some n = told false some in absurd (cc)
+    ]
+
 -- a pattern is begun in version 2 alone
 pub Begins-second : (version : Version) (line : List ℕ) (h : Head) → Begins version line (Begun h) → (version ≡ Two) × IsHeadLine line h
 Begins-second One line h is = absurd is
@@ -112,6 +123,12 @@ module _ (ls : List (List ℕ)) (es : List Entry) where
         AreRead-entry ls Two claim es (unfinished_lines head inner) read (entry_with head inner) (sym (begun-lines head inner many)) fits tt,
         λ c may. may,
       )
+
+  -- the lines of all inner positions behind the first line of a pattern
+  pub read-known : (claim : Claim) (head : Head) (inner : Vec Inner) (known : List Inner) → inner.items ≡ [] → AreRead ls Two claim es (unfinished_lines head inner.items)
+      → AreRead (ls ++ map inner_line known) Two claim es (unfinished_lines head known)
+  read-known claim head inner known none read =
+      AreRead-more ls Two claim es (unfinished_lines head []) (subst (λ is. AreRead ls Two claim es (unfinished_lines head is)) none read) (map inner_line known)
 
   pub read-inside : (claim : Claim) (head : Head) (inner : Vec Inner) → FitsHead head → All FitsInner inner.items → length inner.items < head.count
       → AreRead ls Two claim es (unfinished_lines head inner.items) → IsRead ls es (AtEntries Two claim) (Passed (AtInner claim head inner))

@@ -1,5 +1,6 @@
 -- words of public contracts
 pub mod Faults
+pub mod Known
 pub mod Reading
 pub mod Stages
 pub mod Text

@@ -1,5 +1,5 @@
 -- How far a certificate is read, line by line.
-use Rattle.std.specs.Prelude.{ℕ, ◌≡◌, ◌≤◌, ◌+◌, List, [], ◌∷◌, ◌++◌, All, IfOk, Result, length}
+use Rattle.std.specs.Prelude.{ℕ, ◌≡◌, ◌≤◌, ◌+◌, List, [], ◌∷◌, ◌++◌, ◌==◌, All, IfOk, Option, Result, Some, None, if◌then◌else◌, length}
 use Rattle.std.specs.declared.alloc.AllocError.{AllocError}
 use Rattle.std.specs.List.{flat_map}
 use Rattle.std.specs.Str.Lines.{lines}
@@ -27,6 +27,11 @@ pub record AreRead (ls : List (List ℕ)) (version : Version) (claim : Claim) (e
   pub fits : Fits claim es
   pub allowed : All (FitsVersion version) es
   pub is : ls ≡ header version ∷ claim_line claim ∷ flat_map entry_lines es ++ tail
+
+-- how many inner positions come next, where a pattern is begun and none of them was read
+abbrev pub awaited : Stage → Option ℕ
+awaited (AtInner claim head inner) = if length inner.items == 0 then Some head.count else None
+awaited _ = None
 
 -- lines with these entries bring a certificate so far
 abbrev pub IsStage : List (List ℕ) → List Entry → Stage → Type 0

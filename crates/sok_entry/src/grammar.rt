@@ -154,6 +154,10 @@ fn entry_of_line(
     if line.len() < 2 {
         return Ok(None);
     }
+    // A pattern's line, which is read as such.
+    if line[0] == b'p' {
+        return Ok(None);
+    }
     if line[1] != b' ' {
         return Ok(None);
     }

@@ -1,11 +1,10 @@
 //! Entries of which the first line was read.
 
-ghost use Rattle.std.specs.Prelude.{◌≡◌, IfOk};
+ghost use Rattle.std.specs.Prelude.{◌≡◌};
 ghost use Rattle.sok_entry.specs.Text.{entry_with};
 
-use crate::entry::{Entry, Inner, Numbers, Reason};
+use crate::entry::{Entry, Numbers, Reason};
 use crate::inners::Inners;
-use std::alloc::{AllocError, Global};
 
 /// The first line of a pattern: the position, the members, and how many lines of inner positions
 /// stand behind it.
@@ -28,12 +27,11 @@ pub enum Opening {
 }
 
 impl Head {
-    /// The entry of the pattern with these inner positions. It refuses only for want of memory.
-    pub fn with(self, alloc: Global, inner: Vec<Inner>) -> Result<Entry, AllocError>
-        ensures { IfOk result (λ entry. entry ≡ entry_with self inner.items) }
+    /// The entry of the pattern with these inner positions.
+    pub fn with(self, inner: Inners) -> Entry
+        ensures { result ≡ entry_with self inner }
     {
-        let inner = Inners::new(alloc, inner)?;
-        Ok(Entry {
+        Entry {
             depth: self.depth,
             player: self.player,
             boxes: self.boxes,
@@ -41,6 +39,6 @@ impl Head {
                 members: self.members,
                 inner,
             },
-        })
+        }
     }
 }

@@ -8,6 +8,7 @@
 //! | `grammar` | the lines of a certificate, read (private) |
 //! | `head` | entries of which the first line was read |
 //! | `inners` | the inner positions of a pattern, which many entries may share |
+//! | `known` | lists of inner positions that were read before |
 //! | `law` | what is written is read again, and each text has one reading |
 //! | `limits` | which certificates have a text |
 //! | `number` | numbers of a text (private) |
@@ -23,6 +24,7 @@ pub mod fault;
 mod grammar;
 pub mod head;
 pub mod inners;
+pub mod known;
 pub mod law;
 pub mod limits;
 mod number;

@@ -66,7 +66,14 @@ fn pattern_fits(members: &[u32], inner: &[Inner]) -> bool
 fn inner_fit(inner: &[Inner]) -> bool
     ensures { IsTrue result ↔ (IsSmall (length inner.now) × All FitsInner inner.now) }
 {
-    inner.len() <= LIMIT as usize && inner.iter().all(|position| inner_fits(position))
+    inner.len() <= LIMIT as usize && all_fit(inner)
+}
+
+/// Whether each of some inner positions has a line.
+pub(crate) fn all_fit(inner: &[Inner]) -> bool
+    ensures { IsTrue result ↔ All FitsInner inner.now }
+{
+    inner.iter().all(|position| inner_fits(position))
 }
 
 fn inner_fits(inner: &Inner) -> bool

@@ -1,9 +1,10 @@
 //! How far a certificate is read, line by line.
 
-ghost use Rattle.std.specs.Prelude.{ℕ, ◌≡◌, ◌<◌, ◌≤◌, ◌^◌, ◌++◌, ◌∷◌, [], List, All, IfOk, MatchResult, length};
+ghost use Rattle.std.specs.Prelude.{ℕ, ◌≡◌, ◌<◌, ◌≤◌, ◌^◌, ◌++◌, ◌∷◌, [], List, All, IfOk, MatchResult, Some};
+ghost use Rattle.std.specs.Prelude.{length, map};
 ghost use Rattle.sok_entry.specs.Reading.{FitsHead, GoesWrong, unfinished_lines};
-ghost use Rattle.sok_entry.specs.Stages.{AreRead, IsRead, IsSplit, IsStage, MayClaim, ReadsOn};
-ghost use Rattle.sok_entry.specs.Text.{FitsInner, Spells};
+ghost use Rattle.sok_entry.specs.Stages.{AreRead, IsRead, IsSplit, IsStage, MayClaim, ReadsOn, awaited};
+ghost use Rattle.sok_entry.specs.Text.{FitsInner, Spells, inner_line};
 ghost use Rattle.sok_entry.specs.declared.entry.Entry.{Entry};
 ghost use Rattle.sok_entry.specs.declared.stage.Stage.TheVariants as at;
 ghost use Rattle.sok_entry.specs.declared.version.Version.TheVariants as versions;
@@ -13,6 +14,7 @@ use crate::entry::{Entry, Inner};
 use crate::fault::CertFault;
 use crate::grammar::{END, claim_of_line, inner_of_line, opening_of_line, version_of_line};
 use crate::head::{Head, Opening};
+use crate::inners::Inners;
 use crate::version::Version;
 use std::alloc::{AllocError, Global};
 
@@ -70,6 +72,30 @@ impl Stage {
             }
             Stage::AtEnd(_) => Ok(LineRead::Wrong(CertFault::Line(lines + 1))),
         }
+    }
+
+    /// How many inner positions come next, where a pattern is begun and none of them was read.
+    pub fn awaited(&self) -> Option<usize>
+        ensures { result ≡ awaited self.now }
+    {
+        match self {
+            Stage::AtInner { head, inner, .. } if inner.is_empty() => Some(head.count as usize),
+            _ => None,
+        }
+    }
+
+    /// Passes the lines of all inner positions of a pattern, where it is known what they are. The
+    /// entry shares them. It refuses only for want of memory, and then the stage is gone.
+    pub fn pass(self, inner: &Inners) -> Result<LineRead, AllocError>
+        requires { awaited self ≡ Some (length inner.now) }
+        ensures { (ls : List (List ℕ)) (es : List Entry)
+            → All FitsInner inner.now → IsStage ls es self
+            → IfOk result (IsRead (ls ++ map inner_line inner.now) es self) }
+    {
+        let Stage::AtInner { claim, head, .. } = self else {
+            unreachable!();
+        };
+        Ok(whole(claim, head, inner.share()?))
     }
 
     /// What a text claims that ends here, behind so many lines and with bytes in which no line ends;
@@ -184,7 +210,19 @@ fn inside(
     if inner.len() < head.count as usize {
         return Ok(LineRead::Passed(Stage::AtInner { claim, head, inner }));
     }
-    let entry = head.with(alloc, inner)?;
-    let next = Stage::AtEntries(Version::Two, claim);
-    Ok(LineRead::Listed(claim, entry, next))
+    Ok(whole(claim, head, Inners::new(alloc, inner)?))
+}
+
+/// What the last line is of a pattern, of which these are the inner positions.
+fn whole(claim: Claim, head: Head, inner: Inners) -> LineRead
+    ensures { (ls : List (List ℕ)) (es : List Entry)
+        → FitsHead head → All FitsInner inner → length inner ≡ head.count
+        → AreRead ls versions.Two claim es (unfinished_lines head inner)
+        → IsRead ls es (at.AtEntries versions.Two claim) result }
+{
+    LineRead::Listed(
+        claim,
+        head.with(inner),
+        Stage::AtEntries(Version::Two, claim),
+    )
 }

@@ -184,7 +184,7 @@ impl Inners {
 }
 
 /// Appends the lines of inner positions.
-fn push_inner_lines(text: &mut Vec<u8>, inner: &[Inner]) -> Result<(), AllocError>
+pub(crate) fn push_inner_lines(text: &mut Vec<u8>, inner: &[Inner]) -> Result<(), AllocError>
     ensures lines { OnOk result (text.new.items ≡ text.old.items ++ inner_text inner.now) }
     ensures capacity { vec_capacity text.old ≤ vec_capacity text.new }
     ensures full { OnErr result

@@ -1,9 +1,11 @@
 -- A certificate that is judged as it is read from a reader.
-use Rattle.std.proofs.Common.{ℕ, ◌≡◌, ◌+◌, ◌<◌, ◌∙◌, List, [], ◌++◌, Option, Some, None, IfSome, length, length-append, arith, ap, refl, sym, subst}
-use Rattle.std.specs.Io.KnownBytes.{Consumes}
+use Rattle.std.proofs.Common.{ℕ, ◌≡◌, ◌+◌, ◌<◌, ◌≤◌, ◌∙◌, List, [], ◌++◌, Option, Some, None, IfSome, length, length-append, arith, ap, refl, sym, subst}
+use Rattle.std.specs.Io.KnownBytes.{Consumes, IsAtEnd}
+use Rattle.std.proofs.lemmas.List.{append-nil}
 use Rattle.std.proofs.KnownBytes.{Consumes-nil, Consumes-trans}
 use Rattle.sok_board.specs.Area.{Numbered}
 use Rattle.sok_cert.specs.Streams.{StandsFor, Streamed}
+use Rattle.sok_judge.specs.Streams.{IsStreamOf}
 
 -- the stream stands for the bytes that were read, which are so many
 pub record ReadSo (old now : Option (List ℕ)) (b : Numbered) (s : Streamed) (total : ℕ) : Type 0 where
@@ -43,3 +45,19 @@ longer (Some bytes) (Some rest) limit text consumed many = omega (arith, ap leng
 pub ReadSo-much : (old now : Option (List ℕ)) (limit : ℕ) (b : Numbered) (s : Streamed) (total : ℕ) → ReadSo old now b s total → limit < total
     → IfSome old (λ input. limit < length input)
 ReadSo-much old now limit b s total so many = longer old now limit so.text so.consumed (let count = so.count in omega arith)
+
+-- where no known byte is left, all of them were read
+whole : (old now : Option (List ℕ)) (text : List ℕ) → Consumes old now text → IsAtEnd now → IfSome old (λ input. text ≡ input)
+whole None now text consumed none = tt
+whole (Some bytes) None text consumed none = absurd consumed
+whole (Some bytes) (Some rest) text consumed none = sym (consumed ∙ ap (λ more. text ++ more) none ∙ append-nil text)
+
+pub ReadSo-end : (old now next : Option (List ℕ)) (limit : ℕ) (b : Numbered) (s : Streamed) (total : ℕ) → ReadSo old now b s total → Consumes now next []
+    → IsAtEnd next → total ≤ limit → IsStreamOf old limit b s
+ReadSo-end old now next limit b s total so nothing none few = record {
+  text = so.text;
+  all = whole old next so.text (subst (Consumes old next) (append-nil so.text) (Consumes-trans old now next so.text [] so.consumed nothing)) none;
+  few = let count = so.count in omega arith;
+  board = so.board;
+  stands = so.stands;
+}

@@ -1,14 +1,18 @@
 //! A certificate, judged as it is read.
 
-ghost use Rattle.std.specs.Prelude.{◌<◌, IfOk, IfSome, IsErrOf, length};
+ghost use Rattle.std.specs.Prelude.{◌≡◌, ◌<◌, IfOk, IfSome, IsErrOf, length, vec_len};
 ghost use Rattle.sok_engine.specs.Limits.{cert_limit};
 ghost use Rattle.sok_judge.specs.Streams.{IsStreamOf};
 
 use sok_board::board::Board;
 use sok_cert::stream::Stream;
 use sok_engine::input::{CERT_LIMIT, InputFault};
-use std::alloc::Global;
+use std::alloc::{AllocError, Global};
 use std::io::Read;
+
+/// The most bytes of a piece. Lists of inner positions that come again are passed as a whole where
+/// all of their lines are in one.
+const PIECE: usize = 65_536;
 
 /// Reads to the end of a certificate for a board, in pieces. A read that fails, for any cause, is
 /// `ReadFailed` at once. A byte past the limit is `TooMuch`, after which some more bytes may have
@@ -24,9 +28,10 @@ pub(crate) fn stream_of<'a, R: Read>(
 {
     let mut stream = Stream::new(alloc, board)?;
     let mut total: usize = 0;
-    let mut buffer = [0u8; 4096];
+    let mut room = room_for(alloc, PIECE)?;
+    let buffer = room.as_mut_slice();
     'input: while total <= CERT_LIMIT {
-        let count = reader.read(&mut buffer)?;
+        let count = reader.read(buffer)?;
         if count == 0 {
             return Ok(stream);
         }
@@ -34,4 +39,11 @@ pub(crate) fn stream_of<'a, R: Read>(
         total += count;
     }
     Err(InputFault::TooMuch)
+}
+
+/// Room for so many bytes.
+fn room_for(alloc: Global, bytes: usize) -> Result<Vec<u8>, AllocError>
+    ensures { IfOk result (λ room. vec_len room ≡ bytes) }
+{
+    vec![in alloc; 0; bytes]
 }

@@ -14,7 +14,7 @@ type Case = (&'static str, Result<Claim, CertFault>);
 const BAD_REASON: Result<Claim, CertFault> = Err(CertFault::BadReason(0));
 
 /// The two boxes in front of the corridor and in it are lost, and so is the level.
-const PAIR_THAT_IS_LOST: [Case; 19] = [
+const PAIR_THAT_IS_LOST: [Case; 22] = [
     (
         "sokoban-certificate 2\nunsolvable\np 0 9 3 7 10 12 2 1 2 2\nx 0 9 2 10 12\n\
          f 1 10 2 11 12 2 0 1\nend\n",
@@ -81,6 +81,25 @@ const PAIR_THAT_IS_LOST: [Case; 19] = [
         "sokoban-certificate 2\nunsolvable\np 0 9 3 7 10 12 2 1 2 3\nx 0 9 2 10 12\n\
          x 0 0 2 10 12\nf 1 10 2 11 12 2 0 1\nend\n",
         BAD_REASON,
+    ),
+    // the same lines inside once more
+    (
+        "sokoban-certificate 2\nunsolvable\np 0 9 3 7 10 12 2 1 2 2\nx 0 9 2 10 12\n\
+         f 1 10 2 11 12 2 0 1\np 0 9 3 7 10 12 2 1 2 2\nx 0 9 2 10 12\n\
+         f 1 10 2 11 12 2 0 1\nend\n",
+        Err(CertFault::Duplicate(1)),
+    ),
+    (
+        "sokoban-certificate 2\nunsolvable\np 0 9 3 7 10 12 2 1 2 2\nx 0 9 2 10 12\n\
+         f 1 10 2 11 12 2 0 1\np 0 9 3 7 10 12 2 1 2 2\nx 0 9 2 10 12\n\
+         f 1 10 2 11 12 2 0 1\nx\n",
+        Err(CertFault::Line(9)),
+    ),
+    (
+        "sokoban-certificate 2\nunsolvable\np 0 9 3 7 10 12 2 1 2 2\nx 0 9 2 10 12\n\
+         f 1 10 2 11 12 2 0 1\np 0 9 3 7 10 12 2 1 2 3\nx 0 9 2 10 12\n\
+         f 1 10 2 11 12 2 0 1\nend\n",
+        Err(CertFault::Line(9)),
     ),
     // the text's faults
     (

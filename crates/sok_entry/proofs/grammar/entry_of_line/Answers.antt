@@ -5,10 +5,19 @@ use Rattle.sok_entry.specs.Text.{numbers_of}
 use Rattle.sok_entry.specs.Entries.{entry_of}
 use Rattle.sok_entry.specs.Reading.{IsEntryLine, Tells}
 use Rattle.sok_entry.proofs.EntryLines.{two_bytes, long-entry_line, IsEntryLine-reads, Tells-entry_of}
+use Rattle.sok_entry.proofs.Openings.{plain-letter}
 use Rattle.sok_entry.proofs.grammar.entry_of_line.Goals as goal
 
 pub returns-then-line-lt2 : goal.returns-then-line-lt2
 returns-then-line-lt2 c = λ e is. omega (arith, long-entry_line c.args.line.now e is.1)
+
+pub returns-then-line-eq112 : goal.returns-then-line-eq112
+returns-then-line-eq112 c =
+    let line = c.args.line.now in
+    let bytes = two_bytes line (omega arith) in
+    λ e is.
+    let reads = IsEntryLine-reads (get_or line 0 0) (get_or line 1 0) (drop 2 line) e (subst (λ l. IsEntryLine l e) bytes is) in
+    plain-letter e.reason is.2 (sym reads.0 ∙ c.if-line-eq112.true)
 
 pub returns-then-line-ne32 : goal.returns-then-line-ne32
 returns-then-line-ne32 c =

@@ -1,11 +1,10 @@
 use Rattle.std.proofs.Common.{length}
-use Rattle.sok_cert.specs.Parts.{IsRosterOf, progressed_of}
-use Rattle.sok_cert.proofs.Streaming.{Taken}
+use Rattle.sok_cert.specs.Parts.{IsRosterOf, IsTaken, progressed_of}
 use Rattle.sok_cert.proofs.progress.Progress.take.Given as goal
 
 abbrev pub invariant-loop-part : goal.invariant-loop-part
 invariant-loop-part l = record {
-  taken : Taken l.board (progressed_of l.initial.self) (progressed_of l.self) l.piece l.rest;
+  taken : IsTaken l.board (progressed_of l.initial.self) (progressed_of l.self) l.piece l.rest;
   of_board : IsRosterOf l.board l.self.roster;
 }
 
