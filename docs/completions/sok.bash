@@ -11,7 +11,7 @@ _sok() {
     offer) words=" --help" ;;
     offers) words=" --help" ;;
     prove) words=" --help" ;;
-    settle) words="--limit --from --help" ;;
+    settle) words="--limit --from --certs --help" ;;
     show) words=" --help" ;;
     export) words="--solutions --help" ;;
   esac

@@ -31,6 +31,9 @@ pub trait Folder {
     fn create(&self, path: &str) -> io::Result<Self::Output>
         ensures { IfOk result (λ file. makes self.now path.now file) };
 
+    /// Takes away a file that was made and could not be written whole, if it can.
+    fn remove(&self, path: &str);
+
     /// Whether two paths lead to one file, as far as this can be told: one path and itself do.
     fn is_one(&self, path: &str, other: &str) -> bool
         ensures { path.now ≡ other.now → IsTrue result };
@@ -54,6 +57,10 @@ impl Folder for HostRuntime {
 
     fn create(&self, path: &str) -> io::Result<File> {
         fs::create(self, path)
+    }
+
+    fn remove(&self, path: &str) {
+        let _ = fs::remove_file(self, path);
     }
 
     fn is_one(&self, path: &str, other: &str) -> bool {

@@ -74,6 +74,10 @@ impl<'a, F: Folder> Folder for Watched<'a, F> {
         }
     }
 
+    fn remove(&self, path: &str) {
+        self.inner.remove(path);
+    }
+
     fn is_one(&self, path: &str, other: &str) -> bool {
         let is_one = self.inner.is_one(path, other);
         if is_one {

@@ -1,6 +1,6 @@
 //! The commands on a book in a file, which is opened anew by each.
 
-use crate::rows::{OPEN_FAILED, first_other, prepare};
+use crate::rows::{MAKE_FAILED, OPEN_FAILED, first_other, prepare};
 use sok_engine::input::INPUT_LIMIT;
 use sok_sketch::tutorial::Row;
 use std::alloc::Global;
@@ -228,6 +228,72 @@ fn levels_of_a_book_are_settled(rt: HostRuntime) -> Result<(), Fail> {
     Ok(())
 }
 
+/// The same with certificates: of each level that is settled there is one, and of no other.
+const CERTIFIES: [Row; 11] = [
+    (
+        "sok add kept/book kept/unsettled",
+        "1 id 1\n2 id 2\n3 id 3\n4 id 4\n",
+        "",
+        0,
+    ),
+    // where none can be kept the level is as it was
+    ("sok settle kept/book --certs kept/none", "", MAKE_FAILED, 5),
+    (
+        "sok show kept/book 1",
+        "######\n#    #\n# $@.#\n######\nbest none\nverdict untested\n",
+        "",
+        0,
+    ),
+    (
+        "sok settle kept/book --limit 4 --certs kept",
+        "1 optimal 2 6\n2 unsolvable\n3 limit 4 at least 6\n4 optimal 0 0\n",
+        "",
+        4,
+    ),
+    (
+        "sok check kept/unsettled 1 kept/1.cert",
+        "accepted at least 2 pushes\n",
+        "",
+        0,
+    ),
+    (
+        "sok check kept/unsettled 2 kept/2.cert",
+        "accepted unsolvable\n",
+        "",
+        0,
+    ),
+    ("sok check kept/unsettled 3 kept/3.cert", "", OPEN_FAILED, 5),
+    (
+        "sok check kept/unsettled 4 kept/4.cert",
+        "accepted at least 0 pushes\n",
+        "",
+        0,
+    ),
+    (
+        "sok settle kept/book --certs kept",
+        "3 optimal 6 6\n",
+        "",
+        0,
+    ),
+    (
+        "sok check kept/unsettled 3 kept/3.cert",
+        "accepted at least 6 pushes\n",
+        "",
+        0,
+    ),
+    ("sok settle kept/book --certs kept", "", "", 0),
+];
+
+#[test]
+fn certificates_of_settled_levels_are_kept(rt: HostRuntime) -> Result<(), Fail> {
+    prepare(&rt, "kept")?;
+    fs::write(&rt, "kept/unsettled", UNSETTLED)?;
+    let other = first_other(&rt, &CERTIFIES)?;
+    assert_eq!(rt; other, None);
+    fs::remove_dir_all(&rt, "kept")?;
+    Ok(())
+}
+
 /// A book of two levels, the second with a best.
 const BOOK: [Row; 2] = [
     (
@@ -263,7 +329,7 @@ fn make_large(rt: &HostRuntime, alloc: Global) -> Result<(), Fail> {
 }
 
 /// Where a text stands in bytes.
-fn place_of(bytes: &[u8], text: &[u8]) -> Option<usize> {
+pub(crate) fn place_of(bytes: &[u8], text: &[u8]) -> Option<usize> {
     for place in 0..bytes.len() {
         if bytes[place..].starts_with(text) {
             return Some(place);

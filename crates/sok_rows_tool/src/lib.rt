@@ -7,6 +7,7 @@
 //! | `checking` | `check` on files |
 //! | `checks` | the judgement of a certificate for a level of a collection |
 //! | `commands` | commands one after another, each on the book that the last one left |
+//! | `copies` | the commands that only read a book, also one that may not be written or is in use |
 //! | `devices` | readers and writers that fail, or that give and take little (no test) |
 //! | `judgements` | solutions and certificates that are offered for a level |
 //! | `keeping` | the commands on a book in a file |
@@ -38,6 +39,8 @@ mod checking;
 mod checks;
 #[cfg(test)]
 mod commands;
+#[cfg(test)]
+mod copies;
 #[cfg(test)]
 mod devices;
 #[cfg(test)]

@@ -39,12 +39,16 @@ fn reads_each_form(rt: HostRuntime) -> Result<(), Fail> {
         ("sok offer B 3 uR", "Offer(\"B\", 3, \"uR\")"),
         ("sok offers B F", "Offers(\"B\", \"F\")"),
         ("sok prove B 3 C", "Prove(\"B\", 3, \"C\")"),
-        ("sok settle B", "Settle(\"B\", 100000, 1)"),
+        ("sok settle B", "Settle(\"B\", 100000, 1, None)"),
         (
             "sok settle B --limit 5 --from 9223372036854775807",
-            "Settle(\"B\", 5, 9223372036854775807)",
+            "Settle(\"B\", 5, 9223372036854775807, None)",
         ),
-        ("sok settle B --from 3", "Settle(\"B\", 100000, 3)"),
+        ("sok settle B --from 3", "Settle(\"B\", 100000, 3, None)"),
+        (
+            "sok settle B --certs D",
+            "Settle(\"B\", 100000, 1, Some(\"D\"))",
+        ),
         (
             "sok show B 9223372036854775807",
             "Show(\"B\", Some(9223372036854775807))",

@@ -1,5 +1,5 @@
 -- How a call that goes one step treats the connection.
-use Rattle.std.proofs.Common.{ℕ, ◌≡◌, ◌≢◌, ◌∙◌, inl, inr, List, Bool, Option, Result, Ok, Err, subst, sym}
+use Rattle.std.proofs.Common.{ℕ, ◌≡◌, ◌≢◌, ◌∙◌, inl, inr, List, Bool, Option, Result, Ok, Err, refl, subst, sym}
 use Rattle.std.specs.Io.KnownBytes.{Keeps}
 use Rattle.sqlite.specs.State.{State}
 use Rattle.sqlite.proofs.StateLemmas.{survives_weaker}
@@ -12,7 +12,7 @@ use Rattle.sok_engine.specs.Faults.{of_book}
 use Rattle.sok_row.specs.Faults.{IsOutside}
 use Rattle.sok_row.specs.Kept.{IsKeptBook}
 use Rattle.sok_store.specs.Calls.{Carries, Changes, Stops, Turns}
-use Rattle.sok_store.proofs.Calls.{changes_turns, held_shown, shown}
+use Rattle.sok_store.proofs.Calls.{changes_turns, held_shown, shown, stops_same}
 use Rattle.sok_keep.specs.Causes.{IsCausedFault}
 use Rattle.sok_keep.proofs.Ending.{book_database}
 use Rattle.sok_settle.specs.Going.{Goes, GoesStep, Leave, MayStep, Step, StepsOnce}
@@ -50,7 +50,7 @@ book_uncaused old new Makes fault other told = absurd (other (book_database faul
 
 module _ (One : Step) (Left : Leave) where
   -- the call ends at it for a cause outside
-  pub left_steps : (book after : Book) (held later : Option (List ℕ)) (fault : BookFault) → IsOutside fault → Left book after
+  pub left_steps : (book after : Book) (held later : Option (List ℕ)) (fault : BookFault) → IsOutside fault → Left.leaves book after
       → Keeps held later → StepsOnce One Left book after held later (Err (of_book fault))
   left_steps book after held later fault (inl memory) left keeps =
       subst (λ f. StepsOnce One Left book after held later (Err (of_book f))) (sym memory) (left, keeps)
@@ -62,7 +62,7 @@ module _ (One : Step) (Left : Leave) where
       → (book after : Book) → One book line well after → StepsOnce One Left book after held later result
   told_steps line well held later (Ok told) (same, appends) book after makes = (line, subst (λ w. One book line w after) (sym same) makes, appends)
   told_steps line well held later (Err fault) (same, front) book after makes =
-      subst (λ f. StepsOnce One Left book after held later (Err f)) (sym same) (line, well, makes, front)
+      subst (λ f. StepsOnce One Left book after held later (Err f)) (sym same) (inl (line, well, makes, front))
 
   module _ (P : Book → Type 0) where
     pub told_goes : (old new : State) (line : List ℕ) (well : Bool) (held later : Option (List ℕ)) (result : Result Bool ToolFault)
@@ -90,7 +90,7 @@ module _ (One : Step) (Left : Leave) where
 
     -- memory is refused before a line is made
     pub memory_goes : (old new : State) (held later : Option (List ℕ)) (fault : ToolFault) → fault ≡ tool.Memory → Keeps held later
-        → Turns old new (λ book after. P book → Left book after) → Stops old new (λ book after. P book → MayStep One Left book after)
+        → Turns old new (λ book after. P book → Left.leaves book after) → Stops old new (λ book after. P book → MayStep One Left book after)
         → GoesStep P One Left old new held later (Err fault)
     memory_goes old new held later fault memory keeps turns stop = record {
       turns = λ clean book holds.
@@ -99,6 +99,16 @@ module _ (One : Step) (Left : Leave) where
       done = tt;
       stop = stop;
       cause = memory_uncaused old new _ fault memory;
+    }
+
+    -- a write fails before a line is made
+    pub unwritten_goes : (s : State) (held later : Option (List ℕ)) → Keeps held later → ((book : Book) → P book → Left.unwritten book)
+        → GoesStep P One Left s s held later (Err tool.WriteFailed)
+    unwritten_goes s held later keeps why = record {
+      turns = λ clean book holds. (book, λ p. inr (why book p, refl, keeps), holds);
+      done = tt;
+      stop = stops_same s _;
+      cause = write_uncaused s s _ tool.WriteFailed refl;
     }
 
 -- ---- what is made, said in other words
@@ -130,3 +140,28 @@ module _ (old new : State) (Makes Other MayMake MayOther : Book → Book → Typ
       | inr why ↦ inr why
     ];
   }
+
+-- ---- a step, said in other words
+
+module _ (One Other : Step) (Left Else : Leave) (P : Book → Type 0)
+    (step : (book after : Book) (line : List ℕ) (well : Bool) → P book → One book line well after → Other book line well after)
+    (leaves : (book after : Book) → P book → Left.leaves book after → Else.leaves book after)
+    (unwritten : (book : Book) → P book → Left.unwritten book → Else.unwritten book) where
+  other_once : (book after : Book) (held later : Option (List ℕ)) (result : Result Bool ToolFault) → P book
+      → StepsOnce One Left book after held later result → StepsOnce Other Else book after held later result
+  other_once book after held later (Ok well) p (line, makes, appends) = (line, step book after line well p makes, appends)
+  other_once book after held later (Err tool.WriteFailed) p (inl (line, well, makes, front)) = inl (line, well, step book after line well p makes, front)
+  other_once book after held later (Err tool.WriteFailed) p (inr (why, same, keeps)) = inr (unwritten book p why, same, keeps)
+  other_once book after held later (Err tool.Memory) p (left, keeps) = (leaves book after p left, keeps)
+  other_once book after held later (Err (tool.Book refusal.Database)) p (left, keeps) = (leaves book after p left, keeps)
+  other_once book after held later (Err fault) p never = absurd never
+
+  other_may : (book after : Book) → P book → MayStep One Left book after → MayStep Other Else book after
+  other_may book after p (inl left) = inl (leaves book after p left)
+  other_may book after p (inr (line, well, makes)) = inr (line, well, step book after line well p makes)
+
+  pub step_other : (old new : State) (held later : Option (List ℕ)) (result : Result Bool ToolFault) → GoesStep P One Left old new held later result
+      → GoesStep P Other Else old new held later result
+  step_other old new held later result goes =
+      goes_other old new _ _ _ _ (λ book after kept makes p. other_once book after held later result p (makes p))
+      (λ book after kept makes p. other_may book after p (makes p)) result goes

@@ -83,6 +83,15 @@ best_is page letters least kept is =
           (ap (λ (p : Page). p.level) chosen, ap best_pushes chosen ∙ no_better page.level least page.best is.fewest kept.best test)
     ]
 
+-- and so it has no verdict
+pub best_untested : (page : Page) (solution : Solution) → page.verdict ≡ Untested → (with_best page solution).verdict ≡ Untested
+best_untested page solution untested =
+    let improved : Page = record page { best = Some solution; verdict = Untested } in
+    elim (cases_Bool (is_better solution.pushes (best_pushes page))) [
+      | inl better ↦ ap (λ (b : Bool). (if b then improved else page).verdict) better
+      | inr worse ↦ ap (λ (b : Bool). (if b then improved else page).verdict) worse ∙ untested
+    ]
+
 -- after the solution was offered
 pub offered_best : (from id : ℤ) (rows : Rows) (book middle : Book) (letters : List Dir) (least : ℕ) (offer : Offer) → IsKeptBook book
     → IsTriedAs from id rows book → IsLeastSolution rows letters least → Offers book (id_number id) letters offer middle

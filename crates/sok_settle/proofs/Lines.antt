@@ -45,7 +45,7 @@ module _ (bytes : List ℕ) where
   abbrev step : ℕ → Book → List ℕ → Bool → Book → Type 0
   step = line_step (full_lines bytes)
 
-  pub stays : (n : ℕ) (book : Book) → Stays book book
+  pub stays : (n : ℕ) (book : Book) → Stays.leaves book book
   stays n book = refl
 
   -- the lines in front of a rest were gone through

@@ -1,5 +1,6 @@
 -- A level is settled by the answer of its search: what becomes of the book, call by call.
-use Rattle.std.proofs.Common.{ℕ, ℤ, ◌⊎◌, ◌<◌, ◌≤◌, inl, inr, List, Bool, true, false, Option, Result, Err, arith, length, refl, subst, sym}
+use Rattle.std.proofs.Common.{ℕ, ℤ, ◌≡◌, ◌⊎◌, ◌<◌, ◌≤◌, inl, inr, List, Bool, true, false, Option, Result, Err, arith, length, refl, subst, sym}
+use Rattle.std.specs.Io.KnownBytes.{Keeps}
 use Rattle.std.proofs.KnownBytes.{Keeps-refl}
 use Rattle.sqlite.specs.State.{State, HasCleanDisk}
 use Rattle.sqlite.proofs.StateLemmas.{survives_then}
@@ -7,10 +8,12 @@ use Rattle.sok_rules.specs.declared.cell.Dir.{Dir}
 use Rattle.sok_rules.specs.Limits.{letter_limit}
 use Rattle.sok_rules.specs.Squares.{Rows}
 use Rattle.sok_rules.specs.Play.{IsFewest, IsUnsolvable}
+use Rattle.sok_cert.specs.Claim.{Claim}
 use Rattle.sok_cert.specs.Claim.TheVariants as claim
-use Rattle.sok_search.specs.Outcomes.{IsCutShort, IsLeastSolution}
+use Rattle.sok_cert.specs.Entry.{Entry}
+use Rattle.sok_search.specs.Outcomes.{Certifies, IsCutShort, IsLeastSolution}
 use Rattle.sok_book.specs.declared.fault.BookFault.{BookFault}
-use Rattle.sok_book.specs.Books.{Book}
+use Rattle.sok_book.specs.Books.{Book, Page}
 use Rattle.sok_book.specs.Refusals.{IsNotOffered}
 use Rattle.sok_engine.specs.declared.fault.ToolFault.{ToolFault}
 use Rattle.sok_engine.specs.declared.fault.ToolFault.TheVariants as tool
@@ -25,41 +28,113 @@ use Rattle.sok_store.specs.declared.standing.Standing.{Standing}
 use Rattle.sok_store.proofs.Calls.{held, held_shown, shown, stops_less, stops_same}
 use Rattle.sok_store.proofs.Caused.{cause_before}
 use Rattle.sok_keep.proofs.Ending.{caused_more}
-use Rattle.sok_settle.specs.Lines.{TellsFault, TellsLine, fault_line}
-use Rattle.sok_settle.specs.Settles.{LeavesLevel, SettlesLevel, is_optimal, is_past_limit, is_too_long, is_unsolvable, limit_line, optimal_line, too_long, unsolvable_line}
-use Rattle.sok_settle.specs.Steps.{GoesThrough, IsTriedAs, MaySettle}
-use Rattle.sok_settle.proofs.Going.{changes_leads, left_steps, memory_goes, same_leads, told_goes}
+use Rattle.sok_settle.specs.Going.{MayStep}
+use Rattle.sok_settle.specs.Keeping.{IsUnkept, Keeping, TellsKept}
+use Rattle.sok_settle.specs.Lines.{TellsFault, TellsLine, TellsUnkept, fault_line}
+use Rattle.sok_settle.specs.Settles.{IsTried, LeavesLevel, SettlesBy, SettlesLevel, is_past_limit, is_settled, is_too_long, is_too_much, leave_of_level, limit_line, optimal_line, too_long, unsolvable_line}
+use Rattle.sok_settle.specs.Steps.{GoesBy, GoesThrough, IsTriedAs, leave_of_kept}
+use Rattle.sok_settle.proofs.Going.{changes_leads, left_steps, memory_goes, same_leads, step_other, told_goes, unwritten_goes}
 use Rattle.sok_settle.proofs.Levels.{HasLeast, best_stays, best_told, never_differs, never_refused, never_solved, offered_best}
 
-module _ (limit : ℕ) (from id : ℤ) (rows : Rows) where
-  abbrev through_tried : State → State → Option (List ℕ) → Option (List ℕ) → Result Bool ToolFault → Type 0
-  through_tried = GoesThrough (IsTriedAs from id rows) limit from id
+-- ---- without a change
 
-  -- ---- without a change
+module _ (keeping : Keeping) (limit : ℕ) (from id : ℤ) (rows : Rows) where
+  abbrev through_tried : State → State → Option (List ℕ) → Option (List ℕ) → Result Bool ToolFault → Type 0
+  through_tried = GoesThrough (IsTriedAs from id rows) keeping limit from id
+
+  -- a line is told of a level that is not settled
+  stays_goes : (s : State) (line : List ℕ) (held later : Option (List ℕ)) (result : Result Bool ToolFault)
+      → ((book : Book) → IsTriedAs from id rows book → SettlesLevel keeping limit from id book line false book) → TellsLine line false held later result
+      → through_tried s s held later result
+  stays_goes s line held later result stays tells =
+      told_goes (SettlesLevel keeping limit from id) (leave_of_level keeping limit from id) (IsTriedAs from id rows) s s line false held later result
+      (same_leads s _ (λ book kept tried. stays book tried)) (stops_same s _) tells
+
+  -- memory is refused
+  memory_refused : (s : State) (held later : Option (List ℕ)) → Keeps held later → through_tried s s held later (Err tool.Memory)
+  memory_refused s held later keeps =
+      memory_goes (SettlesLevel keeping limit from id) (leave_of_level keeping limit from id) (IsTriedAs from id rows) s s held later tool.Memory refl keeps
+      (λ clean book holds. (book, λ tried. inl refl, holds)) (stops_same s _)
+
+  -- the line of its fault is told, or memory is refused for it
+  fault_goes : (s : State) (fault : ToolFault) (held later : Option (List ℕ)) (result : Result Bool ToolFault)
+      → ((book : Book) → IsTriedAs from id rows book → SettlesLevel keeping limit from id book (fault_line id fault) false book)
+      → TellsFault id fault held later result → through_tried s s held later result
+  fault_goes s fault held later result stays (inl (is, keeps)) =
+      subst (λ (r : Result Bool ToolFault). through_tried s s held later r) (sym is) (memory_refused s held later keeps)
+  fault_goes s fault held later result stays (inr tells) = stays_goes s (fault_line id fault) held later result stays tells
 
   pub limit_goes : (s : State) (least : ℕ) (held later : Option (List ℕ)) (result : Result Bool ToolFault) → IsCutShort rows limit limit least
       → TellsLine (limit_line id limit least) false held later result
       → through_tried s s held later result
   limit_goes s least held later result cut tells =
-      told_goes (SettlesLevel limit from id) (LeavesLevel from id) (IsTriedAs from id rows) s s (limit_line id limit least) false held later result
-      (same_leads s _ (λ book kept tried.
+      stays_goes s (limit_line id limit least) held later result (λ book tried.
       let (page, is, same) = tried in
-      is_past_limit page least is (subst (λ (r : Rows). IsCutShort r limit limit least) (sym same) cut) refl refl refl))
-      (stops_same s _) tells
+      is_past_limit page least is (subst (λ (r : Rows). IsCutShort r limit limit least) (sym same) cut) refl refl refl) tells
 
   pub too_long_goes : (s : State) (letters : List Dir) (pushes : ℕ) (held later : Option (List ℕ)) (result : Result Bool ToolFault)
       → IsLeastSolution rows letters pushes → letter_limit < length letters → TellsFault id too_long held later result
       → through_tried s s held later result
-  too_long_goes s letters pushes held later result least many (inl (is, keeps)) =
-      subst (λ (r : Result Bool ToolFault). through_tried s s held later r) (sym is)
-      (memory_goes (SettlesLevel limit from id) (LeavesLevel from id) (IsTriedAs from id rows) s s held later tool.Memory refl keeps
-      (λ clean book holds. (book, λ tried. inl refl, holds)) (stops_same s _))
-  too_long_goes s letters pushes held later result least many (inr tells) =
-      told_goes (SettlesLevel limit from id) (LeavesLevel from id) (IsTriedAs from id rows) s s (fault_line id too_long) false held later result
-      (same_leads s _ (λ book kept tried.
+  too_long_goes s letters pushes held later result least many tells =
+      fault_goes s too_long held later result (λ book tried.
       let (page, is, same) = tried in
-      is_too_long page letters pushes is (subst (λ (r : Rows). IsLeastSolution r letters pushes) (sym same) least) many refl refl refl))
-      (stops_same s _) tells
+      is_too_long page letters pushes is (subst (λ (r : Rows). IsLeastSolution r letters pushes) (sym same) least) many refl refl refl) tells
+
+  -- ---- its certificate
+
+  module _ (shown : Claim) (entries : List Entry) (certified : Certifies rows limit shown entries) where
+    -- it is refused
+    refused_so : (fault : ToolFault) (book : Book) → IsTriedAs from id rows book → keeping.refuses id shown entries fault
+        → (page : Page) × IsTried from id book page × IsUnkept keeping limit id page.level fault
+    refused_so fault book (page, is, same) refused = (
+      page,
+      is,
+      record {
+        shown = shown;
+        entries = entries;
+        certified = subst (λ (r : Rows). Certifies r limit shown entries) (sym same) certified;
+        refused = refused;
+      },
+    )
+
+    unkept : (X : Type 0) (s : State) (fault : ToolFault) (held later : Option (List ℕ)) (result : Result Bool ToolFault)
+        → TellsKept {X = X} keeping id shown entries (Err fault) → TellsUnkept id fault held later result → through_tried s s held later result
+    unkept X s tool.TooMuch held later result refused tells =
+        fault_goes s tool.TooMuch held later result (λ book tried.
+        let (page, is, unkept) = refused_so tool.TooMuch book tried refused in is_too_much page is unkept refl refl refl) tells
+    unkept X s tool.WriteFailed held later result refused (is, keeps) =
+        subst (λ (r : Result Bool ToolFault). through_tried s s held later r) (sym is)
+        (unwritten_goes (SettlesLevel keeping limit from id) (leave_of_level keeping limit from id) (IsTriedAs from id rows) s held later keeps
+        (λ book tried. refused_so tool.WriteFailed book tried refused))
+    unkept X s tool.Memory held later result refused (is, keeps) =
+        subst (λ (r : Result Bool ToolFault). through_tried s s held later r) (sym is) (memory_refused s held later keeps)
+    unkept X s fault held later result never tells = absurd never
+
+    pub unkept_goes : (X : Type 0) (s : State) (passed : ℤ) (fault : ToolFault) (held later : Option (List ℕ)) (result : Result Bool ToolFault) → passed ≡ id
+        → TellsKept {X = X} keeping passed shown entries (Err fault) → TellsUnkept passed fault held later result → through_tried s s held later result
+    unkept_goes X s passed fault held later result same refused tells =
+        unkept X s fault held later result (subst (λ i. TellsKept {X = X} keeping i shown entries (Err fault)) same refused)
+        (subst (λ i. TellsUnkept i fault held later result) same tells)
+
+    -- it is kept, and then the level is settled by its claim
+    pub kept_goes : (old new : State) (held later : Option (List ℕ)) (result : Result Bool ToolFault) → keeping.keeps id shown entries
+        → GoesBy from id rows shown old new held later result → through_tried old new held later result
+    kept_goes old new held later result kept goes =
+        step_other (SettlesBy id rows shown) (SettlesLevel keeping limit from id) (leave_of_kept from id) (leave_of_level keeping limit from id)
+        (IsTriedAs from id rows) (λ book after line settled tried by.
+        let (page, is, same) = tried in
+        is_settled page shown is (record {
+          entries = entries;
+          certified = subst (λ (r : Rows). Certifies r limit shown entries) (sym same) certified;
+          kept = kept;
+        }) (subst (λ (r : Rows). SettlesBy id r shown book line settled after) (sym same) by))
+        (λ book after tried left. left) (λ book tried never. absurd never) old new held later result goes
+
+-- ---- it is settled by a claim
+
+module _ (from id : ℤ) (rows : Rows) where
+  abbrev May : Claim → Book → Book → Type 0
+  May shown book after = IsTriedAs from id rows book → MayStep (SettlesBy id rows shown) (leave_of_kept from id) book after
 
   -- ---- an offer, and a proof
 
@@ -71,19 +146,19 @@ module _ (limit : ℕ) (from id : ℤ) (rows : Rows) where
     left : (book after : Book) → IsTriedAs from id rows book → IsOffered book after → LeavesLevel from id book after
     left book after (page, is, same) (told, tells) = inr (page, is, letters, told.offer, tells.offered)
 
-    offer_stops : Stops old mid (λ book after. IsTriedAs from id rows book → MaySettle limit from id book after)
+    offer_stops : Stops old mid (May (claim.Pushes pushes))
     offer_stops = stops_less old mid _ _ (λ book after made tried. inl (left book after tried made)) one
 
     -- the letters are not kept, for a cause outside
     pub unoffered_goes : (held : Option (List ℕ)) (fault : BookFault)
         → calls.Keeps old mid (λ book. IsOutside fault ⊎ IsNotOffered book (id_number id) letters fault) → IsCaused old mid IsOffered fault
-        → through_tried old mid held held (Err (of_book fault))
+        → GoesBy from id rows (claim.Pushes pushes) old mid held held (Err (of_book fault))
     unoffered_goes held fault keeps caused = record {
       turns = λ clean book held_now.
           let (why, holds) = keeps clean book held_now in (
             book,
             λ tried. elim why [
-              | inl outside ↦ left_steps (SettlesLevel limit from id) (LeavesLevel from id) book book held held fault outside (inl refl) (Keeps-refl held)
+              | inl outside ↦ left_steps (SettlesBy id rows (claim.Pushes pushes)) (leave_of_kept from id) book book held held fault outside (inl refl) (Keeps-refl held)
               | inr refused ↦ absurd (never_refused from id rows book letters fault tried least.solves few refused)
             ],
             holds,
@@ -104,21 +179,25 @@ module _ (limit : ℕ) (from id : ℤ) (rows : Rows) where
 
       optimal : (book middle after : Book) → IsKeptBook book → IsTriedAs from id rows book → OffersTelling book (id_number id) letters told middle
           → ProvesKnown middle (id_number id) (claim.Pushes pushes) after
-          → SettlesLevel limit from id book (optimal_line id told.pushes told.moves) true after
+          → SettlesBy id rows (claim.Pushes pushes) book (optimal_line id told.pushes told.moves) true after
       optimal book middle after kept tried tells proves =
-          let (page, is, same) = tried in
-          let count = best_told middle (id_number id) rows pushes tells.best (least_after book middle kept tried tells) tells.has in
-          is_optimal page tells.best is (record {
-            letters = letters;
-            offer = told.offer;
-            middle = middle;
-            offered = tells.offered;
-            proved = subst (λ n. ProvesKnown middle (id_number id) (claim.Pushes n) after) (sym count) proves;
-            has = best_stays middle after (id_number id) (claim.Pushes pushes) tells.best proves tells.has;
-            fewest = subst (λ (r : Rows). IsFewest r tells.best.pushes) (sym same) (subst (IsFewest rows) (sym count) least.fewest);
-          }) (λ i. optimal_line id (tells.pushes i) (tells.moves i)) refl
+          let count = best_told middle (id_number id) rows pushes tells.best (least_after book middle kept tried tells) tells.has in (
+            tells.best,
+            count,
+            record {
+              letters = letters;
+              offer = told.offer;
+              middle = middle;
+              offered = tells.offered;
+              proved = subst (λ n. ProvesKnown middle (id_number id) (claim.Pushes n) after) (sym count) proves;
+              has = best_stays middle after (id_number id) (claim.Pushes pushes) tells.best proves tells.has;
+              fewest = subst (IsFewest rows) (sym count) least.fewest;
+            },
+            λ i. optimal_line id (tells.pushes i) (tells.moves i),
+            refl,
+          )
 
-      proof_stops : Stops old new (λ book after. IsTriedAs from id rows book → MaySettle limit from id book after)
+      proof_stops : Stops old new (May (claim.Pushes pushes))
       proof_stops = survives_then old mid new _ _ _ (λ _ db made. made) (λ clean db made book shows.
           let (middle, tells, stores) = offered (early clean) book (held_shown old book shows) in
           let (after, proves, has) = made middle (shown mid middle stores) in
@@ -129,21 +208,21 @@ module _ (limit : ℕ) (from id : ℤ) (rows : Rows) where
       pub unproved_goes : (held : Option (List ℕ)) (fault : BookFault)
           → calls.Keeps mid new (λ book. IsOutside fault ⊎ IsNotKnown book (id_number id) rows (claim.Pushes pushes) fault)
           → IsCaused mid new (λ book after. ProvesKnown book (id_number id) (claim.Pushes pushes) after) fault
-          → through_tried old new held held (Err (of_book fault))
+          → GoesBy from id rows (claim.Pushes pushes) old new held held (Err (of_book fault))
       unproved_goes held_out fault keeps caused = record {
         turns = λ clean book held_now.
             let (middle, tells, stores) = offered (early clean) book held_now in
             let (why, holds) = keeps clean middle (held mid middle stores) in (
               middle,
               λ tried. elim why [
-                | inl outside ↦ left_steps (SettlesLevel limit from id) (LeavesLevel from id) book middle held_out held_out fault outside (left book middle tried (told, tells)) (Keeps-refl held_out)
+                | inl outside ↦ left_steps (SettlesBy id rows (claim.Pushes pushes)) (leave_of_kept from id) book middle held_out held_out fault outside (left book middle tried (told, tells)) (Keeps-refl held_out)
                 | inr refused ↦ absurd (never_differs middle (id_number id) rows pushes fault (least_after book middle held_now.0 tried tells) refused)
               ],
               holds,
             );
         done = tt;
         stop = proof_stops;
-        cause = caused_more old new _ (λ book after. IsTriedAs from id rows book → MaySettle limit from id book after) (λ book after made. made) fault
+        cause = caused_more old new _ (May (claim.Pushes pushes)) (λ book after made. made) fault
             (λ database clean book holds.
             let (middle, tells, stores) = offered (early clean) book holds in
             elim (caused database clean middle (held mid middle stores)) [
@@ -157,9 +236,9 @@ module _ (limit : ℕ) (from id : ℤ) (rows : Rows) where
       pub proved_goes : (held later : Option (List ℕ)) (result : Result Bool ToolFault)
           → Changes mid new (λ book after. ProvesKnown book (id_number id) (claim.Pushes pushes) after)
           → TellsLine (optimal_line id told.pushes told.moves) true held later result
-          → through_tried old new held later result
+          → GoesBy from id rows (claim.Pushes pushes) old new held later result
       proved_goes held_out later result proved tells_line =
-          told_goes (SettlesLevel limit from id) (LeavesLevel from id) (IsTriedAs from id rows) old new (optimal_line id told.pushes told.moves) true held_out later result
+          told_goes (SettlesBy id rows (claim.Pushes pushes)) (leave_of_kept from id) (IsTriedAs from id rows) old new (optimal_line id told.pushes told.moves) true held_out later result
           (changes_leads old new _ (λ clean book holds.
           let (middle, tells, stores) = offered (early clean) book holds in
           let (after, proves, stores_after) = proved clean middle (held mid middle stores) in
@@ -170,26 +249,26 @@ module _ (limit : ℕ) (from id : ℤ) (rows : Rows) where
 
   module _ (old new : State) (unsolvable : IsUnsolvable rows)
       (stop : Stops old new (λ book after. ProvesKnown book (id_number id) claim.Unsolvable after)) where
-    none_solves : (book after : Book) → IsTriedAs from id rows book → ProvesKnown book (id_number id) claim.Unsolvable after
-        → SettlesLevel limit from id book (unsolvable_line id) true after
-    none_solves book after (page, is, same) proves = is_unsolvable page is (subst IsUnsolvable (sym same) unsolvable) proves refl refl
+    none_solves : (book after : Book) → ProvesKnown book (id_number id) claim.Unsolvable after
+        → SettlesBy id rows claim.Unsolvable book (unsolvable_line id) true after
+    none_solves book after proves = (unsolvable, proves, refl, refl)
 
-    may_none : (book after : Book) → ProvesKnown book (id_number id) claim.Unsolvable after → IsTriedAs from id rows book → MaySettle limit from id book after
-    may_none book after proves tried = inr (unsolvable_line id, true, none_solves book after tried proves)
+    may_none : (book after : Book) → ProvesKnown book (id_number id) claim.Unsolvable after → May claim.Unsolvable book after
+    may_none book after proves tried = inr (unsolvable_line id, true, none_solves book after proves)
 
-    none_stops : Stops old new (λ book after. IsTriedAs from id rows book → MaySettle limit from id book after)
+    none_stops : Stops old new (May claim.Unsolvable)
     none_stops = stops_less old new _ _ may_none stop
 
     pub none_unproved_goes : (held : Option (List ℕ)) (fault : BookFault)
         → calls.Keeps old new (λ book. IsOutside fault ⊎ IsNotKnown book (id_number id) rows claim.Unsolvable fault)
         → IsCaused old new (λ book after. ProvesKnown book (id_number id) claim.Unsolvable after) fault
-        → through_tried old new held held (Err (of_book fault))
+        → GoesBy from id rows claim.Unsolvable old new held held (Err (of_book fault))
     none_unproved_goes held fault keeps caused = record {
       turns = λ clean book held_now.
           let (why, holds) = keeps clean book held_now in (
             book,
             λ tried. elim why [
-              | inl outside ↦ left_steps (SettlesLevel limit from id) (LeavesLevel from id) book book held held fault outside (inl refl) (Keeps-refl held)
+              | inl outside ↦ left_steps (SettlesBy id rows claim.Unsolvable) (leave_of_kept from id) book book held held fault outside (inl refl) (Keeps-refl held)
               | inr refused ↦ absurd (never_solved from id rows book fault held_now.0 tried unsolvable refused)
             ],
             holds,
@@ -201,9 +280,9 @@ module _ (limit : ℕ) (from id : ℤ) (rows : Rows) where
 
     pub none_proved_goes : (held later : Option (List ℕ)) (result : Result Bool ToolFault)
         → Changes old new (λ book after. ProvesKnown book (id_number id) claim.Unsolvable after) → TellsLine (unsolvable_line id) true held later result
-        → through_tried old new held later result
+        → GoesBy from id rows claim.Unsolvable old new held later result
     none_proved_goes held later result proved tells =
-        told_goes (SettlesLevel limit from id) (LeavesLevel from id) (IsTriedAs from id rows) old new (unsolvable_line id) true held later result
+        told_goes (SettlesBy id rows claim.Unsolvable) (leave_of_kept from id) (IsTriedAs from id rows) old new (unsolvable_line id) true held later result
         (changes_leads old new _ (λ clean book holds.
-        let (after, proves, stores) = proved clean book holds in (after, λ tried. none_solves book after tried proves, stores)))
+        let (after, proves, stores) = proved clean book holds in (after, λ tried. none_solves book after proves, stores)))
         none_stops tells

@@ -26,7 +26,8 @@ use Rattle.sok_store.proofs.Found.{kept_at, some_of}
 use Rattle.sok_store.proofs.Known.{entry_refused}
 use Rattle.sok_store.proofs.Wide.{wide}
 use Rattle.sok_keep.proofs.Ids.{passed}
-use Rattle.sok_settle.specs.Settles.{LeavesLevel, SettlesLevel, is_passed}
+use Rattle.sok_settle.specs.Keeping.{Keeping}
+use Rattle.sok_settle.specs.Settles.{SettlesLevel, is_passed, leave_of_level}
 use Rattle.sok_settle.specs.Steps.{GoesThrough, IsRecordIn, IsTriedAs, MaySettle, StepsLevel}
 use Rattle.sok_settle.proofs.Going.{book_uncaused, goes_other, left_steps, same_leads}
 
@@ -75,28 +76,28 @@ tried_as from kept rows level text begun untested book of_book is =
     )
 
 -- so it is settled as its level is
-pub read_goes : (limit : ℕ) (from : ℤ) (kept : Record) (rows : Rows) (old new : State) (held later : Option (List ℕ)) (result : Result Bool ToolFault)
+pub read_goes : (keeping : Keeping) (limit : ℕ) (from : ℤ) (kept : Record) (rows : Rows) (old new : State) (held later : Option (List ℕ)) (result : Result Bool ToolFault)
     → IsLevel rows → level_text rows ≡ string_bytes kept.text → (kept.id <ℤ from → ⊥) → kept.verdict ≡ Untested
-    → GoesThrough (IsTriedAs from (passed kept.id) rows) limit from (passed kept.id) old new held later result
-    → GoesThrough (IsRecordIn kept) limit from kept.id old new held later result
-read_goes limit from kept rows old new held later result level text begun untested goes =
+    → GoesThrough (IsTriedAs from (passed kept.id) rows) keeping limit from (passed kept.id) old new held later result
+    → GoesThrough (IsRecordIn kept) keeping limit from kept.id old new held later result
+read_goes keeping limit from kept rows old new held later result level text begun untested goes =
     goes_other old new _ _ _ _
     (λ book after of_book makes is.
     let same = record_passed kept book of_book is in
-    subst (λ i. StepsLevel limit from i book after held later result) same
+    subst (λ i. StepsLevel keeping limit from i book after held later result) same
     (makes (subst (λ i. IsTriedAs from i rows book) (sym same) (tried_as from kept rows level text begun untested book of_book is))))
     (λ book after of_book makes is.
     let same = record_passed kept book of_book is in
-    subst (λ i. MaySettle limit from i book after) same
+    subst (λ i. MaySettle keeping limit from i book after) same
     (makes (subst (λ i. IsTriedAs from i rows book) (sym same) (tried_as from kept rows level text begun untested book of_book is))))
     result goes
 
-module _ (limit : ℕ) (from : ℤ) (kept : Record) (s : State) (held : Option (List ℕ)) where
+module _ (keeping : Keeping) (limit : ℕ) (from : ℤ) (kept : Record) (s : State) (held : Option (List ℕ)) where
   -- a level that comes before the first, or has a verdict, is passed over
   pub passed_goes : ((book : Book) → IsKeptBook book → IsRecordIn kept book → (kept.id <ℤ from) ⊎ (kept.verdict ≢ Untested))
-      → GoesThrough (IsRecordIn kept) limit from kept.id s s held held (Ok true)
+      → GoesThrough (IsRecordIn kept) keeping limit from kept.id s s held held (Ok true)
   passed_goes why =
-      let step : (book : Book) → IsKeptBook book → IsRecordIn kept book → StepsLevel limit from kept.id book book held held (Ok true) = λ book of_book is.
+      let step : (book : Book) → IsKeptBook book → IsRecordIn kept book → StepsLevel keeping limit from kept.id book book held held (Ok true) = λ book of_book is.
       let (page, there, told) = some_of (page_at book (id_number kept.id)) (λ p. IsRecordOf (id_number kept.id) p kept) is in
       let verdict_is : kept.verdict ≡ page.verdict = ap (λ (t : Told). t.texts.verdict) told in
       let other : (kept.id <ℤ from) ⊎ (page.verdict ≢ Untested) = elim (why book of_book is) [
@@ -109,14 +110,14 @@ module _ (limit : ℕ) (from : ℤ) (kept : Record) (s : State) (held : Option (
   -- what is not read of a record was refused for want of memory
   pub unread_goes : (number : ℤ) (fault : BookFault)
       → IsBroken number (λ rows. IsLevel rows × IsAcceptable rows × (level_text rows ≡ string_bytes kept.text)) fault
-      → GoesThrough (IsRecordIn kept) limit from kept.id s s held held (Err (of_book fault))
+      → GoesThrough (IsRecordIn kept) keeping limit from kept.id s s held held (Err (of_book fault))
   unread_goes number fault broken = record {
     turns = λ clean book holds. (
       book,
       λ is.
           let (page, there, told) = some_of (page_at book (id_number kept.id)) (λ p. IsRecordOf (id_number kept.id) p kept) is in
           let memory = entry_refused (id_number kept.id) page (kept_at book (id_number kept.id) page holds.0 there) kept told number fault broken in
-          left_steps (SettlesLevel limit from kept.id) (LeavesLevel from kept.id) book book held held fault (inl memory) (inl refl) (Keeps-refl held),
+          left_steps (SettlesLevel keeping limit from kept.id) (leave_of_level keeping limit from kept.id) book book held held fault (inl memory) (inl refl) (Keeps-refl held),
       holds,
     );
     done = tt;

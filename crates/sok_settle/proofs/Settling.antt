@@ -6,7 +6,9 @@ use Rattle.std.specs.List.{slice_set}
 use Rattle.std.proofs.KnownBytes.{Appends-nil, Keeps-refl}
 use Rattle.sqlite.specs.State.{State, HasCleanDisk}
 use Rattle.sok_rules.specs.declared.cell.Dir.{Dir}
+use Rattle.sok_rules.specs.Squares.{Rows}
 use Rattle.sok_cert.specs.Claim.{Claim}
+use Rattle.sok_cert.specs.Claim.TheVariants as claim
 use Rattle.sok_search.specs.Faults.{IsBadLimit}
 use Rattle.sok_book.specs.declared.fault.BookFault.{BookFault}
 use Rattle.sok_book.specs.declared.record.Offer.{Offer}
@@ -28,7 +30,8 @@ use Rattle.sok_store.proofs.Found.{some_and}
 use Rattle.sok_keep.specs.Causes.{IsCausedFault}
 use Rattle.sok_keep.proofs.Ending.{caused_more}
 use Rattle.sok_settle.specs.Going.{EndsAt, GoesWhere, HasGone, more, none}
-use Rattle.sok_settle.specs.Settles.{EndsSettling, SettlesFirst, SettlesLevel, SettlesSome, WritesSettling, is_optimal, is_passed, is_past_limit, is_too_long, is_unsolvable, level_leave, level_step, settle_status}
+use Rattle.sok_settle.specs.Keeping.{Keeping}
+use Rattle.sok_settle.specs.Settles.{EndsSettling, SettlesBy, SettlesFirst, SettlesLevel, SettlesSome, WritesSettling, is_passed, is_past_limit, is_settled, is_too_long, is_too_much, level_leave, level_step, settle_status}
 use Rattle.sok_settle.specs.Steps.{GoesThrough, IsRecordIn, MaySettle, StaysFrom, StepsLevel}
 use Rattle.sok_settle.proofs.Going.{goes_other}
 use Rattle.sok_settle.proofs.Stepping as stepping
@@ -50,15 +53,20 @@ pub else_proved : (book after : Book) (id : ℕ) (shown : Claim) → ProvesKnown
     → slice_get after m ≡ slice_get book m
 else_proved book after id shown (bytes, proves) m other = ap (λ (b : Book). slice_get b m) proves.after_is ∙ set_else book (id - 1) m _ other
 
-pub else_settled : (limit : ℕ) (from id : ℤ) (book after : Book) (line : List ℕ) (settled : Bool) → SettlesLevel limit from id book line settled after → (m : ℕ)
+else_by : (id : ℤ) (book after : Book) (rows : Rows) (shown : Claim) (line : List ℕ) (settled : Bool) → SettlesBy id rows shown book line settled after → (m : ℕ)
     → (id_number id - 1 ≡ m → ⊥) → slice_get after m ≡ slice_get book m
-else_settled limit from id book after line settled (is_passed page there why says is same) m other = ap (λ (b : Book). slice_get b m) same
-else_settled limit from id book after line settled (is_optimal page best tried it says is) m other =
+else_by id book after rows (claim.Pushes n) line settled (best, count, it, says, is) m other =
     else_proved it.middle after (id_number id) _ it.proved m other ∙ else_offered book it.middle (id_number id) it.letters it.offer it.offered m other
-else_settled limit from id book after line settled (is_unsolvable page tried unsolvable proves says is) m other = else_proved book after (id_number id) _ proves m other
-else_settled limit from id book after line settled (is_past_limit page least tried cut says is same) m other = ap (λ (b : Book). slice_get b m) same
-else_settled limit from id book after line settled (is_too_long page letters pushes tried least many says is same) m other =
+else_by id book after rows claim.Unsolvable line settled (unsolvable, proves, says, is) m other = else_proved book after (id_number id) _ proves m other
+
+pub else_settled : (keeping : Keeping) (limit : ℕ) (from id : ℤ) (book after : Book) (line : List ℕ) (settled : Bool)
+    → SettlesLevel keeping limit from id book line settled after → (m : ℕ) → (id_number id - 1 ≡ m → ⊥) → slice_get after m ≡ slice_get book m
+else_settled keeping limit from id book after line settled (is_passed page there why says is same) m other = ap (λ (b : Book). slice_get b m) same
+else_settled keeping limit from id book after line settled (is_settled page shown tried kept by) m other = else_by id book after page.level shown line settled by m other
+else_settled keeping limit from id book after line settled (is_past_limit page least tried cut says is same) m other = ap (λ (b : Book). slice_get b m) same
+else_settled keeping limit from id book after line settled (is_too_long page letters pushes tried least many says is same) m other =
     ap (λ (b : Book). slice_get b m) same
+else_settled keeping limit from id book after line settled (is_too_much page tried unkept says is same) m other = ap (λ (b : Book). slice_get b m) same
 
 -- ---- the record of a page
 
@@ -95,16 +103,16 @@ record_in book middle records n kept are at stays =
 
 -- ---- level by level
 
-module _ (limit : ℕ) (from : ℤ) where
+module _ (keeping : Keeping) (limit : ℕ) (from : ℤ) where
   -- only pages before a level changed when those before it were gone through
-  first_stays : (book : Book) (n : ℕ) (text : List ℕ) (all : Bool) (after : Book) → SettlesFirst limit from book n text all after → StaysFrom n book after
+  pub first_stays : (book : Book) (n : ℕ) (text : List ℕ) (all : Bool) (after : Book) → SettlesFirst keeping limit from book n text all after → StaysFrom n book after
   first_stays book _ _ _ _ none = λ m behind. refl
   first_stays book _ _ _ _ (more n text line all settled before after first level) = λ m behind.
-      else_settled limit from (pos (n + 1)) before after line settled level m (λ same. omega (arith, behind, same))
+      else_settled keeping limit from (pos (n + 1)) before after line settled level m (λ same. omega (arith, behind, same))
       ∙ first_stays book n text all before first m (omega (arith, behind))
 
   -- at a level at which the call ends it may be as it was
-  pub stays : (n : ℕ) (book : Book) → level_leave from n book book
+  pub stays : (n : ℕ) (book : Book) → (level_leave keeping limit from n).leaves book book
   stays n book = inl refl
 
   module _ (records : List Record) where
@@ -112,24 +120,24 @@ module _ (limit : ℕ) (from : ℤ) where
     ArePages book = AreRecordsOf book records
 
     abbrev pub Gone : State → State → ℕ → Bool → Option (List ℕ) → Option (List ℕ) → Type 0
-    Gone = stepping.Gone (level_step limit from) (level_leave from) stays ArePages
+    Gone = stepping.Gone (level_step keeping limit from) (level_leave keeping limit from) stays ArePages
 
     abbrev pub MayGo : State → State → Type 0
-    MayGo = stepping.MayGo (level_step limit from) (level_leave from) stays ArePages
+    MayGo = stepping.MayGo (level_step keeping limit from) (level_leave keeping limit from) stays ArePages
 
     -- how the call on all levels treats the connection
     abbrev pub GoesOn : State → State → Option (List ℕ) → Option (List ℕ) → Result ℕ ToolFault → Type 0
     GoesOn old new first later result =
-        GoesWhere {X = ℕ} ArePages old new (λ book after. WritesSettling limit from book after first later result) (SettlesSome limit from) result
+        GoesWhere {X = ℕ} ArePages old new (λ book after. WritesSettling keeping limit from book after first later result) (SettlesSome keeping limit from) result
 
     pub gone_none : (s : State) (held_now : Option (List ℕ)) → Gone s s 0 true held_now held_now
-    gone_none = stepping.gone_none (level_step limit from) (level_leave from) stays ArePages
+    gone_none = stepping.gone_none (level_step keeping limit from) (level_leave keeping limit from) stays ArePages
 
     -- all of them were gone through
     pub gone_all : (old new : State) (n : ℕ) (all : Bool) (status : ℕ) (first here : Option (List ℕ)) → n ≡ length records → status ≡ settle_status all
         → Gone old new n all first here → MayGo old new → GoesOn old new first here (Ok status)
     gone_all old new n all status first here end told_status =
-        stepping.gone_all (level_step limit from) (level_leave from) stays ArePages (λ book after. EndsSettling limit from book after first here (Ok status)) old new
+        stepping.gone_all (level_step keeping limit from) (level_leave keeping limit from) stays ArePages (λ book after. EndsSettling keeping limit from book after first here (Ok status)) old new
         n all status first here (λ book after text are written. (end ∙ length-records book records are, refl, told_status, written))
 
     module _ (old mid new : State) (n : ℕ) (all : Bool) (kept : Record) (at : slice_get records n ≡ Some kept) (first here later : Option (List ℕ))
@@ -138,35 +146,35 @@ module _ (limit : ℕ) (from : ℤ) where
       abbrev IsNext : Book → Type 0
       IsNext middle = IsRecordIn kept middle × (kept.id ≡ pos (n + 1))
 
-      link : (book middle : Book) → ArePages book → HasGone (level_step limit from) n all book middle first here → IsNext middle
+      link : (book middle : Book) → ArePages book → HasGone (level_step keeping limit from) n all book middle first here → IsNext middle
       link book middle are it = record_in book middle records n kept are at (first_stays book n it.text all middle it.gone)
 
-      as_next : (result : Result Bool ToolFault) → GoesThrough (IsRecordIn kept) limit from kept.id mid new here later result
-          → GoesThrough IsNext limit from (pos (n + 1)) mid new here later result
+      as_next : (result : Result Bool ToolFault) → GoesThrough (IsRecordIn kept) keeping limit from kept.id mid new here later result
+          → GoesThrough IsNext keeping limit from (pos (n + 1)) mid new here later result
       as_next result goes =
-          goes_other mid new _ _ _ _ (λ book after of_book makes is. subst (λ i. StepsLevel limit from i book after here later result) is.1 (makes is.0))
-          (λ book after of_book makes is. subst (λ i. MaySettle limit from i book after) is.1 (makes is.0)) result goes
+          goes_other mid new _ _ _ _ (λ book after of_book makes is. subst (λ i. StepsLevel keeping limit from i book after here later result) is.1 (makes is.0))
+          (λ book after of_book makes is. subst (λ i. MaySettle keeping limit from i book after) is.1 (makes is.0)) result goes
 
-      pub next_stops : (result : Result Bool ToolFault) → GoesThrough (IsRecordIn kept) limit from kept.id mid new here later result → MayGo old new
+      pub next_stops : (result : Result Bool ToolFault) → GoesThrough (IsRecordIn kept) keeping limit from kept.id mid new here later result → MayGo old new
       next_stops result goes =
-          stepping.next_stops (level_step limit from) (level_leave from) stays ArePages old mid new n all first here later gone stop IsNext link result
+          stepping.next_stops (level_step keeping limit from) (level_leave keeping limit from) stays ArePages old mid new n all first here later gone stop IsNext link result
           (as_next result goes)
 
       -- it was gone through
-      pub gone_more : (settled : Bool) → GoesThrough (IsRecordIn kept) limit from kept.id mid new here later (Ok settled) → Gone old new (n + 1) (all && settled) first later
+      pub gone_more : (settled : Bool) → GoesThrough (IsRecordIn kept) keeping limit from kept.id mid new here later (Ok settled) → Gone old new (n + 1) (all && settled) first later
       gone_more settled goes =
-          stepping.gone_more (level_step limit from) (level_leave from) stays ArePages old mid new n all first here later gone stop IsNext link settled
+          stepping.gone_more (level_step keeping limit from) (level_leave keeping limit from) stays ArePages old mid new n all first here later gone stop IsNext link settled
           (as_next (Ok settled) goes)
 
       -- or the call ends at it
-      pub gone_ended : (fault : ToolFault) → GoesThrough (IsRecordIn kept) limit from kept.id mid new here later (Err fault) → GoesOn old new first later (Err fault)
+      pub gone_ended : (fault : ToolFault) → GoesThrough (IsRecordIn kept) keeping limit from kept.id mid new here later (Err fault) → GoesOn old new first later (Err fault)
       gone_ended fault goes =
-          stepping.gone_ended (level_step limit from) (level_leave from) stays ArePages old mid new n all first here later gone stop IsNext link
-          (λ book after. EndsSettling limit from book after first later (Err fault)) fault
+          stepping.gone_ended (level_step keeping limit from) (level_leave keeping limit from) stays ArePages old mid new n all first here later gone stop IsNext link
+          (λ book after. EndsSettling keeping limit from book after first later (Err fault)) fault
           (λ book after k text every before ends. ended book after k text every before first later fault ends) (as_next (Err fault) goes)
         where
           ended : (book after : Book) (k : ℕ) (text : List ℕ) (every : Bool) (before : Book) (old new : Option (List ℕ)) (f : ToolFault)
-              → EndsAt (level_step limit from k) (level_leave from k) text before after old new f → EndsSettling limit from book after old new (Err f) k text every before
+              → EndsAt (level_step keeping limit from k) (level_leave keeping limit from k) text before after old new f → EndsSettling keeping limit from book after old new (Err f) k text every before
           ended book after k text every before old new tool.BadLimit never = absurd never
           ended book after k text every before old new f ends = ends
 
@@ -177,12 +185,12 @@ module _ (limit : ℕ) (from : ℤ) where
       early : HasCleanDisk new → HasCleanDisk mid
       early clean = omega (arith, clean, goes.stop.clean)
 
-      pub whole_stops : Stops old new (SettlesSome limit from)
-      whole_stops = stops_later old mid new (SettlesSome limit from) one _ (λ clean db made book shows.
+      pub whole_stops : Stops old new (SettlesSome keeping limit from)
+      whole_stops = stops_later old mid new (SettlesSome keeping limit from) one _ (λ clean db made book shows.
           let (are, stores) = found (early clean) book (held_shown old book shows) in
           let (after, makes, has) = made book (shown mid book stores) in (after, makes are, has)) goes.stop
 
-      pub whole_turns : Turns old new (λ book after. WritesSettling limit from book after first later result)
+      pub whole_turns : Turns old new (λ book after. WritesSettling keeping limit from book after first later result)
       whole_turns clean book holds =
           let (are, stores) = found (early clean) book holds in
           let (after, makes, holds_after) = goes.turns clean book (held mid book stores) in (after, makes are, holds_after)
@@ -190,18 +198,18 @@ module _ (limit : ℕ) (from : ℤ) where
       pub whole_open : OnOk result (EndsOpen old new)
       whole_open = go result goes.done
         where
-          go : (r : Result ℕ ToolFault) → OnOk r (Carries mid new (λ book after. AreRecordsOf book records → WritesSettling limit from book after first later result))
+          go : (r : Result ℕ ToolFault) → OnOk r (Carries mid new (λ book after. AreRecordsOf book records → WritesSettling keeping limit from book after first later result))
               → OnOk r (EndsOpen old new)
           go (Ok status) done = λ clean book holds.
               let (are, stores) = found (early clean) book holds in
               let (after, makes, shows_after, up) = done clean book (shown mid book stores) in up stores.1.0
           go (Err fault) done = tt
 
-      pub whole_caused : IfErr result (IsCausedFault old new (SettlesSome limit from))
+      pub whole_caused : IfErr result (IsCausedFault old new (SettlesSome keeping limit from))
       whole_caused = go result goes.cause
         where
-          go : (r : Result ℕ ToolFault) → IfErr r (IsCausedFault mid new (λ book after. AreRecordsOf book records → SettlesSome limit from book after))
-              → IfErr r (IsCausedFault old new (SettlesSome limit from))
+          go : (r : Result ℕ ToolFault) → IfErr r (IsCausedFault mid new (λ book after. AreRecordsOf book records → SettlesSome keeping limit from book after))
+              → IfErr r (IsCausedFault old new (SettlesSome keeping limit from))
           go (Ok status) cause = tt
           go (Err fault) cause = λ told_fault same clean book holds.
               let (are, stores) = found (early clean) book holds in
@@ -214,7 +222,7 @@ module _ (limit : ℕ) (from : ℤ) where
 
   -- the limit is refused
   pub bad_turns : (s : State) (held_now : Option (List ℕ)) → IsBadLimit limit
-      → Turns s s (λ book after. WritesSettling limit from book after held_now held_now (Err tool.BadLimit))
+      → Turns s s (λ book after. WritesSettling keeping limit from book after held_now held_now (Err tool.BadLimit))
   bad_turns s held_now bad clean book holds = (
     book,
     record { count = 0; text = []; all = true; before = book; gone = none; ended = (bad, refl, refl, Keeps-refl held_now) },
@@ -223,17 +231,17 @@ module _ (limit : ℕ) (from : ℤ) where
 
   -- the levels are not read, for a cause outside
   unlisted : (book : Book) (held_now : Option (List ℕ)) (fault : BookFault) → IsOutside fault
-      → WritesSettling limit from book book held_now held_now (Err (of_book fault))
-  unlisted book held_now fault (inl memory) = subst (λ f. WritesSettling limit from book book held_now held_now (Err (of_book f))) (sym memory)
+      → WritesSettling keeping limit from book book held_now held_now (Err (of_book fault))
+  unlisted book held_now fault (inl memory) = subst (λ f. WritesSettling keeping limit from book book held_now held_now (Err (of_book f))) (sym memory)
       (record { count = 0; text = []; all = true; before = book; gone = none; ended = (inl refl, Appends-nil held_now) })
-  unlisted book held_now fault (inr database) = subst (λ f. WritesSettling limit from book book held_now held_now (Err (of_book f))) (sym database)
+  unlisted book held_now fault (inr database) = subst (λ f. WritesSettling keeping limit from book book held_now held_now (Err (of_book f))) (sym database)
       (record { count = 0; text = []; all = true; before = book; gone = none; ended = (inl refl, Appends-nil held_now) })
 
   pub unlisted_turns : (old new : State) (held_now : Option (List ℕ)) (fault : BookFault) → calls.Keeps old new (λ _. IsOutside fault)
-      → Turns old new (λ book after. WritesSettling limit from book after held_now held_now (Err (of_book fault)))
+      → Turns old new (λ book after. WritesSettling keeping limit from book after held_now held_now (Err (of_book fault)))
   unlisted_turns old new held_now fault keeps clean book holds =
       let (why, after) = keeps clean book holds in (book, unlisted book held_now fault why, after)
 
   pub unlisted_caused : (old new : State) (fault : BookFault) → IsCaused old new MakesNone fault
-      → IsCausedFault old new (SettlesSome limit from) (of_book fault)
-  unlisted_caused old new fault caused = caused_more old new (SettlesSome limit from) MakesNone (λ book after none_made. absurd none_made) fault caused
+      → IsCausedFault old new (SettlesSome keeping limit from) (of_book fault)
+  unlisted_caused old new fault caused = caused_more old new (SettlesSome keeping limit from) MakesNone (λ book after none_made. absurd none_made) fault caused

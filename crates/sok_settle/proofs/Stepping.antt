@@ -1,5 +1,5 @@
 -- Steps that are gone one after another.
-use Rattle.std.proofs.Common.{ℕ, ◌+◌, ◌&&◌, inl, inr, List, [], ◌++◌, Option, Result, Ok, Err, Bool, true, IfErr, arith, take}
+use Rattle.std.proofs.Common.{ℕ, ◌+◌, ◌&&◌, inl, inr, List, [], ◌++◌, Option, Result, Ok, Err, Bool, true, IfErr, arith, subst, sym, take}
 use Rattle.std.specs.Io.KnownBytes.{Appends}
 use Rattle.std.proofs.KnownBytes.{Appends-kept, Appends-nil, Appends-trans}
 use Rattle.sqlite.specs.State.{State, HasCleanDisk}
@@ -21,7 +21,7 @@ module _ (StepAt : ℕ → Step) (LeaveAt : ℕ → Leave) where
   -- ---- commands
 
   module _ (by_step : (n : ℕ) (book before after : Book) (line : List ℕ) (well : Bool) → IsMadeOf book before → StepAt n before line well after → IsMadeOf book after)
-      (by_leave : (n : ℕ) (book before after : Book) → IsMadeOf book before → LeaveAt n before after → IsMadeOf book after) where
+      (by_leave : (n : ℕ) (book before after : Book) → IsMadeOf book before → (LeaveAt n).leaves before after → IsMadeOf book after) where
     first_made : (book : Book) (n : ℕ) (text : List ℕ) (all : Bool) (after : Book) → GoesFirst StepAt book n text all after → IsMadeOf book after
     first_made book _ _ _ _ none = histories.none
     first_made book _ _ _ _ (more n text line all well before after first step) =
@@ -33,12 +33,14 @@ module _ (StepAt : ℕ → Step) (LeaveAt : ℕ → Leave) where
 
   -- ---- one step more
 
-  module _ (stays : (n : ℕ) (book : Book) → LeaveAt n book book) where
+  module _ (stays : (n : ℕ) (book : Book) → (LeaveAt n).leaves book book) where
     -- however the call ends at a step, some of them were gone
     pub ends_some : (book before after : Book) (n : ℕ) (text : List ℕ) (all : Bool) (old new : Option (List ℕ)) (fault : ToolFault)
         → GoesFirst StepAt book n text all before → EndsAt (StepAt n) (LeaveAt n) text before after old new fault → GoesSome StepAt LeaveAt book after
-    ends_some book before after n text all old new tool.WriteFailed first (line, well, step, front) =
+    ends_some book before after n text all old new tool.WriteFailed first (inl (line, well, step, front)) =
         (n + 1, text ++ line, all && well, after, more n text line all well before after first step, stays (n + 1) after)
+    ends_some book before after n text all old new tool.WriteFailed first (inr (why, same, written)) =
+        (n, text, all, before, first, subst (λ b. (LeaveAt n).leaves before b) (sym same) (stays n before))
     ends_some book before after n text all old new tool.Memory first (left, written) = (n, text, all, before, first, left)
     ends_some book before after n text all old new (tool.Book refusal.Database) first (left, written) = (n, text, all, before, first, left)
     ends_some book before after n text all old new fault first never = absurd never
@@ -62,8 +64,10 @@ module _ (StepAt : ℕ → Step) (LeaveAt : ℕ → Leave) where
     ends_at : (book middle after : Book) (n : ℕ) (all : Bool) (first here later : Option (List ℕ)) (fault : ToolFault)
         → (it : HasGone StepAt n all book middle first here) → StepsOnce (StepAt n) (LeaveAt n) middle after here later (Err fault)
         → EndsAt (StepAt n) (LeaveAt n) it.text middle after first later fault
-    ends_at book middle after n all first here later tool.WriteFailed it (line, well, step, (k, under, front)) =
-        (line, well, step, (k, under, Appends-trans first here later it.text (take k line) it.written front))
+    ends_at book middle after n all first here later tool.WriteFailed it (inl (line, well, step, (k, under, front))) =
+        inl (line, well, step, (k, under, Appends-trans first here later it.text (take k line) it.written front))
+    ends_at book middle after n all first here later tool.WriteFailed it (inr (why, same, keeps)) =
+        inr (why, same, Appends-kept first here later it.text it.written keeps)
     ends_at book middle after n all first here later tool.Memory it (left, keeps) = (left, Appends-kept first here later it.text it.written keeps)
     ends_at book middle after n all first here later (tool.Book refusal.Database) it (left, keeps) =
         (left, Appends-kept first here later it.text it.written keeps)

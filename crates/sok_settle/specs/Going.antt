@@ -1,5 +1,5 @@
 -- Steps on a book, one after another, each told in a line, and how a call that goes through them ends. The proof's own: how it treats the connection.
-use Rattle.std.specs.Prelude.{ℕ, ◌⊎◌, ◌+◌, ◌<◌, ◌&&◌, List, [], ◌++◌, Option, Bool, true, Result, Ok, Err, IfErr, OnOk, length, take}
+use Rattle.std.specs.Prelude.{ℕ, ◌≡◌, ◌⊎◌, ◌+◌, ◌<◌, ◌&&◌, List, [], ◌++◌, Option, Bool, true, Result, Ok, Err, IfErr, OnOk, length, take}
 use Rattle.std.specs.Io.KnownBytes.{Appends, Keeps}
 use Rattle.sqlite.specs.State.{State}
 use Rattle.sok_book.specs.declared.fault.BookFault.TheVariants as refusal
@@ -14,9 +14,11 @@ use Rattle.sok_keep.specs.Causes.{IsCausedFault}
 abbrev pub Step : Type 1
 Step = Book → List ℕ → Bool → Book → Type 0
 
--- what a call that ends at a step leaves of the book before it
-abbrev pub Leave : Type 1
-Leave = Book → Book → Type 0
+-- how a call may end at a step, with nothing of its line written: what it leaves of the book before it, unless a write failed; and of which books one may
+-- fail, which are left as they were
+pub record Leave : Type 1 where
+  pub leaves : Book → Book → Type 0
+  pub unwritten : Book → Type 0
 
 -- so many steps were gone, the first ones, one after another, with these lines, and each of them is well done, or not each
 pub data GoesFirst (StepAt : ℕ → Step) (book : Book) : ℕ → List ℕ → Bool → Book → Type 0 where
@@ -27,18 +29,19 @@ pub data GoesFirst (StepAt : ℕ → Step) (book : Book) : ℕ → List ℕ → 
 -- the first steps were gone, one or more of them, or none, and then the call ended
 abbrev pub GoesSome : (ℕ → Step) → (ℕ → Leave) → Book → Book → Type 0
 GoesSome StepAt LeaveAt book after =
-    (n : ℕ) × (text : List ℕ) × (all : Bool) × (before : Book) × GoesFirst StepAt book n text all before × LeaveAt n before after
+    (n : ℕ) × (text : List ℕ) × (all : Bool) × (before : Book) × GoesFirst StepAt book n text all before × (LeaveAt n).leaves before after
 
 -- a front of the line of one more step was written behind the lines before it, and not all of it
 abbrev pub BreaksOff : List ℕ → List ℕ → Option (List ℕ) → Option (List ℕ) → Type 0
 BreaksOff text line old new = (n : ℕ) × (n < length line) × Appends old new (text ++ take n line)
 
--- How a call ends at a step, behind the lines of those before it. A write failed in its line; or memory or the database was refused at it.
+-- How a call ends at a step, behind the lines of those before it. A write failed, in its line or before it; or memory or the database was refused at it.
 abbrev pub EndsAt : Step → Leave → List ℕ → Book → Book → Option (List ℕ) → Option (List ℕ) → ToolFault → Type 0
 EndsAt One Left text before after old new tool.WriteFailed =
-    (line : List ℕ) × (well : Bool) × One before line well after × BreaksOff text line old new
-EndsAt One Left text before after old new tool.Memory = Left before after × Appends old new text
-EndsAt One Left text before after old new (tool.Book refusal.Database) = Left before after × Appends old new text
+    ((line : List ℕ) × (well : Bool) × One before line well after × BreaksOff text line old new)
+    ⊎ (Left.unwritten before × (after ≡ before) × Appends old new text)
+EndsAt One Left text before after old new tool.Memory = Left.leaves before after × Appends old new text
+EndsAt One Left text before after old new (tool.Book refusal.Database) = Left.leaves before after × Appends old new text
 EndsAt One Left text before after old new fault = ⊥
 
 -- the first steps were gone, and how the call ended behind them
@@ -55,14 +58,16 @@ pub record GoesUntil (StepAt : ℕ → Step) (Ends : ℕ → List ℕ → Bool �
 -- it was gone, and its line was written, or a front of it; or the call ends at it, with nothing written
 abbrev pub StepsOnce : Step → Leave → Book → Book → Option (List ℕ) → Option (List ℕ) → Result Bool ToolFault → Type 0
 StepsOnce One Left book after old new (Ok well) = (line : List ℕ) × One book line well after × Appends old new line
-StepsOnce One Left book after old new (Err tool.WriteFailed) = (line : List ℕ) × (well : Bool) × One book line well after × AppendsFront old new line
-StepsOnce One Left book after old new (Err tool.Memory) = Left book after × Keeps old new
-StepsOnce One Left book after old new (Err (tool.Book refusal.Database)) = Left book after × Keeps old new
+StepsOnce One Left book after old new (Err tool.WriteFailed) =
+    ((line : List ℕ) × (well : Bool) × One book line well after × AppendsFront old new line)
+    ⊎ (Left.unwritten book × (after ≡ book) × Keeps old new)
+StepsOnce One Left book after old new (Err tool.Memory) = Left.leaves book after × Keeps old new
+StepsOnce One Left book after old new (Err (tool.Book refusal.Database)) = Left.leaves book after × Keeps old new
 StepsOnce One Left book after old new (Err fault) = ⊥
 
 -- what is made of the book meanwhile
 abbrev pub MayStep : Step → Leave → Book → Book → Type 0
-MayStep One Left book after = Left book after ⊎ ((line : List ℕ) × (well : Bool) × One book line well after)
+MayStep One Left book after = Left.leaves book after ⊎ ((line : List ℕ) × (well : Bool) × One book line well after)
 
 -- ---- the connection
 

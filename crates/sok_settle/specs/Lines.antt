@@ -25,6 +25,11 @@ TellsLine line well old new (Err fault) = (fault ≡ tool.WriteFailed) × Append
 abbrev pub TellsFault : ℤ → ToolFault → Option (List ℕ) → Option (List ℕ) → Result Bool ToolFault → Type 0
 TellsFault id fault old new result = ((result ≡ Err tool.Memory) × Keeps old new) ⊎ TellsLine (fault_line id fault) false old new result
 
+-- so it is where the certificate of a level is too long; another fault of it ends the call
+abbrev pub TellsUnkept : ℤ → ToolFault → Option (List ℕ) → Option (List ℕ) → Result Bool ToolFault → Type 0
+TellsUnkept id tool.TooMuch old new result = TellsFault id tool.TooMuch old new result
+TellsUnkept id fault old new result = (result ≡ Err fault) × Keeps old new
+
 -- so it is where a text does not spell letters; want of memory is not told, and ends the call
 abbrev pub TellsUnread : ℤ → LurdFault → Option (List ℕ) → Option (List ℕ) → Result Bool ToolFault → Type 0
 TellsUnread id fault old new result =

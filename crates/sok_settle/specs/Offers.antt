@@ -46,9 +46,9 @@ pub data AnswersOffer (id : ℤ) (text : List ℕ) (book : Book) (told : List �
 abbrev pub line_step : List (List ℕ) → ℕ → Step
 line_step ls n book told taken after = IsSomeAnd (slice_get ls n) (λ line. AnswersOffer (line_id line) (line_text line) book told taken after)
 
--- at a line at which the call ends the book stays
+-- at a line at which the call ends the book stays, and no write fails before the line
 abbrev pub Stays : Leave
-Stays before after = after ≡ before
+Stays = record { leaves = λ before after. after ≡ before; unwritten = λ before. ⊥ }
 
 -- the first of these lines were offered, one or more of them, or none
 abbrev pub OffersSome : List (List ℕ) → Book → Book → Type 0

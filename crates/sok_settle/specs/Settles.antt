@@ -7,6 +7,7 @@ use Rattle.sok_rules.specs.declared.fault.PlayFault.TheVariants as play
 use Rattle.sok_rules.specs.Limits.{letter_limit}
 use Rattle.sok_rules.specs.Squares.{Rows}
 use Rattle.sok_rules.specs.Play.{IsFewest, IsUnsolvable}
+use Rattle.sok_cert.specs.Claim.{Claim}
 use Rattle.sok_cert.specs.Claim.TheVariants as claim
 use Rattle.sok_search.specs.Faults.{IsBadLimit}
 use Rattle.sok_search.specs.Outcomes.{IsCutShort, IsLeastSolution}
@@ -21,6 +22,7 @@ use Rattle.sok_store.specs.Calls.{id_number}
 use Rattle.sok_store.specs.Known.{ProvesKnown}
 use Rattle.sok_keep.specs.Offers.{HasBest}
 use Rattle.sok_settle.specs.Going.{EndsAt, GoesFirst, GoesSome, GoesUntil, Leave, Step}
+use Rattle.sok_settle.specs.Keeping.{IsKept, IsUnkept, Keeping}
 use Rattle.sok_settle.specs.Lines.{fault_line}
 
 -- the line of a level whose best has the fewest pushes
@@ -57,18 +59,28 @@ pub record IsOptimal (id : ℤ) (book : Book) (rows : Rows) (best : Solution) (a
   pub has : HasBest after (id_number id) best
   pub fewest : IsFewest rows best.pushes
 
--- The level with an id is passed over, as it comes before the first or has a verdict; or it is tried, and settled or not. This is its line.
-pub data SettlesLevel (limit : ℕ) (from id : ℤ) (book : Book) (line : List ℕ) (settled : Bool) (after : Book) : Type 0 where
+-- The level with an id, which has these rows, is settled by a claim, and this is its line: its best has as many pushes as are claimed, and none have fewer; or
+-- none solve it.
+abbrev pub SettlesBy : ℤ → Rows → Claim → Step
+SettlesBy id rows (claim.Pushes n) book line settled after =
+    (best : Solution) × (best.pushes ≡ n) × IsOptimal id book rows best after × (line ≡ optimal_line id best.pushes best.moves) × (settled ≡ true)
+SettlesBy id rows claim.Unsolvable book line settled after =
+    IsUnsolvable rows × ProvesKnown book (id_number id) claim.Unsolvable after × (line ≡ unsolvable_line id) × (settled ≡ true)
+
+-- The level with an id is passed over, as it comes before the first or has a verdict; or it is tried, and settled, once a certificate of its claim is kept, or
+-- not. This is its line.
+pub data SettlesLevel (keeping : Keeping) (limit : ℕ) (from id : ℤ) (book : Book) (line : List ℕ) (settled : Bool) (after : Book) : Type 0 where
   is_passed : (page : Page) → page_at book (id_number id) ≡ Some page → (id <ℤ from) ⊎ (page.verdict ≢ Untested) → line ≡ [] → settled ≡ true
-      → after ≡ book → SettlesLevel limit from id book line settled after
-  is_optimal : (page : Page) (best : Solution) → IsTried from id book page → IsOptimal id book page.level best after
-      → line ≡ optimal_line id best.pushes best.moves → settled ≡ true → SettlesLevel limit from id book line settled after
-  is_unsolvable : (page : Page) → IsTried from id book page → IsUnsolvable page.level → ProvesKnown book (id_number id) claim.Unsolvable after
-      → line ≡ unsolvable_line id → settled ≡ true → SettlesLevel limit from id book line settled after
+      → after ≡ book → SettlesLevel keeping limit from id book line settled after
+  is_settled : (page : Page) (shown : Claim) → IsTried from id book page → IsKept keeping limit id page.level shown
+      → SettlesBy id page.level shown book line settled after → SettlesLevel keeping limit from id book line settled after
   is_past_limit : (page : Page) (least : ℕ) → IsTried from id book page → IsCutShort page.level limit limit least → line ≡ limit_line id limit least
-      → settled ≡ false → after ≡ book → SettlesLevel limit from id book line settled after
+      → settled ≡ false → after ≡ book → SettlesLevel keeping limit from id book line settled after
   is_too_long : (page : Page) (letters : List Dir) (pushes : ℕ) → IsTried from id book page → IsLeastSolution page.level letters pushes
-      → letter_limit < length letters → line ≡ fault_line id too_long → settled ≡ false → after ≡ book → SettlesLevel limit from id book line settled after
+      → letter_limit < length letters → line ≡ fault_line id too_long → settled ≡ false → after ≡ book
+      → SettlesLevel keeping limit from id book line settled after
+  is_too_much : (page : Page) → IsTried from id book page → IsUnkept keeping limit id page.level tool.TooMuch → line ≡ fault_line id tool.TooMuch
+      → settled ≡ false → after ≡ book → SettlesLevel keeping limit from id book line settled after
 
 -- the call ended at the level with an id: it is as it was, or letters that solve it were offered
 abbrev pub LeavesLevel : ℤ → ℤ → Book → Book → Type 0
@@ -76,20 +88,27 @@ LeavesLevel from id book after =
     (after ≡ book)
     ⊎ ((page : Page) × IsTried from id book page × (letters : List Dir) × (offer : Offer) × Offers book (id_number id) letters offer after)
 
--- the levels are gone through in order of their ids, which count from 1
-abbrev pub level_step : ℕ → ℤ → ℕ → Step
-level_step limit from n = SettlesLevel limit from (pos (n + 1))
+-- so it may end there; or its certificate can't be written
+abbrev pub leave_of_level : Keeping → ℕ → ℤ → ℤ → Leave
+leave_of_level keeping limit from id = record {
+  leaves = LeavesLevel from id;
+  unwritten = λ book. (page : Page) × IsTried from id book page × IsUnkept keeping limit id page.level tool.WriteFailed;
+}
 
-abbrev pub level_leave : ℤ → ℕ → Leave
-level_leave from n = LeavesLevel from (pos (n + 1))
+-- the levels are gone through in order of their ids, which count from 1
+abbrev pub level_step : Keeping → ℕ → ℤ → ℕ → Step
+level_step keeping limit from n = SettlesLevel keeping limit from (pos (n + 1))
+
+abbrev pub level_leave : Keeping → ℕ → ℤ → ℕ → Leave
+level_leave keeping limit from n = leave_of_level keeping limit from (pos (n + 1))
 
 -- so many levels were gone through, the first ones, one after another, with these lines, and each of them that was tried is settled, or not each
-abbrev pub SettlesFirst : ℕ → ℤ → Book → ℕ → List ℕ → Bool → Book → Type 0
-SettlesFirst limit from = GoesFirst (level_step limit from)
+abbrev pub SettlesFirst : Keeping → ℕ → ℤ → Book → ℕ → List ℕ → Bool → Book → Type 0
+SettlesFirst keeping limit from = GoesFirst (level_step keeping limit from)
 
 -- the first levels were settled, or not, one or more of them, or none, and then the call ended
-abbrev pub SettlesSome : ℕ → ℤ → Book → Book → Type 0
-SettlesSome limit from = GoesSome (level_step limit from) (level_leave from)
+abbrev pub SettlesSome : Keeping → ℕ → ℤ → Book → Book → Type 0
+SettlesSome keeping limit from = GoesSome (level_step keeping limit from) (level_leave keeping limit from)
 
 abbrev pub settle_status : Bool → ℕ
 settle_status true = 0
@@ -97,13 +116,14 @@ settle_status false = 4
 
 -- How the call ends behind so many levels, with these lines, which were written. All levels were gone through; or the limit was refused; or it ends at the
 -- next level.
-abbrev pub EndsSettling : ℕ → ℤ → Book → Book → Option (List ℕ) → Option (List ℕ) → Result ℕ ToolFault → ℕ → List ℕ → Bool → Book → Type 0
-EndsSettling limit from book after old new (Ok status) n text all before =
+abbrev pub EndsSettling : Keeping → ℕ → ℤ → Book → Book → Option (List ℕ) → Option (List ℕ) → Result ℕ ToolFault → ℕ → List ℕ → Bool → Book → Type 0
+EndsSettling keeping limit from book after old new (Ok status) n text all before =
     (n ≡ length book) × (after ≡ before) × (status ≡ settle_status all) × Appends old new text
-EndsSettling limit from book after old new (Err tool.BadLimit) n text all before = IsBadLimit limit × (n ≡ 0) × (after ≡ book) × Keeps old new
-EndsSettling limit from book after old new (Err fault) n text all before =
-    EndsAt (level_step limit from n) (level_leave from n) text before after old new fault
+EndsSettling keeping limit from book after old new (Err tool.BadLimit) n text all before = IsBadLimit limit × (n ≡ 0) × (after ≡ book) × Keeps old new
+EndsSettling keeping limit from book after old new (Err fault) n text all before =
+    EndsAt (level_step keeping limit from n) (level_leave keeping limit from n) text before after old new fault
 
 -- the first levels were gone through, and how it ended then
-abbrev pub WritesSettling : ℕ → ℤ → Book → Book → Option (List ℕ) → Option (List ℕ) → Result ℕ ToolFault → Type 0
-WritesSettling limit from book after old new result = GoesUntil (level_step limit from) (EndsSettling limit from book after old new result) book
+abbrev pub WritesSettling : Keeping → ℕ → ℤ → Book → Book → Option (List ℕ) → Option (List ℕ) → Result ℕ ToolFault → Type 0
+WritesSettling keeping limit from book after old new result =
+    GoesUntil (level_step keeping limit from) (EndsSettling keeping limit from book after old new result) book

@@ -2,29 +2,39 @@
 use Rattle.std.specs.Prelude.{ℕ, ℤ, ◌≡◌, ◌≤◌, List, Bool, Option, Result, IsSomeAnd, slice_get}
 use Rattle.sqlite.specs.State.{State}
 use Rattle.sok_rules.specs.Squares.{Rows}
+use Rattle.sok_cert.specs.Claim.{Claim}
 use Rattle.sok_book.specs.Books.{Book, Page, page_at}
 use Rattle.sok_page.specs.declared.record.Record.{Record}
 use Rattle.sok_row.specs.Told.{IsRecordOf}
 use Rattle.sok_engine.specs.declared.fault.ToolFault.{ToolFault}
 use Rattle.sok_store.specs.Calls.{id_number}
-use Rattle.sok_settle.specs.Going.{GoesStep, MayStep, StepsOnce}
-use Rattle.sok_settle.specs.Settles.{IsTried, LeavesLevel, SettlesLevel}
+use Rattle.sok_settle.specs.Going.{GoesStep, Leave, MayStep, StepsOnce}
+use Rattle.sok_settle.specs.Keeping.{Keeping}
+use Rattle.sok_settle.specs.Settles.{IsTried, LeavesLevel, SettlesBy, SettlesLevel, leave_of_level}
 
 -- a level was gone through, and its line was written, or a front of it; or the call ends at it, with nothing written
-abbrev pub StepsLevel : ℕ → ℤ → ℤ → Book → Book → Option (List ℕ) → Option (List ℕ) → Result Bool ToolFault → Type 0
-StepsLevel limit from id = StepsOnce (SettlesLevel limit from id) (LeavesLevel from id)
+abbrev pub StepsLevel : Keeping → ℕ → ℤ → ℤ → Book → Book → Option (List ℕ) → Option (List ℕ) → Result Bool ToolFault → Type 0
+StepsLevel keeping limit from id = StepsOnce (SettlesLevel keeping limit from id) (leave_of_level keeping limit from id)
 
 -- what is made of the book meanwhile
-abbrev pub MaySettle : ℕ → ℤ → ℤ → Book → Book → Type 0
-MaySettle limit from id = MayStep (SettlesLevel limit from id) (LeavesLevel from id)
+abbrev pub MaySettle : Keeping → ℕ → ℤ → ℤ → Book → Book → Type 0
+MaySettle keeping limit from id = MayStep (SettlesLevel keeping limit from id) (leave_of_level keeping limit from id)
 
 -- how a call that goes through the level with an id treats the connection, of the books of which something is true
-abbrev pub GoesThrough : (Book → Type 0) → ℕ → ℤ → ℤ → State → State → Option (List ℕ) → Option (List ℕ) → Result Bool ToolFault → Type 0
-GoesThrough P limit from id = GoesStep P (SettlesLevel limit from id) (LeavesLevel from id)
+abbrev pub GoesThrough : (Book → Type 0) → Keeping → ℕ → ℤ → ℤ → State → State → Option (List ℕ) → Option (List ℕ) → Result Bool ToolFault → Type 0
+GoesThrough P keeping limit from id = GoesStep P (SettlesLevel keeping limit from id) (leave_of_level keeping limit from id)
 
 -- the level with an id is tried, and has these rows
 abbrev pub IsTriedAs : ℤ → ℤ → Rows → Book → Type 0
 IsTriedAs from id rows book = (page : Page) × IsTried from id book page × (page.level ≡ rows)
+
+-- how the call may end at a level of which a certificate is kept
+abbrev pub leave_of_kept : ℤ → ℤ → Leave
+leave_of_kept from id = record { leaves = LeavesLevel from id; unwritten = λ book. ⊥ }
+
+-- how a call treats the connection that settles such a level by its claim
+abbrev pub GoesBy : ℤ → ℤ → Rows → Claim → State → State → Option (List ℕ) → Option (List ℕ) → Result Bool ToolFault → Type 0
+GoesBy from id rows shown = GoesStep (IsTriedAs from id rows) (SettlesBy id rows shown) (leave_of_kept from id)
 
 -- this is the record of a level
 abbrev pub IsRecordIn : Record → Book → Type 0

@@ -1,18 +1,22 @@
 //! Laws of a book of which levels were settled, or to which lines were offered.
 
 ghost use Rattle.sok_settle.specs.Laws.{OffersAreSome, OffersFold, OffersKeepTruth};
-ghost use Rattle.sok_settle.specs.Laws.{SettledHaveVerdicts, SettlingsAreSome, SettlingsFold};
-ghost use Rattle.sok_settle.specs.Laws.{SettlingsKeepTruth, SettlingsKeepVerdicts};
+ghost use Rattle.sok_settle.specs.Laws.{SettledHaveCerts, SettledHaveVerdicts, SettlingsAreSome};
+ghost use Rattle.sok_settle.specs.Laws.{SettlingsFold, SettlingsKeepTruth, SettlingsKeepVerdicts};
+
+use crate::certs::Certs;
 
 /// Whatever was settled of a book, it is what accepted commands make of it, one after another. A
 /// true book stays true. A level that comes before the first, or that had a verdict, is as it was.
-/// Where each level that was tried is settled, each has a verdict, from the first on.
-pub fn settled_books_are_made_by_commands()
-    ensures some { SettlingsAreSome }
-    ensures folded { SettlingsFold }
-    ensures truth { SettlingsKeepTruth }
-    ensures kept { SettlingsKeepVerdicts }
-    ensures settled { SettledHaveVerdicts }
+/// Where each level that was tried is settled, each has a verdict, from the first on. Of each that
+/// got its verdict then a certificate was kept, wherever certificates go.
+pub fn settled_books_are_made_by_commands<C: Certs>(certs: &C)
+    ensures some { SettlingsAreSome (C.keeping certs.now) }
+    ensures folded { SettlingsFold (C.keeping certs.now) }
+    ensures truth { SettlingsKeepTruth (C.keeping certs.now) }
+    ensures kept { SettlingsKeepVerdicts (C.keeping certs.now) }
+    ensures settled { SettledHaveVerdicts (C.keeping certs.now) }
+    ensures certified { SettledHaveCerts (C.keeping certs.now) }
 {}
 
 /// Whatever lines were offered to a book, it is what accepted commands make of it, one after another.

@@ -1,6 +1,6 @@
 //! One level of a book is settled.
 
-ghost use Rattle.std.specs.Prelude.{ℕ, ℤ, ◌≡◌, ◌≤◌, ◌<◌, ◌<ℤ◌, false, length, ⊤};
+ghost use Rattle.std.specs.Prelude.{ℤ, ◌≡◌, ◌≤◌, ◌<◌, ◌<ℤ◌, false, length};
 ghost use Rattle.sqlite.specs.Held.{state};
 ghost use Rattle.sok_rules.specs.Limits.{letter_limit};
 ghost use Rattle.sok_rules.specs.Play.{IsUnsolvable};
@@ -9,9 +9,10 @@ ghost use Rattle.sok_cert.specs.Claim.TheVariants as claim;
 ghost use Rattle.sok_search.specs.Faults.{IsBadLimit};
 ghost use Rattle.sok_search.specs.Outcomes.{IsLeastSolution, IsShown};
 ghost use Rattle.sok_store.specs.Known.{IsCertified};
-ghost use Rattle.sok_settle.specs.Steps.{GoesThrough, IsRecordIn, IsTriedAs};
+ghost use Rattle.sok_settle.specs.Steps.{GoesBy, GoesThrough, IsRecordIn, IsTriedAs};
 
-use crate::line::{limit_line, optimal_line, tell, tell_fault, unsolvable_line};
+use crate::certs::Certs;
+use crate::line::{limit_line, optimal_line, tell, tell_fault, tell_unkept, unsolvable_line};
 use crate::search::search;
 use sok_book::fault::BookFault;
 use sok_book::offering::LETTER_LIMIT;
@@ -31,91 +32,110 @@ use std::io::Write;
 
 /// Settles a level that nothing is proved of, from the first on, and gives whether it is settled.
 /// Others are passed over: they have a verdict, or come before.
-pub(crate) fn settle_kept<S: Alter, W: Write>(
+pub(crate) fn settle_kept<S: Alter, C: Certs, W: Write>(
     alloc: Global,
     book: &mut Book<S>,
     limit: u32,
     from: i64,
     kept: &Record,
+    certs: &C,
     out: &mut W,
 ) -> Result<bool, ToolFault>
     requires { IsBadLimit limit → ⊥ }
-    ensures { GoesThrough (IsRecordIn kept.now) limit from kept.now.id (state S.Store book.old)
-        (state S.Store book.new) (W.contents out.old) (W.contents out.new) result }
+    ensures { GoesThrough (IsRecordIn kept.now) (C.keeping certs.now) limit from kept.now.id
+        (state S.Store book.old) (state S.Store book.new)
+        (W.contents out.old) (W.contents out.new) result }
 {
     if kept.id < from {
         return Ok(true);
     }
     match kept.verdict {
-        Verdict::Untested => settle_untested(alloc, book, limit, from, kept, out),
+        Verdict::Untested => settle_untested(alloc, book, limit, from, kept, certs, out),
         Verdict::Optimal => Ok(true),
         Verdict::Unsolvable => Ok(true),
     }
 }
 
 /// Settles a level that nothing is proved of.
-fn settle_untested<S: Alter, W: Write>(
+fn settle_untested<S: Alter, C: Certs, W: Write>(
     alloc: Global,
     book: &mut Book<S>,
     limit: u32,
     from: i64,
     kept: &Record,
+    certs: &C,
     out: &mut W,
 ) -> Result<bool, ToolFault>
     requires good_limit { IsBadLimit limit → ⊥ }
     requires begun { kept.now.id <ℤ from → ⊥ }
     requires untested { kept.now.verdict ≡ Verdict.Untested }
-    ensures { GoesThrough (IsRecordIn kept.now) limit from kept.now.id (state S.Store book.old)
-        (state S.Store book.new) (W.contents out.old) (W.contents out.new) result }
+    ensures { GoesThrough (IsRecordIn kept.now) (C.keeping certs.now) limit from kept.now.id
+        (state S.Store book.old) (state S.Store book.new)
+        (W.contents out.old) (W.contents out.new) result }
 {
     match level_of(alloc, kept.id, kept.text.as_bytes()) {
-        Ok(level) => settle_level(alloc, book, limit, kept.id, &level, out),
+        Ok(level) => settle_level(alloc, book, limit, kept.id, &level, certs, out),
         Err(fault) => Err(ToolFault::from(fault)),
     }
 }
 
 /// Settles the level with an id.
-fn settle_level<S: Alter, W: Write>(
+fn settle_level<S: Alter, C: Certs, W: Write>(
     alloc: Global,
     book: &mut Book<S>,
     limit: u32,
     id: i64,
     level: &Level,
+    certs: &C,
     out: &mut W,
 ) -> Result<bool, ToolFault>
     requires good_limit { IsBadLimit limit → ⊥ }
     requires accepted { IsAcceptable level.now }
-    ensures { (from : ℤ) → GoesThrough (IsTriedAs from id level.now) limit from id
-        (state S.Store book.old) (state S.Store book.new)
+    ensures { (from : ℤ) → GoesThrough (IsTriedAs from id level.now) (C.keeping certs.now)
+        limit from id (state S.Store book.old) (state S.Store book.new)
         (W.contents out.old) (W.contents out.new) result }
 {
-    match search(alloc, level, limit) {
-        Ok(found) => settle_by(alloc, book, limit, id, level, found, out),
+    let mut taken = certs.begin(alloc);
+    match search(alloc, level, limit, &mut taken) {
+        Ok(found) => settle_by(alloc, book, limit, id, level, found, certs, taken, out),
         Err(fault) => Err(fault),
     }
 }
 
-/// Settles the level with an id by what its search finds.
-fn settle_by<S: Alter, W: Write>(
+/// Settles the level with an id by what its search finds. The book changes only once the certificate
+/// is kept.
+fn settle_by<S: Alter, C: Certs, W: Write>(
     alloc: Global,
     book: &mut Book<S>,
     limit: u32,
     id: i64,
     level: &Level,
     found: Found,
+    certs: &C,
+    taken: C::Taking,
     out: &mut W,
 ) -> Result<bool, ToolFault>
     requires accepted { IsAcceptable level.now }
-    requires shown { IsShown (λ _. ⊤) level.now limit false found }
-    ensures { (from : ℤ) → GoesThrough (IsTriedAs from id level.now) limit from id
-        (state S.Store book.old) (state S.Store book.new)
+    requires shown { IsShown (λ entries. C.Taking.took entries taken) level.now limit false found }
+    ensures { (from : ℤ) → GoesThrough (IsTriedAs from id level.now) (C.keeping certs.now)
+        limit from id (state S.Store book.old) (state S.Store book.new)
         (W.contents out.old) (W.contents out.new) result }
 {
     match found {
         Found::Solved { dirs, pushes } => {
-            settle_solved(alloc, book, id, level, &dirs, pushes, out)
+            if dirs.len() > LETTER_LIMIT {
+                let fault = ToolFault::Book(BookFault::Letters(PlayFault::TooLong));
+                return tell_fault(alloc, id, fault, out);
+            }
+            match certs.keep(alloc, id, &Claim::Pushes(pushes), taken) {
+                Ok(()) => settle_solved(book, id, level, &dirs, pushes, out),
+                Err(fault) => tell_unkept(alloc, id, fault, out),
+            }
         }
-        Found::Unsolvable => settle_unsolvable(book, id, level, out),
+        Found::Unsolvable => match certs.keep(alloc, id, &Claim::Unsolvable, taken) {
+            Ok(()) => settle_unsolvable(book, id, level, out),
+            Err(fault) => tell_unkept(alloc, id, fault, out),
+        },
         Found::Limit {
             states: _,
             at_least,
@@ -123,31 +143,8 @@ fn settle_by<S: Alter, W: Write>(
     }
 }
 
-/// Settles the level with an id by a solution with the fewest pushes.
-fn settle_solved<S: Alter, W: Write>(
-    alloc: Global,
-    book: &mut Book<S>,
-    id: i64,
-    level: &Level,
-    dirs: &[Dir],
-    pushes: u32,
-    out: &mut W,
-) -> Result<bool, ToolFault>
-    requires least { IsLeastSolution level.now dirs.now pushes }
-    requires certified { IsCertified level.now (claim.Pushes pushes) }
-    ensures { (limit : ℕ) (from : ℤ) → GoesThrough (IsTriedAs from id level.now) limit from id
-        (state S.Store book.old) (state S.Store book.new)
-        (W.contents out.old) (W.contents out.new) result }
-{
-    if dirs.len() > LETTER_LIMIT {
-        let fault = ToolFault::Book(BookFault::Letters(PlayFault::TooLong));
-        return tell_fault(alloc, id, fault, out);
-    }
-    settle_offered(book, id, level, dirs, pushes, out)
-}
-
 /// Offers a solution that may be kept, and proves that none has fewer pushes.
-fn settle_offered<S: Alter, W: Write>(
+fn settle_solved<S: Alter, W: Write>(
     book: &mut Book<S>,
     id: i64,
     level: &Level,
@@ -158,7 +155,7 @@ fn settle_offered<S: Alter, W: Write>(
     requires few { length dirs.now ≤ letter_limit }
     requires least { IsLeastSolution level.now dirs.now pushes }
     requires certified { IsCertified level.now (claim.Pushes pushes) }
-    ensures { (limit : ℕ) (from : ℤ) → GoesThrough (IsTriedAs from id level.now) limit from id
+    ensures { (from : ℤ) → GoesBy from id level.now (claim.Pushes pushes)
         (state S.Store book.old) (state S.Store book.new)
         (W.contents out.old) (W.contents out.new) result }
 {
@@ -181,7 +178,7 @@ fn settle_unsolvable<S: Alter, W: Write>(
 ) -> Result<bool, ToolFault>
     requires unsolvable { IsUnsolvable level.now }
     requires certified { IsCertified level.now claim.Unsolvable }
-    ensures { (limit : ℕ) (from : ℤ) → GoesThrough (IsTriedAs from id level.now) limit from id
+    ensures { (from : ℤ) → GoesBy from id level.now claim.Unsolvable
         (state S.Store book.old) (state S.Store book.new)
         (W.contents out.old) (W.contents out.new) result }
 {

@@ -1,9 +1,11 @@
 //! The engines that go through a book. One settles its levels: each that nothing is proved of is
-//! searched, its solution is offered, and its verdict is proved. The other offers lines of a text.
+//! searched, its certificate is kept where that is wanted, its solution is offered, and its verdict
+//! is proved. The other offers lines of a text.
 //!
 //! | Module | What it holds |
 //! |---|---|
 //! | `law` | what holds of the book then |
+//! | `certs` | where the certificates go of the levels that are settled |
 //! | `settle` | the levels of a book are settled |
 //! | `offers` | lines of offers are gone through |
 //! | `level` | one level is settled (private) |
@@ -12,6 +14,7 @@
 //! | `word` | the words of a line (private) |
 #![tactic(auto)]
 
+pub mod certs;
 pub mod law;
 mod level;
 mod line;

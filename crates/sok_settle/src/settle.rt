@@ -10,6 +10,7 @@ ghost use Rattle.sok_keep.specs.Causes.{IsCausedFault};
 ghost use Rattle.sok_settle.specs.Going.{GoesWhere};
 ghost use Rattle.sok_settle.specs.Settles.{SettlesSome, WritesSettling, settle_status};
 
+use crate::certs::Certs;
 use crate::level::settle_kept;
 use sok_engine::fault::ToolFault;
 use sok_page::record::Record;
@@ -22,37 +23,41 @@ use std::io::Write;
 /// Settles the levels of a book that nothing is proved of, in order of their ids, from one on: each
 /// is searched within a limit of states from 1 to 1,000,000. Where letters solve it, the solution
 /// with the fewest pushes is offered, and that none has fewer is proved; where none do, that is
-/// proved. Each line is written as soon as its level is done: `ID optimal PUSHES MOVES`, with those
-/// of its best; `ID unsolvable`; `ID limit S at least K` where more states can be reached, and none
-/// solves with fewer than K pushes; or `ID fault 14 TooLong` where the solution has more than
-/// 1,000,000 letters. The status is 0 where each level that was tried is settled, and 4 where one is
-/// not. Levels with a verdict stay as they were, and so do those before the first, without a line.
+/// proved. Before either its certificate is kept. Each line is written as soon as its level is done:
+/// `ID optimal PUSHES MOVES`, with those of its best; `ID unsolvable`; `ID limit S at least K` where
+/// more states can be reached, and none solves with fewer than K pushes; `ID fault 14 TooLong` where
+/// the solution has more than 1,000,000 letters; or `ID fault 52 TooMuch` where the certificate is
+/// refused as too long. The status is 0 where each level that was tried is settled, and 4 where one
+/// is not. Levels with a verdict stay as they were, and so do those before the first, without a line.
 ///
 /// A limit that is bad is `BadLimit`, before anything else. `Memory` or `Database` may end the call
 /// at any level. Then what was written stands, and the level is as it was, or has a best and no
-/// verdict. A write that fails is `WriteFailed` at once, after a front of the line. No memory is
-/// taken between the commands on a level and its line.
-pub fn settle_bytes<S: Alter, W: Write>(
+/// verdict. A write that fails is `WriteFailed` at once: of a certificate, and the level is as it
+/// was; or after a front of the line. No memory is taken between the commands on a level and its
+/// line.
+pub fn settle_bytes<S: Alter, C: Certs, W: Write>(
     alloc: Global,
     book: &mut Book<S>,
     limit: u32,
     from: i64,
+    certs: &C,
     out: &mut W,
 ) -> Result<u8, ToolFault>
     ensures writes { Turns (state S.Store book.old) (state S.Store book.new) (λ pages after.
-        WritesSettling limit from pages after (W.contents out.old) (W.contents out.new) result) }
+        WritesSettling (C.keeping certs.now) limit from pages after
+        (W.contents out.old) (W.contents out.new) result) }
     ensures bad_limit { IsBadLimit limit → result ≡ Err tool.BadLimit }
     ensures open { OnOk result (EndsOpen (state S.Store book.old) (state S.Store book.new)) }
     ensures stop { Stops (state S.Store book.old) (state S.Store book.new)
-        (SettlesSome limit from) }
+        (SettlesSome (C.keeping certs.now) limit from) }
     ensures cause { IfErr result (IsCausedFault (state S.Store book.old) (state S.Store book.new)
-        (SettlesSome limit from)) }
+        (SettlesSome (C.keeping certs.now) limit from)) }
 {
     if is_bad(limit) {
         return Err(ToolFault::BadLimit);
     }
     match book.list() {
-        Ok(records) => settle_all(alloc, book, limit, from, &records, out),
+        Ok(records) => settle_all(alloc, book, limit, from, &records, certs, out),
         Err(fault) => Err(ToolFault::from(fault)),
     }
 }
@@ -65,23 +70,25 @@ fn is_bad(limit: u32) -> bool
 }
 
 /// Settles the levels with these records.
-fn settle_all<S: Alter, W: Write>(
+fn settle_all<S: Alter, C: Certs, W: Write>(
     alloc: Global,
     book: &mut Book<S>,
     limit: u32,
     from: i64,
     records: &[Record],
+    certs: &C,
     out: &mut W,
 ) -> Result<u8, ToolFault>
     requires { IsBadLimit limit → ⊥ }
     ensures { GoesWhere (λ pages. AreRecordsOf pages records.now)
         (state S.Store book.old) (state S.Store book.new) (λ pages after.
-        WritesSettling limit from pages after (W.contents out.old) (W.contents out.new) result)
-        (SettlesSome limit from) result }
+        WritesSettling (C.keeping certs.now) limit from pages after
+        (W.contents out.old) (W.contents out.new) result)
+        (SettlesSome (C.keeping certs.now) limit from) result }
 {
     let mut all = true;
     for kept in records {
-        let settled = settle_kept(alloc, book, limit, from, kept, out)?;
+        let settled = settle_kept(alloc, book, limit, from, kept, certs, out)?;
         all &= settled;
     }
     Ok(settle_status(all))

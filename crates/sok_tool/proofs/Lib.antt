@@ -1,3 +1,4 @@
+pub mod CertFiles
 pub mod Plain
 pub mod Serving
 pub mod Working

@@ -49,7 +49,7 @@ asks (add db file) = omega arith
 asks (offer db id text) = omega arith
 asks (offers db file) = omega arith
 asks (prove db id cert) = omega arith
-asks (settle db limit from) = omega arith
+asks (settle db limit from folder) = omega arith
 asks (show db id) = omega arith
 asks (export db solutions) = omega arith
 
@@ -142,13 +142,16 @@ Serves-prove files databases (prove of number place) db id cert db_name name out
     (of_passed (λ i. RunsProve files databases db_name i name out err exit) id (plain_id id number plain.1 id_is) runs)
 Serves-prove files databases _ db id cert db_name name out err exit plain means db_named named runs = absurd means
 
-pub Serves-settle : (files : Files) (databases : Databases) (form : Form) (db : String Global) (most : ℕ) (first : ℤ) (db_name : List ℕ)
-    (out err : Bytes) (exit : ℕ) → IsPlain form → Means form (job.Settle db most first) → db_name ≡ string_bytes db
-    → RunsSettle databases db_name most (passed first) out err exit → Serves files databases form out err exit
-Serves-settle files databases (settle of limit from) db most first db_name out err exit plain (db_is, limit_is, from_is) db_named runs =
-    same_three (λ d l i. RunsSettle databases d l i out err exit) _ _ _ _ _ _ (db_named ∙ db_is) limit_is from_is
-    (of_passed (λ i. RunsSettle databases db_name most i out err exit) first (plain_from first from plain.2 from_is) runs)
-Serves-settle files databases _ db most first db_name out err exit plain means db_named runs = absurd means
+pub Serves-settle : (files : Files) (databases : Databases) (form : Form) (db : String Global) (most : ℕ) (first : ℤ) (folder : Option (String Global))
+    (db_name : List ℕ) (out err : Bytes) (exit : ℕ) → IsPlain form → Means form (job.Settle db most first folder) → db_name ≡ string_bytes db
+    → RunsSettle files databases db_name most (passed first) (option_map (λ s. string_bytes s) folder) out err exit → Serves files databases form out err exit
+Serves-settle files databases (settle of limit from certs) db most first folder db_name out err exit plain (db_is, limit_is, from_is, certs_is) db_named runs =
+    subst (λ f. RunsSettle files databases of (limit_of limit) (from_of from) f out err exit) certs_is
+    (same_three (λ d l i. RunsSettle files databases d l i (option_map (λ s. string_bytes s) folder) out err exit) _ _ _ _ _ _ (db_named ∙ db_is) limit_is
+    from_is
+    (of_passed (λ i. RunsSettle files databases db_name most i (option_map (λ s. string_bytes s) folder) out err exit) first
+    (plain_from first from plain.2 from_is) runs))
+Serves-settle files databases _ db most first folder db_name out err exit plain means db_named runs = absurd means
 
 pub Serves-show : (files : Files) (databases : Databases) (form : Form) (db : String Global) (id : ℤ) (db_name : List ℕ) (out err : Bytes) (exit : ℕ)
     → IsPlain form → Means form (job.Show db (Some id)) → db_name ≡ string_bytes db

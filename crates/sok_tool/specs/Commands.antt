@@ -25,7 +25,8 @@ use Rattle.sok_play.specs.Plays.{IsReplay}
 use Rattle.sok_shelf.specs.declared.text.BookText.TheVariants.{Overview, Export}
 use Rattle.sok_store.specs.Calls.{MakesNone}
 use Rattle.sok_words.specs.Forms.{Form, add, check, draw, export, from_of, id_value, limit_of, list, offer, offers, prove, replay, settle, show, solve}
-use Rattle.sok_tool.specs.Databases.{Databases, OfOpened, Place, WorksOn, at, made_at}
+use Rattle.sok_tool.specs.Certs.{keeping_of}
+use Rattle.sok_tool.specs.Databases.{Databases, OfOpened, Place, WorksOn, at, made_at, read_at}
 
 -- what is answered to the job of playing a text: of replaying it, or of drawing the level behind it
 abbrev pub RunsPlay : (ℕ → List ℕ → List ℕ → Answers) → Files → List ℕ → ℕ → List ℕ → Bytes → Bytes → ℕ → Type 0
@@ -69,16 +70,17 @@ RunsProve files databases db id cert out err exit =
     RunsOn (at databases db) (files.lacks cert) (λ book after. OfOpened (files.reads cert) (λ known. ProvesBytes id known book after))
     (λ book after result. OfOpened (files.reads cert) (λ known. WritesProof book id known after out.old out.new result)) out err exit
 
--- the levels that nothing is proved of are settled, within a limit that is not refused, from an id on
-abbrev pub RunsSettle : Databases → List ℕ → ℕ → ℤ → Bytes → Bytes → ℕ → Type 0
-RunsSettle databases db limit from out err exit =
-    RunsOn (at databases db) ⊥ (SettlesSome limit from)
-    (λ book after result. (IsBadLimit limit → result ≡ Err tool.BadLimit) × WritesSettling limit from book after out.old out.new result) out err exit
+-- the levels that nothing is proved of are settled, within a limit that is not refused, from an id on, with their certificates in a folder, if one is given
+abbrev pub RunsSettle : Files → Databases → List ℕ → ℕ → ℤ → Option (List ℕ) → Bytes → Bytes → ℕ → Type 0
+RunsSettle files databases db limit from folder out err exit =
+    RunsOn (at databases db) ⊥ (SettlesSome (keeping_of files.makes folder) limit from)
+    (λ book after result. (IsBadLimit limit → result ≡ Err tool.BadLimit)
+    × WritesSettling (keeping_of files.makes folder) limit from book after out.old out.new result) out err exit
 
--- the book stays, and such an answer is written
+-- the book is only read, and such an answer is written
 abbrev pub RunsShowing : Databases → List ℕ → (Book → Answers) → Bytes → Bytes → ℕ → Type 0
 RunsShowing databases db P out err exit =
-    RunsOn (at databases db) ⊥ MakesNone (λ book after result. (after ≡ book) × Writes (P book) out.old out.new result) out err exit
+    RunsOn (read_at databases db) ⊥ MakesNone (λ book after result. (after ≡ book) × Writes (P book) out.old out.new result) out err exit
 
 -- what becomes of the output, of the files and of the book that a form names, with its values
 abbrev pub Serves : Files → Databases → Form → Bytes → Bytes → ℕ → Type 0
@@ -92,7 +94,7 @@ Serves files databases (add db file) out err exit = RunsAdd files databases db f
 Serves files databases (offer db id text) out err exit = RunsOffer databases db (id_value id) text out err exit
 Serves files databases (offers db file) out err exit = RunsOffers files databases db file out err exit
 Serves files databases (prove db id cert) out err exit = RunsProve files databases db (id_value id) cert out err exit
-Serves files databases (settle db limit from) out err exit = RunsSettle databases db (limit_of limit) (from_of from) out err exit
+Serves files databases (settle db limit from folder) out err exit = RunsSettle files databases db (limit_of limit) (from_of from) folder out err exit
 Serves files databases (show db (Some id)) out err exit = RunsShowing databases db (λ book. IsShow book (id_value id)) out err exit
 Serves files databases (show db None) out err exit = RunsShowing databases db (IsBookText Overview) out err exit
 Serves files databases (export db solutions) out err exit = RunsShowing databases db (IsBookText (Export solutions)) out err exit

@@ -24,12 +24,13 @@ pub record Place : Type 1 where
 abbrev pub place : {C : Type 0} → (C → State) → (C → Type 0) → (ToolFault → Type 0) → (C → Type 0) → Place
 place {C} shows keeps refuses leaves = record { Connection = C; shows = shows; keeps = keeps; refuses = refuses; leaves = leaves }
 
--- of the databases at all paths: `keeps` of those that are there, and `makes` also of those that are made
+-- of the databases at all paths: `keeps` of those that are there, `makes` also of those that are made, and `reads` of those that are only read
 pub record Databases : Type 1 where
   pub Connection : Type 0
   pub shows : Connection → State
   pub keeps : List ℕ → Connection → Type 0
   pub makes : List ℕ → Connection → Type 0
+  pub reads : List ℕ → Connection → Type 0
   pub refuses : List ℕ → ToolFault → Type 0
   pub leaves : List ℕ → Connection → Type 0
 
@@ -40,6 +41,10 @@ at databases path = place databases.shows (databases.keeps path) (databases.refu
 -- of the one that is there, or is made
 abbrev pub made_at : Databases → List ℕ → Place
 made_at databases path = place databases.shows (databases.makes path) (databases.refuses path) (databases.leaves path)
+
+-- of the one that is there, and is only read
+abbrev pub read_at : Databases → List ℕ → Place
+read_at databases path = place databases.shows (databases.reads path) (databases.refuses path) (databases.leaves path)
 
 -- this is true of what a file has left that may be opened
 abbrev pub OfOpened : (Option (List ℕ) → Type 0) → (Option (List ℕ) → Type 0) → Type 0

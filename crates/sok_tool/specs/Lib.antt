@@ -1,5 +1,7 @@
--- Words of public contracts: what a command works on in a database (Databases), and what the program does for a command line (Commands).
+-- Words of public contracts: what a command works on in a database (Databases), where certificates are kept (Certs), and what the program does for a command
+-- line (Commands).
 -- The proof's own: `Letters`.
+pub mod Certs
 pub mod Commands
 pub mod Databases
 pub mod Letters

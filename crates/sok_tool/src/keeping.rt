@@ -1,12 +1,15 @@
 //! Each command on a book. The database is opened first, then the file that the command names, and
-//! then the book. Only `add` makes a database that is not there.
+//! then the book. Only `add` makes a database that is not there, and a command that changes nothing
+//! only reads it.
 
-ghost use Rattle.std.specs.Prelude.{◌≡◌, Err, IfErr, IfOk};
+ghost use Rattle.std.specs.Prelude.{◌≡◌, Err, IfErr, IfOk, option_map, string_bytes};
 ghost use Rattle.sqlite.specs.Held.{state};
 ghost use Rattle.sok_search.specs.Faults.{IsBadLimit};
 ghost use Rattle.sok_engine.specs.declared.fault.ToolFault.TheVariants as tool;
 ghost use Rattle.sok_engine.specs.Written.{Writes};
-ghost use Rattle.sok_store.specs.Calls.{MakesNone};
+ghost use Rattle.sok_files.specs.Files.{IsMade};
+ghost use Rattle.sok_store.specs.Calls.{MakesNone, Stops, Turns};
+ghost use Rattle.sok_keep.specs.Causes.{IsCausedFault};
 ghost use Rattle.sok_keep.specs.Adds.{AddsBytes, WritesAdding};
 ghost use Rattle.sok_keep.specs.Offers.{OffersText, WritesOffer};
 ghost use Rattle.sok_keep.specs.Proves.{ProvesBytes, WritesProof};
@@ -14,10 +17,12 @@ ghost use Rattle.sok_keep.specs.Shows.{IsBookText, IsShow};
 ghost use Rattle.sok_settle.specs.Offers.{OffersBytes, WritesOffers};
 ghost use Rattle.sok_settle.specs.Settles.{SettlesSome, WritesSettling};
 ghost use Rattle.sok_tool.specs.Databases.{IsWithoutBook, OfOpened, OpensFound, WorksOn, place};
-ghost use Rattle.sok_tool.specs.declared.databases.IfAbsent.{IfAbsent};
-ghost use Rattle.sok_tool.specs.declared.databases.IfAbsent.TheVariants as if_absent;
+ghost use Rattle.sok_tool.specs.Certs.{keeping_of};
+ghost use Rattle.sok_tool.specs.declared.databases.Access.{Access};
+ghost use Rattle.sok_tool.specs.declared.databases.Access.TheVariants as accesses;
 
-use crate::databases::{Databases, IfAbsent};
+use crate::certs::CertFolder;
+use crate::databases::{Access, Databases};
 use sok_book::fault::BookFault;
 use sok_engine::fault::ToolFault;
 use sok_files::file::open;
@@ -26,6 +31,7 @@ use sok_keep::add::add_bytes;
 use sok_keep::offer::offer_bytes;
 use sok_keep::prove::prove_bytes;
 use sok_keep::show::{book_bytes, show_bytes};
+use sok_settle::certs::NoCerts;
 use sok_settle::offers::offers_bytes;
 use sok_settle::settle::settle_bytes;
 use sok_shelf::text::BookText;
@@ -40,13 +46,13 @@ pub(crate) fn add<
     W: Write,
 >(rt: &F, db: &str, path: &str, out: &mut W) -> Result<u8, ToolFault>
     ensures { WorksOn (place (state S.Store)
-        (F.keeps rt.now if_absent.Make db.now) (F.refuses rt.now db.now) (F.leaves rt.now db.now)) (F.lacks rt.now path.now)
+        (F.keeps rt.now accesses.Make db.now) (F.refuses rt.now db.now) (F.leaves rt.now db.now)) (F.lacks rt.now path.now)
         (λ book after. OfOpened (F.reads rt.now path.now) (λ known. AddsBytes known book after))
         (λ book after. OfOpened (F.reads rt.now path.now) (λ known.
         WritesAdding book known after (W.contents out.old) (W.contents out.new) result))
         (record { old = W.contents out.old; new = W.contents out.new }) result }
 {
-    let (mut book, mut input) = book_and_file(rt, db, IfAbsent::Make, path)?;
+    let (mut book, mut input) = book_and_file(rt, db, Access::Make, path)?;
     let told = add_bytes(rt.alloc(), &mut book, &mut input, out);
     rt.close(db, book.into_connection());
     told
@@ -61,7 +67,7 @@ pub(crate) fn offer<S: Alter + Drop, F: Databases<Opened = Connection<S>> + Allo
     out: &mut W,
 ) -> Result<u8, ToolFault>
     ensures { WorksOn (place (state S.Store)
-        (F.keeps rt.now if_absent.Refuse db.now) (F.refuses rt.now db.now) (F.leaves rt.now db.now)) ⊥
+        (F.keeps rt.now accesses.Change db.now) (F.refuses rt.now db.now) (F.leaves rt.now db.now)) ⊥
         (OffersText id text.now)
         (λ book after.
         WritesOffer book id text.now after (W.contents out.old) (W.contents out.new) result)
@@ -80,13 +86,13 @@ pub(crate) fn offers<
     W: Write,
 >(rt: &F, db: &str, path: &str, out: &mut W) -> Result<u8, ToolFault>
     ensures { WorksOn (place (state S.Store)
-        (F.keeps rt.now if_absent.Refuse db.now) (F.refuses rt.now db.now) (F.leaves rt.now db.now)) (F.lacks rt.now path.now)
+        (F.keeps rt.now accesses.Change db.now) (F.refuses rt.now db.now) (F.leaves rt.now db.now)) (F.lacks rt.now path.now)
         (λ book after. OfOpened (F.reads rt.now path.now) (λ known. OffersBytes known book after))
         (λ book after. OfOpened (F.reads rt.now path.now) (λ known.
         WritesOffers book known after (W.contents out.old) (W.contents out.new) result))
         (record { old = W.contents out.old; new = W.contents out.new }) result }
 {
-    let (mut book, mut input) = book_and_file(rt, db, IfAbsent::Refuse, path)?;
+    let (mut book, mut input) = book_and_file(rt, db, Access::Change, path)?;
     let told = offers_bytes(rt.alloc(), &mut book, &mut input, out);
     rt.close(db, book.into_connection());
     told
@@ -99,37 +105,79 @@ pub(crate) fn prove<
     W: Write,
 >(rt: &F, db: &str, id: i64, path: &str, out: &mut W) -> Result<u8, ToolFault>
     ensures { WorksOn (place (state S.Store)
-        (F.keeps rt.now if_absent.Refuse db.now) (F.refuses rt.now db.now) (F.leaves rt.now db.now)) (F.lacks rt.now path.now)
+        (F.keeps rt.now accesses.Change db.now) (F.refuses rt.now db.now) (F.leaves rt.now db.now)) (F.lacks rt.now path.now)
         (λ book after. OfOpened (F.reads rt.now path.now) (λ known. ProvesBytes id known book after))
         (λ book after. OfOpened (F.reads rt.now path.now) (λ known.
         WritesProof book id known after (W.contents out.old) (W.contents out.new) result))
         (record { old = W.contents out.old; new = W.contents out.new }) result }
 {
-    let (mut book, mut cert_input) = book_and_file(rt, db, IfAbsent::Refuse, path)?;
+    let (mut book, mut cert_input) = book_and_file(rt, db, Access::Change, path)?;
     let told = prove_bytes(rt.alloc(), &mut book, id, &mut cert_input, out);
     rt.close(db, book.into_connection());
     told
 }
 
-/// Settles the levels that nothing is proved of, from an id on.
-pub(crate) fn settle<S: Alter + Drop, F: Databases<Opened = Connection<S>> + AllocGlobal, W: Write>(
+/// Settles the levels that nothing is proved of, from an id on. Where a folder is given, the
+/// certificate of each that is settled is kept there.
+pub(crate) fn settle<
+    S: Alter + Drop,
+    F: Folder + Databases<Opened = Connection<S>> + AllocGlobal,
+    W: Write,
+>(
     rt: &F,
     db: &str,
     limit: u32,
     from: i64,
+    folder: Option<String>,
     out: &mut W,
 ) -> Result<u8, ToolFault>
     ensures { WorksOn (place (state S.Store)
-        (F.keeps rt.now if_absent.Refuse db.now) (F.refuses rt.now db.now) (F.leaves rt.now db.now)) ⊥
-        (SettlesSome limit from)
+        (F.keeps rt.now accesses.Change db.now) (F.refuses rt.now db.now) (F.leaves rt.now db.now)) ⊥
+        (SettlesSome (keeping_of (λ path. IsMade F.Output.contents (F.makes rt.now path))
+        (option_map (λ s. string_bytes s) folder)) limit from)
         (λ book after. (IsBadLimit limit → result ≡ Err tool.BadLimit)
-        × WritesSettling limit from book after (W.contents out.old) (W.contents out.new) result)
+        × WritesSettling (keeping_of (λ path. IsMade F.Output.contents (F.makes rt.now path))
+        (option_map (λ s. string_bytes s) folder)) limit from book after
+        (W.contents out.old) (W.contents out.new) result)
         (record { old = W.contents out.old; new = W.contents out.new }) result }
 {
     let mut book = book_of(rt, db)?;
-    let told = settle_bytes(rt.alloc(), &mut book, limit, from, out);
+    let told = settle_book(rt, &mut book, limit, from, folder, out);
     rt.close(db, book.into_connection());
     told
+}
+
+/// Settles the levels of a book.
+fn settle_book<S: Alter, F: Folder + AllocGlobal, W: Write>(
+    rt: &F,
+    book: &mut Book<S>,
+    limit: u32,
+    from: i64,
+    folder: Option<String>,
+    out: &mut W,
+) -> Result<u8, ToolFault>
+    ensures writes { Turns (state S.Store book.old) (state S.Store book.new) (λ pages after.
+        WritesSettling (keeping_of (λ path. IsMade F.Output.contents (F.makes rt.now path))
+        (option_map (λ s. string_bytes s) folder)) limit from pages after
+        (W.contents out.old) (W.contents out.new) result) }
+    ensures bad_limit { IsBadLimit limit → result ≡ Err tool.BadLimit }
+    ensures stop { Stops (state S.Store book.old) (state S.Store book.new)
+        (SettlesSome (keeping_of (λ path. IsMade F.Output.contents (F.makes rt.now path))
+        (option_map (λ s. string_bytes s) folder)) limit from) }
+    ensures cause { IfErr result (IsCausedFault (state S.Store book.old) (state S.Store book.new)
+        (SettlesSome (keeping_of (λ path. IsMade F.Output.contents (F.makes rt.now path))
+        (option_map (λ s. string_bytes s) folder)) limit from)) }
+{
+    match folder {
+        Some(folder) => {
+            let certs = CertFolder {
+                files: rt,
+                path: folder.as_str(),
+            };
+            settle_bytes(rt.alloc(), book, limit, from, &certs, out)
+        }
+        None => settle_bytes(rt.alloc(), book, limit, from, &NoCerts, out),
+    }
 }
 
 /// Shows the level with an id.
@@ -140,12 +188,12 @@ pub(crate) fn show<S: Alter + Drop, F: Databases<Opened = Connection<S>> + Alloc
     out: &mut W,
 ) -> Result<u8, ToolFault>
     ensures { WorksOn (place (state S.Store)
-        (F.keeps rt.now if_absent.Refuse db.now) (F.refuses rt.now db.now) (F.leaves rt.now db.now)) ⊥ MakesNone
+        (F.keeps rt.now accesses.Read db.now) (F.refuses rt.now db.now) (F.leaves rt.now db.now)) ⊥ MakesNone
         (λ book after. (after ≡ book)
         × Writes (IsShow book id) (W.contents out.old) (W.contents out.new) result)
         (record { old = W.contents out.old; new = W.contents out.new }) result }
 {
-    let mut book = book_of(rt, db)?;
+    let mut book = book_to_read(rt, db)?;
     let told = show_bytes(rt.alloc(), &mut book, id, out);
     rt.close(db, book.into_connection());
     told
@@ -159,29 +207,44 @@ pub(crate) fn tell<S: Alter + Drop, F: Databases<Opened = Connection<S>> + Alloc
     out: &mut W,
 ) -> Result<u8, ToolFault>
     ensures { WorksOn (place (state S.Store)
-        (F.keeps rt.now if_absent.Refuse db.now) (F.refuses rt.now db.now) (F.leaves rt.now db.now)) ⊥ MakesNone
+        (F.keeps rt.now accesses.Read db.now) (F.refuses rt.now db.now) (F.leaves rt.now db.now)) ⊥ MakesNone
         (λ book after. (after ≡ book)
         × Writes (IsBookText text book) (W.contents out.old) (W.contents out.new) result)
         (record { old = W.contents out.old; new = W.contents out.new }) result }
 {
-    let mut book = book_of(rt, db)?;
+    let mut book = book_to_read(rt, db)?;
     let told = book_bytes(rt.alloc(), &mut book, text, out);
     rt.close(db, book.into_connection());
     told
 }
 
-/// Opens the database that is at a path as a book.
+/// Opens the database that is at a path as a book to be changed.
 fn book_of<S: Alter + Drop, F: Databases<Opened = Connection<S>> + AllocGlobal>(
     rt: &F,
     db: &str,
 ) -> Result<Book<S>, ToolFault>
     ensures opens { IfOk result (OpensFound (place (state S.Store)
-        (F.keeps rt.now if_absent.Refuse db.now) (F.refuses rt.now db.now) (F.leaves rt.now db.now))) }
+        (F.keeps rt.now accesses.Change db.now) (F.refuses rt.now db.now) (F.leaves rt.now db.now))) }
     ensures refused { IfErr result
         (IsWithoutBook (place (state S.Store)
-        (F.keeps rt.now if_absent.Refuse db.now) (F.refuses rt.now db.now) (F.leaves rt.now db.now)) ⊥) }
+        (F.keeps rt.now accesses.Change db.now) (F.refuses rt.now db.now) (F.leaves rt.now db.now)) ⊥) }
 {
-    let connection = rt.database(db, IfAbsent::Refuse)?;
+    let connection = rt.database(db, Access::Change)?;
+    opened(rt, db, connection)
+}
+
+/// Opens the database that is at a path as a book to be read.
+fn book_to_read<S: Alter + Drop, F: Databases<Opened = Connection<S>> + AllocGlobal>(
+    rt: &F,
+    db: &str,
+) -> Result<Book<S>, ToolFault>
+    ensures opens { IfOk result (OpensFound (place (state S.Store)
+        (F.keeps rt.now accesses.Read db.now) (F.refuses rt.now db.now) (F.leaves rt.now db.now))) }
+    ensures refused { IfErr result
+        (IsWithoutBook (place (state S.Store)
+        (F.keeps rt.now accesses.Read db.now) (F.refuses rt.now db.now) (F.leaves rt.now db.now)) ⊥) }
+{
+    let connection = rt.database(db, Access::Read)?;
     opened(rt, db, connection)
 }
 
@@ -189,17 +252,17 @@ fn book_of<S: Alter + Drop, F: Databases<Opened = Connection<S>> + AllocGlobal>(
 fn book_and_file<S: Alter + Drop, F: Folder + Databases<Opened = Connection<S>> + AllocGlobal>(
     rt: &F,
     db: &str,
-    absent: IfAbsent,
+    access: Access,
     path: &str,
 ) -> Result<(Book<S>, F::Input), ToolFault>
     ensures opens { IfOk result (λ both. OpensFound (place (state S.Store)
-        (F.keeps rt.now absent db.now) (F.refuses rt.now db.now) (F.leaves rt.now db.now)) both.0) }
+        (F.keeps rt.now access db.now) (F.refuses rt.now db.now) (F.leaves rt.now db.now)) both.0) }
     ensures reads { IfOk result (λ both. F.reads rt.now path.now (F.Input.remaining both.1)) }
     ensures refused { IfErr result
         (IsWithoutBook (place (state S.Store)
-        (F.keeps rt.now absent db.now) (F.refuses rt.now db.now) (F.leaves rt.now db.now)) (F.lacks rt.now path.now)) }
+        (F.keeps rt.now access db.now) (F.refuses rt.now db.now) (F.leaves rt.now db.now)) (F.lacks rt.now path.now)) }
 {
-    let connection = rt.database(db, absent)?;
+    let connection = rt.database(db, access)?;
     match open(rt, path) {
         Ok(input) => Ok((opened(rt, db, connection)?, input)),
         Err(fault) => {
@@ -216,12 +279,12 @@ fn opened<S: Alter + Drop, F: Databases<Opened = Connection<S>> + AllocGlobal>(
     db: &str,
     connection: Connection<S>,
 ) -> Result<Book<S>, ToolFault>
-    ensures opens { (absent : IfAbsent) → F.keeps rt.now absent db.now connection
+    ensures opens { (access : Access) → F.keeps rt.now access db.now connection
         → IfOk result (OpensFound (place (state S.Store)
-        (F.keeps rt.now absent db.now) (F.refuses rt.now db.now) (F.leaves rt.now db.now))) }
-    ensures refused { (absent : IfAbsent) → F.keeps rt.now absent db.now connection
+        (F.keeps rt.now access db.now) (F.refuses rt.now db.now) (F.leaves rt.now db.now))) }
+    ensures refused { (access : Access) → F.keeps rt.now access db.now connection
         → IfErr result (IsWithoutBook (place (state S.Store)
-        (F.keeps rt.now absent db.now) (F.refuses rt.now db.now) (F.leaves rt.now db.now)) ⊥) }
+        (F.keeps rt.now access db.now) (F.refuses rt.now db.now) (F.leaves rt.now db.now)) ⊥) }
 {
     if !connection.is_autocommit() {
         rt.close(db, connection);

@@ -11,7 +11,7 @@ ghost use Rattle.sok_play.specs.Drawings.{IsDrawing};
 ghost use Rattle.sok_play.specs.Plays.{IsReplay};
 ghost use Rattle.sok_tool.specs.Databases.{WorksOn, place};
 ghost use Rattle.sok_tool.specs.Letters.{IsLetters, IsUnread, OnLetters};
-ghost use Rattle.sok_tool.specs.declared.databases.IfAbsent.TheVariants as if_absent;
+ghost use Rattle.sok_tool.specs.declared.databases.Access.TheVariants as accesses;
 
 use crate::databases::Databases;
 use crate::keeping;
@@ -80,7 +80,7 @@ pub(crate) fn offer<
     W: Write,
 >(rt: &F, db: &str, id: i64, word: &str, input: &mut R, out: &mut W) -> Result<u8, ToolFault>
     ensures { OnLetters word.now (R.remaining input.old) (λ letters. WorksOn (place (state S.Store)
-        (F.keeps rt.now if_absent.Refuse db.now) (F.refuses rt.now db.now) (F.leaves rt.now db.now)) ⊥
+        (F.keeps rt.now accesses.Change db.now) (F.refuses rt.now db.now) (F.leaves rt.now db.now)) ⊥
         (OffersText id letters)
         (λ book after.
         WritesOffer book id letters after (W.contents out.old) (W.contents out.new) result)

@@ -9,7 +9,7 @@ ghost use Rattle.sok_files.specs.Endings.{Runs};
 ghost use Rattle.sok_files.specs.Files.{IsMade};
 ghost use Rattle.sqlite.specs.Held.{Held, state};
 ghost use Rattle.sok_tool.specs.Commands.{Serves};
-ghost use Rattle.sok_tool.specs.declared.databases.IfAbsent.TheVariants as if_absent;
+ghost use Rattle.sok_tool.specs.declared.databases.Access.TheVariants as accesses;
 
 use crate::databases::Databases;
 use crate::keeping::{add, offers, prove, settle, show, tell};
@@ -54,8 +54,9 @@ pub fn run<
         }) (record {
           Connection = Held S;
           shows = state S.Store;
-          keeps = F.keeps rt.now if_absent.Refuse;
-          makes = F.keeps rt.now if_absent.Make;
+          keeps = F.keeps rt.now accesses.Change;
+          makes = F.keeps rt.now accesses.Make;
+          reads = F.keeps rt.now accesses.Read;
           refuses = F.refuses rt.now;
           leaves = F.leaves rt.now;
         }) form
@@ -87,8 +88,9 @@ fn served<
         }) (record {
           Connection = Held S;
           shows = state S.Store;
-          keeps = F.keeps rt.now if_absent.Refuse;
-          makes = F.keeps rt.now if_absent.Make;
+          keeps = F.keeps rt.now accesses.Change;
+          makes = F.keeps rt.now accesses.Make;
+          reads = F.keeps rt.now accesses.Read;
           refuses = F.refuses rt.now;
           leaves = F.leaves rt.now;
         }) form
@@ -113,7 +115,9 @@ fn served<
         }
         Job::Offers(db, file) => ended(offers(rt, db.as_str(), file.as_str(), out), err),
         Job::Prove(db, id, cert) => ended(prove(rt, db.as_str(), id, cert.as_str(), out), err),
-        Job::Settle(db, limit, from) => { ended(settle(rt, db.as_str(), limit, from, out), err) }
+        Job::Settle(db, limit, from, folder) => {
+            ended(settle(rt, db.as_str(), limit, from, folder, out), err)
+        }
         Job::Show(db, id) => match id {
             Some(id) => ended(show(rt, db.as_str(), id, out), err),
             None => ended(tell(rt, db.as_str(), BookText::Overview, out), err),

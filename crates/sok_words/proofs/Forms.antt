@@ -71,24 +71,44 @@ reads program (offers db file) (d, f) =
 reads program (prove db id cert) (d, i, c) =
     by program (prove db id cert) (codes "prove") (value db d ∷ digits id i.0 ∷ value cert c ∷ []) refl refl
     (record { passes = (refl, (refl, (rw (id_passes (codes "ID") id i) refl, tt))); ends = refl }) (refl, refl, (i, refl), refl)
-reads program (settle db None None) (d, l, i) =
-    by program (settle db None None) (codes "settle") (value db d ∷ []) refl refl (record { passes = (refl, tt); ends = refl })
-    (refl, refl, (default_is_number, refl, refl), (one_is_id, refl))
-reads program (settle db None (Some id)) (d, l, i) =
-    by program (settle db None (Some id)) (codes "settle") (value db d ∷ named (codes "--from") ∷ digits id i.0 ∷ []) refl refl
+reads program (settle db None None None) (d, l, i, c) =
+    by program (settle db None None None) (codes "settle") (value db d ∷ []) refl refl (record { passes = (refl, tt); ends = refl })
+    (refl, refl, (default_is_number, refl, refl), (one_is_id, refl), refl)
+reads program (settle db None None (Some folder)) (d, l, i, c) =
+    by program (settle db None None (Some folder)) (codes "settle") (value db d ∷ named (codes "--certs") ∷ value folder c ∷ []) refl refl
+    (record { passes = (refl, (refl, (refl, tt))); ends = refl }) (refl, refl, (default_is_number, refl, refl), (one_is_id, refl), refl)
+reads program (settle db None (Some id) None) (d, l, i, c) =
+    by program (settle db None (Some id) None) (codes "settle") (value db d ∷ named (codes "--from") ∷ digits id i.0 ∷ []) refl refl
     (record { passes = (refl, (refl, (refl, tt))); ends = ap (λ b. (b && true) && true) (id_passes (codes "from") id i) })
-    (refl, refl, (default_is_number, refl, refl), (i, refl))
-reads program (settle db (Some limit) None) (d, l, i) =
-    by program (settle db (Some limit) None) (codes "settle") (value db d ∷ named (codes "--limit") ∷ digits limit l.0 ∷ []) refl refl
+    (refl, refl, (default_is_number, refl, refl), (i, refl), refl)
+reads program (settle db None (Some id) (Some folder)) (d, l, i, c) =
+    by program (settle db None (Some id) (Some folder)) (codes "settle")
+    (value db d ∷ named (codes "--from") ∷ digits id i.0 ∷ named (codes "--certs") ∷ value folder c ∷ []) refl refl
+    (record { passes = (refl, (refl, (refl, (rw (id_passes (codes "from") id i) refl, (refl, tt))))); ends = refl })
+    (refl, refl, (default_is_number, refl, refl), (i, refl), refl)
+reads program (settle db (Some limit) None None) (d, l, i, c) =
+    by program (settle db (Some limit) None None) (codes "settle") (value db d ∷ named (codes "--limit") ∷ digits limit l.0 ∷ []) refl refl
     (record { passes = (refl, (refl, (refl, tt))); ends = ap (λ b. (b && true) && true) (number_passes (codes "limit") limit l) })
-    (refl, refl, (l, refl, refl), (one_is_id, refl))
-reads program (settle db (Some limit) (Some id)) (d, l, i) =
-    by program (settle db (Some limit) (Some id)) (codes "settle")
+    (refl, refl, (l, refl, refl), (one_is_id, refl), refl)
+reads program (settle db (Some limit) None (Some folder)) (d, l, i, c) =
+    by program (settle db (Some limit) None (Some folder)) (codes "settle")
+    (value db d ∷ named (codes "--limit") ∷ digits limit l.0 ∷ named (codes "--certs") ∷ value folder c ∷ []) refl refl
+    (record { passes = (refl, (refl, (refl, (rw (number_passes (codes "limit") limit l) refl, (refl, tt))))); ends = refl })
+    (refl, refl, (l, refl, refl), (one_is_id, refl), refl)
+reads program (settle db (Some limit) (Some id) None) (d, l, i, c) =
+    by program (settle db (Some limit) (Some id) None) (codes "settle")
     (value db d ∷ named (codes "--limit") ∷ digits limit l.0 ∷ named (codes "--from") ∷ digits id i.0 ∷ []) refl refl
     (record {
       passes = (refl, (refl, (refl, (rw (number_passes (codes "limit") limit l) refl, (refl, tt)))));
       ends = ap (λ b. (b && true) && true) (id_passes (codes "from") id i);
-    }) (refl, refl, (l, refl, refl), (i, refl))
+    }) (refl, refl, (l, refl, refl), (i, refl), refl)
+reads program (settle db (Some limit) (Some id) (Some folder)) (d, l, i, c) =
+    by program (settle db (Some limit) (Some id) (Some folder)) (codes "settle")
+    (value db d ∷ named (codes "--limit") ∷ digits limit l.0 ∷ named (codes "--from") ∷ digits id i.0 ∷ named (codes "--certs") ∷ value folder c ∷ []) refl refl
+    (record {
+      passes = (refl, (refl, (refl, (rw (number_passes (codes "limit") limit l) refl, (refl, (rw (id_passes (codes "from") id i) refl, (refl, tt)))))));
+      ends = refl;
+    }) (refl, refl, (l, refl, refl), (i, refl), refl)
 reads program (show db None) (d, i) =
     by program (show db None) (codes "show") (value db d ∷ []) refl refl (record { passes = (refl, tt); ends = refl }) (refl, refl, (i, refl))
 reads program (show db (Some id)) (d, i) =
@@ -160,7 +180,14 @@ pub means_solve : (made : Job) (form : Form) (name : Text) (rows : List Row) →
 means_solve made (solve file number limit bound cert) name rows is has means = means file number limit bound cert has
 means_solve made _ name rows is has means = absurd (another (codes "solve") _ (sym is ∙ has.0) refl refl)
 
--- and so under that of draw
+-- and so under that of settle
+pub means_settle : (made : Job) (form : Form) (name : Text) (rows : List Row) → name ≡ codes "settle" → HasValues form name rows
+    → ((db : Text) (limit from certs : Option Text) → HasValues (settle db limit from certs) name rows → Means (settle db limit from certs) made)
+    → Means form made
+means_settle made (settle db limit from certs) name rows is has means = means db limit from certs has
+means_settle made _ name rows is has means = absurd (another (codes "settle") _ (sym is ∙ has.0) refl refl)
+
+-- and that of draw
 pub means_draw : (made : Job) (form : Form) (name : Text) (rows : List Row) → name ≡ codes "draw" → HasValues form name rows
     → ((file number : Text) (text : Option Text) → HasValues (draw file number text) name rows → Means (draw file number text) made) → Means form made
 means_draw made (draw file number text) name rows is has means = means file number text has

@@ -30,7 +30,7 @@ pub data Form : Type 0 where
   offer : List ℕ → List ℕ → List ℕ → Form
   offers : List ℕ → List ℕ → Form
   prove : List ℕ → List ℕ → List ℕ → Form
-  settle : List ℕ → Option (List ℕ) → Option (List ℕ) → Form
+  settle : List ℕ → Option (List ℕ) → Option (List ℕ) → Option (List ℕ) → Form
   show : List ℕ → Option (List ℕ) → Form
   export : List ℕ → Bool → Form
 
@@ -45,7 +45,7 @@ IsPlain (add db file) = IsValue db × IsValue file
 IsPlain (offer db id text) = IsValue db × IsId id × IsValue text
 IsPlain (offers db file) = IsValue db × IsValue file
 IsPlain (prove db id cert) = IsValue db × IsId id × IsValue cert
-IsPlain (settle db limit from) = IsValue db × IfSome limit IsNumber × IfSome from IsId
+IsPlain (settle db limit from certs) = IsValue db × IfSome limit IsNumber × IfSome from IsId × IfSome certs IsValue
 IsPlain (show db id) = IsValue db × IfSome id IsId
 IsPlain (export db solutions) = IsValue db
 
@@ -71,7 +71,8 @@ words_of (add db file) = codes "add" ∷ db ∷ file ∷ []
 words_of (offer db id text) = codes "offer" ∷ db ∷ id ∷ text ∷ []
 words_of (offers db file) = codes "offers" ∷ db ∷ file ∷ []
 words_of (prove db id cert) = codes "prove" ∷ db ∷ id ∷ cert ∷ []
-words_of (settle db limit from) = codes "settle" ∷ db ∷ (option_words (codes "--limit") limit ++ option_words (codes "--from") from)
+words_of (settle db limit from certs) = codes "settle" ∷ db
+    ∷ (option_words (codes "--limit") limit ++ option_words (codes "--from") from ++ option_words (codes "--certs") certs)
 words_of (show db id) = codes "show" ∷ db ∷ option_to_list id
 words_of (export db solutions) = codes "export" ∷ db ∷ flag_words (codes "--solutions") solutions
 
@@ -102,7 +103,8 @@ Means (add db file) (job.Add a b) = (string_bytes a ≡ db) × (string_bytes b �
 Means (offer db id text) (job.Offer a b c) = (string_bytes a ≡ db) × (b ≡ id_value id) × (string_bytes c ≡ text)
 Means (offers db file) (job.Offers a b) = (string_bytes a ≡ db) × (string_bytes b ≡ file)
 Means (prove db id cert) (job.Prove a b c) = (string_bytes a ≡ db) × (b ≡ id_value id) × (string_bytes c ≡ cert)
-Means (settle db limit from) (job.Settle a most first) = (string_bytes a ≡ db) × (most ≡ limit_of limit) × (first ≡ from_of from)
+Means (settle db limit from certs) (job.Settle a most first folder) =
+    (string_bytes a ≡ db) × (most ≡ limit_of limit) × (first ≡ from_of from) × (option_map (λ s. string_bytes s) folder ≡ certs)
 Means (show db id) (job.Show a b) = (string_bytes a ≡ db) × (b ≡ option_map id_value id)
 Means (export db solutions) (job.Export a b) = (string_bytes a ≡ db) × (b ≡ solutions)
 Means _ _ = ⊥

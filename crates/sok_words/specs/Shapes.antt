@@ -26,6 +26,7 @@ limit_rule name = record (new_rule name) {
   defaults = codes "100000" ∷ [];
 }
 
+-- the path of a file or of a folder
 abbrev pub path_rule : Text → Rule
 path_rule name = record (new_rule name) { long = Some name; value_names = 1 }
 
@@ -64,6 +65,7 @@ rule_of_kind kind.Limit name = limit_rule name
 rule_of_kind kind.First name = first_rule name
 rule_of_kind kind.Flag name = flag_rule name
 rule_of_kind kind.Path name = path_rule name
+rule_of_kind kind.Folder name = path_rule name
 
 abbrev pub with_place : App → Place → App
 with_place app place = with_rule app (rule_of_kind place.kind place.name.now)
@@ -118,7 +120,10 @@ subcommand_rules = (codes "list", file_rule ∷ [])
     ∷ (codes "offer", book_rule ∷ entry_rule ∷ text_rule ∷ [])
     ∷ (codes "offers", book_rule ∷ file_rule ∷ [])
     ∷ (codes "prove", book_rule ∷ entry_rule ∷ cert_rule ∷ [])
-    ∷ (codes "settle", book_rule ∷ limit_rule (codes "limit") ∷ first_rule (codes "from") ∷ [])
+    ∷ (
+      codes "settle",
+      book_rule ∷ limit_rule (codes "limit") ∷ first_rule (codes "from") ∷ path_rule (codes "certs") ∷ [],
+    )
     ∷ (codes "show", book_rule ∷ shown_rule ∷ [])
     ∷ (codes "export", book_rule ∷ flag_rule (codes "solutions") ∷ [])
     ∷ []

@@ -26,7 +26,8 @@ Exit status:
   5  a file, a stream or the book's database failed
   6  memory was refused
 A fault is one line on the error stream: fault NUMBER NAME, and what it names. Rows, columns,
-letters, bytes and entries are counted from 0 there, and lines from 1.";
+letters, bytes and entries are counted from 0 there, and lines from 1. With status 5 a second line
+tells what failed.";
 
 /// The program's command.
 pub(crate) fn sok_command<'a>(alloc: Global) -> Result<Command<'a>, AllocError>

@@ -5,7 +5,7 @@ ghost use Rattle.sok_words.specs.Shapes.{Follows, rule_of_kind};
 use clap::{Arg, ArgAction, value_parser};
 use std::alloc::Global;
 
-/// What is read in a place. One for a limit, a first id, a flag or a path is an option.
+/// What is read in a place. One for a limit, a first id, a flag, a path or a folder is an option.
 #[derive(Clone, Copy)]
 pub(crate) enum Kind {
     Text,
@@ -20,6 +20,8 @@ pub(crate) enum Kind {
     First,
     Flag,
     Path,
+    /// The path of a folder.
+    Folder,
 }
 
 /// A place of a subcommand.
@@ -54,6 +56,7 @@ impl Place {
                 .value_name("ID"),
             Kind::Flag => arg.long(self.name).action(ArgAction::SetTrue),
             Kind::Path => arg.long(self.name).value_name("PATH"),
+            Kind::Folder => arg.long(self.name).value_name("FOLDER"),
         }
     }
 }
@@ -134,6 +137,12 @@ pub(crate) const FROM: Place = Place {
     name: "from",
     kind: Kind::First,
     help: "Pass over the levels with a lower id than this one",
+};
+
+pub(crate) const CERTS: Place = Place {
+    name: "certs",
+    kind: Kind::Folder,
+    help: "Keep the certificate of each level that is settled in this folder, as ID.cert",
 };
 
 pub(crate) const SHOWN: Place = Place {

@@ -96,7 +96,9 @@ fn settle_of(alloc: Global, values: &ArgMatches<'_>) -> Result<Job, JobRefused>
 {
     let db = text_of(alloc, values, "DB")?;
     let limit = number_of(alloc, values, "limit")?;
-    Ok(Job::Settle(db, limit, id_of(alloc, values, "from")?))
+    let from = id_of(alloc, values, "from")?;
+    let folder = option_of(alloc, values, "certs")?;
+    Ok(Job::Settle(db, limit, from, folder))
 }
 
 /// A collection, and the number of a level in it.

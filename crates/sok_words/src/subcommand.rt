@@ -4,8 +4,8 @@ ghost use Rattle.std.specs.Prelude.{◌≡◌, IfOk, fold};
 ghost use Rattle.sok_words.specs.Shapes.{Builds, own_app, sok_app, sok_top, with_own};
 
 use crate::place::{
-    BOUND, CERT, DB, FILE, FROM, ID, LETTERS, LIMIT, N, OFFERS, OUTPUT, Place, SHOWN, SOLUTIONS,
-    TEXT,
+    BOUND, CERT, CERTS, DB, FILE, FROM, ID, LETTERS, LIMIT, N, OFFERS, OUTPUT, Place, SHOWN,
+    SOLUTIONS, TEXT,
 };
 use clap::Command;
 use std::alloc::{AllocError, Global};
@@ -172,12 +172,15 @@ Writes a line for each level with verdict untested, in order of ids, as soon as 
   ID limit S at least K    more than S states can be reached, and no letters solve the level with
                            fewer than K pushes: nothing is kept of it
   ID fault 14 TooLong      the solution has more than 1,000,000 letters: nothing is kept of it
-The status is 0 where no line is one of the last two, and else 4. A fault is status 3 or 5, and of
+  ID fault 52 TooMuch      its certificate, which --certs asks for, has more than 268,435,456 bytes:
+                           nothing is kept of it
+The status is 0 where no line is one of the last three, and else 4. A fault is status 3 or 5, and of
 memory 6: the lines before it stand, and what they tell is kept.
 
 Examples: sok settle small.db
-          sok settle small.db --limit 1000000 --from 2",
-            places: &[DB, LIMIT, FROM],
+          sok settle small.db --limit 1000000 --from 2
+          sok settle small.db --certs certs",
+            places: &[DB, LIMIT, FROM, CERTS],
         },
         Subcommand {
             name: "show",

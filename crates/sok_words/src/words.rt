@@ -19,13 +19,13 @@ use std::alloc::Global;
 /// list FILE · replay FILE N TEXT · draw FILE N [TEXT]
 /// solve FILE N [--limit S] [--bound] [--cert PATH] · check FILE N CERT
 /// add DB FILE · offer DB ID TEXT · offers DB FILE · prove DB ID CERT
-/// settle DB [--limit S] [--from ID] · show DB [ID] · export DB [--solutions]
+/// settle DB [--limit S] [--from ID] [--certs FOLDER] · show DB [ID] · export DB [--solutions]
 /// ```
 ///
-/// Places and PATH that are not empty and do not begin with a hyphen, N and S below 2 ^ 32 and ID
-/// below 2 ^ 63 in digits alone, are read as they stand. S is 100,000 where it is left out, and the
-/// ID behind `--from` 1. Other words are read or refused as `clap` does it; but `-`, which is the
-/// standard input, is refused as PATH, and as FILE with TEXT or CERT in one command.
+/// Places, PATH and FOLDER that are not empty and do not begin with a hyphen, N and S below 2 ^ 32
+/// and ID below 2 ^ 63 in digits alone, are read as they stand. S is 100,000 where it is left out,
+/// and the ID behind `--from` 1. Other words are read or refused as `clap` does it; but `-`, which is
+/// the standard input, is refused as PATH, and as FILE with TEXT or CERT in one command.
 pub fn job(alloc: Global, words: &[String]) -> Result<Job, JobRefused>
     ensures answers { (program : List ℕ) (form : Form) → IsPlain form
         → map (λ word. string_bytes word) words.now ≡ program ∷ words_of form

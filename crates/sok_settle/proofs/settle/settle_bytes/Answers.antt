@@ -9,14 +9,14 @@ use Rattle.sok_settle.proofs.settle.settle_bytes.Goals as goal
 
 pub returns-then-is_bad-clause-writes : goal.returns-then-is_bad-clause-writes
 returns-then-is_bad-clause-writes g c =
-    bad_turns c.args.limit c.args.from (state g.S.Store c.args.book.now) (g.W.Write.contents c.args.out.now) (c.is_bad.ensures.0 c.if-is_bad.true)
+    bad_turns (g.C.Certs.keeping c.args.certs.now) c.args.limit c.args.from (state g.S.Store c.args.book.now) (g.W.Write.contents c.args.out.now) (c.is_bad.ensures.0 c.if-is_bad.true)
 
 pub returns-in-Ok-clause-writes : goal.returns-in-Ok-clause-writes
 returns-in-Ok-clause-writes g c =
     let old = state g.S.Store c.args.book.now in
     let mid = state g.S.Store c.list.new.self in
     let found = subst (λ rs. Finds old mid (λ book. AreRecordsOf book rs)) (sym c.deref.ensures.value) c.in-Ok.ensures.listed in
-    whole_turns c.args.limit c.args.from c.deref.result.now old mid (state g.S.Store c.settle_all.new.book) c.list.ensures.stop found
+    whole_turns (g.C.Certs.keeping c.args.certs.now) c.args.limit c.args.from c.deref.result.now old mid (state g.S.Store c.settle_all.new.book) c.list.ensures.stop found
     (g.W.Write.contents c.args.out.now) (g.W.Write.contents c.settle_all.new.out) c.settle_all.result
     (rw (to_z-of_z w64 c.args.from c.ranges.from) at c.settle_all.ensures)
 
@@ -25,7 +25,7 @@ returns-in-Ok-clause-open g c =
     let old = state g.S.Store c.args.book.now in
     let mid = state g.S.Store c.list.new.self in
     let found = subst (λ rs. Finds old mid (λ book. AreRecordsOf book rs)) (sym c.deref.ensures.value) c.in-Ok.ensures.listed in
-    whole_open c.args.limit c.args.from c.deref.result.now old mid (state g.S.Store c.settle_all.new.book) c.list.ensures.stop found
+    whole_open (g.C.Certs.keeping c.args.certs.now) c.args.limit c.args.from c.deref.result.now old mid (state g.S.Store c.settle_all.new.book) c.list.ensures.stop found
     (g.W.Write.contents c.args.out.now) (g.W.Write.contents c.settle_all.new.out) c.settle_all.result
     (rw (to_z-of_z w64 c.args.from c.ranges.from) at c.settle_all.ensures)
 
@@ -34,7 +34,7 @@ returns-in-Ok-clause-stop g c =
     let old = state g.S.Store c.args.book.now in
     let mid = state g.S.Store c.list.new.self in
     let found = subst (λ rs. Finds old mid (λ book. AreRecordsOf book rs)) (sym c.deref.ensures.value) c.in-Ok.ensures.listed in
-    whole_stops c.args.limit c.args.from c.deref.result.now old mid (state g.S.Store c.settle_all.new.book) c.list.ensures.stop found
+    whole_stops (g.C.Certs.keeping c.args.certs.now) c.args.limit c.args.from c.deref.result.now old mid (state g.S.Store c.settle_all.new.book) c.list.ensures.stop found
     (g.W.Write.contents c.args.out.now) (g.W.Write.contents c.settle_all.new.out) c.settle_all.result
     (rw (to_z-of_z w64 c.args.from c.ranges.from) at c.settle_all.ensures)
 
@@ -43,13 +43,13 @@ returns-in-Ok-clause-cause g c =
     let old = state g.S.Store c.args.book.now in
     let mid = state g.S.Store c.list.new.self in
     let found = subst (λ rs. Finds old mid (λ book. AreRecordsOf book rs)) (sym c.deref.ensures.value) c.in-Ok.ensures.listed in
-    whole_caused c.args.limit c.args.from c.deref.result.now old mid (state g.S.Store c.settle_all.new.book) c.list.ensures.stop found
+    whole_caused (g.C.Certs.keeping c.args.certs.now) c.args.limit c.args.from c.deref.result.now old mid (state g.S.Store c.settle_all.new.book) c.list.ensures.stop found
     (g.W.Write.contents c.args.out.now) (g.W.Write.contents c.settle_all.new.out) c.settle_all.result
     (rw (to_z-of_z w64 c.args.from c.ranges.from) at c.settle_all.ensures)
 
 pub returns-in-Err-clause-writes : goal.returns-in-Err-clause-writes
 returns-in-Err-clause-writes g c =
-    rw c.from.ensures (unlisted_turns c.args.limit c.args.from (state g.S.Store c.args.book.now) (state g.S.Store c.list.new.self)
+    rw c.from.ensures (unlisted_turns (g.C.Certs.keeping c.args.certs.now) c.args.limit c.args.from (state g.S.Store c.args.book.now) (state g.S.Store c.list.new.self)
     (g.W.Write.contents c.args.out.now) c.in-Err.fault c.in-Err.ensures.refused)
 
 pub returns-in-Err-clause-stop : goal.returns-in-Err-clause-stop
@@ -57,5 +57,5 @@ returns-in-Err-clause-stop g c = stops_none (state g.S.Store c.args.book.now) (s
 
 pub returns-in-Err-clause-cause : goal.returns-in-Err-clause-cause
 returns-in-Err-clause-cause g c =
-    rw c.from.ensures (unlisted_caused c.args.limit c.args.from (state g.S.Store c.args.book.now) (state g.S.Store c.list.new.self) c.in-Err.fault
+    rw c.from.ensures (unlisted_caused (g.C.Certs.keeping c.args.certs.now) c.args.limit c.args.from (state g.S.Store c.args.book.now) (state g.S.Store c.list.new.self) c.in-Err.fault
     c.in-Err.ensures.cause)

@@ -4,12 +4,12 @@ use Rattle.sok_tool.proofs.Working.{fileless_too}
 use Rattle.sok_tool.proofs.keeping.book_and_file.Goals as goal
 
 pub returns-in_ok-opened-in-Ok-clause-opens : goal.returns-in_ok-opened-in-Ok-clause-opens
-returns-in_ok-opened-in-Ok-clause-opens g c = c.in_ok-opened-in-Ok.ensures.opens c.args.absent c.in_ok-connection.ensures.kept
+returns-in_ok-opened-in-Ok-clause-opens g c = c.in_ok-opened-in-Ok.ensures.opens c.args.access c.in_ok-connection.ensures.kept
 
 pub returns-in_err-opened-in-Ok-clause-refused : goal.returns-in_err-opened-in-Ok-clause-refused
 returns-in_err-opened-in-Ok-clause-refused g c =
     let p = err_from_is_err_and c.from_residual-in_err-opened-in-Ok.result c.from_residual-in_err-opened-in-Ok.ensures.1 in
-    rw (p.1, p.2) (fileless_too _ _ _ (c.in_err-opened-in-Ok.ensures.refused c.args.absent c.in_ok-connection.ensures.kept))
+    rw (p.1, p.2) (fileless_too _ _ _ (c.in_err-opened-in-Ok.ensures.refused c.args.access c.in_ok-connection.ensures.kept))
 
 pub returns-in-Err-clause-refused : goal.returns-in-Err-clause-refused
 returns-in-Err-clause-refused g c =

@@ -1,9 +1,13 @@
 use Rattle.std.proofs.Common.{IfErr}
+use Rattle.std.specs.Option.{option_map}
+use Rattle.std.specs.Prelude.{string_bytes}
 use Rattle.sqlite.specs.Held.{state}
+use Rattle.sok_files.specs.Files.{IsMade}
 use Rattle.sok_store.specs.Calls.{Stops, Turns}
 use Rattle.sok_keep.specs.Causes.{IsCausedFault}
 use Rattle.sok_keep.proofs.Ids.{of_passed}
 use Rattle.sok_settle.specs.Settles.{SettlesSome, WritesSettling}
+use Rattle.sok_tool.specs.Certs.{keeping_of}
 use Rattle.sok_tool.proofs.Working.{Turns-weaker, without_book, works}
 use Rattle.sok_tool.proofs.keeping.settle.Goals as goal
 
@@ -12,16 +16,19 @@ returns-in_err-book g c = without_book _ _ _ _ _ _ _ c.from_residual.ensures.1 c
 
 pub returns : goal.returns
 returns g c =
-    let call = c.settle_bytes-told in
+    let call = c.settle_book-told in
     let limit = c.args.limit in
+    let keeping = keeping_of (λ path. IsMade g.F.Output.Write.contents (g.F.Folder.makes c.args.rt.now path))
+    (option_map (λ s. string_bytes s) c.args.folder) in
     let old = state g.S.Store c.in_ok-book.book in
     let new = state g.S.Store call.new.book in
     let before = g.W.Write.contents c.args.out.now in
     let later = g.W.Write.contents call.new.out in
-    let settles = of_passed (λ from. Turns old new (λ book after. WritesSettling limit from book after before later call.result)) c.args.from c.ranges.from
-    call.ensures.writes in
-    let stop = of_passed (λ from. Stops old new (SettlesSome limit from)) c.args.from c.ranges.from call.ensures.stop in
-    let cause = of_passed (λ from. IfErr call.result (IsCausedFault old new (SettlesSome limit from))) c.args.from c.ranges.from call.ensures.cause in
+    let settles = of_passed (λ from. Turns old new (λ book after. WritesSettling keeping limit from book after before later call.result)) c.args.from
+    c.ranges.from call.ensures.writes in
+    let stop = of_passed (λ from. Stops old new (SettlesSome keeping limit from)) c.args.from c.ranges.from call.ensures.stop in
+    let cause = of_passed (λ from. IfErr call.result (IsCausedFault old new (SettlesSome keeping limit from))) c.args.from c.ranges.from call.ensures.cause in
     works _ _ _ _ _ _ c.in_ok-book.book call.new.book _ c.in_ok-book.ensures.opens c.into_connection.ensures c.close.ensures
-    (Turns-weaker old new (λ book after. WritesSettling limit c.args.from book after before later call.result) _ (λ book after made. (call.ensures.bad_limit, made)) settles)
+    (Turns-weaker old new (λ book after. WritesSettling keeping limit c.args.from book after before later call.result) _
+    (λ book after made. (call.ensures.bad_limit, made)) settles)
     stop cause

@@ -76,8 +76,8 @@ returns-in-Prove g c = λ form plain means.
 pub returns-in-Settle : goal.returns-in-Settle
 returns-in-Settle g c = λ form plain means.
     let s = c.in-Settle in
-    let meant : Means form (job.Settle s.db s.limit s.from) = subst (Means form) s.is means in
-    Serves-settle _ _ form s.db s.limit s.from c.as_str-in-Settle.result.now _ _ _ plain meant c.as_str-in-Settle.ensures.value
+    let meant : Means form (job.Settle s.db s.limit s.from s.folder) = subst (Means form) s.is means in
+    Serves-settle _ _ form s.db s.limit s.from s.folder c.as_str-in-Settle.result.now _ _ _ plain meant c.as_str-in-Settle.ensures.value
     (c.settle.result, c.settle.ensures, c.ended-in-Settle.ensures)
 
 -- with an id

@@ -1,0 +1,196 @@
+//! The commands that only read a book: nothing is written, and it may be in use.
+
+use crate::keeping::place_of;
+use crate::rows::{first_other, prepare};
+use sok_sketch::tutorial::Row;
+use sqlite::{Connection, File, FileStore};
+use std::fs::{self, Permissions};
+use std::os::unix::fs::{PermissionsExt, symlink};
+use std::test::Fail;
+
+/// A book of two levels, the first with a best.
+const MADE: [Row; 2] = [
+    (
+        "sok add copies/book copies/levels",
+        "1 id 1\n2 fault 4 ManyPlayers\n3 fault 8 TooFewGoals\n4 id 2\n",
+        "",
+        0,
+    ),
+    ("sok offer copies/book 1 r", "stored 1 1\n", "", 0),
+];
+
+/// What is told of it, by its own name and by a link.
+const SHOWN: [Row; 5] = [
+    (
+        "sok show copies/book 1",
+        "#####\n#@$.#\n#####\ntitle First\nbest 1 1 R\nverdict untested\n",
+        "",
+        0,
+    ),
+    ("sok show copies/book 3", "", "fault 30 NoLevel\n", 3),
+    (
+        "sok show copies/book",
+        "1 3 5 1 1 1 untested First\n2 4 6 1 - - untested The room\n",
+        "",
+        0,
+    ),
+    (
+        "sok show copies/link",
+        "1 3 5 1 1 1 untested First\n2 4 6 1 - - untested The room\n",
+        "",
+        0,
+    ),
+    (
+        "sok export copies/book",
+        "; First\n#####\n#@$.#\n#####\n\n; The room\n######\n#    #\n# $@.#\n######\n\n",
+        "",
+        0,
+    ),
+];
+
+/// The same where the first level has got another title.
+const CHANGED: [Row; 3] = [
+    (
+        "sok show copies/book",
+        "1 3 5 1 1 1 untested Begun\n2 4 6 1 - - untested The room\n",
+        "",
+        0,
+    ),
+    (
+        "sok show copies/link",
+        "1 3 5 1 1 1 untested Begun\n2 4 6 1 - - untested The room\n",
+        "",
+        0,
+    ),
+    (
+        "sok export copies/book",
+        "; Begun\n#####\n#@$.#\n#####\n\n; The room\n######\n#    #\n# $@.#\n######\n\n",
+        "",
+        0,
+    ),
+];
+
+/// And in files as a writer leaves them that is cut off.
+const CUT: [Row; 1] = [(
+    "sok show copies/cut",
+    "1 3 5 1 1 1 untested Begun\n2 4 6 1 - - untested The room\n",
+    "",
+    0,
+)];
+
+const NO_DATABASE: &str = "fault 32 Database\n";
+
+/// A database with a rollback journal, one of two names, a folder, and an empty file, which is an
+/// empty book.
+const OTHERS: [Row; 4] = [
+    ("sok show copies/torn", "", NO_DATABASE, 5),
+    ("sok show copies/twin", "", NO_DATABASE, 5),
+    ("sok show copies", "", NO_DATABASE, 5),
+    ("sok show copies/empty", "", "", 0),
+];
+
+/// Makes the book, and a link to it.
+fn make(rt: &HostRuntime) -> Result<Option<&'static str>, Fail> {
+    prepare(rt, "copies")?;
+    symlink(rt, "book", "copies/link")?;
+    Ok(first_other(rt, &MADE)?)
+}
+
+/// What the files of a database hold.
+fn files_of(rt: &HostRuntime, path: &str) -> Result<(Vec<u8>, Vec<u8>), Fail> {
+    let log = format!(in rt.alloc(); "{path}-wal")?;
+    Ok((fs::read(rt, path)?, fs::read(rt, log.as_str())?))
+}
+
+/// The first row of which something else is told, or that leaves other files of a database.
+fn first_changed(rt: &HostRuntime, path: &str, rows: &[Row]) -> Result<Option<&'static str>, Fail> {
+    let before = files_of(rt, path)?;
+    let other = first_other(rt, rows)?;
+    let after = files_of(rt, path)?;
+    Ok(if before == after {
+        other
+    } else {
+        Some("the files")
+    })
+}
+
+/// Sets who may write the book, and make files beside it.
+fn set_modes(rt: &HostRuntime, file: u32, folder: u32) -> Result<(), Fail> {
+    fs::set_permissions(rt, "copies/book", Permissions::from_mode(file))?;
+    fs::set_permissions(rt, "copies/book-wal", Permissions::from_mode(file))?;
+    fs::set_permissions(rt, "copies", Permissions::from_mode(folder))?;
+    Ok(())
+}
+
+#[test]
+fn a_book_that_may_not_be_written(rt: HostRuntime) -> Result<(), Fail> {
+    let other = make(&rt)?;
+    assert_eq!(rt; other, None);
+    set_modes(&rt, 0o444, 0o555)?;
+    let other = first_changed(&rt, "copies/book", &SHOWN)?;
+    set_modes(&rt, 0o644, 0o755)?;
+    assert_eq!(rt; other, None);
+    fs::remove_dir_all(&rt, "copies")?;
+    Ok(())
+}
+
+/// Gives the first level another title. The change stands in the log alone as long as the database
+/// is open.
+fn begin(rt: &HostRuntime) -> Result<Connection<FileStore<File>>, Fail> {
+    let mut connection = Connection::open(rt, "copies/book")?;
+    connection.execute("UPDATE level SET title = x'426567756e' WHERE id = 1", &[])?;
+    Ok(connection)
+}
+
+/// Copies the book as it is.
+fn cut(rt: &HostRuntime) -> Result<(), Fail> {
+    fs::copy(rt, "copies/book", "copies/cut")?;
+    fs::copy(rt, "copies/book-wal", "copies/cut-wal")?;
+    Ok(())
+}
+
+/// Whether the change stands in the log alone.
+fn is_in_the_log(rt: &HostRuntime) -> Result<bool, Fail> {
+    let (db, log) = files_of(rt, "copies/book")?;
+    let title = b"Begun";
+    Ok(place_of(db.as_slice(), title).is_none() && place_of(log.as_slice(), title).is_some())
+}
+
+#[test]
+fn a_book_that_another_has_open(rt: HostRuntime) -> Result<(), Fail> {
+    let other = make(&rt)?;
+    assert_eq!(rt; other, None);
+    let connection = begin(&rt)?;
+    cut(&rt)?;
+    assert!(rt; is_in_the_log(&rt)?);
+    let other = first_changed(&rt, "copies/book", &CHANGED)?;
+    drop(connection);
+    assert_eq!(rt; other, None);
+    let other = first_changed(&rt, "copies/cut", &CUT)?;
+    assert_eq!(rt; other, None);
+    fs::remove_dir_all(&rt, "copies")?;
+    Ok(())
+}
+
+/// Makes what is no book of its own.
+fn make_others(rt: &HostRuntime) -> Result<(), Fail> {
+    fs::copy(rt, "copies/book", "copies/torn")?;
+    fs::write(rt, "copies/torn-journal", "a page")?;
+    fs::copy(rt, "copies/book", "copies/other")?;
+    fs::hard_link(rt, "copies/other", "copies/twin")?;
+    fs::write(rt, "copies/empty", "")?;
+    Ok(())
+}
+
+#[test]
+fn what_is_no_book_of_its_own(rt: HostRuntime) -> Result<(), Fail> {
+    let other = make(&rt)?;
+    assert_eq!(rt; other, None);
+    make_others(&rt)?;
+    let other = first_other(&rt, &OTHERS)?;
+    assert_eq!(rt; other, None);
+    assert!(rt; fs::read(&rt, "copies/empty")?.is_empty());
+    assert!(rt; fs::open(&rt, "copies/empty-wal").is_err());
+    fs::remove_dir_all(&rt, "copies")?;
+    Ok(())
+}

@@ -1,0 +1,129 @@
+//! A copy of a database in memory, for a command that changes nothing. It is read as it was last
+//! committed, with no lock and nothing written: so the database may be one that can't be written,
+//! and other processes may be at work on it.
+//!
+//! Whoever changes a database writes to its log, and writes a page to the database file only once
+//! the log has it. There it stays until the log is begun anew, under another salt in its front. So
+//! where that front is the same before the database file was read and behind the log, each page that
+//! was written meanwhile is in the log, and the log over the file is what was last committed. What
+//! was just being written to the log ends it, as behind a crash. A log may also have been made,
+//! copied and emptied meanwhile: then the file was written, and its time tells.
+
+ghost use Rattle.std.specs.Prelude.{◌≡◌, IfOk, IsTrue};
+ghost use Rattle.sqlite_disk.specs.Memory.{memory_bytes, memory_is_usable};
+ghost use Rattle.sqlite.specs.State.{HasCleanDisk};
+ghost use Rattle.sqlite.specs.Start.{FindsIn};
+ghost use Rattle.sqlite.specs.Files.{file_state};
+
+use crate::book_file::BookFile;
+use crate::opening::{Unopened, in_turn};
+use sqlite::{Connection, Error, ErrorCode, FileStore, Files, Options};
+use sqlite_disk::{Disk, Memory};
+use std::alloc::Global;
+use std::fs::{self, File};
+use std::io::{self, ErrorKind, Read};
+use std::os::unix::fs::MetadataExt;
+
+/// Opens a copy of the database that is at a path.
+pub(crate) fn copy(
+    rt: &HostRuntime,
+    path: &str,
+) -> Result<Connection<FileStore<BookFile>>, Unopened> {
+    // The log is beside the file that a link leads to, as where a database is opened.
+    let real = fs::canonicalize(rt, path)?;
+    let contents = in_turn(rt, || read(rt, real.as_str()))?;
+    connect(rt.alloc(), contents)
+}
+
+/// What the files of a database hold.
+#[derive(Drop)]
+struct Contents {
+    log: Vec<u8>,
+    db: Vec<u8>,
+}
+
+/// Reads the files of a database. It is busy where its log is begun anew meanwhile, or its file
+/// written.
+fn read(rt: &HostRuntime, path: &str) -> Result<Contents, Unopened> {
+    let log_path = format!(in rt.alloc(); "{path}-wal")?;
+    let journal_path = format!(in rt.alloc(); "{path}-journal")?;
+    let begun = front_of(rt, log_path.as_str())?;
+    let written = written_at(rt, path)?;
+    let Some(db) = bytes_of(rt, path)? else {
+        return Err(Unopened::UNFIT);
+    };
+    let log = bytes_of(rt, log_path.as_str())?.unwrap_or(Vec::new(rt.alloc()));
+    // A rollback journal, which only SQLite can play back: one that is empty, or begins with a zero,
+    // has nothing to play back.
+    if front_of(rt, journal_path.as_str())?[0] != 0 {
+        return Err(Unopened::UNFIT);
+    }
+    if front_of(rt, log_path.as_str())? != begun || written_at(rt, path)? != written {
+        return Err(Unopened::BUSY);
+    }
+    Ok(Contents { log, db })
+}
+
+/// A file, if there is one. Another thing than a file of one name is refused, as where a database is
+/// opened.
+fn file_at(rt: &HostRuntime, path: &str) -> Result<Option<File>, Unopened> {
+    match fs::symlink_metadata(rt, path) {
+        Ok(found) if found.is_file() && found.nlink() == 1 => Ok(Some(fs::open(rt, path)?)),
+        Ok(_) => Err(Unopened::UNFIT),
+        Err(error) if error.kind() == ErrorKind::NotFound => Ok(None),
+        Err(error) => Err(Unopened::Unread(error)),
+    }
+}
+
+/// The bytes of a file, if there is one.
+fn bytes_of(rt: &HostRuntime, path: &str) -> Result<Option<Vec<u8>>, Unopened> {
+    let Some(mut file) = file_at(rt, path)? else {
+        return Ok(None);
+    };
+    let mut bytes = Vec::new(rt.alloc());
+    file.read_to_end(&mut bytes)?;
+    Ok(Some(bytes))
+}
+
+/// The first bytes of a file, of a log the header: zeros where it ends before, or there is none.
+fn front_of(rt: &HostRuntime, path: &str) -> Result<[u8; 32], Unopened> {
+    let mut front = [0; 32];
+    if let Some(mut file) = file_at(rt, path)? {
+        let _ = file.read(&mut front)?;
+    }
+    Ok(front)
+}
+
+/// When a file was last written: seconds, and nanoseconds.
+fn written_at(rt: &HostRuntime, path: &str) -> Result<(i64, i64), Unopened> {
+    let found = fs::metadata(rt, path)?;
+    Ok((found.mtime(), found.mtime_nsec()))
+}
+
+/// Opens a database whose files lie in memory.
+fn connect(alloc: Global, contents: Contents) -> Result<Connection<FileStore<BookFile>>, Unopened>
+    ensures { IfOk result (λ c. HasCleanDisk (file_state c)
+        → FindsIn (record { log = contents.log.items; db = contents.db.items }) (file_state c)) }
+{
+    let files = Files {
+        log: BookFile::Copy(file_of(alloc, contents.log)?),
+        db: BookFile::Copy(file_of(alloc, contents.db)?),
+    };
+    // No other process reads the log of a copy, so its salts need not differ from those of others.
+    match Connection::open_files(alloc, files, Options::new(0)) {
+        Ok(connection) => Ok(connection),
+        // A file in memory fails only for want of it.
+        Err((Error::SqliteFailure(ErrorCode::SystemIoFailure), _)) => Err(Unopened::MEMORY),
+        Err((error, _)) => Err(Unopened::Refused(error)),
+    }
+}
+
+/// A file in memory that holds these bytes.
+fn file_of(alloc: Global, bytes: Vec<u8>) -> io::Result<Memory>
+    ensures holds { IfOk result (λ file. memory_bytes file ≡ bytes.items) }
+    ensures usable { IfOk result (λ file. IsTrue (memory_is_usable file)) }
+{
+    let mut file = Memory::new(alloc);
+    file.write_at(0, bytes.as_slice())?;
+    Ok(file)
+}
