@@ -6,13 +6,15 @@ use std::fs;
 use std::test::Fail;
 
 /// What the session makes.
-const MADE: [&str; 6] = [
+const MADE: [&str; 8] = [
     "first.cert",
     "second.cert",
     "small.db",
     "small.db-wal",
     "all.db",
     "all.db-wal",
+    "1.cert",
+    "2.cert",
 ];
 
 #[test]

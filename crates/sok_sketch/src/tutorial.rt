@@ -28,7 +28,7 @@ const LETTERS: &str = "\
 ";
 
 /// The commands behind them, in their order.
-pub const SESSION: [Row; 21] = [
+pub const SESSION: [Row; 22] = [
     (
         "sok list small.xsb",
         "1 4 6 1 1 Around the box\n2 3 5 1 1 Stuck at the wall\n",
@@ -118,7 +118,18 @@ pub const SESSION: [Row; 21] = [
         0,
     ),
     ("sok add all.db small.xsb", "1 id 1\n2 id 2\n", "", 0),
-    ("sok settle all.db", "1 optimal 2 6\n2 unsolvable\n", "", 0),
+    (
+        "sok settle all.db --certs .",
+        "1 optimal 2 6\n2 unsolvable\n",
+        "",
+        0,
+    ),
+    (
+        "sok check small.xsb 2 2.cert",
+        "accepted unsolvable\n",
+        "",
+        0,
+    ),
     (
         "sok export all.db --solutions",
         "; Around the box\n######\n#    #\n# $@.#\n######\nSolution: ulldRR\nPushes: 2 optimal\n\n; Stuck at the wall\n#####\n#@.$#\n#####\nUnsolvable\n\n",
