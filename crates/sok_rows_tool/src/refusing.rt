@@ -9,7 +9,7 @@ const VERSION: &str = "sok 1.0\nproved with rattle-kit-13f logic dac8208d650f15b
 
 /// A line, a part of what is written to the output, or where the status is 2 to the error stream,
 /// and the status.
-const REFUSALS: [(&str, &str, u8); 35] = [
+const REFUSALS: [(&str, &str, u8); 36] = [
     ("sok --help", "Exit status:", 0),
     ("sok --version", VERSION, 0),
     ("sok help solve", "limit S", 0),
@@ -56,6 +56,7 @@ const REFUSALS: [(&str, &str, u8); 35] = [
         "9223372036854775808",
         2,
     ),
+    ("sok settle B --certs ", "FOLDER of '--certs' is empty", 2),
     ("sok show B -1", "unexpected argument '-1'", 2),
 ];
 

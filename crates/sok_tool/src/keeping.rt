@@ -73,7 +73,7 @@ pub(crate) fn offer<S: Alter + Drop, F: Databases<Opened = Connection<S>> + Allo
         WritesOffer book id text.now after (W.contents out.old) (W.contents out.new) result)
         (record { old = W.contents out.old; new = W.contents out.new }) result }
 {
-    let mut book = book_of(rt, db)?;
+    let mut book = book_of(rt, db, Access::Change)?;
     let told = offer_bytes(rt.alloc(), &mut book, id, text, out);
     rt.close(db, book.into_connection());
     told
@@ -141,7 +141,7 @@ pub(crate) fn settle<
         (W.contents out.old) (W.contents out.new) result)
         (record { old = W.contents out.old; new = W.contents out.new }) result }
 {
-    let mut book = book_of(rt, db)?;
+    let mut book = book_of(rt, db, Access::Change)?;
     let told = settle_book(rt, &mut book, limit, from, folder, out);
     rt.close(db, book.into_connection());
     told
@@ -193,7 +193,7 @@ pub(crate) fn show<S: Alter + Drop, F: Databases<Opened = Connection<S>> + Alloc
         × Writes (IsShow book id) (W.contents out.old) (W.contents out.new) result)
         (record { old = W.contents out.old; new = W.contents out.new }) result }
 {
-    let mut book = book_to_read(rt, db)?;
+    let mut book = book_of(rt, db, Access::Read)?;
     let told = show_bytes(rt.alloc(), &mut book, id, out);
     rt.close(db, book.into_connection());
     told
@@ -212,40 +212,26 @@ pub(crate) fn tell<S: Alter + Drop, F: Databases<Opened = Connection<S>> + Alloc
         × Writes (IsBookText text book) (W.contents out.old) (W.contents out.new) result)
         (record { old = W.contents out.old; new = W.contents out.new }) result }
 {
-    let mut book = book_to_read(rt, db)?;
+    let mut book = book_of(rt, db, Access::Read)?;
     let told = book_bytes(rt.alloc(), &mut book, text, out);
     rt.close(db, book.into_connection());
     told
 }
 
-/// Opens the database that is at a path as a book to be changed.
+/// Opens the database at a path as a book.
 fn book_of<S: Alter + Drop, F: Databases<Opened = Connection<S>> + AllocGlobal>(
     rt: &F,
     db: &str,
+    access: Access,
 ) -> Result<Book<S>, ToolFault>
     ensures opens { IfOk result (OpensFound (place (state S.Store)
-        (F.keeps rt.now accesses.Change db.now) (F.refuses rt.now db.now) (F.leaves rt.now db.now))) }
+        (F.keeps rt.now access db.now) (F.refuses rt.now db.now) (F.leaves rt.now db.now))) }
     ensures refused { IfErr result
         (IsWithoutBook (place (state S.Store)
-        (F.keeps rt.now accesses.Change db.now) (F.refuses rt.now db.now) (F.leaves rt.now db.now)) ⊥) }
+        (F.keeps rt.now access db.now) (F.refuses rt.now db.now) (F.leaves rt.now db.now)) ⊥) }
 {
-    let connection = rt.database(db, Access::Change)?;
-    opened(rt, db, connection)
-}
-
-/// Opens the database that is at a path as a book to be read.
-fn book_to_read<S: Alter + Drop, F: Databases<Opened = Connection<S>> + AllocGlobal>(
-    rt: &F,
-    db: &str,
-) -> Result<Book<S>, ToolFault>
-    ensures opens { IfOk result (OpensFound (place (state S.Store)
-        (F.keeps rt.now accesses.Read db.now) (F.refuses rt.now db.now) (F.leaves rt.now db.now))) }
-    ensures refused { IfErr result
-        (IsWithoutBook (place (state S.Store)
-        (F.keeps rt.now accesses.Read db.now) (F.refuses rt.now db.now) (F.leaves rt.now db.now)) ⊥) }
-{
-    let connection = rt.database(db, Access::Read)?;
-    opened(rt, db, connection)
+    let found = rt.database(db, access)?;
+    opened(rt, db, found)
 }
 
 /// Opens the database at a path, then the file at another one, and then the book.

@@ -121,6 +121,15 @@ MisusesInput (job.Solve a n most bounds (Some path)) = IsHyphen path
 MisusesInput (job.Check a n cert) = IsHyphen a × IsHyphen cert
 MisusesInput _ = ⊥
 
+-- certificates are to be kept in a folder without a name
+abbrev pub LacksFolder : Job → Type 0
+LacksFolder (job.Settle a most first (Some folder)) = (string_bytes folder ≡ [])
+LacksFolder _ = ⊥
+
+-- a job that is run
+abbrev pub IsAllowed : Job → Type 0
+IsAllowed job = (MisusesInput job → ⊥) × (LacksFolder job → ⊥)
+
 -- the answer to a form: its job, or memory ran out
 abbrev pub Answers : Form → Result Job JobRefused → Type 0
 Answers form (Ok made) = Means form made

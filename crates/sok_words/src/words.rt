@@ -2,7 +2,7 @@
 
 ghost use Rattle.std.specs.Prelude.{◌≡◌, ◌∷◌, ◌↔◌, ℕ, List, IfOk, IsTrue, map, string_bytes};
 ghost use Rattle.clap.specs.Words.{kind_of};
-ghost use Rattle.sok_words.specs.Forms.{Answers, Form, IsPlain, MisusesInput, words_of};
+ghost use Rattle.sok_words.specs.Forms.{Answers, Form, IsAllowed, IsPlain, LacksFolder, MisusesInput, words_of};
 
 use crate::command::sok_command;
 use crate::job::{Job, JobRefused};
@@ -25,12 +25,13 @@ use std::alloc::Global;
 /// Places, PATH and FOLDER that are not empty and do not begin with a hyphen, N and S below 2 ^ 32
 /// and ID below 2 ^ 63 in digits alone, are read as they stand. S is 100,000 where it is left out,
 /// and the ID behind `--from` 1. Other words are read or refused as `clap` does it; but `-`, which is
-/// the standard input, is refused as PATH, and as FILE with TEXT or CERT in one command.
+/// the standard input, is refused as PATH, and as FILE with TEXT or CERT in one command, and an empty
+/// FOLDER is.
 pub fn job(alloc: Global, words: &[String]) -> Result<Job, JobRefused>
     ensures answers { (program : List ℕ) (form : Form) → IsPlain form
         → map (λ word. string_bytes word) words.now ≡ program ∷ words_of form
         → Answers form result }
-    ensures input { IfOk result (λ job. MisusesInput job → ⊥) }
+    ensures allowed { IfOk result IsAllowed }
 {
     let command = match sok_command(alloc) {
         Ok(command) => command,
@@ -42,14 +43,24 @@ pub fn job(alloc: Global, words: &[String]) -> Result<Job, JobRefused>
     }
 }
 
-/// A job that was read, unless it misuses the standard input.
+/// A job that was read, unless it misuses the standard input or has a folder without a name.
 fn allowed(alloc: Global, read: Result<Job, JobRefused>) -> Result<Job, JobRefused>
     ensures answers { (form : Form) → IsPlain form → Answers form read → Answers form result }
-    ensures input { IfOk result (λ job. MisusesInput job → ⊥) }
+    ensures allowed { IfOk result IsAllowed }
 {
     let job = read?;
     if misuses_input(&job) {
-        return Err(input_refused(alloc));
+        return Err(misused(
+            alloc,
+            "error: '-' is the standard input, which is read once in a command, and not written\n\n\
+For more information, try '--help'.\n",
+        ));
+    }
+    if lacks_folder(&job) {
+        return Err(misused(
+            alloc,
+            "error: the FOLDER of '--certs' is empty\n\nFor more information, try '--help'.\n",
+        ));
     }
     Ok(job)
 }
@@ -67,11 +78,18 @@ fn misuses_input(job: &Job) -> bool
     }
 }
 
-/// That the standard input is read once, and not written.
-fn input_refused(alloc: Global) -> JobRefused {
-    let text =
-        "error: '-' is the standard input, which is read once in a command, and not written\n\n\
-For more information, try '--help'.\n";
+/// Whether a job would keep certificates in a folder without a name.
+fn lacks_folder(job: &Job) -> bool
+    ensures { IsTrue result ↔ LacksFolder job.now }
+{
+    match job {
+        Job::Settle(_, _, _, Some(folder)) => folder.is_empty(),
+        _ => false,
+    }
+}
+
+/// A refusal of words that `clap` reads.
+fn misused(alloc: Global, text: &str) -> JobRefused {
     match String::from_str(alloc, text) {
         Ok(text) => JobRefused { text, status: 2 },
         Err(_) => out_of_memory(alloc),
