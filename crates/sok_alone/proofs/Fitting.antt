@@ -3,6 +3,7 @@ use Rattle.std.proofs.Common.{ℕ, ◌≤◌, ◌<◌, sym, subst, List, ◌∷�
 use Rattle.std.proofs.lemmas.List.Elements.{All-append, All-cons, All-nil, All-weaker}
 use Rattle.sok_rules.specs.Play.{AllOnGoals}
 use Rattle.sok_board.specs.Area.{Numbered, IsAccepted}
+use Rattle.sok_board.specs.Limits.{square_limit}
 use Rattle.sok_region.specs.Regions.{IsPlaced}
 use Rattle.sok_price.specs.Prices.{AreMembers}
 use Rattle.sok_entry.specs.Text.{FitsInner, IsSmall, entry_alike, numbers_of_position, numbers_of_reason, reason_alike}
@@ -17,7 +18,7 @@ use Rattle.sok_alone.specs.Known.{inner_at}
 
 module _ (b : Numbered) (accepted : IsAccepted b) (key : Key) (placed : IsPlaced b key.boxes key.least) where
   -- there are no more boxes than squares
-  few : length key.boxes ≤ 1024
+  few : length key.boxes ≤ square_limit
   few =
       let squares = accepted.few_squares in
       let fewer = few-rising key.boxes (length b.area) placed.rising placed.boxes_exist in

@@ -48,7 +48,7 @@ lost-at b player boxes key is boxes_are losses each place at =
       fit = one.fit;
     }
 
-pub lost-found : (b : Numbered) (player : ℕ) (boxes : List ℕ) (key : Key) → IsKeyOf b (position_of b player boxes) key → key.boxes ≡ boxes
+lost-found : (b : Numbered) (player : ℕ) (boxes : List ℕ) (key : Key) → IsKeyOf b (position_of b player boxes) key → key.boxes ≡ boxes
     → (losses : List Loss) → All (IsLoss b) losses → (found : Option ℕ) → IfSome found (λ place. HasKeyAt losses place key)
     → IfSome found (IsLostBy b player boxes losses)
 lost-found b player boxes key is boxes_are losses each None told = told
@@ -141,22 +141,30 @@ lost-walked b accepted player other boxes losses place placed same lost =
 -- ---- some of the boxes
 
 -- what is lost of some of the boxes is lost of them all
-pub lost-among : (b : Numbered) (player : ℕ) (some boxes : List ℕ) → ((square : ℕ) → Contains some square → Contains boxes square) → (losses : List Loss)
+lost-among : (b : Numbered) (player : ℕ) (some boxes : List ℕ) → ((square : ℕ) → Contains some square → Contains boxes square) → (losses : List Loss)
     → (found : Option ℕ) → IfSome found (IsLostBy b player some losses) → IfSome found (IsLostBy b player boxes losses)
 lost-among b player some boxes among losses None told = told
 lost-among b player some boxes among losses (Some place) lost = lost-more b player some losses place lost boxes among
 
--- so is what is told by the key of their state
-pub tells-key : (b : Numbered) (player : ℕ) (some boxes : List ℕ) → ((square : ℕ) → Contains some square → Contains boxes square) → (key : Key)
-    → IsKeyOf b (position_of b player some) key → key.boxes ≡ some → (old new : Losses) (r : Result (Option ℕ) Memory) → OnOk r (AddsLosses b old new)
-    → IfOk r (λ found. IfSome found (λ place. HasKeyAt (losses_of new) place key)) → IfOk r (TellsLoss b player boxes old new)
-tells-key b player some boxes among key is boxes_are old new (Ok found) more there = record {
-  losses = more.losses;
-  kept = more.kept;
-  lost = lost-among b player some boxes among (losses_of new) found
-      (lost-found b player some key is boxes_are (losses_of new) more.losses.each found there);
+-- so is what is told of some of them
+pub tells-among : (b : Numbered) (player : ℕ) (some boxes : List ℕ) → ((square : ℕ) → Contains some square → Contains boxes square) → (old new : Losses)
+    (found : Option ℕ) → TellsLoss b player some old new found → TellsLoss b player boxes old new found
+tells-among b player some boxes among old new found told = record {
+  losses = told.losses;
+  kept = told.kept;
+  lost = lost-among b player some boxes among (losses_of new) found told.lost;
 }
-tells-key b player some boxes among key is boxes_are old new (Err e) more there = tt
+
+-- what is told by the key of their state, once it is made
+pub tells-key : (b : Numbered) (player : ℕ) (boxes : List ℕ) (key : Key) → IsKeyOf b (position_of b player boxes) key → key.boxes ≡ boxes
+    → (old made new : Losses) → KeepsPlaces (losses_of old) (losses_of made) → (r : Result (Option ℕ) Memory) → OnOk r (AddsLosses b made new)
+    → IfOk r (λ found. IfSome found (λ place. HasKeyAt (losses_of new) place key)) → IfOk r (TellsLoss b player boxes old new)
+tells-key b player boxes key is boxes_are old made new stay (Ok found) more there = record {
+  losses = more.losses;
+  kept = λ place loss at. more.kept place loss (stay place loss at);
+  lost = lost-found b player boxes key is boxes_are (losses_of new) more.losses.each found there;
+}
+tells-key b player boxes key is boxes_are old made new stay (Err e) more there = tt
 
 -- some of the boxes after a push of one of them
 module _ (from to : ℕ) (boxes some after : List ℕ) (among : (square : ℕ) → Contains some square → Contains boxes square) (moved : IsMoved some from to after) where

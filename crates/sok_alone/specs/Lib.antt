@@ -7,3 +7,4 @@ pub mod Asking
 pub mod Judging
 pub mod Known
 pub mod Meeting
+pub mod Workspace

@@ -10,6 +10,7 @@ use Rattle.sok_state.specs.Keys.{IsKey}
 use Rattle.sok_bar.specs.Patterns.{AreClosedAlone}
 use Rattle.sok_alone.specs.declared.losses.Loss.{Loss}
 use Rattle.sok_alone.specs.declared.losses.Losses.{Losses}
+use Rattle.sok_alone.specs.Workspace.{IsWorkspace}
 
 -- the most positions of a loss
 abbrev pub loss_limit : ℕ
@@ -23,10 +24,11 @@ pub record IsLoss (b : Numbered) (loss : Loss) : Type 0 where
   pub few : length loss.inner ≤ loss_limit
   pub fit : All FitsInner loss.inner
 
--- losses of a board, and room for all its squares
+-- losses of a board, room for all its squares, and what searches on it keep
 pub record KeepsLosses (b : Numbered) (kept : Losses) : Type 0 where
   pub room : length b.area ≤ kept.asked.room
   pub each : All (IsLoss b) kept.losses.items
+  pub workspace : IsWorkspace b kept.workspace
 
 -- the loss at a place is one of a state
 pub record HasKeyAt (losses : List Loss) (place : ℕ) (key : Key) : Type 0 where

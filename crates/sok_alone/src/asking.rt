@@ -15,7 +15,6 @@ use sok_board::box_set::BoxSet;
 use sok_push::tables::Tables;
 use sok_rules::cell::Dir;
 use sok_rules::fault::Memory;
-use sok_state::key::Key;
 use std::alloc::Global;
 
 /// How far apart boxes stand close, at most, in rows and in columns.
@@ -192,8 +191,6 @@ impl Losses {
             (put_in_order asking.now.from asking.now.to asking.now.boxes.now)
             (losses_of self.now) place }
     {
-        // Its clauses tell that the level is accepted.
-        let _squares = asking.board.squares();
         match self.loss_at(place) {
             Some(loss) => loss.region.has(asking.from) && asking.leaves(loss.key.boxes.list()),
             None => false,
@@ -208,8 +205,13 @@ impl Losses {
     {
         let before = chosen(asking.alloc, asking.boxes, squares)?;
         let after = before.moved(asking.alloc, asking.from, asking.to)?;
-        let key = Key::of(asking.alloc, asking.board, &after, asking.from)?;
-        self.recall(asking.alloc, asking.board, asking.tables, &key)
+        self.loss_of(
+            asking.alloc,
+            asking.board,
+            asking.tables,
+            after,
+            asking.from,
+        )
     }
 
     /// The place of a loss of two of the boxes, which are never solved from where the player stands,
@@ -233,8 +235,7 @@ impl Losses {
                     continue;
                 }
                 let pair = chosen(alloc, boxes, &[*one, *other])?;
-                let key = Key::of(alloc, board, &pair, player)?;
-                let found = self.recall(alloc, board, tables, &key)?;
+                let found = self.loss_of(alloc, board, tables, pair, player)?;
                 if found.is_some() {
                     return Ok(found);
                 }

@@ -1,21 +1,22 @@
 //! The list of positions of some boxes alone that is closed under pushes.
 
-ghost use Rattle.std.specs.Prelude.{◌≡◌, ◌≤◌, [], IfOk, IfNone, IfSome, length};
-ghost use Rattle.sok_board.specs.Area.{IsAccepted, position_of};
+ghost use Rattle.std.specs.Prelude.{◌≡◌, ◌≤◌, [], IfOk, IfNone, IfSome, OnOk, length};
+ghost use Rattle.sok_board.specs.Area.{position_of};
 ghost use Rattle.sok_region.specs.Regions.{IsPlaced};
 ghost use Rattle.sok_alone.specs.GivenUp.{HasEnded, IsGivenUp};
 ghost use Rattle.sok_alone.specs.Meeting.{AreClosedWithin, TellsAlone};
+ghost use Rattle.sok_alone.specs.Workspace.{IsWorkspace};
 
 use crate::expanding::run;
 use crate::known::Known;
 use crate::meeting::Met;
+use crate::workspace::Workspace;
 use sok_board::area::Sq;
 use sok_board::board::Board;
 use sok_board::box_set::BoxSet;
 use sok_entry::inners::Inners;
 use sok_push::tables::Tables;
 use sok_rules::fault::Memory;
-use sok_state::key::Key;
 use sok_state::table::Table;
 use std::alloc::Global;
 
@@ -39,7 +40,17 @@ pub fn close_alone(
         (IsGivenUp board.now.rows (position_of board.now player boxes.now) limit)) }
 {
     let lives = Table::new(alloc, board.squares());
-    close_unless(alloc, board, tables, &lives, boxes, player, limit)
+    let mut workspace = Workspace::new(alloc, board);
+    close_unless(
+        alloc,
+        board,
+        tables,
+        &lives,
+        &mut workspace,
+        boxes,
+        player,
+        limit,
+    )
 }
 
 /// The same, but for states that are noted in a table at depth 0: where one is come to, there may be
@@ -49,13 +60,16 @@ pub(crate) fn close_unless(
     board: &Board,
     tables: &Tables,
     lives: &Table,
+    workspace: &mut Workspace,
     boxes: &BoxSet,
     player: Sq,
     limit: u32,
 ) -> Result<Option<Inners>, Memory>
     requires tables { tables.now.board ≡ board.now }
     requires room { length board.now.area ≤ lives.now.room }
+    requires workspace { IsWorkspace board.now workspace.old }
     requires placed { IsPlaced board.now boxes.now player }
+    ensures workspace { OnOk result (IsWorkspace board.now workspace.new) }
     ensures closed { IfOk result (λ found. IfSome found
         (AreClosedWithin board.now player boxes.now limit)) }
     ensures none { IfOk result (λ found. IfNone found
@@ -63,7 +77,7 @@ pub(crate) fn close_unless(
 {
     let mut known = Known::new(alloc, board.squares());
     let met = run_from(
-        alloc, board, tables, lives, boxes, player, limit, &mut known,
+        alloc, board, tables, lives, workspace, boxes, player, limit, &mut known,
     );
     // The table is let go here once, and not at each exit.
     let inner = {
@@ -86,23 +100,26 @@ fn run_from(
     board: &Board,
     tables: &Tables,
     lives: &Table,
+    workspace: &mut Workspace,
     boxes: &BoxSet,
     player: Sq,
     limit: u32,
     known: &mut Known,
 ) -> Result<Met, Memory>
-    requires accepted { IsAccepted board.now }
     requires tables { tables.now.board ≡ board.now }
     requires room { length board.now.area ≤ lives.now.room }
+    requires workspace { IsWorkspace board.now workspace.old }
     requires placed { IsPlaced board.now boxes.now player }
     requires none { known.old.table.entries ≡ [] }
     requires no_inner { known.old.inner.items ≡ [] }
     requires wide { length board.now.area ≤ known.old.table.room }
-    ensures { IfOk result (TellsAlone board.now lives.now player boxes.now limit
+    ensures workspace { OnOk result (IsWorkspace board.now workspace.new) }
+    ensures tells { IfOk result (TellsAlone board.now lives.now player boxes.now limit
         known.new.inner.items) }
 {
     // A set of boxes tells with its list that they are few.
     let _squares = boxes.list();
-    let key = Key::of(alloc, board, boxes, player)?;
-    run(alloc, board, tables, lives, limit, known, &key)
+    let own = boxes.copy(alloc)?;
+    let key = workspace.normalizer.key(board, own, player);
+    run(alloc, board, tables, lives, limit, known, workspace, &key)
 }

@@ -1,23 +1,24 @@
 //! The pushes of a state are followed.
 
-ghost use Rattle.std.specs.Prelude.{ℕ, List, ◌≡◌, ◌<◌, ◌≤◌, All, IfOk, OnOk, length};
+ghost use Rattle.std.specs.Prelude.{◌≡◌, ◌<◌, ◌≤◌, All, IfOk, OnOk, length};
 ghost use Rattle.sok_closed.specs.Lookup.{AreFollowed};
-ghost use Rattle.sok_region.specs.Layouts.{IsLaidOut};
+ghost use Rattle.sok_state.specs.Normalizers.{Normalizes};
 ghost use Rattle.sok_state.specs.Pushes.{IsLegal};
 ghost use Rattle.sok_alone.specs.Known.{IsAsked, IsKnown, IsReached, roll_of};
 ghost use Rattle.sok_state.specs.declared.key.Key.{Key};
 ghost use Rattle.sok_alone.specs.Meeting.{TellsAll, TellsExpanded, TellsFollowed, TellsRun};
+ghost use Rattle.sok_alone.specs.Workspace.{IsWorkspace};
 
 use crate::known::Known;
 use crate::meeting::{Met, meet};
+use crate::workspace::Workspace;
 use sok_bar::inners::is_expanded;
-use sok_board::area::Sq;
 use sok_board::board::Board;
 use sok_push::tables::Tables;
 use sok_rules::fault::Memory;
-use sok_state::expansion::Expansion;
 use sok_state::key::Key;
 use sok_state::legal::after;
+use sok_state::normalizer::Normalizer;
 use sok_state::push::Push;
 use sok_state::table::Table;
 use std::alloc::Global;
@@ -30,6 +31,7 @@ fn follow_all(
     lives: &Table,
     limit: u32,
     known: &mut Known,
+    normalizer: &mut Normalizer,
     key: &Key,
     pushes: &[Push],
 ) -> Result<Met, Memory>
@@ -38,11 +40,13 @@ fn follow_all(
     requires known { IsKnown board.now start limit known.old }
     requires reached { IsReached board.now start key.now }
     requires legal { All (IsLegal board.now key.now) pushes.now }
-    ensures { IfOk result
+    requires normalizes { Normalizes board.now normalizer.old }
+    ensures tells { IfOk result
         (TellsFollowed board.now lives.now start limit known.old key.now pushes.now known.new) }
+    ensures normalizes { OnOk result (Normalizes board.now normalizer.new) }
 {
     for push in pushes {
-        let next = after(alloc, board, key, *push)?;
+        let next = after(alloc, board, normalizer, key, *push)?;
         match meet(alloc, board, tables, lives, limit, known, &next)? {
             Met::On => {}
             Met::Ended => return Ok(Met::Ended),
@@ -51,8 +55,7 @@ fn follow_all(
     Ok(Met::On)
 }
 
-/// Follows each legal push of a known state, if it is to be expanded. The list and the expansion are
-/// places for its boxes and its pushes.
+/// Follows each legal push of a known state, if it is to be expanded.
 fn expand(
     alloc: Global,
     board: &Board,
@@ -60,28 +63,29 @@ fn expand(
     lives: &Table,
     limit: u32,
     known: &mut Known,
+    workspace: &mut Workspace,
     index: usize,
-    squares: &mut Vec<Sq>,
-    expansion: &mut Expansion,
 ) -> Result<Met, Memory>
     ghost start: { Key }
     requires asked { IsAsked board.now tables.now lives.now start }
     requires known { IsKnown board.now start limit known.old }
     requires exists { index < length known.old.inner.items }
     requires followed { AreFollowed board.now (roll_of known.old) index }
-    requires laid { (boxes : List ℕ) × IsLaidOut board.now boxes expansion.old.layout }
-    ensures laid { OnOk result
-        ((boxes : List ℕ) × IsLaidOut board.now boxes expansion.new.layout) }
+    requires workspace { IsWorkspace board.now workspace.old }
+    ensures workspace { OnOk result (IsWorkspace board.now workspace.new) }
     ensures tells { IfOk result
         (TellsExpanded board.now lives.now start limit known.old index known.new) }
 {
     if !is_expanded(&known.inner[index].reason) {
         return Ok(Met::On);
     }
-    let key = known.table.key(alloc, squares, index)?;
-    expansion.open(board, &key)?;
-    let pushes = &expansion.pushes;
-    follow_all(alloc, board, tables, lives, limit, known, &key, pushes)
+    let key = known.table.key(alloc, &mut workspace.squares, index)?;
+    workspace.expansion.open(board, &key)?;
+    let normalizer = &mut workspace.normalizer;
+    let pushes = &workspace.expansion.pushes;
+    follow_all(
+        alloc, board, tables, lives, limit, known, normalizer, &key, pushes,
+    )
 }
 
 /// Expands one known state after another, until none is left or the search has ended.
@@ -92,27 +96,18 @@ fn expand_all(
     lives: &Table,
     limit: u32,
     known: &mut Known,
+    workspace: &mut Workspace,
 ) -> Result<Met, Memory>
     ghost start: { Key }
     requires asked { IsAsked board.now tables.now lives.now start }
     requires known { IsKnown board.now start limit known.old }
-    ensures { IfOk result (TellsAll board.now lives.now start limit known.old known.new) }
+    requires workspace { IsWorkspace board.now workspace.old }
+    ensures workspace { OnOk result (IsWorkspace board.now workspace.new) }
+    ensures tells { IfOk result (TellsAll board.now lives.now start limit known.old known.new) }
 {
-    let mut squares = Vec::new(alloc);
-    let mut expansion = Expansion::new(alloc, board);
     let mut index = 0;
     while index < known.inner.len() {
-        match expand(
-            alloc,
-            board,
-            tables,
-            lives,
-            limit,
-            known,
-            index,
-            &mut squares,
-            &mut expansion,
-        )? {
+        match expand(alloc, board, tables, lives, limit, known, workspace, index)? {
             Met::On => {}
             Met::Ended => return Ok(Met::Ended),
         }
@@ -130,16 +125,19 @@ pub(crate) fn run(
     lives: &Table,
     limit: u32,
     known: &mut Known,
+    workspace: &mut Workspace,
     first: &Key,
 ) -> Result<Met, Memory>
     ghost start: { Key }
     requires asked { IsAsked board.now tables.now lives.now start }
     requires known { IsKnown board.now start limit known.old }
     requires reached { IsReached board.now start first.now }
-    ensures { IfOk result (TellsRun board.now lives.now start limit first.now known.new) }
+    requires workspace { IsWorkspace board.now workspace.old }
+    ensures workspace { OnOk result (IsWorkspace board.now workspace.new) }
+    ensures tells { IfOk result (TellsRun board.now lives.now start limit first.now known.new) }
 {
     match meet(alloc, board, tables, lives, limit, known, first)? {
-        Met::On => expand_all(alloc, board, tables, lives, limit, known),
+        Met::On => expand_all(alloc, board, tables, lives, limit, known, workspace),
         Met::Ended => Ok(Met::Ended),
     }
 }

@@ -10,7 +10,10 @@ use sok_rules::cell::Dir;
 use sok_rules::fault::Memory;
 use std::alloc::Global;
 
-/// How many hints of three boxes are kept, a prime number.
+/// How many hints of two boxes are kept at most: all of 2,048 squares, 64 MiB.
+const PAIRS: usize = 16_777_216;
+
+/// How many other hints are kept, a prime number.
 const TRIOS: usize = 65_521;
 
 /// What is known of the pushed box with one other box, or with two, after a push.
@@ -29,8 +32,8 @@ pub(crate) enum Hint {
 pub(crate) struct Hints {
     /// Of two boxes, by the push and the square of the other box.
     pairs: Vec<Hint>,
-    /// Of three boxes, by the push and the squares of the two others: the last one of each
-    /// remainder of which no loss is known.
+    /// Of three boxes, by the push and the squares of the two others, and of two where that table
+    /// ends: the last one of each remainder of which no loss is known.
     trios: Vec<usize>,
 }
 
@@ -40,7 +43,7 @@ impl Hints {
         requires { squares ≤ square_limit }
     {
         Ok(Hints {
-            pairs: vec![in alloc; Hint::Open; squares * 4 * squares]?,
+            pairs: vec![in alloc; Hint::Open; PAIRS.min(squares * 4 * squares)]?,
             trios: vec![in alloc; 0; TRIOS]?,
         })
     }

@@ -14,6 +14,7 @@
 //! | `losses` | boxes that are found to be never solved, kept for a whole search |
 //! | `meeting` | a state is come to (private) |
 //! | `probing` | whether boxes are soon solved, as a guess (private) |
+//! | `workspace` | what searches keep from one to the next (private) |
 #![tactic(auto)]
 
 mod asking;
@@ -28,3 +29,4 @@ mod known;
 pub mod losses;
 mod meeting;
 mod probing;
+mod workspace;

@@ -4,15 +4,18 @@ ghost use Rattle.std.specs.Prelude.{ℕ, ◌≡◌, ◌≤◌, All, IfOk, IfSome
 ghost use Rattle.sok_bar.specs.Patterns.{IsPattern};
 ghost use Rattle.sok_board.specs.Area.{Numbered};
 ghost use Rattle.sok_entry.specs.Text.{FitsInner};
+ghost use Rattle.sok_region.specs.Regions.{IsPlaced};
 ghost use Rattle.sok_state.specs.Keys.{IsKey};
 ghost use Rattle.sok_alone.specs.Losses.{AddsLosses, HasKeyAt, IsLostBy, KeepsLosses, loss_limit};
-ghost use Rattle.sok_alone.specs.Losses.{losses_of};
+ghost use Rattle.sok_alone.specs.Losses.{TellsLoss, losses_of};
 
 use crate::closing::close_unless;
 use crate::finding::members_of;
 use crate::found::FoundPattern;
 use crate::hints::Hints;
 use crate::probing::are_soon_solved;
+use crate::workspace::Workspace;
+use sok_board::area::Sq;
 use sok_board::board::Board;
 use sok_board::box_set::BoxSet;
 use sok_entry::inners::Inners;
@@ -52,6 +55,7 @@ pub struct Losses {
     /// the place of its loss.
     asked: Table,
     losses: Vec<Loss>,
+    workspace: Workspace,
 }
 
 impl Losses {
@@ -64,6 +68,7 @@ impl Losses {
             hints: Hints::new(alloc, squares)?,
             asked: Table::new(alloc, squares),
             losses: Vec::new(alloc),
+            workspace: Workspace::new(alloc, board),
         })
     }
 
@@ -100,9 +105,27 @@ impl Losses {
         self.asked.len().saturating_sub(SEARCHES) <= known
     }
 
+    /// The place of a loss of boxes alone, from where the player stands.
+    pub(crate) fn loss_of(
+        &mut self,
+        alloc: Global,
+        board: &Board,
+        tables: &Tables,
+        boxes: BoxSet,
+        player: Sq,
+    ) -> Result<Option<u32>, Memory>
+        requires tables { tables.now.board ≡ board.now }
+        requires placed { IsPlaced board.now boxes player }
+        requires losses { KeepsLosses board.now self.old }
+        ensures { IfOk result (TellsLoss board.now player boxes self.old self.new) }
+    {
+        let key = self.workspace.normalizer.key(board, boxes, player);
+        self.recall(alloc, board, tables, &key)
+    }
+
     /// The place of a loss of a state of boxes alone. They are searched if they were not asked yet,
     /// and it is noted that they were.
-    pub(crate) fn recall(
+    fn recall(
         &mut self,
         alloc: Global,
         board: &Board,
@@ -141,7 +164,8 @@ impl Losses {
         ensures more { OnOk result (AddsLosses board.now self.old self.new) }
         ensures asked { self.new.asked ≡ self.old.asked }
     {
-        if self.losses.len() >= LOSSES || are_soon_solved(alloc, board, tables, key)? {
+        let workspace = &mut self.workspace;
+        if self.losses.len() >= LOSSES || are_soon_solved(alloc, board, tables, workspace, key)? {
             return Ok(0);
         }
         let found = close_unless(
@@ -149,6 +173,7 @@ impl Losses {
             board,
             tables,
             &self.asked,
+            &mut self.workspace,
             &key.boxes,
             key.least,
             STATES,

@@ -1,17 +1,18 @@
 //! Whether some boxes alone are soon solved. This is a guess: where it is wrong it costs time alone, so
 //! no clause says what it tells.
 
-ghost use Rattle.std.specs.Prelude.{◌≡◌, ◌<◌, All, IfSome, length};
+ghost use Rattle.std.specs.Prelude.{◌≡◌, ◌<◌, All, IfSome, OnOk, length};
 ghost use Rattle.sok_state.specs.Keys.{IsKey};
 ghost use Rattle.sok_state.specs.Pushes.{IsLegal};
+ghost use Rattle.sok_alone.specs.Workspace.{IsWorkspace};
 
+use crate::workspace::Workspace;
 use sok_board::area::Sq;
 use sok_board::board::Board;
 use sok_board::box_set::BoxSet;
 use sok_closed::solved::is_solved;
 use sok_push::tables::Tables;
 use sok_rules::fault::Memory;
-use sok_state::expansion::Expansion;
 use sok_state::key::Key;
 use sok_state::legal::after;
 use sok_state::push::Push;
@@ -24,22 +25,24 @@ pub(crate) fn are_soon_solved(
     alloc: Global,
     board: &Board,
     tables: &Tables,
+    workspace: &mut Workspace,
     start: &Key,
 ) -> Result<bool, Memory>
     requires tables { tables.now.board ≡ board.now }
+    requires workspace { IsWorkspace board.now workspace.old }
     requires state { IsKey board.now start.now }
+    ensures workspace { OnOk result (IsWorkspace board.now workspace.new) }
 {
     let mut key = start.copy(alloc)?;
-    let mut expansion = Expansion::new(alloc, board);
     for _ in 0..board.squares() {
         if is_solved(board, &key.boxes) {
             return Ok(true);
         }
-        expansion.open(board, &key)?;
-        let Some(push) = nearer(board, tables, &key, &expansion.pushes) else {
+        workspace.expansion.open(board, &key)?;
+        let Some(push) = nearer(board, tables, &key, &workspace.expansion.pushes) else {
             return Ok(false);
         };
-        key = after(alloc, board, &key, push)?;
+        key = after(alloc, board, &mut workspace.normalizer, &key, push)?;
     }
     Ok(false)
 }

@@ -8,6 +8,7 @@ ghost use Rattle.sok_closed.specs.Placing.{IsLocated};
 ghost use Rattle.sok_region.specs.Regions.{IsPlaced};
 ghost use Rattle.sok_bar.specs.Patterns.{AreClosedAlone, IsBarredAlone, inner_node};
 ghost use Rattle.sok_entry.specs.declared.entry.Inner.{Inner};
+ghost use Rattle.sok_state.specs.Normalizers.{Normalizes};
 
 use crate::bar::Bar;
 use crate::crowd::Crowd;
@@ -25,6 +26,7 @@ use sok_entry::inners::Inners;
 use sok_push::tables::Tables;
 use sok_rules::fault::Memory;
 use sok_state::key::Key;
+use sok_state::normalizer::Normalizer;
 use std::alloc::Global;
 
 /// Whether positions of some boxes alone are closed under pushes, that of a player among them at
@@ -44,12 +46,22 @@ pub(crate) fn are_closed_alone(
         (λ closed. IsTrue closed ↔ AreClosedAlone board.now player boxes.now inner.now) }
 {
     let mut roll = Roll::new(alloc, board.squares());
+    let mut normalizer = Normalizer::new(board);
     let inner = inner.as_slice();
-    are_closed_by(alloc, board, tables, boxes, player, inner, &mut roll)
+    are_closed_by(
+        alloc,
+        board,
+        tables,
+        boxes,
+        player,
+        inner,
+        &mut roll,
+        &mut normalizer,
+    )
 }
 
-/// The same by a roll that is empty and has room for the board. It is borrowed, since a proof lays
-/// out the drop of an owned one at each way out.
+/// The same by a roll that is empty and has room for the board, with keys of the board. Both are
+/// borrowed, since a proof lays out the drop of an owned one at each way out.
 fn are_closed_by(
     alloc: Global,
     board: &Board,
@@ -58,6 +70,7 @@ fn are_closed_by(
     player: Sq,
     inner: &[Inner],
     roll: &mut Roll,
+    normalizer: &mut Normalizer,
 ) -> Result<bool, Memory>
     requires accepted { IsAccepted board.now }
     requires tables { tables.now.board ≡ board.now }
@@ -65,11 +78,12 @@ fn are_closed_by(
     requires none { roll.old.entries ≡ [] }
     requires unmarked { roll.old.marks ≡ [] }
     requires wide { length board.now.area ≤ roll.old.room }
+    requires normalizes { Normalizes board.now normalizer.old }
     ensures { IfOk result
         (λ closed. IsTrue closed ↔ AreClosedAlone board.now player boxes.now inner.now) }
 {
     let count = boxes.list().len();
-    if !enter_all(alloc, board, tables, count, inner, roll)? {
+    if !enter_all(alloc, board, tables, count, inner, roll, normalizer)? {
         return Ok(false);
     }
     leads_on(alloc, board, boxes, player, roll)
@@ -85,6 +99,7 @@ fn enter_all(
     count: usize,
     inner: &[Inner],
     roll: &mut Roll,
+    normalizer: &mut Normalizer,
 ) -> Result<bool, Memory>
     requires accepted { IsAccepted board.now }
     requires tables { tables.now.board ≡ board.now }
@@ -92,6 +107,7 @@ fn enter_all(
     requires none { roll.old.entries ≡ [] }
     requires unmarked { roll.old.marks ≡ [] }
     requires wide { length board.now.area ≤ roll.old.room }
+    requires normalizes { Normalizes board.now normalizer.old }
     ensures entered { IfOk result (λ fine. MatchBool fine
         (AreEntered inner_node board.now count (IsBarredAlone board.now) inner.now roll.new)
         (AreFine inner_node board.now count (IsBarredAlone board.now) inner.now
@@ -99,7 +115,7 @@ fn enter_all(
     ensures of_board { IsOfBoard board.now roll.new }
 {
     for one in inner {
-        if !enter_alone(alloc, board, tables, count, one, roll)? {
+        if !enter_alone(alloc, board, tables, count, one, roll, normalizer)? {
             return Ok(false);
         }
     }
@@ -115,11 +131,13 @@ fn enter_alone(
     count: usize,
     one: &Inner,
     roll: &mut Roll,
+    normalizer: &mut Normalizer,
 ) -> Result<bool, Memory>
     requires accepted { IsAccepted board.now }
     requires tables { tables.now.board ≡ board.now }
     requires few { count ≤ box_limit }
     requires of_board { IsOfBoard board.now roll.old }
+    requires normalizes { Normalizes board.now normalizer.old }
     ensures tells { (before : List Inner)
         → AreEntered inner_node board.now count (IsBarredAlone board.now) before roll.old
         → IfOk result (λ fine. MatchBool fine
@@ -128,8 +146,16 @@ fn enter_alone(
         (IsFine inner_node board.now count (IsBarredAlone board.now) before (length before)
         one.now → ⊥)) }
     ensures of_board { IsOfBoard board.now roll.new }
+    ensures normalizes { Normalizes board.now normalizer.new }
 {
-    match locate(alloc, board, count, one.player, one.boxes.as_slice())? {
+    match locate(
+        alloc,
+        board,
+        normalizer,
+        count,
+        one.player,
+        one.boxes.as_slice(),
+    )? {
         Some(located) => enter_located(alloc, board, tables, one, &located, roll),
         None => Ok(false),
     }

@@ -27,6 +27,20 @@ pub fn has_jam(board: &Board, tables: &Tables, layout: &Layout, square: Sq) -> b
     if !is_held(board, tables, &[], Holders::Drawn(layout.boxed()), square) {
         return false;
     }
+    has_held_jam(board, tables, layout, square)
+}
+
+/// The same, where the box is held as all boxes stand. It stands apart, so that nothing has a set of
+/// squares to clear where the box is free.
+#[cold]
+fn has_held_jam(board: &Board, tables: &Tables, layout: &Layout, square: Sq) -> bool
+    requires accepted { IsAccepted board.now }
+    requires tables { tables.now.board ≡ board.now }
+    requires exists { square < length board.now.area }
+    requires laid { (boxes : List ℕ) × IsLaidOut board.now boxes layout.now }
+    ensures { (boxes : List ℕ) → IsLaidOut board.now boxes layout.now
+        → IsTrue result ↔ HasJamWith board.now boxes square }
+{
     let mut held = Field::new();
     held.copy_from(layout.boxed());
     narrow(board, tables, layout.boxes(), square, &mut held)

@@ -1,10 +1,10 @@
 -- Runs that have the squares of an area in order.
-use Rattle.std.proofs.Common.{ℕ, ◌≡◌, ◌<◌, ◌≤◌, ◌+◌, ◌-◌, ap, sym, ◌∙◌, subst, inl, inr, arith, List, [], ◌∷◌, ◌++◌, All, length, get_or}
+use Rattle.std.proofs.Common.{ℕ, ◌≡◌, ◌≢◌, ◌<◌, ◌≤◌, ◌+◌, ◌-◌, ◌%◌, ap, sym, ◌∙◌, subst, inl, inr, arith, List, [], ◌∷◌, ◌++◌, All, length, get_or}
 use Rattle.std.proofs.lemmas.Bool.{cases_lt}
 use Rattle.std.proofs.lemmas.Option.{unwrap_or-slice_get}
 use Rattle.sok_rules.specs.declared.cell.Spot.{Spot}
 use Rattle.sok_board.specs.Area.{Numbered}
-use Rattle.sok_board.specs.Runs.{IsRun, Covers, spot_at, right_of}
+use Rattle.sok_board.specs.Runs.{IsRun, Covers, spot_at, right_of, word_bits}
 use Rattle.sok_board.specs.Tables.{HasPlace}
 use Rattle.sok_board.specs.declared.runs.Run.{Run}
 use Rattle.sok_board.proofs.AreaLaws.{origin}
@@ -37,11 +37,16 @@ right_of-more squares n m row col before k within = elim (cases_lt k m) [
       (there ∙ (λ i. record { row = row i; col = col i }) ∙ ap (λ s. right_of s m) (sym here))
 ]
 
+-- where the next square begins no word, the word has a bit for it too
+pub columns-more : (first next m : ℕ) → first % word_bits + m ≤ word_bits → next ≡ first + m → next % word_bits ≢ 0 → first % word_bits + (m + 1) ≤ word_bits
+columns-more first next m before beside apart = omega (arith, before, beside, apart)
+
 -- squares that lie side by side are a run
 pub IsRun-beside : (b : Numbered) (squares : List Spot) (n m : ℕ) → b.area ≡ squares → All HasPlace squares → 0 < m → n + m ≤ length squares
+    → (spot_at squares n).col % word_bits + m ≤ word_bits
     → ((k : ℕ) → k < m → spot_at squares (n + k) ≡ right_of (spot_at squares n) k)
     → IsRun b (record { first = get_or squares n origin; number = n; length = m })
-IsRun-beside b squares n m same places some within lies =
+IsRun-beside b squares n m same places some within columns lies =
     let here = unwrap_or-slice_get squares n origin in
     let last : m - 1 < m = omega arith in
     let end : n + (m - 1) < length squares = omega arith in
@@ -53,6 +58,7 @@ IsRun-beside b squares n m same places some within lies =
       some = some;
       within = omega (arith, long, within);
       row = place.row;
-      columns = omega (arith, col, some);
+      col = omega (arith, col, some);
+      columns = subst (λ s. s.col % word_bits + m ≤ word_bits) here columns;
       lies = λ k below. ap (λ area. spot_at area (n + k)) same ∙ lies k below ∙ ap (λ s. right_of s k) here;
     }

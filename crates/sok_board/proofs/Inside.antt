@@ -13,7 +13,7 @@ use Rattle.sok_rules.proofs.Scenes.{man_stands}
 use Rattle.sok_board.specs.Area.{InArea, stroll}
 use Rattle.sok_board.specs.Tables.{HasPlace}
 
--- a level has cells in 64 rows and 64 columns only
+-- a level has cells in 128 rows and 128 columns only
 pub HasPlace-cell : (rows : Rows) (s : Spot) (cell : Cell) → IsProper rows → cell_at rows s ≡ Some cell → HasPlace s
 HasPlace-cell rows s cell proper at = option_and_then_some (λ row. slice_get row s.col) (slice_get rows s.row) cell at (λ row found here.
     let inside = slice_get_within rows s.row row found in

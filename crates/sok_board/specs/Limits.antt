@@ -3,7 +3,7 @@ use Rattle.std.specs.Prelude.{ℕ}
 
 -- the most squares of an area
 abbrev pub square_limit : ℕ
-square_limit = 1024
+square_limit = 4096
 
 -- the most boxes of an area
 abbrev pub box_limit : ℕ

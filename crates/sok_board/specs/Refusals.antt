@@ -1,15 +1,16 @@
 -- Why a level is not accepted: the first cause in the order of refusal, and the first square of that cause.
-use Rattle.std.specs.Prelude.{◌<◌, ◌≤◌, List, [], ◌∷◌, Bool, false, IsTrue, not, length, is_some}
+use Rattle.std.specs.Prelude.{ℕ, ◌<◌, ◌≤◌, List, [], ◌∷◌, Bool, false, IsTrue, not, length, is_some}
 use Rattle.std.specs.List.{list_any}
 use Rattle.std.specs.Option.{option_map_or}
 use Rattle.sok_rules.specs.declared.cell.Dir.{Dir}
 use Rattle.sok_rules.specs.declared.cell.Dir.TheVariants.{Left, Up, Right, Down}
 use Rattle.sok_rules.specs.declared.cell.Spot.{Spot}
+use Rattle.sok_rules.specs.Limits.{size_limit}
 use Rattle.sok_rules.specs.Squares.{Rows, cell_at, next}
 use Rattle.sok_board.specs.Limits.{square_limit, box_limit}
 use Rattle.sok_board.specs.declared.fault.BoardFault.{BoardFault}
 use Rattle.sok_board.specs.declared.fault.BoardFault.TheVariants.{NotEnclosed, BoxOutside, TooFewGoals, TooLarge, TooManyBoxes, Memory}
-use Rattle.sok_board.specs.Area.{InArea, IsArea, IsEnclosed, IsStray, IsAccepted, Before, Numbered, goals_of, boxes_of}
+use Rattle.sok_board.specs.Area.{InArea, IsArea, IsEnclosed, IsStray, IsAcceptedIn, Before, Numbered, goals_of, boxes_of}
 
 -- whether the neighbour in a direction lies in some row
 abbrev pub lies_beside : Rows → Spot → Dir → Bool
@@ -46,6 +47,9 @@ IsRefused rows TooManyBoxes = OfArea (λ b. IsTidy b × (box_limit < length (box
 IsRefused rows TooFewGoals = OfArea (λ b. IsTidy b × (length (boxes_of b) ≤ box_limit) × (length (goals_of b) < length (boxes_of b))) rows
 IsRefused rows Memory = Unit {0}
 
--- a level of which a board can be made
+-- a level of which a board can be made, up to these limits
+abbrev pub IsAcceptableIn : ℕ → ℕ → Rows → Type 0
+IsAcceptableIn size squares rows = (area : List Spot) × IsAcceptedIn size squares (record { rows = rows; area = area })
+
 abbrev pub IsAcceptable : Rows → Type 0
-IsAcceptable rows = (area : List Spot) × IsAccepted (record { rows = rows; area = area })
+IsAcceptable rows = IsAcceptableIn size_limit square_limit rows

@@ -1,5 +1,5 @@
 -- The area as runs of squares that lie side by side in a row.
-use Rattle.std.specs.Prelude.{ℕ, ◌≡◌, ◌<◌, ◌≤◌, ◌+◌, List, [], ◌∷◌, length, slice_get, unwrap_or}
+use Rattle.std.specs.Prelude.{ℕ, ◌≡◌, ◌<◌, ◌≤◌, ◌+◌, ◌%◌, List, [], ◌∷◌, length, slice_get, unwrap_or}
 use Rattle.sok_rules.specs.Limits.{size_limit}
 use Rattle.sok_rules.specs.declared.cell.Spot.{Spot}
 use Rattle.sok_board.specs.Area.{Numbered, spot_of}
@@ -13,12 +13,17 @@ spot_at squares n = unwrap_or (slice_get squares n) (record { row = 0; col = 0 }
 abbrev pub right_of : Spot → ℕ → Spot
 right_of s k = record { row = s.row; col = s.col + k }
 
--- squares of the area that lie side by side, with numbers that follow each other
+-- how many bits a word of a bit row has, one for each column
+abbrev pub word_bits : ℕ
+word_bits = 64
+
+-- squares of the area that lie side by side, with numbers that follow each other, and with bits of one word
 pub record IsRun (b : Numbered) (run : Run) : Type 0 where
   pub some : 0 < run.length
   pub within : run.number + run.length ≤ length b.area
   pub row : run.first.row < size_limit
-  pub columns : run.first.col + run.length ≤ size_limit
+  pub col : run.first.col < size_limit
+  pub columns : run.first.col % word_bits + run.length ≤ word_bits
   pub lies : (k : ℕ) → k < run.length → spot_of b (run.number + k) ≡ right_of run.first k
 
 -- runs that have each square from one number on up to another, in order

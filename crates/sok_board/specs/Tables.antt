@@ -1,4 +1,4 @@
--- Tables with an entry for each square of 64 rows and 64 columns.
+-- Tables with an entry for each square of 128 rows and 128 columns.
 use Rattle.std.specs.Prelude.{ℕ, ◌+◌, ◌*◌, ◌<◌, List, nat_lt, if◌then◌else◌, slice_index_or}
 use Rattle.sok_rules.specs.Limits.{size_limit}
 use Rattle.sok_rules.specs.declared.cell.Spot.{Spot}

@@ -24,7 +24,7 @@ use std::alloc::Global;
 pub type Sq = u16;
 
 /// The most squares that an area has.
-pub const SQUARE_LIMIT: usize = 1024;
+pub const SQUARE_LIMIT: usize = 4096;
 
 /// The most boxes that an area has.
 pub const BOX_LIMIT: usize = 128;

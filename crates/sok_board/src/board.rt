@@ -50,7 +50,7 @@ impl Model for Board {
 impl Board {
     /// Makes a board of a level, of which it keeps a copy. Refused are, in this order: an area of
     /// which a square has a neighbour in no row (the first such square, row by row), an area of
-    /// more than 1,024 squares, a box outside the area and off a goal (the first such box), more
+    /// more than 4,096 squares, a box outside the area and off a goal (the first such box), more
     /// than 128 boxes in the area, and fewer goals than boxes there.
     pub fn new(alloc: Global, level: &Level) -> Result<Board, BoardFault>
         ensures rows { IfOk result (λ board. board.rows ≡ level.now) }

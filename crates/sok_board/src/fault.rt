@@ -19,7 +19,7 @@ pub enum BoardFault {
     BoxOutside(Spot),
     /// The area has fewer goals than boxes.
     TooFewGoals,
-    /// The area has more than 1,024 squares.
+    /// The area has more than 4,096 squares.
     TooLarge,
     /// The area has more than 128 boxes.
     TooManyBoxes,

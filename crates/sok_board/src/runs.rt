@@ -1,9 +1,9 @@
 //! The area as runs of squares that lie side by side.
 
-ghost use Rattle.std.specs.Prelude.{◌≡◌, ◌<◌, ◌≤◌, ◌+◌, ℕ, IfOk, All, length};
+ghost use Rattle.std.specs.Prelude.{◌≡◌, ◌<◌, ◌≤◌, ◌+◌, ◌%◌, ℕ, IfOk, All, length};
 ghost use Rattle.sok_board.specs.Area.{Numbered};
 ghost use Rattle.sok_board.specs.Limits.{square_limit};
-ghost use Rattle.sok_board.specs.Runs.{Covers, right_of, spot_at};
+ghost use Rattle.sok_board.specs.Runs.{Covers, right_of, spot_at, word_bits};
 ghost use Rattle.sok_board.specs.Tables.{HasPlace};
 
 use crate::area::Sq;
@@ -11,7 +11,11 @@ use sok_rules::cell::Spot;
 use sok_rules::fault::Memory;
 use std::alloc::Global;
 
-/// Squares of the area that lie side by side in a row, with numbers that follow each other.
+/// How many bits a word of a bit row has.
+const WORD_BITS: u32 = 64;
+
+/// Squares of the area that lie side by side in a row, all of them before the column 64 or none, with
+/// numbers that follow each other. So the bits of one word stand for them in a bit row.
 #[derive(Clone, Copy, Debug)]
 pub struct Run {
     /// The leftmost square, and its number.
@@ -42,13 +46,14 @@ pub(crate) fn list_runs(alloc: Global, squares: &[Spot]) -> Result<Vec<Run>, Mem
     Ok(runs)
 }
 
-/// How many squares lie side by side from one on.
+/// How many squares lie side by side from one on, in the columns of one word.
 fn run_length(squares: &[Spot], number: usize) -> usize
     requires number { number < length squares.now }
     requires few { length squares.now ≤ square_limit }
     requires within { All HasPlace squares.now }
     ensures some { 0 < result }
     ensures within { number + result ≤ length squares.now }
+    ensures columns { (spot_at squares.now number).col % word_bits + result ≤ word_bits }
     ensures lies { (k : ℕ) → k < result → spot_at squares.now (number + k)
         ≡ right_of (spot_at squares.now number) k }
 {
@@ -57,6 +62,9 @@ fn run_length(squares: &[Spot], number: usize) -> usize
     while number + length < squares.len() {
         let next = squares[number + length];
         if next.row != first.row || next.col != first.col + length as u32 {
+            break;
+        }
+        if next.col % WORD_BITS == 0 {
             break;
         }
         length += 1;

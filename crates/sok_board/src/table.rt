@@ -1,4 +1,4 @@
-//! Tables with an entry for each square of 64 rows and 64 columns.
+//! Tables with an entry for each square of 128 rows and 128 columns.
 
 ghost use Rattle.std.specs.Prelude.{◌≡◌};
 ghost use Rattle.sok_board.specs.Tables.{place_of, entry};
@@ -6,10 +6,10 @@ ghost use Rattle.sok_board.specs.Tables.{place_of, entry};
 use sok_rules::cell::Spot;
 
 /// The columns of a table, and its rows.
-pub(crate) const SIDE: usize = 64;
+pub(crate) const SIDE: usize = 128;
 
 /// The places of a table.
-pub(crate) const PLACES: usize = 4096;
+pub(crate) const PLACES: usize = 16384;
 
 /// The place of a square's entry.
 pub(crate) fn place(spot: Spot) -> usize

@@ -2,6 +2,7 @@
 use Rattle.std.specs.Prelude.{ℕ, ◌≡◌, ◌++◌, List, vec_len}
 use Rattle.sok_board.specs.Area.{Numbered}
 use Rattle.sok_bar.specs.Memos.{KeepsClosed}
+use Rattle.sok_state.specs.Normalizers.{Normalizes}
 use Rattle.sok_cert.specs.declared.progress.Progress.{Progress}
 use Rattle.sok_cert.specs.declared.roster.Roster.{Roster}
 use Rattle.sok_cert.specs.Rosters.{IsOfBoard, Rostered}
@@ -10,10 +11,11 @@ use Rattle.sok_cert.specs.Streams.{Progressed, StandsFor}
 abbrev pub rostered_of : Roster → Rostered
 rostered_of r = record { roll = r.roll; fault = r.fault }
 
--- states of a board, and positions of patterns that are closed on it
+-- states of a board, positions of patterns that are closed on it, and what makes its keys
 pub record IsRosterOf (b : Numbered) (r : Roster) : Type 0 where
   pub roll : IsOfBoard b r.roll
   pub memo : KeepsClosed b r.memo
+  pub normalizes : Normalizes b r.normalizer
 
 abbrev pub progressed_of : Progress → Progressed
 progressed_of p = record { stage = p.stage; lines = vec_len p.ended; line = p.line.items; wrong = p.wrong; roster = rostered_of p.roster }

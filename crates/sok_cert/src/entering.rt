@@ -3,6 +3,7 @@
 ghost use Rattle.std.specs.Prelude.{◌≡◌, ◌++◌, ◌∷◌, [], IfOk, List, MatchOption, length};
 ghost use Rattle.sok_board.specs.Area.{IsAccepted};
 ghost use Rattle.sok_bar.specs.Memos.{KeepsClosed};
+ghost use Rattle.sok_state.specs.Normalizers.{Normalizes};
 ghost use Rattle.sok_cert.specs.Closed.{IsPosition};
 ghost use Rattle.sok_cert.specs.Judging.{IsLocated, fault_of};
 ghost use Rattle.sok_cert.specs.Rosters.{AreEntered, IsOfBoard, TellsEntries};
@@ -19,30 +20,35 @@ use sok_entry::entry::Entry;
 use sok_entry::fault::CertFault;
 use sok_push::tables::Tables;
 use sok_rules::fault::Memory;
+use sok_state::normalizer::Normalizer;
 use std::alloc::Global;
 
 /// Enters the state of an entry into the roll of those before it. If the entry has a fault of its
-/// own, it is told, and the roll is of no more use. The memo keeps the positions of patterns.
+/// own, it is told, and the roll is of no more use. The normalizer makes the keys of the board, and the
+/// memo keeps the positions of patterns.
 pub(crate) fn enter(
     alloc: Global,
     board: &Board,
     tables: &Tables,
     claim: Claim,
     entry: &Entry,
+    normalizer: &mut Normalizer,
     roll: &mut Roll,
     memo: &mut Memo,
 ) -> Result<Option<CertFault>, Memory>
     requires accepted { IsAccepted board.now }
     requires tables { tables.now.board ≡ board.now }
+    requires normalizes { Normalizes board.now normalizer.old }
     requires of_board { IsOfBoard board.now roll.old }
     requires memo { KeepsClosed board.now memo.old }
     ensures tells { (entries : List Entry) → AreEntered board.now claim entries roll.old
         → IfOk result (TellsEntries board.now claim (entries ++ entry.now ∷ []) roll.new) }
+    ensures normalizes { Normalizes board.now normalizer.new }
     ensures of_board { IsOfBoard board.now roll.new }
     ensures memo { KeepsClosed board.now memo.new }
 {
     let index = roll.len();
-    let Some(Located { boxes, key }) = locate_entry(alloc, board, entry)? else {
+    let Some(Located { boxes, key }) = locate_entry(alloc, board, entry, normalizer)? else {
         return Ok(Some(CertFault::BadEntry(index)));
     };
     if !roll.enter(&key, entry.depth, is_expanded(&entry.reason))? {
@@ -65,11 +71,25 @@ fn fault_of(found: Finding, index: usize) -> Option<CertFault>
 
 /// The boxes and the state of an entry that is a position with all boxes of the board, and None
 /// where it is none. It refuses only for want of memory.
-fn locate_entry(alloc: Global, board: &Board, entry: &Entry) -> Result<Option<Located>, Memory>
-    requires { IsAccepted board.now }
-    ensures { IfOk result (λ found. MatchOption found
+fn locate_entry(
+    alloc: Global,
+    board: &Board,
+    entry: &Entry,
+    normalizer: &mut Normalizer,
+) -> Result<Option<Located>, Memory>
+    requires accepted { IsAccepted board.now }
+    requires normalizes { Normalizes board.now normalizer.old }
+    ensures found { IfOk result (λ found. MatchOption found
         (IsPosition board.now entry.now → ⊥) (IsLocated board.now entry.now)) }
+    ensures normalizes { Normalizes board.now normalizer.new }
 {
     let count = board.start().1.len();
-    locate(alloc, board, count, entry.player, entry.boxes.as_slice())
+    locate(
+        alloc,
+        board,
+        normalizer,
+        count,
+        entry.player,
+        entry.boxes.as_slice(),
+    )
 }

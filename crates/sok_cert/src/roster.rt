@@ -19,15 +19,17 @@ use sok_entry::entry::Entry;
 use sok_entry::fault::CertFault;
 use sok_push::tables::Tables;
 use sok_rules::fault::Memory;
+use sok_state::normalizer::Normalizer;
 use std::alloc::Global;
 
 /// Entries that are judged one by one. Of each the state is kept, with its depth and whether it is
 /// expanded, up to the first that has a fault of its own; then that fault. A memo keeps positions of
-/// patterns that were judged.
+/// patterns that were judged, and a normalizer makes the keys.
 #[derive(Drop)]
 pub(crate) struct Roster {
     pub(crate) roll: Roll,
     pub(crate) memo: Memo,
+    pub(crate) normalizer: Normalizer,
     pub(crate) fault: Option<CertFault>,
 }
 
@@ -41,6 +43,7 @@ impl Roster {
         Roster {
             roll: Roll::new(alloc, board.squares()),
             memo: Memo::new(alloc),
+            normalizer: Normalizer::new(board),
             fault: None,
         }
     }
@@ -72,6 +75,7 @@ impl Roster {
             tables,
             claim,
             entry,
+            &mut self.normalizer,
             &mut self.roll,
             &mut self.memo,
         )?;

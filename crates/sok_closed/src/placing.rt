@@ -7,12 +7,14 @@ ghost use Rattle.sok_board.specs.Limits.{box_limit, square_limit};
 ghost use Rattle.sok_closed.specs.Placing.{IsLocated};
 ghost use Rattle.sok_closed.specs.Rolls.{IsPosition, Node};
 ghost use Rattle.sok_region.specs.Regions.{IsPlaced};
+ghost use Rattle.sok_state.specs.Normalizers.{Normalizes};
 
 use sok_board::area::Sq;
 use sok_board::board::Board;
 use sok_board::box_set::BoxSet;
 use sok_rules::fault::Memory;
 use sok_state::key::Key;
+use sok_state::normalizer::Normalizer;
 use std::alloc::Global;
 
 /// The boxes and the state of a position.
@@ -23,25 +25,29 @@ pub struct Located {
 }
 
 /// The boxes and the state of the position that a player and so many boxes make, by numbers of
-/// squares; None where they make none. It refuses only for want of memory.
+/// squares; None where they make none. It refuses only for want of memory. The key is made by what
+/// makes those of the board.
 pub fn locate(
     alloc: Global,
     board: &Board,
+    normalizer: &mut Normalizer,
     count: usize,
     player: u32,
     boxes: &[u32],
 ) -> Result<Option<Located>, Memory>
     requires accepted { IsAccepted board.now }
+    requires normalizes { Normalizes board.now normalizer.old }
     requires few { count ≤ box_limit }
-    ensures { (n : Node) → n.player ≡ player → n.boxes ≡ boxes.now
+    ensures found { (n : Node) → n.player ≡ player → n.boxes ≡ boxes.now
         → IfOk result (λ found. MatchOption found (IsPosition board.now count n → ⊥)
         (IsLocated board.now count n)) }
+    ensures normalizes { Normalizes board.now normalizer.new }
 {
     if !is_position(board, count, player, boxes) {
         return Ok(None);
     }
     let boxes = BoxSet::numbered(alloc, boxes)?;
-    let key = Key::of(alloc, board, &boxes, player as Sq)?;
+    let key = normalizer.key(board, boxes.copy(alloc)?, player as Sq);
     Ok(Some(Located { boxes, key }))
 }
 

@@ -1,18 +1,13 @@
 -- Bits by number: the first bit, word by word, is that of the least number.
-use Rattle.std.proofs.Common.{ℕ, ◌≡◌, ◌<◌, ◌+◌, ◌*◌, ◌^◌, inl, inr, List, ap, ◌∙◌, arith, true, get_or}
+use Rattle.std.proofs.Common.{ℕ, ◌≡◌, ◌<◌, ◌+◌, ◌*◌, inl, inr, List, ap, ◌∙◌, arith}
 use Rattle.sok_rules.specs.declared.cell.Spot.{Spot}
 use Rattle.sok_field.specs.Fields.{has, IsFirstSquare}
 use Rattle.sok_field.specs.Numbers.{bit_of_number, has_number, IsLeast}
 use Rattle.sok_field.proofs.OneSquare.{same_place}
-use Rattle.sok_field.proofs.Spreading.{has-on}
-use Rattle.sok_field.proofs.Words.{bit_at-within}
 
 -- the number whose bit stands at a place
 abbrev pub number_at : Spot → ℕ
 number_at s = s.row * 64 + s.col
-
-pub has-col : (rows : List ℕ) (s : Spot) → get_or rows s.row 0 < 2 ^ 64 → has rows s ≡ true → s.col < 64
-has-col rows s fits e = bit_at-within (get_or rows s.row 0) s.col fits (has-on rows s e)
 
 bit_of_number-at : (s : Spot) → s.col < 64 → bit_of_number (number_at s) ≡ s
 bit_of_number-at s within = same_place (bit_of_number (number_at s)) s (omega arith) (omega arith)

@@ -8,7 +8,8 @@ use Rattle.std.proofs.lemmas.Option.{same_Some, option_and_then_some}
 use Rattle.sok_rules.specs.declared.cell.Dir.{Dir}
 use Rattle.sok_rules.specs.declared.cell.Spot.{Spot}
 use Rattle.sok_rules.specs.Squares.{next}
-use Rattle.sok_board.specs.Area.{Numbered, IsArea, Before, spot_of, number_of, beside}
+use Rattle.sok_board.specs.Area.{Numbered, IsAccepted, IsArea, Before, spot_of, number_of, beside}
+use Rattle.sok_board.proofs.Accepted.{HasPlace-spot_of}
 use Rattle.sok_board.proofs.AreaLaws.{origin, spot_of-at, spot_of-number_of, number_of-spot_of, same_number}
 use Rattle.sok_board.proofs.Inside.{if_some}
 use Rattle.sok_board.proofs.Refusals.{before_asym}
@@ -100,6 +101,14 @@ Draws-joined b area lets free seen m within draws joined s = (
       let (_, there) = spot_of-number_of b s n number in
       (joined s).1 (w, trail-way b lets free draws w m n leads ∙ ap Some there),
 )
+
+-- the square of a number lies in the rows and columns of a set
+pub in_field : (b : Numbered) → IsAccepted b → (n : ℕ) → n < length b.area → (s : Spot) → s ≡ spot_of b n → (s.row < 128) × (s.col < 128)
+in_field b accepted n exists s is =
+    let place = HasPlace-spot_of b accepted n exists in
+    let row = place.row in
+    let col = place.col in
+    (omega (arith, row, ap (λ (t : Spot). t.row) is), omega (arith, col, ap (λ (t : Spot). t.col) is))
 
 -- one square less
 pub Draws-taken : (b : Numbered) → (old new boxes : List ℕ) (k : ℕ) → number_of b (spot_of b k) ≡ Some k

@@ -14,7 +14,7 @@ unfolding has
 has-row a b s r same t row col =
     ap (λ n. eqb (bit_at n s.col) 1) (same ∙ ap (λ k. get_or b k 0) (sym row)) ∙ ap (λ c. eqb (bit_at (get_or b t.row 0) c) 1) (sym col)
 
-none-past : (rows : List ℕ) (height : ℕ) → IsHigh rows height → (s : Spot) → height ≤ s.row → has rows s ≡ false
+pub none-past : (rows : List ℕ) (height : ℕ) → IsHigh rows height → (s : Spot) → height ≤ s.row → has rows s ≡ false
 none-past rows height high s past = elim (cases_Bool (has rows s)) [
   | inl there ↦ let below = high.below s there in absurd (omega (arith, below, past))
   | inr none ↦ none
@@ -36,6 +36,12 @@ none-take rows height none s = elim (cases_lt s.row height) [
   | inr past ↦ let long = length-take height rows in has-past (take height rows) s (omega (arith, long, past))
 ]
 
+-- the rows from there on
+pub none-drop : (rows : List ℕ) (height from : ℕ) → IsHigh rows height → height ≤ from → (s : Spot) → has (drop from rows) s ≡ false
+none-drop rows height from high past s =
+    let below : Spot = record { row = from + s.row; col = s.col } in
+    has-row (drop from rows) rows s (from + s.row) (get_or-drop from rows s.row 0) below refl refl ∙ none-past rows height high below (omega arith)
+
 -- rows with blank ones below them
 pub has-blank : (seen blank : List ℕ) (height : ℕ) → length seen ≡ height → ((s : Spot) → height ≤ s.row → has blank s ≡ false) → (s : Spot)
     → has (seen ++ drop height blank) s ≡ has seen s
@@ -56,6 +62,9 @@ has-cleared blank old height high long none s = has-blank blank old height long 
 
 pub IsHigh-none : (rows : List ℕ) → ((s : Spot) → has rows s ≡ false) → IsHigh rows 0
 IsHigh-none rows none = record { within = omega arith; below = λ s e. absurd (true≢false (sym e ∙ none s)) }
+
+pub IsHigh-up : (rows : List ℕ) (height more : ℕ) → IsHigh rows height → height ≤ more → more ≤ length rows → IsHigh rows more
+IsHigh-up rows height more high up within = record { within = within; below = λ s e. let below = high.below s e in omega (arith, below, up) }
 
 -- a row more may have squares
 pub IsHigh-more : (old new : List ℕ) (height more row : ℕ) → IsHigh old height → length new ≡ length old → row < length old → more ≡ max height (row + 1)

@@ -3,13 +3,17 @@ pub mod Lanes
 pub mod ByNumber
 pub mod ByRuns
 pub mod Closed
+pub mod Across
 pub mod Drawings
+pub mod Halves
 pub mod Heights
 pub mod OneSquare
 pub mod Parts
 pub mod Rounds
+pub mod Seams
 pub mod Spreading
 pub mod Stepping
+pub mod Steps
 pub mod Totals
 pub mod Trails
 pub mod Ways

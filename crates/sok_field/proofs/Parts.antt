@@ -17,7 +17,7 @@ use Rattle.sok_field.proofs.OneSquare.{set-same}
 use Rattle.sok_field.proofs.Spreading.{bit_of, has-on, on-has}
 
 -- a word shifted up, within 64 bits
-masked : (x c : ℕ) → c < 64 → bit_at (x % 2 ^ 64) c ≡ bit_at x c
+pub masked : (x c : ℕ) → c < 64 → bit_at (x % 2 ^ 64) c ≡ bit_at x c
 masked x c within =
     let is : bit_at (x % 2 ^ 64) c ≡ bit_at (bit_and x (2 ^ 64 - 1)) c = ap (λ n. bit_at n c) (sym (and_mask x 64)) in
     let both = bit_at_and x (2 ^ 64 - 1) c in
@@ -25,17 +25,17 @@ masked x c within =
     let small = bit_at-lt x c in
     omega (arith, is, both, one, small)
 
-shl-low : (x k c : ℕ) → c < 64 → c < k → bit_at (x * 2 ^ k % 2 ^ 64) c ≡ 0
+pub shl-low : (x k c : ℕ) → c < 64 → c < k → bit_at (x * 2 ^ k % 2 ^ 64) c ≡ 0
 shl-low x k c within below =
     let plus : x * 2 ^ k + 0 ≡ x * 2 ^ k = omega arith in
     masked (x * 2 ^ k) c within ∙ ap (λ n. bit_at n c) (sym plus) ∙ bit_at_cat_low x k 0 c below ∙ bit_at-zero c
 
-shl-high : (x k c : ℕ) → c < 64 → k ≤ c → 0 < 2 ^ k → bit_at (x * 2 ^ k % 2 ^ 64) c ≡ bit_at x (c - k)
+pub shl-high : (x k c : ℕ) → c < 64 → k ≤ c → 0 < 2 ^ k → bit_at (x * 2 ^ k % 2 ^ 64) c ≡ bit_at x (c - k)
 shl-high x k c within from some =
     let plus : x * 2 ^ k + 0 ≡ x * 2 ^ k = omega arith in
     masked (x * 2 ^ k) c within ∙ ap (λ n. bit_at n c) (sym plus) ∙ bit_at_cat_high x k 0 c some from
 
-shr-bit : (x k c : ℕ) → 0 < 2 ^ k → bit_at (x / 2 ^ k) c ≡ bit_at x (c + k)
+pub shr-bit : (x k c : ℕ) → 0 < 2 ^ k → bit_at (x / 2 ^ k) c ≡ bit_at x (c + k)
 shr-bit x k c some =
     let p : x / 2 ^ k * 2 ^ k + x % 2 ^ k ≡ x = let e = div-add-mod x (2 ^ k) in omega (arith, e, mul_comm (2 ^ k) (x / 2 ^ k)) in
     let back : c + k - k ≡ c = omega arith in

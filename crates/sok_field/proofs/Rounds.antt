@@ -13,6 +13,10 @@ pub above-later : (rows : List ℕ) (r : ℕ) → 0 < r → above rows r ≡ get
 above-later rows zero later = absurd (omega (arith, later))
 above-later rows (suc r) later = let back : r ≡ suc r - 1 = omega arith in ap (λ k. get_or rows k 0) back
 
+-- a row is the one above the next
+pub above-more : (rows : List ℕ) (r : ℕ) → get_or rows r 0 ≡ above rows (r + 1)
+above-more rows r = let next : suc r ≡ r + 1 = omega arith in ap (above rows) next
+
 pub spread_row-of : (seen free : List ℕ) (r over under : ℕ) → above seen r ≡ over → under ≡ get_or seen (r + 1) 0
     → bit_and (get_or free r 0) (bit_or (bit_or (widened (get_or seen r 0)) over) under) ≡ spread_row seen free r
 unfolding spread_row

@@ -25,6 +25,10 @@ pub on-has : (rows : List ℕ) (s : Spot) → bit_of rows s.row s.col ≡ 1 → 
 unfolding has
 on-has rows s e = eq-eqb (bit_of rows s.row s.col) 1 e
 
+-- a square of rows that are words lies in one of their columns
+pub has-col : (rows : List ℕ) (s : Spot) → get_or rows s.row 0 < 2 ^ 64 → has rows s ≡ true → s.col < 64
+has-col rows s fits e = bit_at-within (get_or rows s.row 0) s.col fits (has-on rows s e)
+
 -- a square beside one of a set
 pub record IsBeside (rows : List ℕ) (s : Spot) : Type 0 where
   pub dir : Dir
@@ -95,12 +99,11 @@ pub down-beside : (seen : List ℕ) (r c : ℕ) → bit_of seen (r + 1) c ≡ 1 
 down-beside seen r c on =
     record { dir = Down; other = record { row = r + 1; col = c }; leads = refl; there = on-has seen (record { row = r + 1; col = c }) on }
 
--- a square of a round is free, and seen or beside a seen one
-pub spread-from : (seen free out : List ℕ) → ((r : ℕ) → get_or free r 0 < 2 ^ 64) → ((r : ℕ) → get_or out r 0 ≡ spread_row seen free r)
-    → (s : Spot) → has out s ≡ true → (has free s ≡ true) × ((has seen s ≡ true) ⊎ IsBeside seen s)
-spread-from seen free out fits round s e =
+-- a bit of a row after a round is one of a free square that is seen or beside a seen one
+pub row-from : (seen free : List ℕ) → ((r : ℕ) → get_or free r 0 < 2 ^ 64) → (s : Spot) → bit_at (spread_row seen free s.row) s.col ≡ 1
+    → (has free s ≡ true) × ((has seen s ≡ true) ⊎ IsBeside seen s)
+row-from seen free fits s on =
     let x = get_or seen s.row 0 in
-    let on : bit_at (spread_row seen free s.row) s.col ≡ 1 = ap (λ n. bit_at n s.col) (sym (round s.row)) ∙ has-on out s e in
     let (through, one) = one_of _ _ _ _ _ _ _ (bit_at-spread_row seen free s.row s.col) on (bit_at-lt (get_or free s.row 0) s.col) (bit_at-lt x s.col)
     (bit_at-lt (x * 2 % 2 ^ 64) s.col)
     (bit_at-lt (x / 2) s.col) (bit_at-lt (above seen s.row) s.col) (bit_at-lt (get_or seen (s.row + 1) 0) s.col) in
@@ -114,6 +117,11 @@ spread-from seen free out fits round s e =
         | inr (inr (inr (inr h))) ↦ inr (down-beside seen s.row s.col h)
       ],
     )
+
+-- so it is of each square of a round
+pub spread-from : (seen free out : List ℕ) → ((r : ℕ) → get_or free r 0 < 2 ^ 64) → ((r : ℕ) → get_or out r 0 ≡ spread_row seen free r)
+    → (s : Spot) → has out s ≡ true → (has free s ≡ true) × ((has seen s ≡ true) ⊎ IsBeside seen s)
+spread-from seen free out fits round s e = row-from seen free fits s (ap (λ n. bit_at n s.col) (sym (round s.row)) ∙ has-on out s e)
 
 all_of : (m f x l r a u : ℕ) → m ≡ min f (max (max (max (max x l) r) a) u) → f ≡ 1 → f < 2 → x < 2 → l < 2 → r < 2 → a < 2 → u < 2
     → (x ≡ 1) ⊎ ((l ≡ 1) ⊎ ((r ≡ 1) ⊎ ((a ≡ 1) ⊎ (u ≡ 1)))) → m ≡ 1
@@ -143,10 +151,10 @@ met-beside seen (suc r) c Up t within leads e =
 met-beside seen r c Down t within leads e =
     inr (inr (inr (inr (has-on seen (record { row = r + 1; col = c }) (ap (has seen) (same_Some (record { row = r + 1; col = c }) t leads) ∙ e)))))
 
--- a free square that is seen or beside a seen one is of the round
-pub spread-to : (seen free out : List ℕ) → ((r : ℕ) → get_or free r 0 < 2 ^ 64) → ((r : ℕ) → get_or out r 0 ≡ spread_row seen free r)
-    → (s : Spot) → has free s ≡ true → (has seen s ≡ true) ⊎ IsBeside seen s → has out s ≡ true
-spread-to seen free out fits round s open_there met =
+-- a free square that is seen or beside a seen one has its bit in a row after a round
+pub row-to : (seen free : List ℕ) → ((r : ℕ) → get_or free r 0 < 2 ^ 64) → (s : Spot) → has free s ≡ true
+    → (has seen s ≡ true) ⊎ IsBeside seen s → bit_at (spread_row seen free s.row) s.col ≡ 1
+row-to seen free fits s open_there met =
     let x = get_or seen s.row 0 in
     let through = has-on free s open_there in
     let within = bit_at-within (get_or free s.row 0) s.col (fits s.row) through in
@@ -154,6 +162,12 @@ spread-to seen free out fits round s open_there met =
       | inl e ↦ inl (has-on seen s e)
       | inr beside ↦ met-beside seen s.row s.col beside.dir beside.other within beside.leads beside.there
     ] in
-    on-has out s (ap (λ n. bit_at n s.col) (round s.row) ∙ all_of _ _ _ _ _ _ _ (bit_at-spread_row seen free s.row s.col) through
+    all_of _ _ _ _ _ _ _ (bit_at-spread_row seen free s.row s.col) through
     (bit_at-lt (get_or free s.row 0) s.col) (bit_at-lt x s.col) (bit_at-lt (x * 2 % 2 ^ 64) s.col)
-    (bit_at-lt (x / 2) s.col) (bit_at-lt (above seen s.row) s.col) (bit_at-lt (get_or seen (s.row + 1) 0) s.col) one)
+    (bit_at-lt (x / 2) s.col) (bit_at-lt (above seen s.row) s.col) (bit_at-lt (get_or seen (s.row + 1) 0) s.col) one
+
+-- and is of the round
+pub spread-to : (seen free out : List ℕ) → ((r : ℕ) → get_or free r 0 < 2 ^ 64) → ((r : ℕ) → get_or out r 0 ≡ spread_row seen free r)
+    → (s : Spot) → has free s ≡ true → (has seen s ≡ true) ⊎ IsBeside seen s → has out s ≡ true
+spread-to seen free out fits round s open_there met =
+    on-has out s (ap (λ n. bit_at n s.col) (round s.row) ∙ row-to seen free fits s open_there met)

@@ -1,6 +1,6 @@
 -- A flood that goes on row by row.
 use Rattle.std.proofs.Common.{ℕ, ◌≡◌, ◌<◌, ◌≤◌, ◌+◌, ◌*◌, ◌/◌, ◌%◌, ◌^◌, ◌⊎◌, inl, inr, List, refl, sym, ap, ◌∙◌, subst, arith, true, false, true≢false}
-use Rattle.std.proofs.Common.{get_or, set, length, bit_and, bit_or, max, min}
+use Rattle.std.proofs.Common.{Bool, get_or, set, length, bit_and, bit_or, max, min}
 use Rattle.std.specs.Int.{bit_at}
 use Rattle.std.specs.List.{sum}
 use Rattle.std.proofs.lemmas.Bool.{cases_eq}
@@ -20,17 +20,17 @@ pub and-inside : (f x : ℕ) → bit_and (bit_and f x) f ≡ bit_and f x
 and-inside f x = and-from_bits (bit_and f x) f (λ i on. let both = bit_at_and f x i in let small = bit_at-lt f i in let other = bit_at-lt x i in omega arith)
 
 -- a row of a flood gets other squares: those that it had, and free ones beside seen ones
-set-grown : (free seen : List ℕ) (from : Spot) (r x y : ℕ) → r < length seen
+set-grown : (free seen : List ℕ) (start : Spot → Bool) (r x y : ℕ) → r < length seen
     → ((c : ℕ) → bit_at x c ≡ 1 → bit_at y c ≡ 1)
     → ((c : ℕ) → bit_at y c ≡ 1 → (bit_of free r c ≡ 1) × ((bit_at x c ≡ 1) ⊎ IsBeside (set seen r x) (record { row = r; col = c })))
-    → IsSpreading free from (set seen r x) → IsSpreading free from (set seen r y)
-set-grown free seen from r x y within keeps adds flood =
+    → IsSpreading free start (set seen r x) → IsSpreading free start (set seen r y)
+set-grown free seen start r x y within keeps adds flood =
     let old = set seen r x in
     let new = set seen r y in
     let here : (z k c : ℕ) → k ≡ r → bit_of (set seen r z) k c ≡ bit_at z c = λ z k c same. ap (λ n. bit_at n c) (set-same seen r z k within same) in
     let there : (z k c : ℕ) → (k ≡ r → ⊥) → bit_of (set seen r z) k c ≡ bit_of seen k c = λ z k c apart. ap (λ n. bit_at n c) (get_or-set_other seen r k z
     0 apart) in
-    IsSpreading-grown free old new from (length-set seen r y ∙ sym (length-set seen r x))
+    IsSpreading-grown free old new start (length-set seen r y ∙ sym (length-set seen r x))
     (λ s e. elim (cases_eq s.row r) [
       | inl same ↦ on-has new s (here y s.row s.col same ∙ keeps s.col (sym (here x s.row s.col same) ∙ has-on old s e))
       | inr apart ↦ on-has new s (there y s.row s.col apart ∙ sym (there x s.row s.col apart) ∙ has-on old s e)
@@ -67,9 +67,9 @@ widened-keeps f x inside c on =
 pub widened-rises : (f x : ℕ) → bit_and x f ≡ x → x ≤ bit_and f (widened x)
 widened-rises f x inside = le-from_and x (bit_and f (widened x)) (and-from_bits x (bit_and f (widened x)) (widened-keeps f x inside))
 
-widened-follows : (frees seen : List ℕ) (from : Spot) (r f x : ℕ) → r < length seen → f < 2 ^ 64 → get_or frees r 0 ≡ f → bit_and x f ≡ x
-    → IsSpreading frees from (set seen r x) → IsSpreading frees from (set seen r (bit_and f (widened x)))
-widened-follows frees seen from r f x within fits is inside = set-grown frees seen from r x (bit_and f (widened x)) within (widened-keeps f x inside) (λ c on.
+widened-follows : (frees seen : List ℕ) (start : Spot → Bool) (r f x : ℕ) → r < length seen → f < 2 ^ 64 → get_or frees r 0 ≡ f → bit_and x f ≡ x
+    → IsSpreading frees start (set seen r x) → IsSpreading frees start (set seen r (bit_and f (widened x)))
+widened-follows frees seen start r f x within fits is inside = set-grown frees seen start r x (bit_and f (widened x)) within (widened-keeps f x inside) (λ c on.
     let (through, one) = one_of (bit_at (bit_and f (widened x)) c) (bit_at f c) (bit_at x c) (bit_at (x * 2 % 2 ^ 64) c) (bit_at (x / 2) c) 0 0
     (let e = bit_at-widened f x c in omega (arith, e)) on (bit_at-lt f c) (bit_at-lt x c) (bit_at-lt (x * 2 % 2 ^ 64) c) (bit_at-lt (x / 2) c)
     (omega arith) (omega arith) in
@@ -88,18 +88,18 @@ pub IsStepped-more : (free seeds row : ℕ) → free < 2 ^ 64 → bit_and row fr
     → IsStepped free seeds (bit_and free (widened row))
 IsStepped-more free seeds row fits inside so_far = record {
   rises = let up = widened-rises free row inside in let rose = so_far.rises in omega (arith, up, rose);
-  follows = λ frees seen from r within is flood. widened-follows frees seen from r free row within fits is inside
-      (so_far.follows frees seen from r within is flood);
+  follows = λ frees seen start r within is flood. widened-follows frees seen start r free row within fits is inside
+      (so_far.follows frees seen start r within is flood);
 }
 
 sum-set : (seen : List ℕ) (r y : ℕ) → r < length seen → sum (set seen r y) + get_or seen r 0 ≡ sum seen + y
 sum-set seen r y within = sum_by-set (λ n. n) seen r y 0 within
 
 -- a row meets what is joined to its squares
-pub GoesOn-stepped : (free seen : List ℕ) (from : Spot) (r word : ℕ) → r < length seen → IsStepped (get_or free r 0) (get_or seen r 0) word
-    → IsSpreading free from seen → GoesOn free from seen (set seen r word) false
-GoesOn-stepped free seen from r word within steps flood = record {
-  flooding = steps.follows free seen from r within refl (subst (IsSpreading free from) (sym (set-get_or seen r 0)) flood);
+pub GoesOn-stepped : (free seen : List ℕ) (start : Spot → Bool) (r word : ℕ) → r < length seen → IsStepped (get_or free r 0) (get_or seen r 0) word
+    → IsSpreading free start seen → GoesOn free start seen (set seen r word) false
+GoesOn-stepped free seen start r word within steps flood = record {
+  flooding = steps.follows free seen start r within refl (subst (IsSpreading free start) (sym (set-get_or seen r 0)) flood);
   rises = let all = sum-set seen r word within in let rose = steps.rises in omega (arith, all, rose);
   more = λ e. absurd (true≢false (sym e));
 }
@@ -112,9 +112,9 @@ bit_at-seeds : (free seen : List ℕ) (r beside c : ℕ) → bit_at (seeds_of fr
 bit_at-seeds free seen r beside c =
     bit_at_and (get_or free r 0) (bit_or (get_or seen r 0) beside) c ∙ ap (min (bit_of free r c)) (bit_at_or (get_or seen r 0) beside c)
 
-seeds-keep : (free seen : List ℕ) (from : Spot) (r beside : ℕ) → IsSpreading free from seen → (c : ℕ) → bit_of seen r c ≡ 1
+seeds-keep : (free seen : List ℕ) (start : Spot → Bool) (r beside : ℕ) → IsSpreading free start seen → (c : ℕ) → bit_of seen r c ≡ 1
     → bit_at (seeds_of free seen r beside) c ≡ 1
-seeds-keep free seen from r beside flood c on =
+seeds-keep free seen start r beside flood c on =
     let is = bit_at-seeds free seen r beside c in
     let through = bits-from_and (get_or seen r 0) (get_or free r 0) (flood.inside r) c on in
     let other = bit_at-lt beside c in
@@ -127,11 +127,11 @@ row-beside : (seen : List ℕ) (r beside c : ℕ) → IsRowBeside seen r beside 
 row-beside seen r beside c (inl over) on = up-beside seen r c (ap (λ n. bit_at n c) (sym over) ∙ on)
 row-beside seen r beside c (inr under) on = down-beside seen r c (ap (λ n. bit_at n c) (sym under) ∙ on)
 
-seeds-flooding : (free seen : List ℕ) (from : Spot) (r beside : ℕ) → r < length seen → IsRowBeside seen r beside → IsSpreading free from seen
-    → IsSpreading free from (set seen r (seeds_of free seen r beside))
-seeds-flooding free seen from r beside within is_beside flood =
+seeds-flooding : (free seen : List ℕ) (start : Spot → Bool) (r beside : ℕ) → r < length seen → IsRowBeside seen r beside → IsSpreading free start seen
+    → IsSpreading free start (set seen r (seeds_of free seen r beside))
+seeds-flooding free seen start r beside within is_beside flood =
     let same = set-get_or seen r 0 in
-    set-grown free seen from r (get_or seen r 0) (seeds_of free seen r beside) within (seeds-keep free seen from r beside flood) (λ c on.
+    set-grown free seen start r (get_or seen r 0) (seeds_of free seen r beside) within (seeds-keep free seen start r beside flood) (λ c on.
     let is = bit_at-seeds free seen r beside c in
     let small = bit_at-lt (get_or free r 0) c in
     let small_row = bit_at-lt (get_or seen r 0) c in
@@ -142,20 +142,40 @@ seeds-flooding free seen from r beside within is_beside flood =
         | inr new ↦ inr (subst (λ rows. IsBeside rows (record { row = r; col = c })) (sym same)
             (row-beside seen r beside c is_beside (omega (arith, is, on, new, small, small_row, small_other))))
       ],
-    )) (subst (IsSpreading free from) (sym same) flood)
+    )) (subst (IsSpreading free start) (sym same) flood)
 
 -- a row meets squares beside a row beside it
-pub GoesOn-met : (free seen : List ℕ) (from : Spot) (r beside word : ℕ) → r < length seen → IsRowBeside seen r beside
+pub GoesOn-met : (free seen : List ℕ) (start : Spot → Bool) (r beside word : ℕ) → r < length seen → IsRowBeside seen r beside
     → IsStepped (get_or free r 0) (seeds_of free seen r beside) word
-    → (seeds_of free seen r beside ≡ get_or seen r 0 → ⊥) → IsSpreading free from seen → GoesOn free from seen (set seen r word) true
-GoesOn-met free seen from r beside word within is_beside steps apart flood =
+    → (seeds_of free seen r beside ≡ get_or seen r 0 → ⊥) → IsSpreading free start seen → GoesOn free start seen (set seen r word) true
+GoesOn-met free seen start r beside word within is_beside steps apart flood =
     let seeds = seeds_of free seen r beside in
-    let up : get_or seen r 0 ≤ seeds = le-from_and (get_or seen r 0) seeds (and-from_bits (get_or seen r 0) seeds (seeds-keep free seen from r beside flood)) in
+    let up : get_or seen r 0 ≤ seeds = le-from_and (get_or seen r 0) seeds (and-from_bits (get_or seen r 0) seeds (seeds-keep free seen start r beside flood)) in
     let all = sum-set seen r word within in
     let rose = steps.rises in
     let more : sum seen < sum (set seen r word) = omega (arith, up, all, rose, apart) in
     record {
-      flooding = steps.follows free seen from r within refl (seeds-flooding free seen from r beside within is_beside flood);
+      flooding = steps.follows free seen start r within refl (seeds-flooding free seen start r beside within is_beside flood);
       rises = omega (arith, more);
       more = λ e. more;
     }
+
+-- a flood that has gone on, and goes on: it has more where it had more by the first or by the second
+pub GoesOn-more : {free a b d : List ℕ} {start : Spot → Bool} {first second : Bool} (grew : Bool) → GoesOn free start a b first → GoesOn free start b d second
+    → (grew ≡ true → (first ≡ true) ⊎ (second ≡ true)) → GoesOn free start a d grew
+GoesOn-more grew so_far then why =
+    let rises = so_far.rises in
+    let rises_too = then.rises in
+    record {
+      flooding = then.flooding;
+      rises = omega (arith, rises, rises_too);
+      more = λ e. elim (why e) [
+        | inl before ↦ let more = so_far.more before in omega (arith, more, rises_too)
+        | inr after ↦ let more = then.more after in omega (arith, more, rises)
+      ];
+    }
+
+-- with no more to tell
+pub GoesOn-then : {free a b d : List ℕ} {start : Spot → Bool} {first second : Bool} → GoesOn free start a b first → GoesOn free start b d second
+    → GoesOn free start a d false
+GoesOn-then so_far then = GoesOn-more false so_far then (λ e. absurd (true≢false (sym e)))

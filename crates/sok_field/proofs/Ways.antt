@@ -30,7 +30,10 @@ pub Joined-more : (lets : Spot → Bool) (s t u : Spot) (d : Dir) → Joined let
 Joined-more lets s t u d (w, so_far) leads through =
     (w ++ d ∷ [], way-append lets w (d ∷ []) s ∙ ap (option_and_then (λ r. way lets r (d ∷ []))) so_far ∙ way-one lets t u d [] leads through)
 
-if_some : (b : Bool) (o : Spot) (w : List Dir) (lets : Spot → Bool) (x : Spot) → (if b then way lets o w else None) ≡ Some x
+pub Joined-trans : (lets : Spot → Bool) (s t u : Spot) → Joined lets s t → Joined lets t u → Joined lets s u
+Joined-trans lets s t u (w, first) (v, second) = (w ++ v, way-append lets w v s ∙ ap (option_and_then (λ r. way lets r v)) first ∙ second)
+
+pub if_some : (b : Bool) (o : Spot) (w : List Dir) (lets : Spot → Bool) (x : Spot) → (if b then way lets o w else None) ≡ Some x
     → (b ≡ true) × (way lets o w ≡ Some x)
 if_some true o w lets x e = (refl, e)
 if_some false o w lets x e = absurd (none-some x e)

@@ -1,10 +1,12 @@
 -- Words of public contracts
 pub mod Fields
+pub mod Halves
 pub mod Numbers
 pub mod Rounds
 pub mod Trails
 pub mod Ways
 -- Words of the proofs alone
+pub mod Crossings
 pub mod Floods
 pub mod Runs
 pub mod Sweeps

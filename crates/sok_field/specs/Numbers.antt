@@ -2,6 +2,7 @@
 use Rattle.std.specs.Prelude.{◌/◌, ◌%◌, ℕ, ◌≡◌, ◌<◌, ◌≤◌, ◌↔◌, List, Some, Bool, true, length}
 use Rattle.sok_rules.specs.declared.cell.Spot.{Spot}
 use Rattle.sok_board.specs.Area.{Numbered, spot_of, number_of}
+use Rattle.sok_board.specs.Runs.{word_bits}
 use Rattle.sok_field.specs.Fields.{has, IsFirstSquare}
 use Rattle.sok_field.specs.Trails.{Leads}
 use Rattle.sok_field.specs.Ways.{Joined}
@@ -27,10 +28,6 @@ abbrev pub FirstIsLeast : Numbered → Type 0
 FirstIsLeast b =
     (test : ℕ → Bool) (rows : List ℕ) (s : Spot) → Draws b (λ n. test n ≡ true) rows → IsFirstSquare (has rows) s
     → (n : ℕ) × (number_of b s ≡ Some n) × (test n ≡ true) × ((k : ℕ) → k < length b.area → test k ≡ true → n ≤ k)
-
--- how many bits a word has
-abbrev pub word_bits : ℕ
-word_bits = 64
 
 -- the bit of a number
 abbrev pub bit_of_number : ℕ → Spot

@@ -7,11 +7,11 @@ use Rattle.sok_field.specs.Floods.{IsSpreading}
 -- a word that a row of any flood over these free squares may have in place of some seeds
 pub record IsStepped (free seeds word : ℕ) : Type 0 where
   pub rises : seeds ≤ word
-  pub follows : (frees seen : List ℕ) (from : Spot) (r : ℕ) → r < length seen → slice_index frees r ≡ free → IsSpreading frees from (slice_set seen r seeds)
-      → IsSpreading frees from (slice_set seen r word)
+  pub follows : (frees seen : List ℕ) (start : Spot → Bool) (r : ℕ) → r < length seen → slice_index frees r ≡ free → IsSpreading frees start (slice_set seen r seeds)
+      → IsSpreading frees start (slice_set seen r word)
 
 -- a flood that has gone on, and has more where a test says so
-pub record GoesOn (free : List ℕ) (from : Spot) (old new : List ℕ) (grew : Bool) : Type 0 where
-  pub flooding : IsSpreading free from new
+pub record GoesOn (free : List ℕ) (start : Spot → Bool) (old new : List ℕ) (grew : Bool) : Type 0 where
+  pub flooding : IsSpreading free start new
   pub rises : sum old ≤ sum new
   pub more : grew ≡ true → sum old < sum new

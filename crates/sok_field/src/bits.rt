@@ -1,9 +1,10 @@
 //! One square of bit rows.
 
-ghost use Rattle.std.specs.Prelude.{◌≡◌, ◌<◌, ◌↔◌, ◌≤◌, ◌⊎◌, MatchOption, true, false, length};
+ghost use Rattle.std.specs.Prelude.{◌≡◌, ◌<◌, ◌↔◌, ◌≤◌, ◌⊎◌, IfSome, MatchOption, true, false, length};
 ghost use Rattle.sok_rules.specs.declared.cell.Spot.{Spot};
 ghost use Rattle.sok_field.specs.Fields.{has, IsFirstSquare};
 
+use crate::field::ROWS;
 use sok_rules::cell::Spot;
 
 /// Whether a square is of a set. It is none past the rows or the 64 columns.
@@ -41,9 +42,10 @@ pub(crate) fn take(rows: &mut [u64], spot: Spot)
 
 /// The first square of a set, row by row and from left to right.
 pub(crate) fn first(rows: &[u64]) -> Option<Spot>
-    requires { length rows.now ≤ 64 }
-    ensures { MatchOption result
+    requires { length rows.now ≤ ROWS }
+    ensures first { MatchOption result
         ((s : Spot) → has rows.now s ≡ false) (IsFirstSquare (has rows.now)) }
+    ensures narrow { IfSome result (λ s. s.col < 64) }
 {
     for (r, row) in rows.iter().enumerate() {
         if *row != 0 {

@@ -1,6 +1,7 @@
 //! Squares of a board in bit rows.
 
-ghost use Rattle.std.specs.Prelude.{ℕ, ◌≡◌, ◌<◌, IsTrue, Bool, true, All, Contains, length};
+ghost use Rattle.std.specs.Prelude.{ℕ, ◌≡◌, ◌<◌, IsTrue, Bool, true, false, All, Contains, length};
+ghost use Rattle.sok_rules.specs.declared.cell.Spot.{Spot};
 ghost use Rattle.sok_board.specs.Area.{IsAccepted, spot_of};
 ghost use Rattle.sok_field.specs.Fields.{has};
 ghost use Rattle.sok_field.specs.Numbers.{Draws};
@@ -16,11 +17,21 @@ pub fn area(board: &Board) -> Field
     ensures accepted { IsAccepted board.now }
 {
     let mut field = Field::new();
+    draw(&mut field, board);
+    field
+}
+
+/// Makes a set without squares that of the squares of the area. A set that is made in its place is
+/// not moved there, which takes longer than a flood of a small board.
+pub fn draw(field: &mut Field, board: &Board)
+    requires { (s : Spot) → has field.old s ≡ false }
+    ensures drawn { Draws board.now (λ n. n < length board.now.area) field.new }
+    ensures accepted { IsAccepted board.now }
+{
     let runs = board.runs();
     for run in runs {
         field.put_run(*run);
     }
-    field
 }
 
 /// Leaves of the area the squares without a box.
@@ -41,7 +52,8 @@ pub fn free_squares(board: &Board, boxes: &[Sq]) -> Field
     ensures drawn { Draws board.now (λ n. Contains boxes.now n → ⊥) result }
     ensures accepted { IsAccepted board.now }
 {
-    let mut free = area(board);
+    let mut free = Field::new();
+    draw(&mut free, board);
     take_boxes(&mut free, board, boxes);
     free
 }

@@ -1,43 +1,41 @@
 //! Sets of squares of a level in bit rows.
 
-ghost use Rattle.std.specs.Prelude.{ℕ, ◌≡◌, ◌<◌, ◌≤◌, ◌+◌, ◌↔◌, ◌⊎◌, MatchOption, IsTrue, false};
+ghost use Rattle.std.specs.Prelude.{ℕ, ◌≡◌, ◌<◌, ◌≤◌, ◌+◌, ◌%◌, ◌↔◌, ◌⊎◌, MatchOption, IsTrue, false};
 ghost use Rattle.std.specs.Int.{bit_at};
 ghost use Rattle.sok_rules.specs.declared.cell.Spot.{Spot};
-ghost use Rattle.sok_board.specs.Runs.{right_of};
+ghost use Rattle.sok_board.specs.Runs.{right_of, word_bits};
 ghost use Rattle.sok_field.specs.Fields.{has, IsFirstSquare};
+ghost use Rattle.sok_field.specs.Halves.{beyond, folded, within};
 ghost use Rattle.sok_field.specs.Runs.{LiesOn};
 ghost use Rattle.sok_field.specs.Ways.{Joined};
 
-use crate::flood::flood;
-use crate::{bits, runs};
+use crate::half::{self, Half, flood_both};
 use sok_board::runs::Run;
 use sok_rules::cell::Spot;
 use std::marker::Model;
 
 /// How many rows a set of squares has: those of the largest level.
-pub const ROWS: usize = 64;
+pub const ROWS: usize = 128;
 
-/// How many columns: the bits of a row's word.
-pub const COLUMNS: u32 = 64;
+/// How many columns: two words of bits a row.
+pub const COLUMNS: u32 = 128;
 
-/// A set of squares, a word for each row and a bit for each column. It is seen as its words,
-/// which the test `has` reads. It takes no memory.
+/// A set of squares, two words for each row and a bit for each column. It is seen as a number for
+/// each row, which the test `has` reads. It takes no memory. Where no square lies in the upper half
+/// of the columns, only the words of the lower half are gone through.
 #[derive(Debug, Drop)]
 pub struct Field {
-    rows: [u64; ROWS],
-    /// No square lies in a row from here on, so that a flood goes over the rows before alone.
-    height: usize,
+    low: Half,
+    high: Half,
 }
 
 impl Model for Field {
     ghost use Rattle.std.specs.Prelude.{ℕ, List};
-    ghost use Rattle.sok_field.specs.Fields.{IsHigh};
+    ghost use Rattle.sok_field.specs.Halves.{halves};
 
     ghost Value = { List ℕ };
 
-    ghost view = { λ field. field.rows };
-
-    ghost invariant = { λ field. IsHigh field.rows field.height };
+    ghost view = { λ field. halves field.low field.high };
 }
 
 impl Field {
@@ -46,8 +44,8 @@ impl Field {
         ensures { (s : Spot) → has result s ≡ false }
     {
         Field {
-            rows: [0; ROWS],
-            height: 0,
+            low: Half::new(),
+            high: Half::new(),
         }
     }
 
@@ -56,7 +54,23 @@ impl Field {
         requires { spot.col < COLUMNS }
         ensures { result ≡ has self.now spot }
     {
-        bits::has(&self.rows, spot)
+        self.half(spot.col).has(Spot {
+            row: spot.row,
+            col: spot.col % half::COLUMNS,
+        })
+    }
+
+    /// The half that has a column. It is chosen without a branch, since a search asks of squares
+    /// again and again.
+    fn half(&self, col: u32) -> &Half
+        requires { col < COLUMNS }
+        ensures { (s : Spot) → s.col ≡ col → has result.now (folded s) ≡ has self.now s }
+    {
+        if col < half::COLUMNS {
+            &self.low
+        } else {
+            &self.high
+        }
     }
 
     /// Puts a square into the set.
@@ -65,30 +79,42 @@ impl Field {
         requires col { spot.col < COLUMNS }
         ensures { (s : Spot) → IsTrue (has self.new s) ↔ ((s ≡ spot) ⊎ IsTrue (has self.old s)) }
     {
-        bits::put(&mut self.rows, spot);
-        self.height = self.height.max(spot.row as usize + 1);
+        if spot.col < half::COLUMNS {
+            self.low.put(spot);
+        } else {
+            put_beyond(&mut self.high, spot);
+        }
     }
 
-    /// Puts the squares of a run into the set.
+    /// Puts the squares of a run into the set, which lie in one half.
     pub(crate) fn put_run(&mut self, run: Run)
         requires some { 0 < run.length }
         requires row { run.first.row < ROWS }
-        requires columns { run.first.col + run.length ≤ COLUMNS }
+        requires col { run.first.col < COLUMNS }
+        requires columns { run.first.col % word_bits + run.length ≤ word_bits }
         ensures { (s : Spot) → IsTrue (has self.new s) ↔ (IsTrue (has self.old s) ⊎ LiesOn run s) }
     {
-        runs::put_run(&mut self.rows, run);
-        self.height = self.height.max(run.first.row as usize + 1);
+        if run.first.col < half::COLUMNS {
+            self.low.put_run(run);
+        } else {
+            self.high.put_run(run_within(run));
+        }
     }
 
-    /// The squares of a run that are of the set, the leftmost one as the lowest bit.
+    /// The squares of a run that are of the set, the leftmost one as the lowest bit. The run lies in
+    /// one half.
     pub(crate) fn cut(&self, run: Run) -> u64
         requires some { 0 < run.length }
         requires row { run.first.row < ROWS }
-        requires columns { run.first.col + run.length ≤ COLUMNS }
+        requires col { run.first.col < COLUMNS }
+        requires columns { run.first.col % word_bits + run.length ≤ word_bits }
         ensures { (k : ℕ) → (bit_at result k ≡ 1)
             ↔ ((k < run.length) × IsTrue (has self.now (right_of run.first k))) }
     {
-        runs::cut(&self.rows, run)
+        if run.first.col < half::COLUMNS {
+            return self.low.cut(run);
+        }
+        self.high.cut(run_within(run))
     }
 
     /// Takes a square out of the set.
@@ -98,15 +124,19 @@ impl Field {
         ensures { (s : Spot)
             → IsTrue (has self.new s) ↔ ((s ≡ spot → ⊥) × IsTrue (has self.old s)) }
     {
-        bits::take(&mut self.rows, spot);
+        if spot.col < half::COLUMNS {
+            self.low.take(spot);
+        } else {
+            take_beyond(&mut self.high, spot);
+        }
     }
 
     /// Makes it the squares of another set.
     pub fn copy_from(&mut self, other: &Field)
         ensures { self.new ≡ other.now }
     {
-        self.rows.copy_from_slice(&other.rows);
-        self.height = other.height;
+        self.low.copy_from(&other.low);
+        self.high.copy_from(&other.high);
     }
 
     /// The first square, row by row and from left to right.
@@ -114,15 +144,22 @@ impl Field {
         ensures { MatchOption result
             ((s : Spot) → has self.now s ≡ false) (IsFirstSquare (has self.now)) }
     {
-        bits::first(&self.rows)
+        let low = self.low.first();
+        let Some(high) = self.high.first() else {
+            return low;
+        };
+        match low {
+            Some(low) if low.row <= high.row => Some(low),
+            _ => Some(beyond(high)),
+        }
     }
 
-    /// Takes all squares out of the set. The rows from its height on have none.
-    fn clear(&mut self)
+    /// Takes all squares out of the set.
+    pub fn clear(&mut self)
         ensures { (s : Spot) → has self.new s ≡ false }
     {
-        bits::clear(&mut self.rows[..self.height]);
-        self.height = 0;
+        self.low.clear();
+        self.high.clear();
     }
 
     /// Makes it the squares that are joined to one over free squares, itself among them.
@@ -130,9 +167,70 @@ impl Field {
         requires { IsTrue (has free.now from) }
         ensures { (s : Spot) → IsTrue (has self.new s) ↔ Joined (has free.now) from s }
     {
-        self.clear();
-        let height = free.height;
-        flood(&free.rows[..height], &mut self.rows[..height], from);
-        self.height = height;
+        if free.high.is_blank() {
+            self.high.clear();
+            self.low.flood(&free.low, from);
+        } else {
+            flood_both(&mut self.low, &mut self.high, &free.low, &free.high, from);
+        }
+    }
+}
+
+/// Puts a square into the upper half of a set. This and its like stand apart, so that what is done
+/// again and again on a narrow board stays short.
+#[cold]
+fn put_beyond(high: &mut Half, spot: Spot)
+    requires row { spot.row < ROWS }
+    requires past { word_bits ≤ spot.col }
+    requires col { spot.col < COLUMNS }
+    ensures { (s : Spot)
+        → IsTrue (has high.new s) ↔ ((s ≡ within spot) ⊎ IsTrue (has high.old s)) }
+{
+    high.put(within(spot));
+}
+
+/// Takes a square out of the upper half of a set.
+#[cold]
+fn take_beyond(high: &mut Half, spot: Spot)
+    requires row { spot.row < ROWS }
+    requires past { word_bits ≤ spot.col }
+    requires col { spot.col < COLUMNS }
+    ensures { (s : Spot)
+        → IsTrue (has high.new s) ↔ ((s ≡ within spot → ⊥) × IsTrue (has high.old s)) }
+{
+    high.take(within(spot));
+}
+
+/// A square of the upper half of the columns, by its column within it.
+pub(crate) fn within(spot: Spot) -> Spot
+    requires { word_bits ≤ spot.col }
+    ensures { result ≡ within spot }
+{
+    Spot {
+        row: spot.row,
+        col: spot.col - half::COLUMNS,
+    }
+}
+
+/// A square of the upper half of the columns, given by its column within it.
+fn beyond(spot: Spot) -> Spot
+    requires { spot.col < word_bits }
+    ensures { result ≡ beyond spot }
+{
+    Spot {
+        row: spot.row,
+        col: spot.col + half::COLUMNS,
+    }
+}
+
+/// A run of the upper half of the columns, by its columns within it.
+fn run_within(run: Run) -> Run
+    requires { word_bits ≤ run.first.col }
+    ensures { result ≡ record run { first = within run.first } }
+{
+    Run {
+        first: within(run.first),
+        number: run.number,
+        length: run.length,
     }
 }

@@ -14,7 +14,7 @@ use sok_board::board::Board;
 use sok_rules::cell::Spot;
 
 /// How many words have a bit for each square of an area.
-pub const WORDS: usize = 16;
+pub const WORDS: usize = 64;
 
 /// Where the bit of a number stands: a word, and a bit of it.
 fn bit_of(square: Sq) -> Spot

@@ -1,7 +1,8 @@
 //! Sweeps, by which a flood comes along rows and from row to row.
 
-ghost use Rattle.std.specs.Prelude.{◌≡◌, ◌+◌, ◌<◌, ◌⊎◌, true, false, length, slice_index, bit_and};
+ghost use Rattle.std.specs.Prelude.{◌≡◌, ◌+◌, ◌<◌, ◌⊎◌, Bool, true, false, length, slice_index, bit_and};
 ghost use Rattle.sok_rules.specs.declared.cell.Spot.{Spot};
+ghost use Rattle.sok_field.specs.Fields.{has};
 ghost use Rattle.sok_field.specs.Floods.{IsSpreading};
 ghost use Rattle.sok_field.specs.Rounds.{above};
 ghost use Rattle.sok_field.specs.Sweeps.{IsStepped, GoesOn};
@@ -27,8 +28,8 @@ pub(crate) fn step_row(free: &[u64], seen: &mut [u64], r: usize)
     requires whole { length free.now ≡ length seen.old }
     requires inside { bit_and (slice_index seen.old r) (slice_index free.now r)
         ≡ slice_index seen.old r }
-    ensures { (from : Spot) → IsSpreading free.now from seen.old
-        → GoesOn free.now from seen.old seen.new false }
+    ensures { (start : Spot → Bool) → IsSpreading free.now start seen.old
+        → GoesOn free.now start seen.old seen.new false }
 {
     seen[r] = stepped(seen[r], free[r]);
 }
@@ -40,8 +41,8 @@ fn meet_row(free: &[u64], seen: &mut [u64], r: usize, beside: u64) -> (u64, bool
     requires whole { length free.now ≡ length seen.old }
     requires beside { (beside ≡ above seen.old r) ⊎ (beside ≡ slice_index seen.old (r + 1)) }
     ensures row { result.0 ≡ slice_index seen.new r }
-    ensures goes_on { (from : Spot) → IsSpreading free.now from seen.old
-        → GoesOn free.now from seen.old seen.new result.1 }
+    ensures goes_on { (start : Spot → Bool) → IsSpreading free.now start seen.old
+        → GoesOn free.now start seen.old seen.new result.1 }
 {
     let row = seen[r];
     let free_row = free[r];
@@ -54,13 +55,31 @@ fn meet_row(free: &[u64], seen: &mut [u64], r: usize, beside: u64) -> (u64, bool
     (word, true)
 }
 
+/// Has each row meet the squares beside those of the row above, and what is joined to its squares
+/// within it.
+pub(crate) fn step_rows(free: &[u64], seen: &mut [u64])
+    requires whole { length free.now ≡ length seen.old }
+    requires inside { (s : Spot) → has seen.old s ≡ true → has free.now s ≡ true }
+    ensures { (start : Spot → Bool) → IsSpreading free.now start seen.old
+        → GoesOn free.now start seen.old seen.new false }
+{
+    let mut above = 0;
+    for r in 0..seen.len() {
+        let (_, met) = meet_row(free, seen, r, above);
+        if !met {
+            step_row(free, seen, r);
+        }
+        above = seen[r];
+    }
+}
+
 /// Goes down from a row as far as squares are met. Tells the last row.
 pub(crate) fn sweep_down(free: &[u64], seen: &mut [u64], low: usize) -> usize
     requires row { low < length seen.old }
     requires whole { length free.now ≡ length seen.old }
     ensures within { result < length seen.old }
-    ensures goes_on { (from : Spot) → IsSpreading free.now from seen.old
-        → GoesOn free.now from seen.old seen.new false }
+    ensures goes_on { (start : Spot → Bool) → IsSpreading free.now start seen.old
+        → GoesOn free.now start seen.old seen.new false }
 {
     let mut r = low;
     let mut above = seen[low];
@@ -81,8 +100,8 @@ pub(crate) fn sweep_up(free: &[u64], seen: &mut [u64], high: usize, low: usize) 
     requires row { high < length seen.old }
     requires whole { length free.now ≡ length seen.old }
     ensures within { result.0 < length seen.old }
-    ensures goes_on { (from : Spot) → IsSpreading free.now from seen.old
-        → GoesOn free.now from seen.old seen.new result.1 }
+    ensures goes_on { (start : Spot → Bool) → IsSpreading free.now start seen.old
+        → GoesOn free.now start seen.old seen.new result.1 }
 {
     let mut r = high;
     let mut below = seen[high];

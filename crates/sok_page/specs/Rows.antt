@@ -1,10 +1,12 @@
 -- A page as the values of one row of a table.
 use Rattle.std.specs.Prelude.{ℕ, ◌≡◌, List, Option, option_map, string_bytes}
+use Rattle.sok_rules.specs.Limits.{size_limit}
+use Rattle.sok_board.specs.Limits.{square_limit}
 use Rattle.sok_book.specs.declared.record.Verdict.{Verdict}
 use Rattle.sok_book.specs.declared.record.Verdict.TheVariants.{Untested, Optimal, Unsolvable}
 use Rattle.sok_book.specs.Books.{Page}
 use Rattle.sok_page.specs.declared.columns.Columns.{Columns}
-use Rattle.sok_page.specs.Kept.{IsKeptPage}
+use Rattle.sok_page.specs.Kept.{IsKeptPageIn}
 use Rattle.sok_page.specs.Texts.{PageText, SolutionText, page_text}
 
 -- the values of the columns for the best solution
@@ -48,11 +50,18 @@ values_in columns = record {
   verdict = columns.verdict;
 }
 
--- these are the values of a page that may be kept
-pub record IsRowOf (page : Page) (values : Values) : Type 0 where
-  pub kept : IsKeptPage page
+-- these are the values of a page that may be kept, up to these limits
+pub record IsRowOfIn (size squares : ℕ) (page : Page) (values : Values) : Type 0 where
+  pub kept : IsKeptPageIn size squares page
   pub values_are : values ≡ values_of (page_text page)
+
+abbrev pub IsRowOf : Page → Values → Type 0
+IsRowOf page values = IsRowOfIn size_limit square_limit page values
 
 -- a row has one page at most
 abbrev pub RowsHaveOnePage : Type 0
 RowsHaveOnePage = (page other : Page) (values : Values) → IsRowOf page values → IsRowOf other values → page ≡ other
+
+-- a row that was kept while levels had at most 64 rows and columns, and their areas 1,024 squares, is kept
+abbrev pub RowsKeptBeforeAreKept : Type 0
+RowsKeptBeforeAreKept = (page : Page) (values : Values) → IsRowOfIn 64 1024 page values → IsRowOf page values

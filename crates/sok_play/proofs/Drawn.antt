@@ -3,6 +3,7 @@ use Rattle.std.proofs.Common.{ℕ, ◌≡◌, ◌∙◌, ◌+◌, ◌<◌, ◌�
 use Rattle.std.proofs.Common.{All, get_or, length, map, option_map, take, true≢false}
 use Rattle.std.proofs.lemmas.List.{length-map, length-take-le, map-append, take_all, take_more}
 use Rattle.std.proofs.lemmas.Option.{same_Some}
+use Rattle.sok_rules.specs.Limits.{size_limit}
 use Rattle.sok_rules.specs.declared.cell.Cell.{Cell}
 use Rattle.sok_rules.specs.declared.cell.Cell.TheVariants.{Wall}
 use Rattle.sok_rules.specs.declared.cell.Dir.{Dir}
@@ -82,7 +83,7 @@ level_more level i x rows row within is so_far =
 
 -- a row of a level has few cells
 pub row_few : {A : Type 0} (level : Rows) (rows : List (Vec Cell A)) (i : ℕ) (row : Vec Cell A) → cells_of rows ≡ level → i < length rows
-    → row ≡ get_or rows i row → All (λ r. length r ≤ 64) level → length row.items ≤ 64
+    → row ≡ get_or rows i row → All (λ r. length r ≤ size_limit) level → length row.items ≤ size_limit
 row_few level rows i row same within is few =
     let here : row.items ≡ get_or level i row.items = cells_of-row rows i row is ∙ ap (λ l. get_or l i row.items) same in
     let inside : i < length level = omega (arith, within, length-map rows (λ (r : Vec Cell _). r.items), ap length same) in

@@ -7,6 +7,7 @@ use Rattle.std.specs.Option.{option_and_then, option_map_or}
 use Rattle.std.proofs.lemmas.Bool.{cases_Bool}
 use Rattle.std.proofs.lemmas.List.{length-map}
 use Rattle.std.proofs.lemmas.List.Elements.{All-cons, All-head, All-nil, All-tail}
+use Rattle.sok_rules.specs.Limits.{size_limit}
 use Rattle.sok_rules.specs.declared.cell.Cell.{Cell}
 use Rattle.sok_rules.specs.declared.cell.Cell.TheVariants.{Wall, Floor, Goal, BoxOff, BoxOn, ManOff, ManOn}
 use Rattle.sok_rules.specs.declared.cell.Dir.{Dir}
@@ -250,11 +251,11 @@ unfolding shown_row
 length-shown_row x r c [] = refl
 length-shown_row x r c (cell ∷ cells) = ap suc (length-shown_row x r (c + 1) cells)
 
-few_columns-shown : (x : Position) (r : ℕ) (rows : Rows) → All (λ row. length row ≤ 64) rows → All (λ row. length row ≤ 64) (map trimmed (shown_from x r rows))
+few_columns-shown : (x : Position) (r : ℕ) (rows : Rows) → All (λ row. length row ≤ size_limit) rows → All (λ row. length row ≤ size_limit) (map trimmed (shown_from x r rows))
 unfolding shown_from
-few_columns-shown x r [] few = All-nil (λ (row : List Cell). length row ≤ 64)
+few_columns-shown x r [] few = All-nil (λ (row : List Cell). length row ≤ size_limit)
 few_columns-shown x r (row ∷ rows) few =
-    let P : List Cell → Type 0 = λ row. length row ≤ 64 in
+    let P : List Cell → Type 0 = λ row. length row ≤ size_limit in
     All-cons P (trimmed (shown_row x r 0 row)) (map trimmed (shown_from x (r + 1) rows))
     (omega (arith, All-head P row rows few, length-trimmed (shown_row x r 0 row), length-shown_row x r 0 row))
     (few_columns-shown x (r + 1) rows (All-tail P row rows few))

@@ -50,6 +50,7 @@ fn told_of(alloc: Global, name: &str) -> Told {
         "a table for 128 squares" => tabling::told_of(alloc, 128),
         "a table for 256 squares" => tabling::told_of(alloc, 256),
         "a table for 1024 squares" => tabling::told_of(alloc, 1_024),
+        "a table for 4096 squares" => tabling::told_of(alloc, 4_096),
         "two in a row" => solving::told_of(alloc, sketch::TWO_IN_A_ROW, None),
         "corridor" => solving::told_of(alloc, sketch::CORRIDOR_OF_SIX_PUSHES, Some(6)),
         "two boxes for one goal" => solving::told_of(alloc, sketch::TWO_BOXES_FOR_ONE_GOAL, None),

@@ -107,7 +107,7 @@ fn shows(session: &Session, shown: Shown) -> bool {
 }
 
 fn has_row(session: &Session, row: &str) -> bool {
-    for (symbol, col) in row.bytes().zip(0..64) {
+    for (symbol, col) in row.bytes().zip(0..128) {
         if session.cell(Spot { row: 2, col }) != cell_of(symbol) {
             return false;
         }

@@ -17,7 +17,8 @@ use Rattle.sok_board.proofs.Lists.{Contains-filter, Contains-from_filter}
 use Rattle.sok_board.proofs.Numbering.{Contains-range, rising-chosen}
 use Rattle.sok_region.specs.Regions.{IsPlaced, IsRegion, IsWalkBetween, HasSquare, squares_of}
 use Rattle.sok_field.specs.Fields.{has}
-use Rattle.sok_field.specs.Numbers.{Draws, bit_of_number, has_number, word_bits}
+use Rattle.sok_board.specs.Runs.{word_bits}
+use Rattle.sok_field.specs.Numbers.{Draws, bit_of_number, has_number}
 use Rattle.sok_field.specs.Trails.{trail, Leads}
 use Rattle.sok_field.proofs.OneSquare.{has-within}
 use Rattle.sok_region.specs.Floods.{marked, Met, IsFlood, FindsWay}

@@ -6,7 +6,8 @@ use Rattle.sok_rules.specs.declared.cell.Dir.{Dir}
 use Rattle.sok_rules.specs.Play.{run, pushes}
 use Rattle.sok_rules.specs.States.{Same}
 use Rattle.sok_board.specs.Area.{Numbered, position_of}
-use Rattle.sok_field.specs.Numbers.{has_number, word_bits}
+use Rattle.sok_board.specs.Runs.{word_bits}
+use Rattle.sok_field.specs.Numbers.{has_number}
 
 -- numbers of squares that make a position: boxes rising, and the player on none of them
 pub record IsPlaced (b : Numbered) (boxes : List ℕ) (player : ℕ) : Type 0 where

@@ -68,7 +68,7 @@ impl Layout {
         self.boxes.extend_from_slice(boxes).unwrap();
         self.free.copy_from(&self.area);
         drawing::take_boxes(&mut self.free, board, boxes);
-        self.boxed = Field::new();
+        self.boxed.clear();
         put_boxes(&mut self.boxed, board, boxes);
         Ok(())
     }

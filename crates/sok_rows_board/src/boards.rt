@@ -167,11 +167,12 @@ fn assert_told(rt: &impl Abort, alloc: Global, room: &Room, count: Told) -> Resu
 #[test]
 fn large_rooms(rt: HostRuntime) -> Result<(), Fail> {
     let too_many = Err((BoardFault::TooManyBoxes, 10));
-    assert_told(&rt, rt.alloc(), &rooms::ROOM_OF_1024, Ok(1024))?;
+    assert_told(&rt, rt.alloc(), &rooms::CORRIDOR_AROUND, Ok(500))?;
+    assert_told(&rt, rt.alloc(), &rooms::ROOM_OF_4096, Ok(4096))?;
     assert_told(
         &rt,
         rt.alloc(),
-        &rooms::ROOM_OF_1025,
+        &rooms::ROOM_OF_4097,
         Err((BoardFault::TooLarge, 9)),
     )?;
     assert_told(&rt, rt.alloc(), &rooms::ROOM_OF_129_BOXES, too_many)

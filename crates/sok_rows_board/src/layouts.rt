@@ -6,6 +6,7 @@ use crate::setting::{are_below, board, tables};
 use sok_bar::layout_jam::has_jam;
 use sok_board::area::Sq;
 use sok_board::board::Board;
+use sok_field::field::COLUMNS;
 use sok_push::tables::Tables;
 use sok_region::layout::Layout;
 use sok_rules::cell::Spot;
@@ -61,7 +62,7 @@ fn jams_over_layouts(rt: HostRuntime) -> Result<(), Fail> {
 
 /// Whether a spot is free in a layout or has a box, as it is told.
 fn shows(layout: &Layout, spot: Spot, boxed: bool) -> bool {
-    spot.col < 64 && layout.free().has(spot) != boxed && layout.boxed().has(spot) == boxed
+    spot.col < COLUMNS && layout.free().has(spot) != boxed && layout.boxed().has(spot) == boxed
 }
 
 /// Whether a layout has these boxes after a push, which left a square free and filled another.

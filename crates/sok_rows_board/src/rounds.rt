@@ -2,46 +2,72 @@
 
 use crate::setting::board;
 use sok_field::drawing::free_squares;
-use sok_field::field::Field;
-use sok_field::spread::spread;
+use sok_field::field::{COLUMNS, Field};
+use sok_field::spread::spread_wide;
 use sok_rules::cell::Spot;
 use sok_sketch::sketch;
 use std::alloc::Global;
 use std::process::Abort;
 use std::test::Fail;
 
-/// A row of squares, and none where there is no such row.
-fn row(rows: &[u64], at: Option<usize>) -> u64 {
-    match at {
-        Some(at) => rows.get(at).copied().unwrap_or(0),
-        None => 0,
+/// Rows of squares, in words of both halves.
+#[derive(Drop)]
+struct Rows {
+    low: Vec<u64>,
+    high: Vec<u64>,
+}
+
+impl Rows {
+    /// So many rows, each of which is the one before with its squares turned.
+    fn turned(alloc: Global, word: u64, by: u32, length: usize) -> Result<Rows, Fail> {
+        Ok(Rows {
+            low: turned(alloc, word, by, length)?,
+            high: turned(alloc, word.rotate_left(29), by, length)?,
+        })
+    }
+
+    /// A row of squares, and none where there is no such row.
+    fn row(&self, at: Option<usize>) -> u128 {
+        match at {
+            Some(at) if at < self.low.len() && at < self.high.len() => {
+                u128::from(self.high[at]) << 64 | u128::from(self.low[at])
+            }
+            _ => 0,
+        }
     }
 }
 
-/// So many rows, each of which is the one before with its squares turned.
-fn turned(alloc: Global, mut row: u64, by: u32, length: usize) -> Result<Vec<u64>, Fail> {
-    let mut rows = Vec::new(alloc);
+/// So many words, each of which is the one before, turned.
+fn turned(alloc: Global, mut word: u64, by: u32, length: usize) -> Result<Vec<u64>, Fail> {
+    let mut words = Vec::new(alloc);
     for _ in 0..length {
-        rows.push(row)?;
-        row = row.rotate_left(by);
+        words.push(word)?;
+        word = word.rotate_left(by);
     }
-    Ok(rows)
+    Ok(words)
 }
 
 /// Asserts that a round finds the free squares on and beside those seen, in each row.
-fn assert_round(rt: &impl Abort, seen: &[u64], free: &[u64], out: &mut [u64]) {
-    assert!(rt; free.len() == seen.len());
-    assert!(rt; out.len() == seen.len());
-    spread(seen, free, out);
-    for (r, found) in out.iter().enumerate() {
-        let here = row(seen, Some(r));
-        let beside = row(seen, r.checked_sub(1)) | row(seen, r.checked_add(1));
+fn assert_round(rt: &impl Abort, seen: &Rows, free: &Rows, out: &mut Rows) {
+    let length = seen.low.len();
+    assert!(rt; seen.high.len() == length);
+    assert!(rt; free.low.len() == length && free.high.len() == length);
+    assert!(rt; out.low.len() == length && out.high.len() == length);
+    spread_wide(
+        &seen.low,
+        &seen.high,
+        &free.low,
+        &free.high,
+        &mut out.low,
+        &mut out.high,
+    );
+    for r in 0..length {
+        let here = seen.row(Some(r));
+        let beside = seen.row(r.checked_sub(1)) | seen.row(r.checked_add(1));
         let around = here | here << 1 | here >> 1 | beside;
-        assert_eq!(rt;
-            *found,
-            around & row(free, Some(r)),
-            "row {r} of {}",
-            seen.len()
+        assert!(rt;
+            out.row(Some(r)) == around & free.row(Some(r)),
+            "row {r} of {length}"
         );
     }
 }
@@ -50,12 +76,77 @@ fn assert_round(rt: &impl Abort, seen: &[u64], free: &[u64], out: &mut [u64]) {
 #[test]
 fn rounds_of_each_length(rt: HostRuntime) -> Result<(), Fail> {
     for length in 0..18 {
-        let seen = turned(rt.alloc(), 0x8000_0400_0020_0001, 5, length)?;
-        let free = turned(rt.alloc(), 0xb7fe_d3fb_6fdb_f6b5, 7, length)?;
-        let mut out = vec![in rt.alloc(); u64::MAX; length]?;
+        let seen = Rows::turned(rt.alloc(), 0x8000_0400_0020_0001, 5, length)?;
+        let free = Rows::turned(rt.alloc(), 0xb7fe_d3fb_6fdb_f6b5, 7, length)?;
+        let mut out = Rows::turned(rt.alloc(), u64::MAX, 1, length)?;
         assert_round(&rt, &seen, &free, &mut out);
     }
     Ok(())
+}
+
+/// From the last column of the lower half a round comes into the first one of the upper half.
+#[test]
+fn a_round_across_the_seam(rt: HostRuntime) {
+    let free = [u64::MAX];
+    let mut low: [u64; 1] = [0];
+    let mut high: [u64; 1] = [0];
+    spread_wide(&[1 << 63], &[0], &free, &free, &mut low, &mut high);
+    assert!(rt; low == [13_835_058_055_282_163_712] && high == [1]);
+}
+
+/// Squares about the columns 63 and 64, those of the first sign in column 61: the start of a flood,
+/// free squares that are joined to it (`+`), and others.
+const ABOUT_THE_SEAM: [&[&str]; 8] = [
+    &["s+++++#--"],
+    &["--#+++++s"],
+    &["s+#---", "++#---"],
+    &["---#+s", "---#++"],
+    // beside one another only at a corner
+    &["s++###", "###---"],
+    &["###---", "+s+###"],
+    // over the seam and back, and over it again
+    &["s+++#", "###+#", "#+++#", "#+###", "#++++"],
+    &["+++++", "#+###", "#+++#", "###+#", "-#+s#"],
+];
+
+/// The squares of a text with one of these signs.
+fn squares(text: &[&str], signs: &[u8]) -> Field {
+    let mut field = Field::new();
+    for (row, line) in text.iter().enumerate() {
+        for (col, sign) in line.bytes().enumerate() {
+            if row < 8 && col < 16 && signs.contains(&sign) {
+                field.put(Spot {
+                    row: row as u32,
+                    col: 61 + col as u32,
+                });
+            }
+        }
+    }
+    field
+}
+
+#[test]
+fn floods_across_the_seam(rt: HostRuntime) {
+    for text in ABOUT_THE_SEAM {
+        let free = squares(text, b"s+-");
+        let joined = squares(text, b"s+");
+        let Some(from) = squares(text, b"s").first() else {
+            assert!(rt; false, "no start in {text:?}");
+            return;
+        };
+        assert!(rt; from.col < COLUMNS && free.has(from), "{text:?}");
+        let mut seen = Field::new();
+        seen.flood(&free, from);
+        for row in 0..8 {
+            for col in 56..80 {
+                let spot = Spot { row, col };
+                assert!(rt;
+                    seen.has(spot) == joined.has(spot),
+                    "{row} {col} of {text:?}"
+                );
+            }
+        }
+    }
 }
 
 /// The word of a row of squares.
@@ -100,7 +191,8 @@ fn rounds_in_the_corridor(rt: HostRuntime) {
         ([112, 110, 112], [112, 96, 112], [112, 96, 112]),
     ] {
         let mut out: [u64; 3] = [0; 3];
-        spread(&seen, &free, &mut out);
-        assert!(rt; out == after, "{seen:?}");
+        let mut beyond: [u64; 3] = [0; 3];
+        spread_wide(&seen, &[0; 3], &free, &[0; 3], &mut out, &mut beyond);
+        assert!(rt; out == after && beyond == [0; 3], "{seen:?}");
     }
 }

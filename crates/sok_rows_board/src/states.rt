@@ -10,6 +10,7 @@ use sok_rules::cell::Dir;
 use sok_sketch::sketch;
 use sok_state::key::Key;
 use sok_state::legal::{after, pushes};
+use sok_state::normalizer::Normalizer;
 use sok_state::push::Push;
 use std::alloc::Global;
 use std::process::Abort;
@@ -92,7 +93,8 @@ fn next(alloc: Global, board: &Board, state: &Key) -> Result<Option<Key>, Fail>
     if legal.len() == 0 {
         return Ok(None);
     }
-    Ok(Some(after(alloc, board, state, legal[0])?))
+    let mut normalizer = Normalizer::new(board);
+    Ok(Some(after(alloc, board, &mut normalizer, state, legal[0])?))
 }
 
 /// Whether the state after the first legal push has these boxes and this least square.

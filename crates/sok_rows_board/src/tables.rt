@@ -196,7 +196,7 @@ fn assert_table(
 /// square of words, one of which is pushed to another word where there is one.
 #[test]
 fn tables_of_each_width(rt: HostRuntime) -> Result<(), Fail> {
-    let cases: [(usize, &[Sq], (Sq, Sq), &[Sq]); 7] = [
+    let cases: [(usize, &[Sq], (Sq, Sq), &[Sq]); 9] = [
         (64, &[0, 31, 63], (63, 62), &[0, 31, 62]),
         (65, &[0, 63], (63, 64), &[0, 64]),
         (128, &[0, 63, 64, 127], (0, 126), &[63, 64, 126, 127]),
@@ -208,6 +208,13 @@ fn tables_of_each_width(rt: HostRuntime) -> Result<(), Fail> {
             &[1, 64, 127, 640, 1_023],
             (1_023, 1_022),
             &[1, 64, 127, 640, 1_022],
+        ),
+        (1_025, &[5, 1_023], (1_023, 1_024), &[5, 1_024]),
+        (
+            4_096,
+            &[0, 1_024, 4_095],
+            (4_095, 4_032),
+            &[0, 1_024, 4_032],
         ),
     ];
     for (squares, boxes, push, boxes_after) in cases {

@@ -88,7 +88,7 @@ fn tells(alloc: Global, board: &str, out: &[u8], pushes: u32) -> Result<bool, Fa
 
 /// Asserts that a level is solved with so many pushes: the text that is written is replayed, and
 /// the certificate judged.
-fn assert_solved(
+pub(crate) fn assert_solved(
     rt: &impl Abort,
     alloc: Global,
     board: &str,
@@ -115,7 +115,12 @@ fn assert_reply(
 }
 
 /// Asserts that none solves a level, and that its certificate says so.
-fn assert_unsolvable(rt: &impl Abort, alloc: Global, board: &str, limit: u32) -> Result<(), Fail> {
+pub(crate) fn assert_unsolvable(
+    rt: &impl Abort,
+    alloc: Global,
+    board: &str,
+    limit: u32,
+) -> Result<(), Fail> {
     let reply = answered(alloc, board, limit)?;
     assert_no_solution(rt, alloc, board, limit, &reply)
 }
@@ -173,7 +178,7 @@ const THREE_WAYS_OUT: &str = "\
 ######
 ";
 
-const GOALS_IN_THREE_CORNERS: &str = "\
+pub(crate) const GOALS_IN_THREE_CORNERS: &str = "\
 ########
 #  .   #
 # #$## #
@@ -191,7 +196,7 @@ const ROUND_THE_BLOCK: &str = "\
 #######
 ";
 
-const RING_OF_BOXES: &str = "\
+pub(crate) const RING_OF_BOXES: &str = "\
 #######
 #  .  #
 # .$. #
@@ -216,7 +221,7 @@ pub(crate) const TWO_CHAMBERS: &str = "\
 ########
 ";
 
-const SLANTED_ROOM: &str = "\
+pub(crate) const SLANTED_ROOM: &str = "\
 ########
 ###  . #
 #  $#  #

@@ -128,16 +128,16 @@ fn levels_and_fault(alloc: Global, text: &[u8]) -> Result<(usize, Option<LevelFa
 #[test]
 fn packed_lines_at_their_limits(rt: HostRuntime) -> Result<(), Fail> {
     for (part, times, behind, fault) in [
-        ("", 0, "64#|#@$.#", None),
-        ("", 0, "65#|#@$.#", Some(LevelFault::TooWide)),
-        ("", 0, "#63-#|#@$.#", Some(LevelFault::TooWide)),
+        ("", 0, "128#|#@$.#", None),
+        ("", 0, "128##|#@$.#", Some(LevelFault::TooWide)),
+        ("", 0, "#127-#|#@$.#", Some(LevelFault::TooWide)),
         ("", 0, "64#128-128-|#@$.#128-", None),
         ("", 0, "64#128-128-*|#@$.#", Some(LevelFault::TooWide)),
         ("", 0, "128#128#|#@$.#", Some(LevelFault::TooWide)),
-        ("#|", 63, "#@$.#", None),
-        ("#|", 64, "#@$.#", Some(LevelFault::TooTall)),
-        ("#|", 63, "#@$.#|", None),
-        ("128#|", 65, "#@$.#", Some(LevelFault::TooTall)),
+        ("#|", 127, "#@$.#", None),
+        ("#|", 128, "#@$.#", Some(LevelFault::TooTall)),
+        ("#|", 127, "#@$.#|", None),
+        ("128#|", 129, "#@$.#", Some(LevelFault::TooTall)),
     ] {
         let mut text = part.repeat(rt.alloc(), times)?;
         text.push_str(behind)?;

@@ -43,12 +43,12 @@ fn fault_of(alloc: Global, columns: usize, walls: usize) -> Result<Option<LevelF
 #[test]
 fn sizes_of_levels(rt: HostRuntime) -> Result<(), Fail> {
     for (columns, walls, fault) in [
-        (64, 0, None),
-        (65, 0, Some(LevelFault::TooWide)),
-        (1, 62, None),
-        (1, 63, Some(LevelFault::TooTall)),
+        (128, 0, None),
+        (129, 0, Some(LevelFault::TooWide)),
+        (1, 126, None),
+        (1, 127, Some(LevelFault::TooTall)),
         (1, 1000, Some(LevelFault::TooTall)),
-        (65, 63, Some(LevelFault::TooTall)),
+        (129, 127, Some(LevelFault::TooTall)),
     ] {
         let found = fault_of(rt.alloc(), columns, walls)?;
         assert_eq!(rt; found, fault, "{columns} columns, {walls} rows");

@@ -19,6 +19,7 @@
 //! | `solves` | the fewest pushes of worked levels, or that there are none, and what limits mean |
 //! | `texts` | which texts are certificates, and writing them again |
 //! | `verdicts` | certificates of worked levels, judged |
+//! | `wide` | levels past the column 63, and of 128 rows and columns |
 #![tactic(auto)]
 
 #[cfg(test)]
@@ -53,3 +54,5 @@ mod solves;
 mod texts;
 #[cfg(test)]
 mod verdicts;
+#[cfg(test)]
+mod wide;

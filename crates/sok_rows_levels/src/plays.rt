@@ -145,12 +145,12 @@ fn shows(session: &Session, pushes: u64, moves: u64, row: &str) -> bool {
 }
 
 fn has_row(session: &Session, row: &str) -> bool {
-    for (symbol, col) in row.bytes().zip(0..64) {
+    for (symbol, col) in row.bytes().zip(0..128) {
         if session.cell(Spot { row: 1, col }) != cell_of(symbol) {
             return false;
         }
     }
-    let col = row.len().min(64) as u32;
+    let col = row.len().min(128) as u32;
     session.cell(Spot { row: 1, col }).is_none()
 }
 

@@ -13,7 +13,7 @@ use sok_search::fault::SolveFault;
 use sok_search::found::Found;
 use sok_search::outcome::Outcome;
 use sok_search::solve::{bound, find, solve};
-use sok_sketch::rooms::{ROOM_OF_1024, Room};
+use sok_sketch::rooms::{ROOM_OF_1024, ROOM_OF_4096, Room};
 use sok_sketch::sketch::{self, level};
 use std::alloc::Global;
 use std::process::Abort;
@@ -147,14 +147,16 @@ fn fewest_pushes(rt: HostRuntime) -> Result<(), Fail> {
     Ok(())
 }
 
-/// Rooms of 96, 160 and 1,024 squares, with the box beside the goal.
+/// Rooms of 96, 160, 1,024 and 4,096 squares, with the box beside the goal.
 #[test]
 fn large_rooms(rt: HostRuntime) -> Result<(), Fail> {
-    for times in [2, 4, 31] {
-        let room = Room {
-            times,
-            ..ROOM_OF_1024
-        };
+    for (room, times) in [
+        (ROOM_OF_1024, 2),
+        (ROOM_OF_1024, 4),
+        (ROOM_OF_1024, 31),
+        (ROOM_OF_4096, 63),
+    ] {
+        let room = Room { times, ..room };
         let board = room.text(rt.alloc())?;
         assert_eq!(rt; pushes_of(&rt, rt.alloc(), board.as_str(), 3)?, Some(1));
     }

@@ -190,7 +190,7 @@ fn faults_of_levels_and_boards(rt: HostRuntime) -> Result<(), Fail> {
         assert!(rt; is_refused(&rt, boards, n, fault), "{boards}");
     }
     for (room, fault) in [
-        (rooms::ROOM_OF_1025, ToolFault::Board(BoardFault::TooLarge)),
+        (rooms::ROOM_OF_4097, ToolFault::Board(BoardFault::TooLarge)),
         (
             rooms::ROOM_OF_129_BOXES,
             ToolFault::Board(BoardFault::TooManyBoxes),

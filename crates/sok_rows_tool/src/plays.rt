@@ -28,7 +28,8 @@ const WITH_RETURNS: &str = "-#####\r\n-#@$.#\r\n-#####\r\n";
 
 const TWO_LEVELS: &str = "First\n\n#####\n#@$.#\n#####\n\n####\n#@$#\n####";
 
-const TOO_WIDE: &str = "#@$.#\n#################################################################\n";
+const TOO_WIDE: &str =
+    "#@$.#\n#################################################################################################################################\n";
 
 /// A text with the end of its line, a collection, and the line that is written with the status: on
 /// the output, or where the status is 3 on the error stream.

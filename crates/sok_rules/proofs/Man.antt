@@ -7,6 +7,7 @@ use Rattle.std.proofs.lemmas.List.{length-map}
 use Rattle.std.proofs.lemmas.List.Folds.{list_any_at, list_any_none}
 use Rattle.std.proofs.lemmas.List.Quantifiers.{position-Some}
 use Rattle.std.specs.List.{list_any}
+use Rattle.sok_rules.specs.Limits.{size_limit}
 use Rattle.sok_rules.specs.declared.cell.Cell.{Cell}
 use Rattle.sok_rules.specs.declared.cell.Cell.TheVariants.{Wall}
 use Rattle.sok_rules.specs.declared.cell.Spot.{Spot}
@@ -86,7 +87,7 @@ holds-found test rows row r c within there found =
 -- and in a level that is near
 pub col_near : {A : Type 0} (test : Cell → Bool) (rows : List (Vec Cell A)) (row : Vec Cell A) (r c : ℕ) → IsProper (cells_of rows) → r < length rows
     → row ≡ get_or rows r row
-    → position test row.items ≡ Some c → c < 64
+    → position test row.items ≡ Some c → c < size_limit
 col_near test rows row r c proper within there found =
     let place = holds-found test rows row r c within there found in
     let short = proper.few_columns r [] (omega (arith, within, length-map rows (λ (v : Vec Cell _). v.items))) in
@@ -94,7 +95,7 @@ col_near test rows row r c proper within there found =
 
 -- the cells of a level that are counted are few
 pub few_counted : {A : Type 0} (test : Cell → Bool) (rows : List (Vec Cell A)) → IsProper (cells_of rows)
-    → sum_by (λ row. count_by test row.items) rows ≤ 64 * 64
+    → sum_by (λ row. count_by test row.items) rows ≤ size_limit * size_limit
 few_counted test rows proper = omega (
   arith,
   sum_by-cells_of (count_by test) rows,

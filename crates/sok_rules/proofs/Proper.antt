@@ -10,6 +10,7 @@ use Rattle.std.proofs.lemmas.List.Folds.{list_any_at, list_any_none}
 use Rattle.std.proofs.lemmas.List.Sums.{fails_before_first, passes_at_first, sum_by-le, count_by-le-length}
 use Rattle.std.specs.List.{list_any, position_or_len}
 use Rattle.std.specs.Option.{option_or}
+use Rattle.sok_rules.specs.Limits.{size_limit}
 use Rattle.sok_rules.specs.declared.cell.Cell.{Cell}
 use Rattle.sok_rules.specs.declared.fault.LevelFault.{LevelFault}
 use Rattle.sok_rules.specs.declared.fault.LevelFault.TheVariants.{TooWide, TooTall, NoPlayer, ManyPlayers, NoBox, NoSuchLevel, NoWall}
@@ -71,12 +72,12 @@ HasNoFault-from_none false false None men false none = absurd (grind (arith, nat
 pub IsProper-from_none : (rows : Rows) → fault_of rows ≡ None → IsProper rows
 unfolding fault_of
 IsProper-from_none rows none =
-    let clean = HasNoFault-from_none _ (list_any (λ row. nat_lt 64 (length row)) rows) (position (λ row. not (list_any is_wall row)) rows)
+    let clean = HasNoFault-from_none _ (list_any (λ row. nat_lt size_limit (length row)) rows) (position (λ row. not (list_any is_wall row)) rows)
     (count_in is_man rows) _ none in
-    let not_tall : nat_lt 64 (length rows) ≡ false = clean.not_tall in
+    let not_tall : nat_lt size_limit (length rows) ≡ false = clean.not_tall in
     record {
       few_rows = grind (arith, nat_tests);
-      few_columns = λ k d within. let short = fails_at_each (λ row. nat_lt 64 (length row)) rows clean.not_wide k d within in grind (arith, nat_tests);
+      few_columns = λ k d within. let short = fails_at_each (λ row. nat_lt size_limit (length row)) rows clean.not_wide k d within in grind (arith, nat_tests);
       walls = λ k d within. not_false _ (position-none (λ row. not (list_any is_wall row)) rows clean.walled k d within);
       one_man = clean.one_man;
       some_box = clean.boxed;
@@ -85,29 +86,29 @@ IsProper-from_none rows none =
 pub none-from_IsProper : (rows : Rows) → IsProper rows → fault_of rows ≡ None
 unfolding fault_of
 none-from_IsProper rows proper =
-    let few_rows : length rows ≤ 64 = proper.few_rows in
-    let not_tall : nat_lt 64 (length rows) ≡ false = grind (arith, nat_tests) in
-    let not_wide = list_any_none (λ row. nat_lt 64 (length row)) rows (λ k d within. let short : length (get_or rows k d) ≤ 64 =
+    let few_rows : length rows ≤ size_limit = proper.few_rows in
+    let not_tall : nat_lt size_limit (length rows) ≡ false = grind (arith, nat_tests) in
+    let not_wide = list_any_none (λ row. nat_lt size_limit (length row)) rows (λ k d within. let short : length (get_or rows k d) ≤ size_limit =
     proper.few_columns k d within in grind (arith, nat_tests)) in
     let walled = none-position (λ row. not (list_any is_wall row)) rows (λ k d within. ap not (proper.walls k d within)) in
     λ i. first_fault (not_tall i) (not_wide i) (walled i) (proper.one_man i) (proper.some_box i)
 
 -- few rows of few cells have few of a kind
-pub count_by-few : {R : Type 0} (cells : R → List Cell) (test : Cell → Bool) (rows : List R) → length rows ≤ 64 → All (λ row. length (cells row) ≤ 64) rows
-    → sum_by (λ row. count_by test (cells row)) rows ≤ 64 * 64
+pub count_by-few : {R : Type 0} (cells : R → List Cell) (test : Cell → Bool) (rows : List R) → length rows ≤ size_limit → All (λ row. length (cells row) ≤ size_limit) rows
+    → sum_by (λ row. count_by test (cells row)) rows ≤ size_limit * size_limit
 count_by-few cells test rows few short =
     omega (
       arith,
-      sum_by-le (λ row. count_by test (cells row)) 64 rows
+      sum_by-le (λ row. count_by test (cells row)) size_limit rows
           (λ k d within. omega (arith, count_by-le-length test (cells (get_or rows k d)), short k d within)),
     )
 
 -- few rows, none of them long
-pub count_by-fits : {R : Type 0} (cells : R → List Cell) (test : Cell → Bool) (rows : List R) → length rows ≤ 64
-    → list_any (λ row. nat_lt 64 (length (cells row))) rows ≡ false
-    → sum_by (λ row. count_by test (cells row)) rows ≤ 64 * 64
+pub count_by-fits : {R : Type 0} (cells : R → List Cell) (test : Cell → Bool) (rows : List R) → length rows ≤ size_limit
+    → list_any (λ row. nat_lt size_limit (length (cells row))) rows ≡ false
+    → sum_by (λ row. count_by test (cells row)) rows ≤ size_limit * size_limit
 count_by-fits cells test rows few none_long = count_by-few cells test rows few (λ k d within.
-    let short = fails_at_each (λ row. nat_lt 64 (length (cells row))) rows none_long k d within in grind (arith, nat_tests))
+    let short = fails_at_each (λ row. nat_lt size_limit (length (cells row))) rows none_long k d within in grind (arith, nat_tests))
 
 -- what rows are read as, by the fault that they have without floor at their ends
 pub level_of-none : (rows : Rows) → fault_of (map trimmed rows) ≡ None → level_of rows ≡ Ok (map trimmed rows)
@@ -119,13 +120,13 @@ unfolding level_of
 level_of-some rows fault some = ap (λ o. elim o as (λ _. Result Rows LevelFault) [ None ↦ Ok (map trimmed rows) | Some f ↦ Err f ]) some
 
 -- rows of which there are too many
-fault_of-tall : (rows : Rows) → 64 < length rows → fault_of rows ≡ Some TooTall
+fault_of-tall : (rows : Rows) → size_limit < length rows → fault_of rows ≡ Some TooTall
 unfolding fault_of
 fault_of-tall rows tall =
-    let so : nat_lt 64 (length rows) ≡ true = grind (arith, nat_tests) in
-    ap (λ b. first_fault b (list_any (λ row. nat_lt 64 (length row)) rows) (row_without_wall rows) (count_in is_man rows) (list_any (list_any is_box) rows)) so
+    let so : nat_lt size_limit (length rows) ≡ true = grind (arith, nat_tests) in
+    ap (λ b. first_fault b (list_any (λ row. nat_lt size_limit (length row)) rows) (row_without_wall rows) (count_in is_man rows) (list_any (list_any is_box) rows)) so
 
-pub level_of-tall : (rows : Rows) → 64 < length rows → level_of rows ≡ Err TooTall
+pub level_of-tall : (rows : Rows) → size_limit < length rows → level_of rows ≡ Err TooTall
 level_of-tall rows tall = level_of-some rows TooTall (fault_of-tall (map trimmed rows) (omega (arith, length-map rows trimmed)))
 
 -- a fault of what stands in rows
@@ -159,7 +160,7 @@ pub level_of-missing : (rows : Rows) → level_of rows ≡ Err NoSuchLevel → �
 unfolding fault_of
 level_of-missing rows e =
     let clean = map trimmed rows in
-    first-missing (nat_lt 64 (length clean)) (list_any (λ row. nat_lt 64 (length row)) clean) (row_without_wall clean) (count_in is_man clean)
+    first-missing (nat_lt size_limit (length clean)) (list_any (λ row. nat_lt size_limit (length row)) clean) (row_without_wall clean) (count_in is_man clean)
     (list_any (list_any is_box) clean) (fault-from_level_of rows NoSuchLevel e)
 
 -- a level is read as it is

@@ -7,6 +7,7 @@ use Rattle.std.proofs.Math.Seq.{take-append_seam, set-append_seam, map-set_same}
 use Rattle.std.proofs.Math.ListN.{get_or-map}
 use Rattle.std.proofs.lemmas.List.Edits.{map_over_more}
 use Rattle.std.specs.List.{list_any, prefix_len, fold}
+use Rattle.sok_rules.specs.Limits.{size_limit}
 use Rattle.sok_rules.specs.declared.cell.Cell.{Cell}
 use Rattle.sok_rules.specs.declared.cell.Cell.TheVariants.{Wall, Floor, Goal, BoxOff, BoxOn, ManOff, ManOn}
 use Rattle.sok_rules.specs.Squares.{Rows, is_wall, is_man, is_box}
@@ -120,12 +121,12 @@ sum_by-cells_of term rows = sum_from-cells_of term rows 0
 
 -- the first fault of rows that are vectors
 pub fault_of-cells_of : {A : Type 0} (rows : List (Vec Cell A)) → fault_of (cells_of rows)
-    ≡ first_fault (nat_lt 64 (length rows)) (list_any (λ row. nat_lt 64 (length row.items)) rows) (position (λ row. not (list_any is_wall row.items)) rows)
+    ≡ first_fault (nat_lt size_limit (length rows)) (list_any (λ row. nat_lt size_limit (length row.items)) rows) (position (λ row. not (list_any is_wall row.items)) rows)
     (sum_by (λ row. count_by is_man row.items) rows) (list_any (λ row. list_any is_box row.items) rows)
 unfolding fault_of
 fault_of-cells_of rows =
-    let height = ap (nat_lt 64) (length-map rows (λ row. row.items)) in
-    let long = list_any-cells_of (λ row. nat_lt 64 (length row)) rows in
+    let height = ap (nat_lt size_limit) (length-map rows (λ row. row.items)) in
+    let long = list_any-cells_of (λ row. nat_lt size_limit (length row)) rows in
     let unwalled = position-cells_of (λ row. not (list_any is_wall row)) rows in
     let men = sum_by-cells_of (count_by is_man) rows in
     let boxed = list_any-cells_of (list_any is_box) rows in

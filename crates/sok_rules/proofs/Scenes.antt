@@ -6,6 +6,7 @@ use Rattle.std.proofs.lemmas.List.{length-map}
 use Rattle.std.proofs.lemmas.Option.{same_Some}
 use Rattle.std.specs.Option.{option_map_or}
 use Rattle.std.proofs.Math.ListN.{get_or-map}
+use Rattle.sok_rules.specs.Limits.{size_limit}
 use Rattle.sok_rules.specs.declared.cell.Cell.{Cell}
 use Rattle.sok_rules.specs.declared.cell.Cell.TheVariants.{Wall, Floor, Goal, BoxOff, BoxOn, ManOff, ManOn}
 use Rattle.sok_rules.specs.declared.cell.Dir.{Dir}
@@ -137,7 +138,7 @@ holds_astray-is rows s = elim (cell_at rows s) as (λ o. option_map_or is_astray
     ]
 
 -- few rows stay few
-pub few_rows-SameGround : (old new : Rows) → SameGround old new → length old ≤ 64 → length new ≤ 64
+pub few_rows-SameGround : (old new : Rows) → SameGround old new → length old ≤ size_limit → length new ≤ size_limit
 few_rows-SameGround old new ground few = omega (
   arith,
   few,
@@ -147,7 +148,7 @@ few_rows-SameGround old new ground few = omega (
   ap length ground.shape,
 )
 
-pub few_columns-SameGround : (old new : Rows) → SameGround old new → All (λ row. length row ≤ 64) old → All (λ row. length row ≤ 64) new
+pub few_columns-SameGround : (old new : Rows) → SameGround old new → All (λ row. length row ≤ size_limit) old → All (λ row. length row ≤ size_limit) new
 few_columns-SameGround old new ground few = λ k row within.
     let size : List Cell → ℕ = λ r. length r in
     let there : k < length old = omega (arith, within, length-map old size, length-map new size, ap length ground.shape) in
@@ -329,12 +330,12 @@ none-from_solved rows man astray scene solved =
     ])
 
 -- squares of a scene are near
-pub near-scene : (rows : Rows) (man s : Spot) (astray : ℕ) → IsScene rows man astray → holds is_open rows s ≡ true → (s.row < 64) × (s.col < 64)
+pub near-scene : (rows : Rows) (man s : Spot) (astray : ℕ) → IsScene rows man astray → holds is_open rows s ≡ true → (s.row < size_limit) × (s.col < size_limit)
 near-scene rows man s astray scene opened =
     let within = IsWithin-from_holds is_open rows s opened in
     (omega (arith, within.row, scene.few_rows), omega (arith, within.col, scene.few_columns s.row [] within.row))
 
-pub few_astray : (rows : Rows) (man : Spot) (astray : ℕ) → IsScene rows man astray → astray ≤ 64 * 64
+pub few_astray : (rows : Rows) (man : Spot) (astray : ℕ) → IsScene rows man astray → astray ≤ size_limit * size_limit
 few_astray rows man astray scene = omega (arith, scene.astray_are, count_by-few (λ row. row) is_astray rows scene.few_rows scene.few_columns)
 
 pub NoneBeside-closed : (now : Rows) (s t : Spot) (d : Dir) → next d s ≡ Some t → holds is_open now t ≡ false → NoneBeside now s d

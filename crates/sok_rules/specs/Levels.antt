@@ -28,18 +28,25 @@ trimmed (cell ∷ row) = onto cell (trimmed row)
 abbrev pub count_in : (Cell → Bool) → Rows → ℕ
 count_in test rows = sum_by (count_by test) rows
 
--- at most 64 rows and columns, a wall in each row, one player, and a box
-pub record IsProper (rows : Rows) : Type 0 where
-  pub few_rows : length rows ≤ size_limit
-  pub few_columns : All (λ row. length row ≤ size_limit) rows
+-- rows of so many cells at most, and so many of them, a wall in each, one player, and a box
+pub record IsProperIn (size : ℕ) (rows : Rows) : Type 0 where
+  pub few_rows : length rows ≤ size
+  pub few_columns : All (λ row. length row ≤ size) rows
   pub walls : All (λ row. IsTrue (list_any is_wall row)) rows
   pub one_man : count_in is_man rows ≡ 1
   pub some_box : IsTrue (list_any (list_any is_box) rows)
 
+-- so many as a level may have
+abbrev pub IsProper : Rows → Type 0
+IsProper rows = IsProperIn size_limit rows
+
 -- proper rows, none of which ends with floor
-pub record IsLevel (rows : Rows) : Type 0 where
-  pub proper : IsProper rows
+pub record IsLevelIn (size : ℕ) (rows : Rows) : Type 0 where
+  pub proper : IsProperIn size rows
   pub trimmed : map trimmed rows ≡ rows
+
+abbrev pub IsLevel : Rows → Type 0
+IsLevel rows = IsLevelIn size_limit rows
 
 -- the first row without a wall
 abbrev pub row_without_wall : Rows → Option ℕ

@@ -14,9 +14,9 @@ use thiserror::Error;
 /// argument.
 #[derive(Clone, Copy, Debug, PartialEq, Eq, Error)]
 pub enum LevelFault {
-    /// A row has more than 64 cells.
+    /// A row has more than 128 cells.
     TooWide,
-    /// There are more than 64 rows.
+    /// There are more than 128 rows.
     TooTall,
     NoPlayer,
     ManyPlayers,

@@ -13,9 +13,9 @@ use std::alloc::Global;
 use std::marker::Model;
 
 /// The most rows that a level has, and the most cells of a row.
-pub const LIMIT: usize = 64;
+pub const LIMIT: usize = 128;
 
-/// A level: at most 64 rows of at most 64 cells, each row with a wall and without floor at its
+/// A level: at most 128 rows of at most 128 cells, each row with a wall and without floor at its
 /// end, with one player and at least one box. It is seen as its rows.
 #[derive(Debug, Drop)]
 pub struct Level {
@@ -35,7 +35,7 @@ impl Model for Level {
 
 impl Level {
     /// Makes a level of rows. Floor at the ends of rows is dropped first. Refused are, in this
-    /// order, more than 64 rows, a row of more than 64 cells, a row without a wall (the first such
+    /// order, more than 128 rows, a row of more than 128 cells, a row without a wall (the first such
     /// row), no player, several players, and no box. It takes no memory, and refused rows are
     /// dropped.
     pub fn new(rows: Vec<Vec<Cell>>) -> Result<Level, LevelFault>

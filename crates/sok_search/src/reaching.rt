@@ -22,6 +22,7 @@ use sok_push::tables::Tables;
 use sok_rules::fault::Memory;
 use sok_state::key::Key;
 use sok_state::legal::after;
+use sok_state::normalizer::Normalizer;
 use sok_state::push::Push;
 use sok_state::stepping::{square_ahead, step};
 use std::alloc::Global;
@@ -156,7 +157,8 @@ fn arrive_full(
     ensures { IfOk result (TellsReached board.now limit (progress_of search.old) index key.now
         depth push (progress_of search.new)) }
 {
-    let next = after(alloc, board, key, push)?;
+    let mut normalizer = Normalizer::new(board);
+    let next = after(alloc, board, &mut normalizer, key, push)?;
     match search.table.get(&next) {
         Some(at) => {
             let origin = Some(Origin {

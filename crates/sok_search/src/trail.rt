@@ -15,6 +15,7 @@ use sok_rules::cell::Dir;
 use sok_rules::fault::Memory;
 use sok_state::key::Key;
 use sok_state::legal::after;
+use sok_state::normalizer::Normalizer;
 use sok_state::push::Push;
 use std::alloc::Global;
 
@@ -72,7 +73,8 @@ fn follow(alloc: Global, board: &Board, trail: Trail, push: Push) -> Result<Trai
         letters,
     } = trail;
     let letters = go(alloc, board, &key, player, push, letters)?;
-    let key = after(alloc, board, &key, push)?;
+    let mut normalizer = Normalizer::new(board);
+    let key = after(alloc, board, &mut normalizer, &key, push)?;
     Ok(Trail {
         key,
         player: push.from,

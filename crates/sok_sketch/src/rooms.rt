@@ -29,15 +29,36 @@ impl Room {
     }
 }
 
-/// 25 rows of 41 squares: one square more than a board may have.
-pub const ROOM_OF_1025: Room = Room {
+/// 64 rows of 64 squares, as many as a board may have.
+pub const ROOM_OF_4096: Room = Room {
     top: "\
-###########################################
-#@$.                                      #
+##################################################################
+#@$.                                                             #
 ",
-    row: "#                                         #\n",
-    times: 24,
-    bottom: "###########################################\n",
+    row: "#                                                                #\n",
+    times: 63,
+    bottom: "##################################################################\n",
+};
+
+/// The same, with one square more below the first.
+pub const ROOM_OF_4097: Room = Room {
+    bottom: "# ################################################################\n###\n",
+    ..ROOM_OF_4096
+};
+
+/// A corridor of 500 squares around a block, in 128 rows and 128 columns: from where the player
+/// stands, to the right of the goal, it is once around to the box.
+pub const CORRIDOR_AROUND: Room = Room {
+    top: "\
+################################################################################################################################
+#                                                             $   .  @                                                         #
+",
+    row: "# ############################################################################################################################ #\n",
+    times: 124,
+    bottom: "\
+#                                                                                                                              #
+################################################################################################################################
+",
 };
 
 /// 32 rows of 32 squares.

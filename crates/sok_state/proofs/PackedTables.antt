@@ -20,7 +20,7 @@ use Rattle.std.specs.Map.{keys_of, values_of}
 use Rattle.sok_rules.specs.declared.cell.Spot.{Spot}
 use Rattle.sok_field.specs.Fields.{has}
 use Rattle.sok_field.specs.Numbers.{bit_of_number, has_number}
-use Rattle.sok_field.proofs.ByNumber.{has-col}
+use Rattle.sok_field.proofs.Spreading.{has-col}
 use Rattle.sok_field.proofs.Flooding.{rises-from_has}
 use Rattle.sok_field.proofs.OneSquare.{same_place}
 use Rattle.sok_board.proofs.Lists.{Contains-at}

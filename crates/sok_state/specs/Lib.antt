@@ -1,5 +1,6 @@
 -- Words of public contracts
 pub mod Keys
+pub mod Normalizers
 pub mod Pushes
 pub mod Tables
 -- Words of the proofs alone

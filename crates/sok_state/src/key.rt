@@ -1,8 +1,9 @@
 //! The key of a state.
 
-ghost use Rattle.std.specs.Prelude.{◌≡◌, ◌==◌, ◌&&◌, IfOk, length};
+ghost use Rattle.std.specs.Prelude.{◌≡◌, ◌<◌, ◌==◌, ◌&&◌, IfOk, length};
 ghost use Rattle.sok_rules.specs.Play.{start};
-ghost use Rattle.sok_board.specs.Area.{boxes_of, position_of};
+ghost use Rattle.sok_board.specs.Area.{IsAccepted, boxes_of, position_of};
+ghost use Rattle.sok_field.specs.Numbers.{Draws};
 ghost use Rattle.sok_region.specs.Regions.{IsPlaced};
 ghost use Rattle.sok_state.specs.Keys.{IsKey, IsKeyOf, TellsState};
 ghost use Rattle.std.specs.Cmp.Rules.{comparing};
@@ -69,9 +70,31 @@ pub(crate) fn key_of(board: &Board, boxes: BoxSet, player: Sq) -> Key
     ensures of_board { IsKey board.now result }
     ensures tells { TellsState board.now player boxes result }
 {
-    let free = drawing::free_squares(board, boxes.list());
+    let mut free = Field::new();
+    drawing::draw(&mut free, board);
     let mut seen = Field::new();
-    let least = least_square(board, &free, &mut seen, player);
+    key_over(board, boxes, player, &mut free, &mut seen)
+}
+
+/// The same over sets that are lent: the area, of which the squares that the boxes leave free stay,
+/// and a place for those that the player comes to.
+pub(crate) fn key_over(
+    board: &Board,
+    boxes: BoxSet,
+    player: Sq,
+    area: &mut Field,
+    seen: &mut Field,
+) -> Key
+    requires accepted { IsAccepted board.now }
+    requires placed { IsPlaced board.now boxes player }
+    requires drawn { Draws board.now (λ n. n < length board.now.area) area.old }
+    ensures boxes { result.boxes ≡ boxes }
+    ensures key { IsKeyOf board.now (position_of board.now player boxes) result }
+    ensures of_board { IsKey board.now result }
+    ensures tells { TellsState board.now player boxes result }
+{
+    drawing::take_boxes(area, board, boxes.list());
+    let least = least_square(board, area, seen, player);
     Key { boxes, least }
 }
 

@@ -10,9 +10,11 @@ ghost use Rattle.sok_state.specs.declared.key.Key.{Key};
 ghost use Rattle.sok_state.specs.declared.push.Push.{Push};
 ghost use Rattle.sok_state.specs.Keys.{IsKey};
 ghost use Rattle.sok_state.specs.Listing.{HasBeside, IsDrawn, Lists, place};
+ghost use Rattle.sok_state.specs.Normalizers.{Normalizes};
 ghost use Rattle.sok_state.specs.Pushes.{IsKeyAfter, IsLegal, LeadsTo, Precedes};
 
-use crate::key::{Key, key_of};
+use crate::key::Key;
+use crate::normalizer::Normalizer;
 use crate::push::Push;
 use sok_board::area::Sq;
 use sok_board::board::Board;
@@ -73,13 +75,22 @@ pub fn list_pushes(
 
 /// The key of the state that a push leads to, from whichever position of the state it is made. It
 /// refuses only for want of memory.
-pub fn after(alloc: Global, board: &Board, key: &Key, push: Push) -> Result<Key, Memory>
+pub fn after(
+    alloc: Global,
+    board: &Board,
+    normalizer: &mut Normalizer,
+    key: &Key,
+    push: Push,
+) -> Result<Key, Memory>
+    requires accepted { IsAccepted board.now }
+    requires normalizes { Normalizes board.now normalizer.old }
     requires key { IsKey board.now key.now }
     requires legal { IsLegal board.now key.now push }
-    ensures { IfOk result (IsKeyAfter board.now key.now push) }
+    ensures after { IfOk result (IsKeyAfter board.now key.now push) }
+    ensures normalizes { Normalizes board.now normalizer.new }
 {
     let boxes = boxes_after(alloc, board, key, push)?;
-    Ok(key_of(board, boxes, push.from))
+    Ok(normalizer.key(board, boxes, push.from))
 }
 
 /// The boxes after a push.

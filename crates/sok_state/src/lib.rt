@@ -7,6 +7,7 @@
 //! | `law` | keys tell states apart |
 //! | `least` | the least square that the player can walk to (private) |
 //! | `legal` | the pushes that are legal from a state, and the states that they lead to |
+//! | `normalizer` | keys of positions, made one after another |
 //! | `packed` | the key of a state in bits (private) |
 //! | `packed_table` | packed keys of one width in the order of their insertion, with depths (private) |
 //! | `push` | a push, by the square of its box and its direction |
@@ -19,6 +20,7 @@ pub mod key;
 pub mod law;
 mod least;
 pub mod legal;
+pub mod normalizer;
 mod packed;
 mod packed_table;
 pub mod push;

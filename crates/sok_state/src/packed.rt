@@ -20,7 +20,7 @@ pub(crate) struct PackedKey<const N: usize> {
 impl<const N: usize> PackedKey<N> {
     /// The state of a key.
     pub(crate) fn of(key: &Key) -> PackedKey<N>
-        requires small { N ≤ 16 }
+        requires small { N ≤ 64 }
         requires room { All (λ square. square < 64 * N) key.now.boxes }
         ensures boxes { squares_of result.boxes ≡ key.now.boxes }
         ensures least { result.least ≡ key.now.least }
@@ -38,7 +38,7 @@ impl<const N: usize> PackedKey<N> {
     /// Makes a list the squares of the boxes, rising. It refuses only for want of memory: it asks
     /// first for room for each bit.
     pub(crate) fn list(&self, squares: &mut Vec<Sq>) -> Result<(), Memory>
-        requires { N ≤ 16 }
+        requires { N ≤ 64 }
         ensures { OnOk result (squares.new.items ≡ squares_of self.now.boxes) }
     {
         squares.reserve(64 * N)?;
@@ -54,7 +54,7 @@ impl<const N: usize> PackedKey<N> {
     /// The state after a push: a box has left one square and come to another, and the player can
     /// walk to another least square.
     pub(crate) fn moved(&self, from: Sq, to: Sq, least: Sq) -> PackedKey<N>
-        requires small { N ≤ 16 }
+        requires small { N ≤ 64 }
         requires from { from < 64 * N }
         requires to { to < 64 * N }
         ensures boxes { IsMoved (squares_of self.now.boxes) from to (squares_of result.boxes) }

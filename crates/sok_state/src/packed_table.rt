@@ -43,7 +43,7 @@ impl<const N: usize> Model for PackedTable<N> {
 impl<const N: usize> PackedTable<N> {
     /// A table without a key.
     pub(crate) fn new(alloc: Global) -> PackedTable<N>
-        requires { N ≤ 16 }
+        requires { N ≤ 64 }
         ensures { result.entries ≡ [] }
     {
         PackedTable {
@@ -54,7 +54,7 @@ impl<const N: usize> PackedTable<N> {
 
     /// How many keys the table has.
     pub(crate) fn len(&self) -> usize
-        requires { N ≤ 16 }
+        requires { N ≤ 64 }
         ensures count { result ≡ length self.now.entries }
         ensures distinct { HasDistinctKeys self.now.entries }
     {
@@ -63,7 +63,7 @@ impl<const N: usize> PackedTable<N> {
 
     /// Inserts a key.
     pub(crate) fn insert(&mut self, key: &Key, depth: u32) -> Result<(usize, bool), Memory>
-        requires small { N ≤ 16 }
+        requires small { N ≤ 64 }
         requires room { All (λ square. square < 64 * N) key.now.boxes }
         ensures inserted { IfOk result (λ told.
             Enters self.old.entries key.now depth told.0 told.1 self.new.entries) }
@@ -84,7 +84,7 @@ impl<const N: usize> PackedTable<N> {
         least: Sq,
         depth: u32,
     ) -> Result<(usize, bool), Memory>
-        requires small { N ≤ 16 }
+        requires small { N ≤ 64 }
         requires exists { index < length self.old.entries }
         requires from { from < 64 * N }
         requires to { to < 64 * N }
@@ -101,7 +101,7 @@ impl<const N: usize> PackedTable<N> {
 
     /// Inserts a packed key.
     fn enter(&mut self, key: PackedKey<N>, depth: u32) -> Result<(usize, bool), Memory>
-        requires { N ≤ 16 }
+        requires { N ≤ 64 }
         ensures inserted { IfOk result (λ told. Enters
             self.old.entries (state_of key.entry) depth told.0 told.1 self.new.entries) }
         ensures refused { OnErr result (self.new.entries ≡ self.old.entries) }
@@ -127,7 +127,7 @@ impl<const N: usize> PackedTable<N> {
 
     /// The index of a key.
     pub(crate) fn get(&self, key: &Key) -> Option<usize>
-        requires small { N ≤ 16 }
+        requires small { N ≤ 64 }
         requires room { All (λ square. square < 64 * N) key.now.boxes }
         ensures { MatchOption result
             (Contains (keys_of self.now.entries) key.now → ⊥) (IsAt self.now.entries key.now) }
@@ -137,7 +137,7 @@ impl<const N: usize> PackedTable<N> {
 
     /// The index of the key after a push from the one at an index.
     pub(crate) fn get_next(&self, index: usize, from: Sq, to: Sq, least: Sq) -> Option<usize>
-        requires small { N ≤ 16 }
+        requires small { N ≤ 64 }
         requires exists { index < length self.now.entries }
         requires from { from < 64 * N }
         requires to { to < 64 * N }
@@ -150,7 +150,7 @@ impl<const N: usize> PackedTable<N> {
 
     /// The index of a packed key.
     fn find(&self, key: PackedKey<N>) -> Option<usize>
-        requires { N ≤ 16 }
+        requires { N ≤ 64 }
         ensures { MatchOption result
             (Contains (keys_of self.now.entries) (state_of key.entry) → ⊥)
             (IsAt self.now.entries (state_of key.entry)) }
@@ -166,7 +166,7 @@ impl<const N: usize> PackedTable<N> {
         squares: &mut Vec<Sq>,
         index: usize,
     ) -> Result<Key, Memory>
-        requires small { N ≤ 16 }
+        requires small { N ≤ 64 }
         requires exists { index < length self.now.entries }
         requires few { HasFewBoxes self.now.entries index }
         ensures { IfOk result (λ key. IsAt self.now.entries key index) }
@@ -181,7 +181,7 @@ impl<const N: usize> PackedTable<N> {
 
     /// The packed key at an index.
     fn packed(&self, index: usize) -> PackedKey<N>
-        requires small { N ≤ 16 }
+        requires small { N ≤ 64 }
         requires exists { index < length self.now.entries }
         ensures { IsAt self.now.entries (state_of result) index }
     {
@@ -190,7 +190,7 @@ impl<const N: usize> PackedTable<N> {
 
     /// The depth of the key at an index.
     pub(crate) fn depth(&self, index: usize) -> u32
-        requires small { N ≤ 16 }
+        requires small { N ≤ 64 }
         requires exists { index < length self.now.entries }
         ensures { slice_get (values_of self.now.entries) index ≡ Some result }
     {
@@ -199,7 +199,7 @@ impl<const N: usize> PackedTable<N> {
 
     /// Lowers the depth of the key at an index.
     pub(crate) fn lower_depth(&mut self, index: usize, depth: u32) -> bool
-        requires small { N ≤ 16 }
+        requires small { N ≤ 64 }
         requires exists { index < length self.old.entries }
         ensures lowered { Lowers self.old.entries index depth result self.new.entries }
         ensures spare { self.new.spare ≡ self.old.spare }

@@ -29,6 +29,7 @@ enum Store {
     Two(PackedTable<2>),
     Four(PackedTable<4>),
     Sixteen(PackedTable<16>),
+    SixtyFour(PackedTable<64>),
 }
 
 /// What a table of packed keys answers, whatever their width.
@@ -39,6 +40,7 @@ macro_rules! packed {
             Store::Two($table) => $answer,
             Store::Four($table) => $answer,
             Store::Sixteen($table) => $answer,
+            Store::SixtyFour($table) => $answer,
         }
     };
 }
@@ -72,7 +74,11 @@ impl Table {
             let store = Store::Four(PackedTable::new(alloc));
             return Table { store };
         }
-        let store = Store::Sixteen(PackedTable::new(alloc));
+        if squares <= 1024 {
+            let store = Store::Sixteen(PackedTable::new(alloc));
+            return Table { store };
+        }
+        let store = Store::SixtyFour(PackedTable::new(alloc));
         Table { store }
     }
 

@@ -5,6 +5,7 @@ use Rattle.std.proofs.lemmas.Bool.{cases_lt}
 use Rattle.std.proofs.lemmas.Bool.Decides.{nat_tests}
 use Rattle.std.proofs.lemmas.List.{append_assoc, append-nil, length-append, length-map, length-replicate, replicate_more}
 use Rattle.std.specs.List.{list_any}
+use Rattle.sok_rules.specs.Limits.{size_limit}
 use Rattle.sok_rules.specs.declared.cell.Cell.{Cell}
 use Rattle.sok_rules.specs.declared.cell.Cell.TheVariants.{Wall, Floor, Goal, BoxOff, BoxOn, ManOff, ManOn}
 use Rattle.sok_rules.specs.declared.fault.LevelFault.TheVariants.{TooWide}
@@ -41,8 +42,8 @@ trimmed-kept row more cell full =
     omega (arith, trimmed-longer (row ++ cell ∷ []) more, ap length (trimmed-push row cell full), length-append row (cell ∷ []))
 
 -- and so are several
-pub trimmed-several : (row more : List Cell) (cell : Cell) (n : ℕ) → cell ≢ Floor → 0 < n → 64 < length row + n
-    → 64 < length (trimmed ((row ++ replicate n cell) ++ more))
+pub trimmed-several : (row more : List Cell) (cell : Cell) (n : ℕ) → cell ≢ Floor → 0 < n → size_limit < length row + n
+    → size_limit < length (trimmed ((row ++ replicate n cell) ++ more))
 trimmed-several row more cell n full some wide =
     let front = row ++ replicate (n - 1) cell in
     let last : row ++ replicate n cell ≡ front ++ cell ∷ [] = ap (λ k. row ++ replicate k cell) (omega arith) ∙ ap (λ cells. row ++ cells) (sym (replicate_more (n - 1) cell))
@@ -68,7 +69,7 @@ length-AreLike (r ∷ rows) [] like = absurd like
 length-AreLike (r ∷ rows) (o ∷ others) like = ap suc (length-AreLike rows others like.1)
 
 abbrev is_wide : List Cell → Bool
-is_wide row = nat_lt 64 (length row)
+is_wide row = nat_lt size_limit (length row)
 
 abbrev any_wide : Rows → Bool
 any_wide rows = list_any is_wide (map trimmed rows)
@@ -78,7 +79,7 @@ data Same (rows others : Rows) : Type 0 where
   same : map trimmed rows ≡ map trimmed others → Same rows others
   wide : any_wide rows ≡ true → any_wide others ≡ true → Same rows others
 
-wide_row : (row : List Cell) → 64 < length row → is_wide row ≡ true
+wide_row : (row : List Cell) → size_limit < length row → is_wide row ≡ true
 wide_row row long = grind (arith, nat_tests)
 
 or-right : (a b : Bool) → b ≡ true → (a || b) ≡ true
@@ -97,10 +98,10 @@ same_rows (r ∷ rows) (o ∷ others) like = elim (same_rows rows others like.1)
   ]
 ]
 
-too_wide : (rows : Rows) → length rows ≤ 64 → any_wide rows ≡ true → level_of rows ≡ Err TooWide
+too_wide : (rows : Rows) → length rows ≤ size_limit → any_wide rows ≡ true → level_of rows ≡ Err TooWide
 unfolding fault_of
 too_wide rows few one =
-    let short : nat_lt 64 (length (map trimmed rows)) ≡ false = subst (λ n. nat_lt 64 n ≡ false) (sym (length-map rows trimmed)) (grind (arith, nat_tests)) in
+    let short : nat_lt size_limit (length (map trimmed rows)) ≡ false = subst (λ n. nat_lt size_limit n ≡ false) (sym (length-map rows trimmed)) (grind (arith, nat_tests)) in
     level_of-some rows TooWide (rw (short, one))
 
 -- so they are of the same level
@@ -108,7 +109,7 @@ pub level_of-like : (rows others : Rows) → AreLike rows others → level_of ro
 unfolding level_of
 level_of-like rows others like =
     let long = length-AreLike rows others like in
-    elim (cases_lt 64 (length rows)) [
+    elim (cases_lt size_limit (length rows)) [
       | inl tall ↦ level_of-tall rows tall ∙ sym (level_of-tall others (omega arith))
       | inr few ↦ elim (same_rows rows others like) [
         | same equal ↦ ap (λ cells. elim (fault_of cells) [ None ↦ Ok cells | Some fault ↦ Err fault ]) equal

@@ -5,6 +5,7 @@ use Rattle.std.proofs.lemmas.List.{take_more, length-map, length-append, map_pus
 use Rattle.std.proofs.lemmas.List.Elements.{All-head, filter_map-append}
 use Rattle.std.specs.List.{filter_map}
 use Rattle.std.specs.Str.Lines.{lines}
+use Rattle.sok_rules.specs.Limits.{size_limit}
 use Rattle.sok_rules.specs.declared.cell.Cell.{Cell}
 use Rattle.sok_rules.specs.Squares.{Rows}
 use Rattle.sok_rules.specs.Levels.{cells_of, level_of}
@@ -31,10 +32,10 @@ cells_of-more whole rows grown row rest next line some first behind read longer 
     ∙ ap (λ all. cells_of all ++ tail) (sym longer)
 
 -- the first rows decide where they are too many
-pub level_of-enough : {A : Type 0} (whole : Rows) (rows : List (Vec Cell A)) (rest : Rows) → 64 < length rows → whole ≡ cells_of rows ++ rest
+pub level_of-enough : {A : Type 0} (whole : Rows) (rows : List (Vec Cell A)) (rest : Rows) → size_limit < length rows → whole ≡ cells_of rows ++ rest
     → level_of (cells_of rows) ≡ level_of whole
 level_of-enough whole rows rest tall so_far =
-    let long : 64 < length (cells_of rows) = omega (arith, length-map rows (λ (r : Vec Cell _). r.items)) in
+    let long : size_limit < length (cells_of rows) = omega (arith, length-map rows (λ (r : Vec Cell _). r.items)) in
     level_of-tall (cells_of rows) long ∙ sym (level_of-tall whole (omega (arith, ap length so_far, length-append (cells_of rows) rest)))
 
 -- all rows are read

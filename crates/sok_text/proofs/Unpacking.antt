@@ -6,6 +6,7 @@ use Rattle.std.proofs.lemmas.List.{append_assoc, append-nil, length-append, leng
 use Rattle.std.proofs.lemmas.List.Elements.{All-head, All-tail}
 use Rattle.std.specs.Char.{is_ascii_digit}
 use Rattle.std.specs.List.{AllPass}
+use Rattle.sok_rules.specs.Limits.{size_limit}
 use Rattle.sok_rules.specs.declared.cell.Cell.{Cell}
 use Rattle.sok_rules.specs.declared.cell.Cell.TheVariants.{Floor}
 use Rattle.sok_rules.specs.Squares.{Rows}
@@ -47,8 +48,8 @@ cells_behind-none left digits (c ∷ rest) whole all other is =
 pub record IsUnpacked (part left : List ℕ) (row : List Cell) : Type 0 where
   pub floor : ℕ
   pub whole : cells_behind [] part ≡ (row ++ replicate floor Floor) ++ cells_behind [] left
-  pub full : 0 < floor → length row ≡ 64
-  pub short : length row ≤ 64
+  pub full : 0 < floor → length row ≡ size_limit
+  pub short : length row ≤ size_limit
 
 -- nothing more is left
 pub IsLike-end : (part left : List ℕ) (row : List Cell) → IsUnpacked part left row → cells_behind [] left ≡ [] → IsLike row (cells_behind [] part)
@@ -67,21 +68,21 @@ IsLike-none part left digits behind row read whole all other none =
 
 -- too many cells
 pub IsLike-wide : (part left digits behind : List ℕ) (row grown : List Cell) (cell : Cell) → IsUnpacked part left row → left ≡ digits ++ behind
-    → AllPass is_ascii_digit digits → starts_with_digit behind ≡ false → first_cell behind ≡ Some cell → cell ≢ Floor → 64 < length row + times digits
-    → grown ≡ row ++ replicate (65 - length row) cell → IsLike grown (cells_behind [] part)
+    → AllPass is_ascii_digit digits → starts_with_digit behind ≡ false → first_cell behind ≡ Some cell → cell ≢ Floor → size_limit < length row + times digits
+    → grown ≡ row ++ replicate ((size_limit + 1) - length row) cell → IsLike grown (cells_behind [] part)
 IsLike-wide part left digits behind row grown cell read whole all other is full wide longer =
     let rest = cells_behind [] (behind_first behind) in
     let front = row ++ replicate read.floor Floor in
     let cells : cells_behind [] part ≡ (front ++ replicate (times digits) cell) ++ rest = read.whole
     ∙ ap (λ more. front ++ more) (cells_behind-cell left digits behind cell whole all other is) ∙ sym (append_assoc front (replicate (times digits) cell) rest) in
     let short = read.short in
-    let here : 64 < length (trimmed ((row ++ replicate (65 - length row) cell) ++ [])) =
-    trimmed-several row [] cell (65 - length row) full (omega arith) (omega arith) in
-    let there : 64 < length (trimmed ((front ++ replicate (times digits) cell) ++ rest)) = trimmed-several front rest cell (times digits) full (omega arith)
+    let here : size_limit < length (trimmed ((row ++ replicate ((size_limit + 1) - length row) cell) ++ [])) =
+    trimmed-several row [] cell ((size_limit + 1) - length row) full (omega arith) (omega arith) in
+    let there : size_limit < length (trimmed ((front ++ replicate (times digits) cell) ++ rest)) = trimmed-several front rest cell (times digits) full (omega arith)
     (omega (arith, length-append row (replicate read.floor Floor), length-replicate read.floor Floor)) in
     inr (
-      subst (λ c. 64 < length (trimmed c)) (append-nil (row ++ replicate (65 - length row) cell) ∙ sym longer) here,
-      subst (λ c. 64 < length (trimmed c)) (sym cells) there,
+      subst (λ c. size_limit < length (trimmed c)) (append-nil (row ++ replicate ((size_limit + 1) - length row) cell) ∙ sym longer) here,
+      subst (λ c. size_limit < length (trimmed c)) (sym cells) there,
     )
 
 -- more floor behind floor, of which a row takes some
@@ -108,14 +109,14 @@ fitting row f t n cell rest all (inr empty) none =
     ∙ ap (λ cells. cells ++ rest) (sym (append-nil (row ++ replicate n cell)))
     ∙ ap (λ m. ((row ++ replicate n cell) ++ replicate m Floor) ++ rest) (sym zero_f)
 
-full_still : (floor t len n long more : ℕ) → (0 < floor → len ≡ 64) → len ≤ 64 → n ≡ min (len + t) 64 → long ≡ n → more ≡ (floor + t) - (n - len) → 0 < more → long ≡ 64
+full_still : (floor t len n long more : ℕ) → (0 < floor → len ≡ size_limit) → len ≤ size_limit → n ≡ min (len + t) size_limit → long ≡ n → more ≡ (floor + t) - (n - len) → 0 < more → long ≡ size_limit
 full_still zero t len n long more full short room is left some = omega arith
-full_still (suc floor) t len n long more full short room is left some = let all : len ≡ 64 = full (omega arith) in omega arith
+full_still (suc floor) t len n long more full short room is left some = let all : len ≡ size_limit = full (omega arith) in omega arith
 
 -- the next cells are put behind a row, as many as it has room for
 pub IsUnpacked-more : (part left digits behind : List ℕ) (row grown : List Cell) (cell : Cell) (n : ℕ) → IsUnpacked part left row → left ≡ digits ++ behind
     → AllPass is_ascii_digit digits → starts_with_digit behind ≡ false → first_cell behind ≡ Some cell
-    → (cell ≡ Floor) ⊎ (length row + times digits ≤ 64) → n ≡ min (length row + times digits) 64 → grown ≡ row ++ replicate (n - length row) cell
+    → (cell ≡ Floor) ⊎ (length row + times digits ≤ size_limit) → n ≡ min (length row + times digits) size_limit → grown ≡ row ++ replicate (n - length row) cell
     → IsUnpacked part (behind_first behind) grown
 IsUnpacked-more part left digits behind row grown cell n read whole all other is fits room longer =
     let t = times digits in
@@ -167,7 +168,7 @@ level_of-unpacked line [] rows read none = level_of-like rows read.done read.lik
 level_of-unpacked line (c ∷ left) rows read none = absurd (omega arith)
 
 -- or too many are
-pub level_of-many : (line left : List ℕ) (rows : Rows) → AreUnpacked line left rows → 64 < length rows → level_of rows ≡ level_of (packed_rows line)
+pub level_of-many : (line left : List ℕ) (rows : Rows) → AreUnpacked line left rows → size_limit < length rows → level_of rows ≡ level_of (packed_rows line)
 level_of-many line left rows read tall =
     level_of-tall rows tall
     ∙ sym (level_of-tall (packed_rows line) (omega (arith, length-AreLike rows read.done read.like, ap length read.whole, length-append read.done (packed_rows left))))

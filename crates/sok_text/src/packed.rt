@@ -99,7 +99,7 @@ fn cut_part(text: &[u8]) -> (&[u8], &[u8])
     }
 }
 
-/// The cells of a part, without floor behind the 64th; where another stands there, 65 cells.
+/// The cells of a part, without floor behind the 128th; where another stands there, 129 cells.
 fn row_of(alloc: Global, part: &[u8]) -> Result<Vec<Cell>, AllocError>
     ensures { IfOk result (λ row. IsLike row.items (cells_behind [] part.now)) }
 {

@@ -35,7 +35,10 @@ follow_all-requires g c =
         c.requires.1.0,
         (
           reached-at b g.start c.args.limit c.args.known.now c.requires.1.0 c.requires.0.accepted c.args.index key c.in_ok-key.ensures,
-          subst (λ (pushes : List Push). All (IsLegal b key) pushes) (sym c.deref.ensures.value) c.in_ok-open.ensures.legal,
+          (
+            subst (λ (pushes : List Push). All (IsLegal b key) pushes) (sym c.deref.ensures.value) c.in_ok-open.ensures.legal,
+            c.requires.1.1.1.1.normalizes,
+          ),
         ),
       ),
     )
@@ -48,4 +51,4 @@ returns-clause-tells g c =
     tells-expanded b g.start c.args.limit c.args.known.now c.requires.1.0 c.args.index key c.in_ok-key.ensures c.requires.1.1.1.0 pushes
     c.in_ok-open.ensures.whole c.args.lives.now c.follow_all.new.known c.follow_all.result
     (subst (λ all. IfOk c.follow_all.result (TellsFollowed b c.args.lives.now g.start c.args.limit c.args.known.now key all c.follow_all.new.known)) c.deref.ensures.value
-    c.follow_all.ensures)
+    c.follow_all.ensures.tells)

@@ -4,9 +4,9 @@ use Rattle.sok_alone.proofs.expanding.expand_all.Goals as goal
 
 pub loop-index-init : goal.loop-index-init
 loop-index-init g c = record {
-  known = c.requires.1;
+  known = c.requires.1.0;
   grows = Grows-refl c.args.known.now;
   followed = λ i key depth below marked. absurd (omega (arith, below));
   within = omega arith;
-  laid = c.new-expansion.ensures;
+  workspace = c.requires.1.1;
 }

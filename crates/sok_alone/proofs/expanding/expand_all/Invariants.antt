@@ -1,8 +1,8 @@
-use Rattle.std.proofs.Common.{ℕ, ◌≤◌, ◌-◌, List, length}
-use Rattle.sok_region.specs.Layouts.{IsLaidOut}
+use Rattle.std.proofs.Common.{◌≤◌, ◌-◌, length}
 use Rattle.sok_closed.specs.Lookup.{AreFollowed}
 use Rattle.sok_alone.specs.Known.{IsKnown, roll_of}
 use Rattle.sok_alone.specs.Meeting.{Grows}
+use Rattle.sok_alone.specs.Workspace.{IsWorkspace}
 use Rattle.sok_alone.proofs.expanding.expand_all.Given as goal
 
 abbrev pub ghost-expand : goal.ghost-expand
@@ -14,7 +14,7 @@ invariant-loop-index g l = record {
   grows : Grows l.initial.known l.known;
   followed : AreFollowed l.board (roll_of l.known) l.index;
   within : l.index ≤ length l.known.inner.items;
-  laid : (boxes : List ℕ) × IsLaidOut l.board boxes l.expansion.layout;
+  workspace : IsWorkspace l.board l.workspace;
 }
 
 abbrev pub decreases-loop-index : goal.decreases-loop-index

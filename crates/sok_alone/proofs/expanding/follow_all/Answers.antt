@@ -13,6 +13,7 @@ pub loop-push-init : goal.loop-push-init
 loop-push-init g c = record {
   known = c.requires.1.0;
   grows = Grows-refl c.args.known.now;
+  normalizes = c.requires.1.1.1.1;
   found = λ i push below there. absurd (omega (arith, below));
 }
 
@@ -20,12 +21,13 @@ pub meet-requires : goal.meet-requires
 meet-requires g c =
     let b = c.args.board.now in
     let key = c.args.key.now in
+    let after = c.in_ok-next.ensures.after in
     let i = c.loop-push.push-index in (
       c.requires.0,
       (
         c.loop-push.invariant.known,
         reached-next b g.start key c.in_ok-next.next (get_or c.args.pushes.now i no_push) c.requires.1.1.0
-            (c.requires.1.1.1 i no_push c.loop-push-test.true) c.in_ok-next.ensures.exact c.in_ok-next.ensures.of_board c.in_ok-next.ensures.as_many,
+            (c.requires.1.1.1.0 i no_push c.loop-push-test.true) after.exact after.of_board after.as_many,
       ),
     )
 
@@ -43,13 +45,14 @@ loop-push-preserved g c =
     record {
       known = met.known;
       grows = Grows-trans c.args.known.now before new c.loop-push.invariant.grows met.grows;
+      normalizes = c.in_ok-next.ensures.normalizes;
       found = before_more (λ _ other. IsFound b new.table.entries key 0 other) pushes i push (slice_get-get_or pushes i no_push c.loop-push-test.true)
           (λ j other below there. found-grows before new met.grows b key 0 other (c.loop-push.invariant.found j other below there))
-          (found-met b g.start c.args.limit before new key c.in_ok-next.next push c.in_ok-next.ensures.exact met);
+          (found-met b g.start c.args.limit before new key c.in_ok-next.next push c.in_ok-next.ensures.after.exact met);
     }
 
-pub returns : goal.returns
-returns g c = record {
+pub returns-clause-tells : goal.returns-clause-tells
+returns-clause-tells g c = record {
   known = c.loop-push.invariant.known;
   grows = c.loop-push.invariant.grows;
   found = found-listed c.args.pushes.now (IsFound c.args.board.now c.loop-push.known.table.entries c.args.key.now 0) c.loop-push.push-index

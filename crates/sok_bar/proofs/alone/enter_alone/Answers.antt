@@ -20,14 +20,14 @@ returns-in-None-clause-tells c = λ before known fine.
     let one = c.args.one.now in
     let none : IsPosition b c.args.count (inner_node one) → ⊥ =
     subst (λ o. MatchOption o (IsPosition b c.args.count (inner_node one) → ⊥) (IsLocated b c.args.count (inner_node one))) c.in-None.is
-    (c.in_ok-located.ensures (inner_node one) refl (sym c.as_slice.ensures)) in
+    (c.in_ok-located.ensures.found (inner_node one) refl (sym c.as_slice.ensures)) in
     none fine.position
 
 pub enter_located-requires-clause-located : goal.enter_located-requires-clause-located
 enter_located-requires-clause-located c =
     let b = c.args.board.now in
     let one = c.args.one.now in
-    let found = found-here b c.args.count one c.in_ok-located.field-0 (c.in_ok-located.ensures (inner_node one) refl (sym c.as_slice.ensures)) c.in-Some.located
+    let found = found-here b c.args.count one c.in_ok-located.field-0 (c.in_ok-located.ensures.found (inner_node one) refl (sym c.as_slice.ensures)) c.in-Some.located
     c.in-Some.is in
     subst (λ n. IsLocated b n (inner_node one) c.in-Some.located) (sym found.position.as_many) found
 
@@ -35,7 +35,7 @@ pub enter_located-requires-clause-few : goal.enter_located-requires-clause-few
 enter_located-requires-clause-few c =
     let b = c.args.board.now in
     let one = c.args.one.now in
-    let found = found-here b c.args.count one c.in_ok-located.field-0 (c.in_ok-located.ensures (inner_node one) refl (sym c.as_slice.ensures)) c.in-Some.located
+    let found = found-here b c.args.count one c.in_ok-located.field-0 (c.in_ok-located.ensures.found (inner_node one) refl (sym c.as_slice.ensures)) c.in-Some.located
     c.in-Some.is in
     subst (λ n. n ≤ box_limit) (sym found.position.as_many) c.requires.few
 
@@ -43,7 +43,7 @@ pub returns-in-Some-clause-tells : goal.returns-in-Some-clause-tells
 returns-in-Some-clause-tells c = λ before known.
     let b = c.args.board.now in
     let one = c.args.one.now in
-    let found = found-here b c.args.count one c.in_ok-located.field-0 (c.in_ok-located.ensures (inner_node one) refl (sym c.as_slice.ensures)) c.in-Some.located
+    let found = found-here b c.args.count one c.in_ok-located.field-0 (c.in_ok-located.ensures.found (inner_node one) refl (sym c.as_slice.ensures)) c.in-Some.located
     c.in-Some.is in
     subst (λ n. AreEntered inner_node b n (IsBarredAlone b) before c.args.roll.now → IfOk c.enter_located.result (λ fine. MatchBool fine
     (AreEntered inner_node b n (IsBarredAlone b) (before ++ one ∷ []) c.enter_located.new.roll)

@@ -1,13 +1,10 @@
-use Rattle.std.proofs.Common.{sym, ap, ◌∙◌, subst}
-use Rattle.sok_board.specs.Tables.{HasPlace}
-use Rattle.sok_board.proofs.Accepted.{HasPlace-spot_of}
+use Rattle.std.proofs.Common.{sym, ap, ◌∙◌}
 use Rattle.sok_field.specs.Fields.{has}
+use Rattle.sok_field.proofs.Drawings.{in_field}
 use Rattle.sok_bar.proofs.held.is_drawn.Goals as goal
 
 pub has-requires : goal.has-requires
-has-requires c =
-    let here = subst HasPlace (sym c.spot.ensures.spot) (HasPlace-spot_of c.args.board.now c.requires.accepted c.args.square c.requires.exists) in
-    here.col
+has-requires c = (in_field c.args.board.now c.requires.accepted c.args.square c.requires.exists _ c.spot.ensures.spot).1
 
 pub returns : goal.returns
 returns c =

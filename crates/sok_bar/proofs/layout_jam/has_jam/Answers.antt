@@ -1,8 +1,7 @@
 use Rattle.std.proofs.Common.{ℕ, sym, ◌∙◌, subst, true≢false, List}
 use Rattle.sok_bar.specs.Jam.{IsHeld}
-use Rattle.sok_bar.specs.Narrowed.{HasDrawnOffGoal}
 use Rattle.sok_bar.specs.Settings.{IsDrawn}
-use Rattle.sok_bar.proofs.Narrowing.{HasJamWith-narrowed, IsNarrowed-same, KeepsJams-laid, loose-alone, narrowed-jam}
+use Rattle.sok_bar.proofs.Narrowing.{KeepsJams-laid, loose-alone}
 use Rattle.sok_bar.proofs.layout_jam.has_jam.Goals as goal
 
 pub returns-then-not-is_held : goal.returns-then-not-is_held
@@ -13,24 +12,3 @@ returns-then-not-is_held c = λ boxes laid. (
       (λ held. true≢false (sym (c.is_held.ensures.1 (subst (λ (rows : List ℕ). IsHeld c.args.board.now (IsDrawn c.args.board.now rows) c.args.square)
       (sym c.boxed.ensures) held)) ∙ c.if-not-is_held.true)) jam),
 )
-
-pub returns-then-narrow : goal.returns-then-narrow
-returns-then-narrow c = λ boxes laid.
-    let b = c.args.board.now in
-    let layout = c.args.layout.now in
-    let narrowed = IsNarrowed-same _ _ _ _ _ _ _ _ c.boxes.ensures (c.copy_from.ensures ∙ c.boxed-2.ensures) c.narrow.ensures in (
-      λ off. HasJamWith-narrowed b c.requires.accepted.numbered boxes layout laid c.narrow.new.held c.args.square c.narrow.result narrowed c.if-narrow.true
-          (subst (λ (squares : List ℕ). HasDrawnOffGoal b squares c.narrow.new.held) c.boxes-then-narrow.ensures (c.has_off_goal.ensures.0 off)),
-      λ jam.
-          let (_, off) = narrowed-jam b c.requires.accepted.numbered boxes layout laid c.narrow.new.held c.args.square c.narrow.result narrowed jam in
-          c.has_off_goal.ensures.1 (subst (λ (squares : List ℕ). HasDrawnOffGoal b squares c.narrow.new.held) (sym c.boxes-then-narrow.ensures) off),
-    )
-
-pub returns-else-narrow : goal.returns-else-narrow
-returns-else-narrow c = λ boxes laid.
-    let b = c.args.board.now in
-    let layout = c.args.layout.now in
-    let narrowed = IsNarrowed-same _ _ _ _ _ _ _ _ c.boxes.ensures (c.copy_from.ensures ∙ c.boxed-2.ensures) c.narrow.ensures in (
-      λ stayed. absurd (true≢false (sym stayed ∙ c.if-narrow.false)),
-      λ jam. (narrowed-jam b c.requires.accepted.numbered boxes layout laid c.narrow.new.held c.args.square c.narrow.result narrowed jam).0,
-    )

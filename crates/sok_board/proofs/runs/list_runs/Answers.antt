@@ -21,7 +21,7 @@ loop-number-preserved c =
       within = told.within;
       covers = λ b same. subst (λ runs. Covers b 0 runs (n + run.length)) (sym c.in_ok-push.ensures.items)
           (Covers-push b c.loop-number.runs.items 0 n run (c.loop-number.invariant.covers b same)
-          (IsRun-beside b squares n run.length same c.requires.within told.some told.within told.lies) refl);
+          (IsRun-beside b squares n run.length same c.requires.within told.some told.within told.columns told.lies) refl);
     }
 
 pub returns : goal.returns

@@ -13,12 +13,12 @@ use Rattle.sok_cert.proofs.entering.enter.Goals.{After-enter, After-judge}
 located : (c : After-enter) → IsLocated c.args.board.now c.args.entry.now c.in-Some.field-0
 located c =
     let e = c.args.entry.now in
-    subst (λ o. MatchOption o (IsPosition c.args.board.now e → ⊥) (IsLocated c.args.board.now e)) c.in-Some.is c.in_ok-boxes.ensures
+    subst (λ o. MatchOption o (IsPosition c.args.board.now e → ⊥) (IsLocated c.args.board.now e)) c.in-Some.is c.in_ok-boxes.ensures.found
 
 pub returns-in_default-clause-tells : goal.returns-in_default-clause-tells
 returns-in_default-clause-tells c = λ entries known.
     tells-misplaced c.args.board.now c.args.claim entries c.args.roll.now c.requires.accepted known c.args.entry.now c.args.roll.now c.len-index.result
-    c.len-index.ensures (subst (λ o. MatchOption o (IsPosition c.args.board.now c.args.entry.now → ⊥) (IsLocated c.args.board.now c.args.entry.now)) c.in_default.is c.in_ok-boxes.ensures)
+    c.len-index.ensures (subst (λ o. MatchOption o (IsPosition c.args.board.now c.args.entry.now → ⊥) (IsLocated c.args.board.now c.args.entry.now)) c.in_default.is c.in_ok-boxes.ensures.found)
 
 pub returns-then-not-branch-clause-tells : goal.returns-then-not-branch-clause-tells
 returns-then-not-branch-clause-tells c = λ entries known.

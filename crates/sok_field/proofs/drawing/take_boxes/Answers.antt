@@ -4,18 +4,15 @@ use Rattle.sok_rules.specs.declared.cell.Spot.{Spot}
 use Rattle.sok_board.specs.Area.{number_of}
 use Rattle.sok_field.specs.Fields.{has}
 use Rattle.sok_field.specs.Numbers.{Draws}
-use Rattle.sok_field.proofs.Drawings.{Draws-taken}
-use Rattle.sok_board.specs.Tables.{HasPlace}
-use Rattle.sok_board.proofs.Accepted.{HasPlace-spot_of}
+use Rattle.sok_field.proofs.Drawings.{Draws-taken, in_field}
 use Rattle.sok_field.proofs.drawing.take_boxes.Goals as goal
 
 pub take-requires : goal.take-requires
 take-requires c =
-    let boxes = c.args.boxes.now in
-    let at = c.loop-square.square-index in
-    let place = HasPlace-spot_of c.args.board.now c.requires.accepted (get_or boxes at 0) (c.requires.exist at 0 c.loop-square-test.true) in
-    let here = subst HasPlace (sym c.spot.ensures.spot) place in
-    record { row = here.row; col = here.col }
+    let k = get_or c.args.boxes.now c.loop-square.square-index in
+    let (row, col) = in_field c.args.board.now c.requires.accepted (k 0) (c.requires.exist c.loop-square.square-index 0 c.loop-square-test.true) _
+    c.spot.ensures.spot in
+    record { row = row; col = col }
 
 pub loop-square-preserved : goal.loop-square-preserved
 loop-square-preserved c =

@@ -16,7 +16,7 @@ loop-run-init c = record {
 pub cut-requires : goal.cut-requires
 cut-requires c =
     let (is, _, _) = next-run _ _ _ _ _ c.loop-run-test.true c.loop-run.invariant.rest in
-    record { some = is.some; row = is.row; columns = is.columns }
+    record { some = is.some; row = is.row; col = is.col; columns = is.columns }
 
 pub put_word-requires : goal.put_word-requires
 put_word-requires c =

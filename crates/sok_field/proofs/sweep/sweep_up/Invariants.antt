@@ -1,4 +1,4 @@
-use Rattle.std.proofs.Common.{◌<◌, length, get_or, ◌≡◌}
+use Rattle.std.proofs.Common.{Bool, ◌<◌, length, get_or, ◌≡◌}
 use Rattle.sok_rules.specs.declared.cell.Spot.{Spot}
 use Rattle.sok_field.specs.Floods.{IsSpreading}
 use Rattle.sok_field.specs.Sweeps.{GoesOn}
@@ -8,7 +8,7 @@ abbrev pub invariant-loop-r : goal.invariant-loop-r
 invariant-loop-r l = record {
   within : l.r < length l.initial.seen;
   below : l.below ≡ get_or l.seen l.r 0;
-  goes_on : (from : Spot) → IsSpreading l.free from l.initial.seen → GoesOn l.free from l.initial.seen l.seen l.grown;
+  goes_on : (start : Spot → Bool) → IsSpreading l.free start l.initial.seen → GoesOn l.free start l.initial.seen l.seen l.grown;
 }
 
 abbrev pub decreases-loop-r : goal.decreases-loop-r

@@ -1,12 +1,13 @@
 use Rattle.std.proofs.Common.{◌≡◌, ◌⊎◌, ◌↔◌, subst, true}
 use Rattle.sok_rules.specs.declared.cell.Spot.{Spot}
-use Rattle.sok_board.proofs.Accepted.{HasPlace-spot_of}
 use Rattle.sok_field.specs.Fields.{has}
+use Rattle.sok_field.proofs.Drawings.{in_field}
 use Rattle.sok_region.proofs.layout.put.Goals as goal
 
 pub put-requires : goal.put-requires
 put-requires c =
-    rw c.spot.ensures.spot (assumption (HasPlace-spot_of c.args.board.now c.requires.accepted c.args.square c.requires.exists))
+    let (row, col) = in_field c.args.board.now c.requires.accepted c.args.square c.requires.exists _ c.spot.ensures.spot in
+    record { row = row; col = col }
 
 pub returns : goal.returns
 returns c =

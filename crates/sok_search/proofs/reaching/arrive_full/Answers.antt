@@ -46,7 +46,7 @@ returns-in-Some c =
     let one = taken c.args.board.now c.args.limit c.args.index p c.args.key.now c.args.depth held.running.search held.there held.depth_is in
     let next = c.in_ok-next in
     pushed-known c.args.board.now c.args.limit c.args.index p held.running.search c.args.key.now c.args.depth held.there held.depth_is one.note one.note_is
-    c.args.push c.requires.legal next.next next.ensures.exact next.ensures.of_board next.ensures.as_many c.in-Some.at p.frame p.table refl
+    c.args.push c.requires.legal next.next next.ensures.after.exact next.ensures.after.of_board next.ensures.after.as_many c.in-Some.at p.frame p.table refl
     (record { there = c.in-Some.ensures; unchanged = refl }) (progress_of c.approach.new.search) c.in_ok-approach-in-Some.ensures
 
 pub returns : goal.returns
@@ -56,7 +56,7 @@ returns c =
     let legal = c.requires.legal in
     record {
       more = full-more c.args.board.now held.running.accepted c.args.limit (holding c.args.index (progress_of c.args.search.now)) c.args.index
-          c.args.key.now next.next c.args.push legal.after held.running.search c.requires.full held.there legal.leads (next.ensures.exact legal.after legal.leads)
+          c.args.key.now next.next c.args.push legal.after held.running.search c.requires.full held.there legal.leads (next.ensures.after.exact legal.after legal.leads)
           c.in-None.ensures;
       search = held.running.search;
       full = c.requires.full;

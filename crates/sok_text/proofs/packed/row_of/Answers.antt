@@ -1,5 +1,6 @@
 use Rattle.std.proofs.Common.{◌≡◌, ◌≢◌, ◌+◌, ◌≤◌, ◌⊎◌, ◌++◌, ◌-◌, true≢false, vec_len, length, replicate, min, sym, ◌∙◌, arith, inl, inr}
 use Rattle.std.proofs.lemmas.Bool.Decides.{nat_tests}
+use Rattle.sok_rules.specs.Limits.{size_limit}
 use Rattle.sok_rules.specs.declared.cell.Cell.TheVariants.{Floor}
 use Rattle.sok_text.specs.Counts.{times}
 use Rattle.sok_text.proofs.Unpacking.{IsLike-end, IsLike-none, IsLike-wide, IsUnpacked-more, cells_behind-empty}
@@ -24,8 +25,8 @@ returns-then-not-is_floor c =
     let cell = c.in-Some.cell in
     let cut = c.cut_digits.ensures in
     let full : cell ≢ Floor = λ floor. true≢false (sym (c.is_floor.ensures.1 floor) ∙ c.if-not-is_floor.true) in
-    let grown : c.resize.new.self.items ≡ row.items ++ replicate (65 - length row.items) cell =
-    c.in_ok-resize.ensures.items ∙ filled row.items cell 65 (vec_len row) (65 - length row.items) (omega arith) (omega (arith, c.loop-left.invariant.short)) in
+    let grown : c.resize.new.self.items ≡ row.items ++ replicate ((size_limit + 1) - length row.items) cell =
+    c.in_ok-resize.ensures.items ∙ filled row.items cell (size_limit + 1) (vec_len row) ((size_limit + 1) - length row.items) (omega arith) (omega (arith, c.loop-left.invariant.short)) in
     IsLike-wide c.args.part.now c.loop-left.left.now c.cut_digits.result.0.now c.cut_digits.result.1.now row.items c.resize.new.self.items cell
     c.loop-left.invariant cut.whole cut.digits cut.behind (sym c.first_cell.ensures ∙ c.in-Some.is) full (omega arith) grown
 
@@ -36,10 +37,10 @@ loop-left-preserved c =
     let cut = c.cut_digits.ensures in
     let t = times c.cut_digits.result.0.now in
     let short = c.loop-left.invariant.short in
-    let room : c.min.result ≡ min (length row.items + t) 64 = omega arith in
+    let room : c.min.result ≡ min (length row.items + t) size_limit = omega arith in
     let grown : c.resize-in-loop-left.new.self.items ≡ row.items ++ replicate (c.min.result - length row.items) cell =
     c.in_ok-resize-2.ensures.items ∙ filled row.items cell c.min.result (vec_len row) (c.min.result - length row.items) (omega arith) (omega arith) in
-    let fits : (cell ≡ Floor) ⊎ (length row.items + t ≤ 64) = elim c.else-len-gt-LIMIT.branch [
+    let fits : (cell ≡ Floor) ⊎ (length row.items + t ≤ size_limit) = elim c.else-len-gt-LIMIT.branch [
       | else-len-gt-LIMIT-via-then-len-gt-LIMIT+else-not-is_floor w ↦ inl (w.is_floor.ensures.0 w.if-not-is_floor.false)
       | else-len-gt-LIMIT-via-else-len-gt-LIMIT w ↦ inr (omega arith)
     ] in

@@ -31,6 +31,7 @@ returns-clause-more c =
       losses = record {
         room = c.requires.losses.room;
         each = subst (All (IsLoss b)) (sym c.in_ok-push.ensures.items) (All-push (IsLoss b) c.args.self.now.losses.items loss c.requires.losses.each is);
+        workspace = c.in_ok-found.ensures.workspace;
       };
       kept = λ place one there.
           subst (λ (losses : List Loss). slice_get losses place ≡ Some one) (sym c.in_ok-push.ensures.items)

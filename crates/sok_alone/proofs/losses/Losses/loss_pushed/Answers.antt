@@ -1,5 +1,7 @@
+use Rattle.std.proofs.lemmas.Result.{IfOk-weaker}
 use Rattle.sok_board.specs.BoxSets.{put_in_order}
-use Rattle.sok_alone.proofs.Losing.{among-pushed, placed-pushed, tells-key}
+use Rattle.sok_alone.specs.Losses.{TellsLoss}
+use Rattle.sok_alone.proofs.Losing.{among-pushed, placed-pushed, tells-among}
 use Rattle.sok_alone.proofs.losses.Losses.loss_pushed.Goals as goal
 
 pub moved-requires-clause-from : goal.moved-requires-clause-from
@@ -8,8 +10,8 @@ moved-requires-clause-from c = (c.in_ok-before.ensures.exact c.args.asking.now.f
 pub moved-requires-clause-to : goal.moved-requires-clause-to
 moved-requires-clause-to c = λ there. c.requires.asking.pushed.free ((c.in_ok-before.ensures.exact c.args.asking.now.to).0 there).0
 
-pub of-requires : goal.of-requires
-of-requires c =
+pub loss_of-requires-clause-placed : goal.loss_of-requires-clause-placed
+loss_of-requires-clause-placed c =
     let asking = c.args.asking.now in
     placed-pushed asking.from asking.to asking.boxes.now c.in_ok-before.before c.in_ok-after.after
     (λ square there. ((c.in_ok-before.ensures.exact square).0 there).0) c.in_ok-after.ensures.moved asking.board.now c.requires.asking.pushed
@@ -18,8 +20,13 @@ of-requires c =
 pub returns : goal.returns
 returns c =
     let asking = c.args.asking.now in
-    tells-key asking.board.now asking.from c.in_ok-after.after (put_in_order asking.from asking.to asking.boxes.now)
-    (among-pushed asking.from asking.to asking.boxes.now c.in_ok-before.before c.in_ok-after.after
-    (λ square there. ((c.in_ok-before.ensures.exact square).0 there).0) c.in_ok-after.ensures.moved)
-    c.in_ok-key.key c.in_ok-key.ensures.key c.in_ok-key.ensures.boxes c.args.self.now c.recall.new.self c.recall.result c.recall.ensures.more
-    c.recall.ensures.there
+    let b = asking.board.now in
+    let after = c.in_ok-after.after in
+    let all = put_in_order asking.from asking.to asking.boxes.now in
+    let old = c.args.self.now in
+    let new = c.loss_of.new.self in
+    IfOk-weaker c.loss_of.result (TellsLoss b asking.from after old new) (TellsLoss b asking.from all old new)
+    (tells-among b asking.from after all
+    (among-pushed asking.from asking.to asking.boxes.now c.in_ok-before.before after (λ square there. ((c.in_ok-before.ensures.exact square).0 there).0)
+    c.in_ok-after.ensures.moved) old new)
+    c.loss_of.ensures

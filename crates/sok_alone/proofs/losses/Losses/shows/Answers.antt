@@ -11,5 +11,5 @@ returns-then-has c = λ left.
     let loss = c.in-Some.loss.now in
     let after = put_in_order asking.from asking.to asking.boxes.now in
     let all = subst (All (Contains after)) c.list.ensures.list (c.leaves.ensures left) in
-    lost-from asking.board.now c.squares-squares.ensures.accepted asking.from after (losses_of c.args.self.now) c.requires.losses.each c.args.place loss
+    lost-from asking.board.now c.requires.losses.workspace.accepted asking.from after (losses_of c.args.self.now) c.requires.losses.each c.args.place loss
     c.in-Some.ensures (c.has.ensures.0 c.if-has.true) (λ square there. All-contains (Contains after) loss.key.boxes square all there)

@@ -1,9 +1,5 @@
-use Rattle.std.proofs.Common.{refl, sym, ◌∙◌, arith, true≢false}
-use Rattle.sok_field.proofs.OneSquare.{has-zeros}
+use Rattle.sok_field.proofs.Halves.{none-halves}
 use Rattle.sok_field.proofs.field.Field.new.Goals as goal
 
-pub invariant_of-result : goal.invariant_of-result
-invariant_of-result c = record { within = omega arith; below = λ s e. absurd (true≢false (sym e ∙ has-zeros 64 _ refl s)) }
-
 pub returns : goal.returns
-returns c = has-zeros 64 _ refl
+returns c = none-halves c.new.result c.new-2.result c.new.ensures c.new-2.ensures

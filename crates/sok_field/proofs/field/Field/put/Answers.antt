@@ -1,12 +1,28 @@
-use Rattle.std.proofs.Common.{ap, inl, inr, arith}
-use Rattle.sok_rules.specs.declared.cell.Spot.{Spot}
-use Rattle.sok_field.proofs.Heights.{IsHigh-more}
+use Rattle.std.proofs.Common.{◌≡◌, ◌↔◌, ◌⊎◌, arith, refl, subst, true}
+use Rattle.sok_field.specs.Fields.{has}
+use Rattle.sok_field.specs.Halves.{halves}
+use Rattle.sok_field.proofs.Halves.{apart-col, by-halves, put-elsewhere, put-within, then_iff}
 use Rattle.sok_field.proofs.field.Field.put.Goals as goal
 
-pub invariant_of-self : goal.invariant_of-self
-invariant_of-self c =
-    IsHigh-more c.self.inside.rows c.put.new.rows c.self.inside.height c.max-self-inside.result c.args.spot.row c.self.invariant (omega arith) (omega arith)
-    c.max-self-inside.ensures (λ s e. elim ((c.put.ensures s).0 e) [
-      | inl same ↦ inl (ap (λ (t : Spot). t.row) same)
-      | inr before ↦ inr before
-    ])
+pub returns-then-spot-lt-COLUMNS : goal.returns-then-spot-lt-COLUMNS
+returns-then-spot-lt-COLUMNS c = λ s.
+    let low = c.self.inside.low in
+    let high = c.self.inside.high in
+    let new = c.put.new.self in
+    let spot = c.args.spot in
+    let left = c.if-spot-lt-COLUMNS.true in
+    subst (λ rows. (has (halves new high) s ≡ true) ↔ ((s ≡ spot) ⊎ (has rows s ≡ true))) c.self.view_is
+    (by-halves low high new high (λ t b. (t ≡ spot) ⊎ (b ≡ true))
+    (λ t _. c.put.ensures t) (λ t past. put-elsewhere _ t spot (apart-col t spot (λ same. omega (arith, same, past, left)))) s)
+
+pub returns-else-spot-lt-COLUMNS : goal.returns-else-spot-lt-COLUMNS
+returns-else-spot-lt-COLUMNS c = λ s.
+    let low = c.self.inside.low in
+    let high = c.self.inside.high in
+    let new = c.put_beyond.new.high in
+    let spot = c.args.spot in
+    let right = c.if-spot-lt-COLUMNS.false in
+    subst (λ rows. (has (halves low new) s ≡ true) ↔ ((s ≡ spot) ⊎ (has rows s ≡ true))) c.self.view_is
+    (by-halves low high low new (λ t b. (t ≡ spot) ⊎ (b ≡ true))
+    (λ t inside. put-elsewhere _ t spot (apart-col t spot (λ same. omega (arith, same, inside, right))))
+    (λ t past. then_iff (c.put_beyond.ensures _) (put-within _ t spot _ past (omega (arith, right)) refl)) s)

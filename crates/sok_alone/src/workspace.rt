@@ -1,0 +1,31 @@
+//! What searches of some boxes alone keep from one to the next.
+
+ghost use Rattle.sok_alone.specs.Workspace.{IsWorkspace};
+
+use sok_board::area::Sq;
+use sok_board::board::Board;
+use sok_state::expansion::Expansion;
+use sok_state::normalizer::Normalizer;
+use std::alloc::Global;
+
+/// What searches of some boxes alone keep from one to the next, so that nothing is made anew: what
+/// makes keys, the state whose pushes are followed, and a place for its boxes.
+#[derive(Drop)]
+pub(crate) struct Workspace {
+    pub(crate) normalizer: Normalizer,
+    pub(crate) expansion: Expansion,
+    pub(crate) squares: Vec<Sq>,
+}
+
+impl Workspace {
+    /// One for a board.
+    pub(crate) fn new(alloc: Global, board: &Board) -> Workspace
+        ensures { IsWorkspace board.now result }
+    {
+        Workspace {
+            normalizer: Normalizer::new(board),
+            expansion: Expansion::new(alloc, board),
+            squares: Vec::new(alloc),
+        }
+    }
+}

@@ -1,0 +1,10 @@
+use Rattle.std.proofs.Common.{◌+◌, ◌-◌, sum}
+use Rattle.sok_field.specs.Crossings.{IsWide}
+use Rattle.sok_field.proofs.Across.{AreFree}
+use Rattle.sok_field.proofs.crossing.flood_halves.Given as goal
+
+abbrev pub invariant-loop-low : goal.invariant-loop-low
+invariant-loop-low l = record { free : AreFree l.free_low l.free_high; wide : IsWide l.free_low l.free_high l.fn.from l.low l.high }
+
+abbrev pub decreases-loop-low : goal.decreases-loop-low
+decreases-loop-low l = (sum l.free_low + sum l.free_high) - (sum l.low + sum l.high)

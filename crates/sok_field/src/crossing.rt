@@ -1,0 +1,88 @@
+//! The squares that are joined to one over both halves of a set.
+
+ghost use Rattle.std.specs.Prelude.{◌≡◌, ◌≤◌, ◌↔◌, IsTrue, false, length};
+ghost use Rattle.sok_rules.specs.declared.cell.Spot.{Spot};
+ghost use Rattle.sok_field.specs.Crossings.{AreClosed, IsCrossed};
+ghost use Rattle.sok_field.specs.Fields.{has};
+ghost use Rattle.sok_field.specs.Halves.{halves};
+ghost use Rattle.sok_field.specs.Rounds.{IsClosed};
+ghost use Rattle.sok_field.specs.Ways.{Joined};
+
+use crate::field::ROWS;
+use crate::flood::flood_all;
+use crate::half::COLUMNS;
+use crate::{bits, field};
+use sok_rules::cell::Spot;
+
+/// Makes two halves of a set, which have no square, the squares that are joined to one over free
+/// squares, itself among them. Each half is flooded by itself, and then a round over both comes
+/// across the seam between them, until a round meets no more.
+pub(crate) fn flood_halves(
+    free_low: &[u64],
+    free_high: &[u64],
+    low: &mut [u64],
+    high: &mut [u64],
+    from: Spot,
+)
+    requires free { length free_high.now ≡ length free_low.now }
+    requires low { length low.old ≡ length free_low.now }
+    requires high { length high.old ≡ length free_low.now }
+    requires rows { length free_low.now ≤ ROWS }
+    requires blank_low { (s : Spot) → has low.old s ≡ false }
+    requires blank_high { (s : Spot) → has high.old s ≡ false }
+    requires from { IsTrue (has (halves free_low.now free_high.now) from) }
+    ensures { (s : Spot) → IsTrue (has (halves low.new high.new) s)
+        ↔ Joined (has (halves free_low.now free_high.now)) from s }
+{
+    if from.col < COLUMNS {
+        bits::put(low, from);
+    } else {
+        bits::put(high, field::within(from));
+    }
+    loop {
+        flood_all(free_low, low);
+        flood_all(free_high, high);
+        if are_closed(free_low, free_high, low, high) {
+            return;
+        }
+        cross(free_low, free_high, low, high);
+    }
+}
+
+/// Whether a round over both halves changes nothing, where a round over each changes nothing.
+fn are_closed(free_low: &[u64], free_high: &[u64], low: &[u64], high: &[u64]) -> bool
+    requires free { length free_high.now ≡ length free_low.now }
+    requires low { length low.now ≡ length free_low.now }
+    requires high { length high.now ≡ length free_low.now }
+    requires closed_low { IsClosed low.now free_low.now }
+    requires closed_high { IsClosed high.now free_high.now }
+    ensures { IsTrue result ↔ AreClosed free_low.now free_high.now low.now high.now }
+{
+    for r in 0..low.len() {
+        let (left, right) = (low[r], high[r]);
+        if left | (free_low[r] & right << 63) != left {
+            return false;
+        }
+        if right | (free_high[r] & left >> 63) != right {
+            return false;
+        }
+    }
+    true
+}
+
+/// Makes a round over both halves in place, where a round over each changes nothing: so only what
+/// comes across the seam is added.
+fn cross(free_low: &[u64], free_high: &[u64], low: &mut [u64], high: &mut [u64])
+    requires free { length free_high.now ≡ length free_low.now }
+    requires low { length low.old ≡ length free_low.now }
+    requires high { length high.old ≡ length free_low.now }
+    requires closed_low { IsClosed low.old free_low.now }
+    requires closed_high { IsClosed high.old free_high.now }
+    ensures { IsCrossed free_low.now free_high.now low.old high.old low.new high.new }
+{
+    for r in 0..low.len() {
+        let (left, right) = (low[r], high[r]);
+        low[r] = left | (free_low[r] & right << 63);
+        high[r] = right | (free_high[r] & left >> 63);
+    }
+}

@@ -1,0 +1,176 @@
+//! Half of a set of squares of a level: those of 64 columns, in bit rows.
+
+ghost use Rattle.std.specs.Prelude.{ℕ, ◌≡◌, ◌<◌, ◌≤◌, ◌+◌, ◌↔◌, ◌⊎◌, IfSome, MatchOption, IsTrue, false};
+ghost use Rattle.std.specs.Int.{bit_at};
+ghost use Rattle.sok_rules.specs.declared.cell.Spot.{Spot};
+ghost use Rattle.sok_board.specs.Runs.{right_of};
+ghost use Rattle.sok_field.specs.Fields.{has, IsFirstSquare};
+ghost use Rattle.sok_field.specs.Halves.{AreWords, halves};
+ghost use Rattle.sok_field.specs.Runs.{LiesOn};
+ghost use Rattle.sok_field.specs.Ways.{Joined};
+
+use crate::crossing::flood_halves;
+use crate::field::ROWS;
+use crate::flood::flood;
+use crate::{bits, runs};
+use sok_board::runs::Run;
+use sok_rules::cell::Spot;
+use std::marker::Model;
+
+/// How many columns a half has: the bits of a row's word.
+pub(crate) const COLUMNS: u32 = 64;
+
+/// Half of a set of squares, a word for each row and a bit for each column. It is seen as its words,
+/// which the test `has` reads. It takes no memory.
+#[derive(Debug, Drop)]
+pub(crate) struct Half {
+    rows: [u64; ROWS],
+    /// No square lies in a row from here on, so that a flood goes over the rows before alone.
+    height: usize,
+}
+
+impl Model for Half {
+    ghost use Rattle.std.specs.Prelude.{ℕ, List};
+    ghost use Rattle.sok_field.specs.Fields.{IsHigh};
+
+    ghost Value = { List ℕ };
+
+    ghost view = { λ half. half.rows };
+
+    ghost invariant = { λ half. IsHigh half.rows half.height };
+}
+
+impl Half {
+    /// One with no square.
+    pub(crate) fn new() -> Half
+        ensures { (s : Spot) → has result s ≡ false }
+    {
+        Half {
+            rows: [0; ROWS],
+            height: 0,
+        }
+    }
+
+    /// Whether it has no square, where that is known.
+    pub(crate) fn is_blank(&self) -> bool
+        ensures { IsTrue result → (s : Spot) → has self.now s ≡ false }
+    {
+        self.height == 0
+    }
+
+    /// Whether it has a square.
+    pub(crate) fn has(&self, spot: Spot) -> bool
+        requires { spot.col < COLUMNS }
+        ensures { result ≡ has self.now spot }
+    {
+        bits::has(&self.rows, spot)
+    }
+
+    /// Puts a square in.
+    pub(crate) fn put(&mut self, spot: Spot)
+        requires row { spot.row < ROWS }
+        requires col { spot.col < COLUMNS }
+        ensures { (s : Spot) → IsTrue (has self.new s) ↔ ((s ≡ spot) ⊎ IsTrue (has self.old s)) }
+    {
+        bits::put(&mut self.rows, spot);
+        self.height = self.height.max(spot.row as usize + 1);
+    }
+
+    /// Puts the squares of a run in.
+    pub(crate) fn put_run(&mut self, run: Run)
+        requires some { 0 < run.length }
+        requires row { run.first.row < ROWS }
+        requires columns { run.first.col + run.length ≤ COLUMNS }
+        ensures { (s : Spot) → IsTrue (has self.new s) ↔ (IsTrue (has self.old s) ⊎ LiesOn run s) }
+    {
+        runs::put_run(&mut self.rows, run);
+        self.height = self.height.max(run.first.row as usize + 1);
+    }
+
+    /// The squares of a run that it has, the leftmost one as the lowest bit.
+    pub(crate) fn cut(&self, run: Run) -> u64
+        requires some { 0 < run.length }
+        requires row { run.first.row < ROWS }
+        requires columns { run.first.col + run.length ≤ COLUMNS }
+        ensures { (k : ℕ) → (bit_at result k ≡ 1)
+            ↔ ((k < run.length) × IsTrue (has self.now (right_of run.first k))) }
+    {
+        runs::cut(&self.rows, run)
+    }
+
+    /// Takes a square out.
+    pub(crate) fn take(&mut self, spot: Spot)
+        requires row { spot.row < ROWS }
+        requires col { spot.col < COLUMNS }
+        ensures { (s : Spot)
+            → IsTrue (has self.new s) ↔ ((s ≡ spot → ⊥) × IsTrue (has self.old s)) }
+    {
+        bits::take(&mut self.rows, spot);
+    }
+
+    /// Gives it the squares of another.
+    pub(crate) fn copy_from(&mut self, other: &Half)
+        ensures { self.new ≡ other.now }
+    {
+        let height = self.height.max(other.height);
+        self.rows[..height].copy_from_slice(&other.rows[..height]);
+        self.height = other.height;
+    }
+
+    /// The first square, row by row and from left to right.
+    pub(crate) fn first(&self) -> Option<Spot>
+        ensures first { MatchOption result
+            ((s : Spot) → has self.now s ≡ false) (IsFirstSquare (has self.now)) }
+        ensures narrow { IfSome result (λ s. s.col < COLUMNS) }
+    {
+        bits::first(&self.rows[..self.height])
+    }
+
+    /// Takes all squares out. The rows from its height on have none.
+    pub(crate) fn clear(&mut self)
+        ensures { (s : Spot) → has self.new s ≡ false }
+    {
+        bits::clear(&mut self.rows[..self.height]);
+        self.height = 0;
+    }
+
+    /// Gives it the squares that are joined to one over free squares of this half, itself among them.
+    pub(crate) fn flood(&mut self, free: &Half, from: Spot)
+        requires { IsTrue (has free.now from) }
+        ensures joined { (s : Spot) → IsTrue (has self.new s) ↔ Joined (has free.now) from s }
+        ensures words { AreWords free.now }
+    {
+        self.clear();
+        let height = free.height;
+        flood(&free.rows[..height], &mut self.rows[..height], from);
+        self.height = height;
+    }
+}
+
+/// Gives two halves the squares that are joined to one over free squares of both, itself among them.
+/// It stands apart, so that a flood over one half has no room for the rounds over both to clear.
+#[cold]
+pub(crate) fn flood_both(
+    low: &mut Half,
+    high: &mut Half,
+    free_low: &Half,
+    free_high: &Half,
+    from: Spot,
+)
+    requires { IsTrue (has (halves free_low.now free_high.now) from) }
+    ensures { (s : Spot) → IsTrue (has (halves low.new high.new) s)
+        ↔ Joined (has (halves free_low.now free_high.now)) from s }
+{
+    low.clear();
+    high.clear();
+    let height = free_low.height.max(free_high.height);
+    flood_halves(
+        &free_low.rows[..height],
+        &free_high.rows[..height],
+        &mut low.rows[..height],
+        &mut high.rows[..height],
+        from,
+    );
+    low.height = height;
+    high.height = height;
+}
