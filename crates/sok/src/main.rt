@@ -1,11 +1,11 @@
 //! The Sokoban workbench, over the words and streams of its process.
 #![tactic(auto)]
 
-use sok_tool::ending::ended;
-use sok_tool::fault::ToolFault;
-use sok_tool::notes::Notes;
+use sok_engine::fault::ToolFault;
+use sok_files::ending::ended;
+use sok_files::notes::Notes;
+use sok_files::watched::{Watched, WatchedInput, WatchedOutput};
 use sok_tool::program::run;
-use sok_tool::watched::{Watched, WatchedInput, WatchedOutput};
 use std::io::{ErrorKind, Write};
 use std::process::ExitCode;
 use std::{env, io};

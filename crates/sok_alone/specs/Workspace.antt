@@ -10,4 +10,4 @@ pub record IsWorkspace (b : Numbered) (workspace : Workspace) : Type 0 where
   pub accepted : IsAccepted b
   pub normalizes : Normalizes b workspace.normalizer
   pub boxes : List ℕ
-  pub laid : IsLaidOut b boxes workspace.expansion.layout
+  pub laid : IsLaidOut b boxes workspace.expansion.scene.layout

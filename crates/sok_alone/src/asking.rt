@@ -176,7 +176,7 @@ impl Losses {
         {
             return Ok(Some(u32::from(place)));
         }
-        if matches!(hint, Hint::Clear) || !self.is_worth_it(asking.known) {
+        if matches!(hint, Hint::Clear) || !self.is_worth_it(asking.board, asking.known) {
             return Ok(None);
         }
         let found = self.loss_pushed(asking, &[asking.from, one, two.unwrap_or(one)])?;

@@ -2,8 +2,7 @@
 
 ghost use Rattle.std.specs.Prelude.{◌≡◌, ◌<◌, ◌≤◌, All, IfOk, OnOk, length};
 ghost use Rattle.sok_closed.specs.Lookup.{AreFollowed};
-ghost use Rattle.sok_state.specs.Normalizers.{Normalizes};
-ghost use Rattle.sok_state.specs.Pushes.{IsLegal};
+ghost use Rattle.sok_state.specs.Pushes.{IsLegal, IsOpened};
 ghost use Rattle.sok_alone.specs.Known.{IsAsked, IsKnown, IsReached, roll_of};
 ghost use Rattle.sok_state.specs.declared.key.Key.{Key};
 ghost use Rattle.sok_alone.specs.Meeting.{TellsAll, TellsExpanded, TellsFollowed, TellsRun};
@@ -17,9 +16,8 @@ use sok_board::board::Board;
 use sok_push::tables::Tables;
 use sok_rules::fault::Memory;
 use sok_state::key::Key;
-use sok_state::legal::after;
-use sok_state::normalizer::Normalizer;
 use sok_state::push::Push;
+use sok_state::scene::Scene;
 use sok_state::table::Table;
 use std::alloc::Global;
 
@@ -31,7 +29,7 @@ fn follow_all(
     lives: &Table,
     limit: u32,
     known: &mut Known,
-    normalizer: &mut Normalizer,
+    scene: &mut Scene,
     key: &Key,
     pushes: &[Push],
 ) -> Result<Met, Memory>
@@ -40,13 +38,13 @@ fn follow_all(
     requires known { IsKnown board.now start limit known.old }
     requires reached { IsReached board.now start key.now }
     requires legal { All (IsLegal board.now key.now) pushes.now }
-    requires normalizes { Normalizes board.now normalizer.old }
+    requires opened { IsOpened board.now key.now scene.old }
     ensures tells { IfOk result
         (TellsFollowed board.now lives.now start limit known.old key.now pushes.now known.new) }
-    ensures normalizes { OnOk result (Normalizes board.now normalizer.new) }
+    ensures opened { OnOk result (IsOpened board.now key.now scene.new) }
 {
     for push in pushes {
-        let next = after(alloc, board, normalizer, key, *push)?;
+        let next = scene.after(alloc, board, key, *push)?;
         match meet(alloc, board, tables, lives, limit, known, &next)? {
             Met::On => {}
             Met::Ended => return Ok(Met::Ended),
@@ -81,10 +79,10 @@ fn expand(
     }
     let key = known.table.key(alloc, &mut workspace.squares, index)?;
     workspace.expansion.open(board, &key)?;
-    let normalizer = &mut workspace.normalizer;
+    let scene = &mut workspace.expansion.scene;
     let pushes = &workspace.expansion.pushes;
     follow_all(
-        alloc, board, tables, lives, limit, known, normalizer, &key, pushes,
+        alloc, board, tables, lives, limit, known, scene, &key, pushes,
     )
 }
 

@@ -33,6 +33,9 @@ const STATES: u32 = 200;
 /// large board they take no longer than the states themselves.
 const SEARCHES: usize = 4_096;
 
+/// On how many squares all of these may be: there are fewer of them on boards of more than 1,024.
+const SQUARES: usize = 4_194_304;
+
 /// The most losses that are kept, as many as a hint can name.
 const LOSSES: usize = 65_536;
 
@@ -101,8 +104,9 @@ impl Losses {
     }
 
     /// Whether boxes that were not asked yet may be searched where so many states are known.
-    pub(crate) fn is_worth_it(&self, known: usize) -> bool {
-        self.asked.len().saturating_sub(SEARCHES) <= known
+    pub(crate) fn is_worth_it(&self, board: &Board, known: usize) -> bool {
+        let searches = SEARCHES.min(SQUARES / board.squares().max(1));
+        self.asked.len().saturating_sub(searches) <= known
     }
 
     /// The place of a loss of boxes alone, from where the player stands.

@@ -14,7 +14,6 @@ use sok_closed::solved::is_solved;
 use sok_push::tables::Tables;
 use sok_rules::fault::Memory;
 use sok_state::key::Key;
-use sok_state::legal::after;
 use sok_state::push::Push;
 use std::alloc::Global;
 
@@ -33,16 +32,18 @@ pub(crate) fn are_soon_solved(
     requires state { IsKey board.now start.now }
     ensures workspace { OnOk result (IsWorkspace board.now workspace.new) }
 {
+    // The list of a set of boxes tells that they are not too many.
+    let _boxes = start.boxes.list();
     let mut key = start.copy(alloc)?;
+    workspace.expansion.open(board, &key)?;
     for _ in 0..board.squares() {
         if is_solved(board, &key.boxes) {
             return Ok(true);
         }
-        workspace.expansion.open(board, &key)?;
         let Some(push) = nearer(board, tables, &key, &workspace.expansion.pushes) else {
             return Ok(false);
         };
-        key = after(alloc, board, &mut workspace.normalizer, &key, push)?;
+        key = workspace.expansion.follow(alloc, board, &key, push)?;
     }
     Ok(false)
 }
@@ -83,11 +84,11 @@ fn way(board: &Board, tables: &Tables, boxes: &BoxSet, moved: Sq, square: Sq) ->
 {
     let mut least = u16::MAX;
     for (index, goal) in board.goals().iter().enumerate() {
-        if *goal != moved && boxes.has(*goal) {
-            continue;
-        }
-        if let Some(pushes) = tables.dist(index, square) {
-            least = least.min(pushes);
+        if let Some(pushes) = tables.dist(index, square)
+            && pushes < least
+            && (*goal == moved || !boxes.has(*goal))
+        {
+            least = pushes;
         }
     }
     least

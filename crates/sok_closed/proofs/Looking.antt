@@ -7,20 +7,18 @@ use Rattle.sok_rules.specs.declared.cell.Dir.TheVariants.{Left}
 use Rattle.sok_rules.specs.Play.{Position}
 use Rattle.sok_rules.proofs.Steps.{IsStanding, IsStanding-step}
 use Rattle.sok_rules.proofs.Walking.{Same-refl}
-use Rattle.sok_board.specs.Area.{Numbered, IsAccepted, IsArea, beside}
+use Rattle.sok_board.specs.Area.{Numbered, IsAccepted, IsArea}
 use Rattle.sok_board.proofs.Lists.{Contains-at}
-use Rattle.sok_region.specs.Layouts.{IsLaidOut, Laid}
 use Rattle.sok_region.proofs.Floods.{slice_get-append}
 use Rattle.sok_state.specs.declared.key.Key.{Key}
 use Rattle.sok_state.specs.declared.push.Push.{Push}
 use Rattle.sok_state.specs.Keys.{IsKeyOf}
-use Rattle.sok_state.specs.Pushes.{IsKeyAfter, IsLegal, IsPushable, LeadsTo}
-use Rattle.sok_state.specs.Tables.{Entries, HasDistinctKeys, IsAt, IsNext}
+use Rattle.sok_state.specs.Pushes.{LeadsTo}
+use Rattle.sok_state.specs.Tables.{Entries, HasDistinctKeys, IsAt}
 use Rattle.sok_state.proofs.Placed.{IsStanding-placed}
 use Rattle.sok_state.proofs.States.{keys_equal}
-use Rattle.sok_state.proofs.Stepped.{ComesNext, comes-next}
 use Rattle.sok_closed.specs.Rolls.{IsPosition, Node, node_position}
-use Rattle.sok_closed.specs.Lookup.{IsEntered, IsLaidAt, IsMissing, TellsFound}
+use Rattle.sok_closed.specs.Lookup.{IsEntered, IsMissing, TellsFound}
 
 -- what stands at a place
 pub entry_at : {X : Type 0} (xs : List X) (i : ℕ) → i < length xs → (x : X) × (slice_get xs i ≡ Some x)
@@ -99,23 +97,6 @@ TellsFound-near b area table distinct key depth push next is index deep there de
     let here : at ≡ index = same_index table distinct next at index (subst (λ k. IsAt table k at) same other_there) there in
     let as_deep : other_deep ≡ deep = same_Some other_deep deep (sym other_depth ∙ ap (slice_get (values_of table)) here ∙ depth_is) in
     far refl (subst (λ n. n ≤ depth + 1) as_deep near)
-
--- ---- from a state whose boxes are laid out
-
-module _ (b : Numbered) (table : Entries) (index : ℕ) (layout : Laid) (key : Key) (at : IsLaidAt b table index layout key) where
-  -- it is laid out as before
-  pub laid-on : (after : Laid) → IsLaidOut b key.boxes after → IsLaidAt b table index after key
-  laid-on after laid = record { there = at.there; state = at.state; few = at.few; laid = laid }
-
-  -- a push from it can be made
-  pub pushable-at : (push : Push) → IsLegal b key push → IsPushable b push layout key
-  pushable-at push legal = record { state = at.state; few = at.few; legal = legal; laid = at.laid }
-
-  -- and leads to a state
-  pub comes-at : IsAccepted b → (push : Push) (to least : ℕ) → IsLegal b key push → beside b push.from push.dir ≡ Some to
-      → ((other next : Key) → IsPushable b push layout other → IsNext other push.from to least next → IsKeyAfter b other push next)
-      → ComesNext b key push to least
-  comes-at accepted push to least legal ahead = comes-next b accepted key push to least layout (pushable-at push legal) ahead
 
 abbrev pub no_push : Push
 no_push = record { from = 0; dir = Left }

@@ -6,7 +6,6 @@ use Rattle.sok_rules.specs.Play.{Position, step}
 use Rattle.sok_rules.specs.States.{Same}
 use Rattle.sok_board.specs.Area.{Numbered, IsAccepted, spot_of}
 use Rattle.sok_board.specs.Limits.{box_limit}
-use Rattle.sok_region.specs.Layouts.{IsLaidOut, Laid}
 use Rattle.sok_state.specs.declared.key.Key.{Key}
 use Rattle.sok_state.specs.declared.push.Push.{Push}
 use Rattle.sok_state.specs.Keys.{IsKey, IsKeyOf}
@@ -26,13 +25,6 @@ pub record IsTableOf {E : Type 0} (node : E → Node) (b : Numbered) (entries : 
   pub count : length table ≡ n
   pub distinct : tables.HasDistinctKeys table
   pub entered : (i : ℕ) (e : E) → i < n → slice_get entries i ≡ Some e → IsEntered b table i (node e)
-
--- the key at an index is a state of the board, whose boxes are laid out
-pub record IsLaidAt (b : Numbered) (table : tables.Entries) (index : ℕ) (layout : Laid) (key : Key) : Type 0 where
-  pub there : tables.IsAt table key index
-  pub state : IsKey b key
-  pub few : length key.boxes ≤ box_limit
-  pub laid : IsLaidOut b key.boxes layout
 
 -- the state that a push leads to is in the table, at most one deeper
 pub record IsFound (b : Numbered) (table : tables.Entries) (key : Key) (depth : ℕ) (push : Push) : Type 0 where

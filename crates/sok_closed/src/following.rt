@@ -4,20 +4,18 @@ ghost use Rattle.std.specs.Prelude.{ℕ, List, ◌≤◌, IfOk, OnOk, All, lengt
 ghost use Rattle.sok_board.specs.Area.{IsAccepted};
 ghost use Rattle.sok_board.specs.Limits.{box_limit};
 ghost use Rattle.sok_region.specs.Layouts.{IsLaidOut};
-ghost use Rattle.sok_state.specs.declared.key.Key.{Key};
 ghost use Rattle.sok_state.specs.Keys.{IsKey};
-ghost use Rattle.sok_state.specs.Pushes.{IsLegal};
+ghost use Rattle.sok_state.specs.Pushes.{IsLegal, IsOpened, IsPushable};
 ghost use Rattle.sok_state.specs.Tables.{HasDistinctKeys, IsAt};
-ghost use Rattle.sok_closed.specs.Lookup.{IsLaidAt, TellsFound, TellsFirst, TellsOpen};
+ghost use Rattle.sok_closed.specs.Lookup.{TellsFound, TellsFirst, TellsOpen};
 
 use sok_board::board::Board;
-use sok_field::field::Field;
-use sok_region::layout::Layout;
 use sok_rules::fault::Memory;
 use sok_state::expansion::Expansion;
 use sok_state::key::Key;
 use sok_state::push::Push;
-use sok_state::stepping::{square_ahead, step};
+use sok_state::scene::Scene;
+use sok_state::stepping::square_ahead;
 use sok_state::table::Table;
 
 /// Whether the state that a push leads to from the one at an index of a table is in the table, at
@@ -26,25 +24,21 @@ fn is_found(
     board: &Board,
     table: &Table,
     index: usize,
+    key: &Key,
     depth: u32,
     push: Push,
-    layout: &mut Layout,
-    seen: &mut Field,
+    scene: &mut Scene,
 ) -> bool
     requires accepted { IsAccepted board.now }
-    requires legal { (key : Key) × IsLaidAt board.now table.now.entries index layout.old key
-        × IsLegal board.now key push }
+    requires there { IsAt table.now.entries key.now index }
+    requires pushable { IsPushable board.now push scene.old key.now }
     requires distinct { HasDistinctKeys table.now.entries }
     requires wide { length board.now.area ≤ table.now.room }
-    ensures laid { (key : Key) → IsLaidAt board.now table.now.entries index layout.old key
-        → IsLegal board.now key push
-        → IsLaidAt board.now table.now.entries index layout.new key }
-    ensures found { (key : Key) → IsLaidAt board.now table.now.entries index layout.old key
-        → IsLegal board.now key push
-        → TellsFound board.now table.now.entries key depth push result }
+    ensures opened { IsOpened board.now key.now scene.new }
+    ensures found { TellsFound board.now table.now.entries key.now depth push result }
 {
     let to = square_ahead(board, push);
-    let least = step(board, push, to, layout, seen);
+    let least = scene.step(board, key, push, to);
     match table.get_next(index, push.from, to, least) {
         Some(at) => u64::from(table.depth(at)) <= u64::from(depth) + 1,
         None => false,
@@ -57,25 +51,24 @@ fn first_missing(
     board: &Board,
     table: &Table,
     index: usize,
+    key: &Key,
     depth: u32,
     pushes: &[Push],
-    layout: &mut Layout,
-    seen: &mut Field,
+    scene: &mut Scene,
 ) -> Option<usize>
     requires accepted { IsAccepted board.now }
-    requires legal { (key : Key) × IsLaidAt board.now table.now.entries index layout.old key
-        × All (IsLegal board.now key) pushes.now }
+    requires there { IsAt table.now.entries key.now index }
+    requires key { IsKey board.now key.now }
+    requires few { length key.now.boxes ≤ box_limit }
+    requires legal { All (IsLegal board.now key.now) pushes.now }
+    requires opened { IsOpened board.now key.now scene.old }
     requires distinct { HasDistinctKeys table.now.entries }
     requires wide { length board.now.area ≤ table.now.room }
-    ensures laid { (key : Key) → IsLaidAt board.now table.now.entries index layout.old key
-        → All (IsLegal board.now key) pushes.now
-        → IsLaidAt board.now table.now.entries index layout.new key }
-    ensures first { (key : Key) → IsLaidAt board.now table.now.entries index layout.old key
-        → All (IsLegal board.now key) pushes.now
-        → TellsFirst board.now table.now.entries key depth pushes.now result }
+    ensures opened { IsOpened board.now key.now scene.new }
+    ensures first { TellsFirst board.now table.now.entries key.now depth pushes.now result }
 {
     for (place, push) in pushes.iter().enumerate() {
-        if !is_found(board, table, index, depth, *push, layout, seen) {
+        if !is_found(board, table, index, key, depth, *push, scene) {
             return Some(place);
         }
     }
@@ -98,9 +91,9 @@ pub(crate) fn open_push(
     requires few { length key.now.boxes ≤ box_limit }
     requires distinct { HasDistinctKeys table.now.entries }
     requires wide { length board.now.area ≤ table.now.room }
-    requires laid { (boxes : List ℕ) × IsLaidOut board.now boxes expansion.old.layout }
+    requires laid { (boxes : List ℕ) × IsLaidOut board.now boxes expansion.old.scene.layout }
     ensures laid { OnOk result
-        ((boxes : List ℕ) × IsLaidOut board.now boxes expansion.new.layout) }
+        ((boxes : List ℕ) × IsLaidOut board.now boxes expansion.new.scene.layout) }
     ensures first { IfOk result (TellsOpen board.now table.now.entries key.now depth) }
 {
     expansion.open(board, key)?;
@@ -108,10 +101,10 @@ pub(crate) fn open_push(
         board,
         table,
         index,
+        key,
         depth,
         &expansion.pushes,
-        &mut expansion.layout,
-        &mut expansion.seen,
+        &mut expansion.scene,
     ) {
         Some(place) => Ok(Some(expansion.pushes[place])),
         None => Ok(None),

@@ -47,7 +47,7 @@ pub IsStanding-placed : (b : Numbered) → IsArea b.rows b.area → IsProper b.r
 IsStanding-placed b area proper player boxes placed = standing b boxes (placed_boxes b boxes player proper area placed) player placed.player_exists placed.free
 
 -- positions with the same boxes and player have the same player's number
-same_player : (b : Numbered) (boxes : List ℕ) → IsArea b.rows b.area → (s t : ℕ) → s < length b.area → t < length b.area
+pub same_player : (b : Numbered) (boxes : List ℕ) → IsArea b.rows b.area → (s t : ℕ) → s < length b.area → t < length b.area
     → position_of b s boxes ≡ position_of b t boxes → s ≡ t
 same_player b boxes area s t s_within t_within is = same_number b area s t s_within t_within (ap (λ (x : Position). x.man) is)
 
@@ -69,6 +69,24 @@ through-exact b area boxes free drawn n within =
       λ out. (drawn (spot_of b n)).1 (n, numbered, out),
     )
 
+-- letters over the squares without boxes lead to those of the same state
+module _ (b : Numbered) (boxes : List ℕ) (player : ℕ) (proper : IsProper b.rows) (area : IsArea b.rows b.area) (placed : IsPlaced b boxes player)
+    (lets : ℕ → Bool) (through : (n : ℕ) → n < length b.area → (lets n ≡ true) ↔ (Contains boxes n → ⊥)) where
+  pub Leads-same : (s : ℕ) → s < length b.area → Leads b lets player s ↔ Same b.rows (position_of b player boxes) (position_of b s boxes)
+  Leads-same s within =
+      let are = placed_boxes b boxes player proper area placed in
+      let stands = IsStanding-placed b area proper player boxes placed in (
+        λ (w, leads).
+            let (legal, quiet) = run-trail b boxes are lets (λ m m_within e. (through m m_within).0 e) w player s leads in
+            (w, legal, quiet),
+        λ same.
+            let arrives = trail-run b boxes are lets same.0 player (position_of b s boxes) placed.player_exists
+            (λ n n_within walked. (through n n_within).1 (not_listed b boxes n
+            (IsStanding-Same b.rows (position_of b player boxes) (position_of b n boxes) stands walked))) same.1 same.2 in
+            let is : s ≡ arrives.to = same_player b boxes area s arrives.to within arrives.within arrives.is in
+            (same.0, arrives.leads ∙ ap Some (sym is)),
+      )
+
 -- a flood over the squares without boxes draws those of the same state
 module _ (b : Numbered) (boxes : List ℕ) (player : ℕ) (free seen : List ℕ) (proper : IsProper b.rows) (area : IsArea b.rows b.area)
     (placed : IsPlaced b boxes player) (drawn : Draws b (λ n. Contains boxes n → ⊥) free)
@@ -76,27 +94,16 @@ module _ (b : Numbered) (boxes : List ℕ) (player : ℕ) (free seen : List ℕ)
   abbrev lets : ℕ → Bool
   lets n = has free (spot_of b n)
 
-  through : (n : ℕ) → n < length b.area → (lets n ≡ true) ↔ (Contains boxes n → ⊥)
-  through = through-exact b area boxes free drawn
-
   reached : Draws b (Leads b lets player) seen
   reached = flooded lets (Draws-through b area boxes free drawn)
 
   pub drawn-same : (s : ℕ) → s < length b.area → (has seen (spot_of b s) ≡ true) ↔ Same b.rows (position_of b player boxes) (position_of b s boxes)
   drawn-same s within =
-      let are = placed_boxes b boxes player proper area placed in
-      let stands = IsStanding-placed b area proper player boxes placed in (
+      let same = Leads-same b boxes player proper area placed lets (through-exact b area boxes free drawn) s within in (
         λ here.
-            let (n, number, (w, leads)) = (reached (spot_of b s)).0 here in
-            let same : n ≡ s = same_Some n s (sym number ∙ number_of-spot_of b area s within) in
-            let (legal, quiet) = run-trail b boxes are lets (λ m m_within e. (through m m_within).0 e) w player s (leads ∙ ap Some same) in
-            (w, legal, quiet),
-        λ same.
-            let arrives = trail-run b boxes are lets same.0 player (position_of b s boxes) placed.player_exists
-            (λ n n_within walked. (through n n_within).1 (not_listed b boxes n
-            (IsStanding-Same b.rows (position_of b player boxes) (position_of b n boxes) stands walked))) same.1 same.2 in
-            let is : s ≡ arrives.to = same_player b boxes area s arrives.to within arrives.within arrives.is in
-            (reached (spot_of b s)).1 (s, number_of-spot_of b area s within, (same.0, arrives.leads ∙ ap Some (sym is))),
+            let (n, number, leads) = (reached (spot_of b s)).0 here in
+            same.0 (subst (Leads b lets player) (same_Some n s (sym number ∙ number_of-spot_of b area s within)) leads),
+        λ is. (reached (spot_of b s)).1 (s, number_of-spot_of b area s within, same.1 is),
       )
 
   -- the player's square is one of them

@@ -35,7 +35,7 @@ pub not_listed : (b : Numbered) (boxes : List ℕ) (n : ℕ) → IsStanding b.ro
 not_listed b boxes n stands among = true≢false (sym (listed_box b n boxes n among) ∙ stands.no_box)
 
 -- the player goes on to the square beside
-step-beside : (b : Numbered) (boxes : List ℕ) → AreBoxes b boxes → (d : Dir) (s u : ℕ) → beside b s d ≡ Some u → u < length b.area → (Contains boxes u → ⊥)
+pub step-beside : (b : Numbered) (boxes : List ℕ) → AreBoxes b boxes → (d : Dir) (s u : ℕ) → beside b s d ≡ Some u → u < length b.area → (Contains boxes u → ⊥)
     → step b.rows d (position_of b s boxes) ≡ Some (record { position = position_of b u boxes; pushed = false })
 step-beside b boxes are d s u on within out =
     let x = position_of b s boxes in
@@ -86,8 +86,15 @@ trail-run b boxes are lets (d ∷ w) s y within through e z =
     (ap (λ p. run b.rows p w) (sym arrived) ∙ r) (ap (λ p. pushes b.rows p w) (sym arrived) ∙ n) in
     record { to = rest.to; within = rest.within; leads = trail-one b lets s u d w on (through u u_within same) ∙ rest.leads; is = rest.is })
 
+-- what each letter keeps, a trail keeps
+pub trail-keeps : (b : Numbered) (lets : ℕ → Bool) (P : ℕ → Type 0)
+    → ((s : ℕ) (d : Dir) (t : ℕ) → P s → beside b s d ≡ Some t → lets t ≡ true → P t)
+    → (w : List Dir) (s t : ℕ) → P s → trail b lets s w ≡ Some t → P t
+trail-keeps b lets P keeps [] s t holds leads = subst P (same_Some s t leads) holds
+trail-keeps b lets P keeps (d ∷ w) s t holds leads =
+    option_and_then_some (λ u. if lets u then trail b lets u w else None) (beside b s d) t leads (λ u on rest.
+    let (through, further) = if_some (lets u) (trail b lets u w) t rest in trail-keeps b lets P keeps w u t (keeps s d u holds on through) further)
+
 -- a square that is let through at the start is let through at the end
 pub trail-lets : (b : Numbered) (lets : ℕ → Bool) (w : List Dir) (s t : ℕ) → lets s ≡ true → trail b lets s w ≡ Some t → lets t ≡ true
-trail-lets b lets [] s t through leads = ap lets (sym (same_Some s t leads)) ∙ through
-trail-lets b lets (d ∷ w) s t through leads = option_and_then_some (λ u. if lets u then trail b lets u w else None) (beside b s d) t leads (λ u on rest.
-    let (next_through, further) = if_some (lets u) (trail b lets u w) t rest in trail-lets b lets w u t next_through further)
+trail-lets b lets = trail-keeps b lets (λ n. lets n ≡ true) (λ s d t _ _ through. through)

@@ -121,16 +121,15 @@ fn ask_twice(
     alloc: Global,
     board: &Board,
     tables: &Tables,
-    losses: &mut Losses,
     player: Sq,
     cases: &[PushCase],
 ) -> Result<(), Fail>
     requires tables { tables.now.board ≡ board.now }
-    requires losses { KeepsLosses board.now losses.old }
 {
+    let mut losses = Losses::new(alloc, board)?;
     for _round in 0..2 {
         for case in cases {
-            let lost = is_lost(rt, alloc, board, tables, losses, player, case)?;
+            let lost = is_lost(rt, alloc, board, tables, &mut losses, player, case)?;
             assert_eq!(rt; lost, case.4, "{} to {}", case.1, case.3);
         }
     }
@@ -142,8 +141,7 @@ fn a_pair_is_lost_however_often_it_is_asked(rt: HostRuntime) -> Result<(), Fail>
     let alloc = rt.alloc();
     let board = board(alloc, PAIR_THAT_IS_LOST)?;
     let tables = tables(alloc, &board)?;
-    let mut losses = Losses::new(alloc, &board)?;
-    ask_twice(&rt, alloc, &board, &tables, &mut losses, 15, &PUSHES_OF_TWO)
+    ask_twice(&rt, alloc, &board, &tables, 15, &PUSHES_OF_TWO)
 }
 
 #[test]
@@ -151,14 +149,5 @@ fn three_boxes_are_lost_though_no_two_are(rt: HostRuntime) -> Result<(), Fail> {
     let alloc = rt.alloc();
     let board = board(alloc, THREE_THAT_ARE_LOST)?;
     let tables = tables(alloc, &board)?;
-    let mut losses = Losses::new(alloc, &board)?;
-    ask_twice(
-        &rt,
-        alloc,
-        &board,
-        &tables,
-        &mut losses,
-        12,
-        &PUSHES_OF_THREE,
-    )
+    ask_twice(&rt, alloc, &board, &tables, 12, &PUSHES_OF_THREE)
 }

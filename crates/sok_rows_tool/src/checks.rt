@@ -2,11 +2,11 @@
 
 use crate::devices::{Failure, Sink, Source};
 use sok_board::fault::BoardFault;
+use sok_engine::fault::ToolFault;
+use sok_judge::check::check_bytes;
 use sok_rules::cell::Spot;
 use sok_rules::fault::LevelFault;
 use sok_sketch::{rooms, sketch};
-use sok_tool::check::check_bytes;
-use sok_tool::fault::ToolFault;
 use std::alloc::Global;
 use std::io::{Read, Write};
 use std::test::Fail;

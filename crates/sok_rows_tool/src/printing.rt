@@ -2,10 +2,10 @@
 
 use sok_board::fault::BoardFault;
 use sok_book::fault::BookFault;
+use sok_engine::fault::ToolFault;
 use sok_rules::cell::Spot;
 use sok_rules::fault::{LevelFault, PlayFault};
 use sok_text::lurd::LurdFault;
-use sok_tool::fault::ToolFault;
 use std::fmt::InlineText;
 
 #[test]

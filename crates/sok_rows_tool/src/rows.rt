@@ -1,9 +1,9 @@
 //! Command lines on the files of a folder, and what the program tells of each.
 
+use sok_files::notes::Notes;
+use sok_files::watched::Watched;
 use sok_sketch::tutorial::Row;
-use sok_tool::notes::Notes;
 use sok_tool::program::run;
-use sok_tool::watched::Watched;
 use std::alloc::{AllocError, Global};
 use std::fs;
 use std::io::{Read, Write};

@@ -1,10 +1,10 @@
 //! What is told beside an answer: what failed, and lines that are nearly of a board.
 
 use crate::rows::{prepare, put, words};
+use sok_files::notes::Notes;
+use sok_files::watched::{Watched, WatchedOutput};
 use sok_sketch::tutorial::Row;
-use sok_tool::notes::Notes;
 use sok_tool::program::run;
-use sok_tool::watched::{Watched, WatchedOutput};
 use std::alloc::AllocError;
 use std::fs;
 use std::io::Write;

@@ -6,9 +6,9 @@ use Rattle.std.proofs.lemmas.Option.{none-some}
 use Rattle.sok_board.specs.Area.{Numbered, IsAccepted}
 use Rattle.sok_state.specs.declared.key.Key.{Key}
 use Rattle.sok_state.specs.declared.push.Push.{Push}
+use Rattle.sok_state.specs.declared.scene.Scene.{Scene}
 use Rattle.sok_state.specs.Keys.{IsKey}
-use Rattle.sok_region.specs.Layouts.{IsLaidOut, Laid}
-use Rattle.sok_state.specs.Pushes.{IsLegal, IsPushable}
+use Rattle.sok_state.specs.Pushes.{IsLegal, IsOpened, IsPushable}
 use Rattle.sok_state.specs.Tables.{Entries, Enters, GoesLast, IsAt}
 use Rattle.sok_search.specs.declared.note.Note.{Note}
 use Rattle.sok_search.specs.Searches.{Frame, Progress, IsNoted, IsSearch}
@@ -53,13 +53,13 @@ taken-key b limit index p key depth search there depth_is = (taken b limit index
 
 -- so a push from it can be made
 pub taken-pushable : (b : Numbered) → IsAccepted b → (limit index : ℕ) (p : Progress) (key : Key) (depth : ℕ) → IsSearch b limit (holding index p)
-    → IsAt p.table key index → slice_get (values_of p.table) index ≡ Some depth → (push : Push) → IsLegal b key push → (layout : Laid)
-    → IsLaidOut b key.boxes layout → IsPushable b push layout key
-taken-pushable b accepted limit index p key depth search there depth_is push legal layout laid =
+    → IsAt p.table key index → slice_get (values_of p.table) index ≡ Some depth → (push : Push) → IsLegal b key push → (scene : Scene)
+    → IsOpened b key scene → IsPushable b push scene key
+taken-pushable b accepted limit index p key depth search there depth_is push legal scene opened =
     let one = taken b limit index p key depth search there depth_is in
     let as_many = one.noted.as_many in
     let few = accepted.few_boxes in
-    record { state = one.noted.state; few = omega (arith, as_many, few); legal = legal; laid = laid }
+    record { state = one.noted.state; few = omega (arith, as_many, few); legal = legal; opened = opened }
 
 -- its depth is below the limit
 pub taken-deep : (b : Numbered) (limit index : ℕ) (p : Progress) (key : Key) (depth : ℕ) → IsSearch b limit (holding index p) → IsAt p.table key index

@@ -6,10 +6,10 @@ use Rattle.sok_rules.specs.States.{Same}
 use Rattle.sok_board.specs.Area.{Numbered, IsAccepted, beside}
 use Rattle.sok_board.specs.BoxSets.{put_in_order}
 use Rattle.sok_board.proofs.Moves.{IsMoved-put}
-use Rattle.sok_region.specs.Layouts.{Laid}
 use Rattle.sok_region.specs.Regions.{IsPlaced}
 use Rattle.sok_state.specs.declared.key.Key.{Key}
 use Rattle.sok_state.specs.declared.push.Push.{Push}
+use Rattle.sok_state.specs.declared.scene.Scene.{Scene}
 use Rattle.sok_state.specs.Keys.{key_position}
 use Rattle.sok_state.proofs.LegalPushes.{LeadsTo-position}
 use Rattle.sok_alone.specs.declared.losses.Loss.{Loss}
@@ -31,7 +31,7 @@ pub tells-knowing : (b : Numbered) (limit : ℕ) (p : Progress) (losses : Losses
 tells-knowing b limit p losses index key depth push q On pushed = pushed-knowing b limit (holding index p) losses key depth push (holding index q) pushed
 tells-knowing b limit p losses index key depth push q Full more = more
 
-module _ (b : Numbered) (accepted : IsAccepted b) (key : Key) (push : Push) (to : ℕ) (layout : Laid) (can : IsPushable b push layout key)
+module _ (b : Numbered) (accepted : IsAccepted b) (key : Key) (push : Push) (to : ℕ) (scene : Scene) (can : IsPushable b push scene key)
     (ahead : beside b push.from push.dir ≡ Some to) where
   abbrev after : List ℕ
   after = put_in_order push.from to key.boxes
@@ -39,7 +39,7 @@ module _ (b : Numbered) (accepted : IsAccepted b) (key : Key) (push : Push) (to 
   -- the boxes after the push, and the player on the square that was left
   placed : IsPlaced b after push.from
   placed = placed-after b accepted key push to after can.state can.legal ahead (IsMoved-put push.from to key.boxes)
-      (next-made b accepted key push to push.from layout can ahead).0.rising
+      (next-made b accepted key push to push.from scene can ahead).0.rising
 
   -- where two of them are lost, nothing solves
   lost-left_out : (losses : List Loss) (place : ℕ) → IsLostBy b push.from after losses place → LeadsNowhere b key push

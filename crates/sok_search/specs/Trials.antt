@@ -1,22 +1,36 @@
 -- What a push is tried with.
-use Rattle.std.specs.Prelude.{ℕ, ◌≡◌, ◌<◌, List, Bool, true, All, Contains, length}
+use Rattle.std.specs.Prelude.{ℕ, ◌≡◌, ◌<◌, ◌≤◌, List, Bool, true, All, Contains, IfSome, length}
 use Rattle.std.specs.List.Sorted.{IsStrictlyIncreasing}
 use Rattle.sok_board.specs.Area.{Numbered}
 use Rattle.sok_price.specs.Matched.{Holds, KeptMatching, Serves}
 use Rattle.sok_board.specs.BoxSets.{IsMoved}
+use Rattle.sok_board.specs.Limits.{box_limit}
 use Rattle.sok_region.specs.Layouts.{IsLaidOut}
-use Rattle.sok_search.specs.declared.trial.Trial.{Trial}
+use Rattle.sok_state.specs.declared.key.Key.{Key}
+use Rattle.sok_state.specs.declared.push.Push.{Push}
+use Rattle.sok_state.specs.declared.scene.Scene.{Scene}
+use Rattle.sok_state.specs.Keys.{IsKey}
+use Rattle.sok_state.specs.Pushes.{IsLegal, IsOpened}
+use Rattle.sok_search.specs.declared.expanding.Scratch.{Scratch}
 
 -- a matching for a board, which is that of some boxes if it is said so
 pub record IsTrial (b : Numbered) (boxes : List ℕ) (matching : KeptMatching) (matched : Bool) : Type 0 where
   pub serves : Serves b matching
   pub holds : matched ≡ true → Holds b boxes matching
 
--- a matching for a board, and boxes of it that are laid out, whichever they are
-pub record IsReady (b : Numbered) (trial : Trial) : Type 0 where
-  pub serves : Serves b trial.matching
+-- a state of few boxes that is laid out, with legal pushes
+pub record IsLast (b : Numbered) (scene : Scene) (pushes : List Push) (last : Key) : Type 0 where
+  pub state : IsKey b last
+  pub few : length last.boxes ≤ box_limit
+  pub opened : IsOpened b last scene
+  pub legal : All (IsLegal b last) pushes
+
+-- a matching for a board, and boxes of it that are laid out, whichever they are: those of the state that was expanded last, if it is told
+pub record IsReady (b : Numbered) (scratch : Scratch) : Type 0 where
+  pub serves : Serves b scratch.trial.matching
   pub boxes : List ℕ
-  pub laid : IsLaidOut b boxes trial.layout
+  pub laid : IsLaidOut b boxes scratch.trial.scene.layout
+  pub of_last : IfSome scratch.last (IsLast b scratch.trial.scene scratch.pushes.items)
 
 -- boxes before and after one of them is moved to a square where no box is
 pub record AreMoved (b : Numbered) (boxes : List ℕ) (from to : ℕ) (after : List ℕ) : Type 0 where

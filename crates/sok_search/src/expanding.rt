@@ -1,31 +1,37 @@
 //! A state is expanded.
 
-ghost use Rattle.std.specs.Prelude.{◌≡◌, IfOk, OnOk, All};
+ghost use Rattle.std.specs.Prelude.{ℕ, List, ◌≡◌, IfOk, IsTrue, OnOk, Some, All, Contains};
+ghost use Rattle.sok_board.specs.Area.{IsAccepted};
+ghost use Rattle.sok_price.specs.Matched.{Serves};
 ghost use Rattle.sok_region.specs.Layouts.{IsLaidOut};
-ghost use Rattle.sok_state.specs.Pushes.{IsLegal};
+ghost use Rattle.sok_state.specs.Keys.{IsKey};
+ghost use Rattle.sok_state.specs.declared.push.Push.{Push};
+ghost use Rattle.sok_state.specs.Pushes.{IsLegal, IsOpened};
 ghost use Rattle.sok_search.specs.Trials.{IsReady, IsTrial};
 ghost use Rattle.sok_search.specs.Views.{progress_of, HoldsState, TellsFollowed, TellsExpanded};
 
+use crate::note::Origin;
 use crate::reaching::{Reached, reach};
 use crate::search::Search;
 use crate::trial::Trial;
 use sok_board::area::Sq;
 use sok_board::board::Board;
-use sok_field::field::Field;
 use sok_price::matching::Matching;
 use sok_push::tables::Tables;
-use sok_region::layout::Layout;
 use sok_rules::fault::Memory;
 use sok_state::key::Key;
 use sok_state::legal::list_pushes;
 use sok_state::push::Push;
+use sok_state::scene::Scene;
 use std::alloc::Global;
 
-/// What is kept from state to state, so that nothing is made anew: the pushes of the state that is
-/// expanded, what they are tried with, and room to list the boxes of a state.
+/// What is kept from state to state, so that nothing is made anew: the state that was expanded last,
+/// with its index and its pushes, what they are tried with, and room to list the boxes of a state.
 #[derive(Drop)]
 pub(crate) struct Scratch {
-    pub(crate) pushes: Vec<Push>,
+    last: Option<Key>,
+    index: u32,
+    pushes: Vec<Push>,
     pub(crate) trial: Trial,
     pub(crate) squares: Vec<Sq>,
 }
@@ -34,20 +40,94 @@ impl Scratch {
     /// Room for the states of a board.
     pub(crate) fn new(alloc: Global, board: &Board, tables: &Tables) -> Result<Scratch, Memory>
         requires { tables.now.board ≡ board.now }
-        ensures { IfOk result (λ scratch. IsReady board.now scratch.trial) }
+        ensures { IfOk result (IsReady board.now) }
     {
         let trial = Trial {
-            layout: Layout::new(alloc, board),
-            seen: Field::new(),
+            scene: Scene::new(alloc, board),
             matching: Matching::new(alloc, board, tables)?,
             matched: false,
         };
         Ok(Scratch {
+            last: None,
+            index: 0,
             pushes: Vec::new(alloc),
             trial,
             squares: Vec::new(alloc),
         })
     }
+
+    /// Lays out a state that was taken, and lists its pushes: behind the push that led to it, where it
+    /// comes from the state that was expanded last, which most do.
+    fn open(
+        &mut self,
+        alloc: Global,
+        board: &Board,
+        index: u32,
+        key: &Key,
+        origin: Option<Origin>,
+    ) -> Result<(), Memory>
+        requires accepted { IsAccepted board.now }
+        requires state { IsKey board.now key.now }
+        requires ready { IsReady board.now self.old }
+        ensures serves { OnOk result (Serves board.now self.new.trial.matching) }
+        ensures matched { self.new.trial.matched ≡ self.old.trial.matched }
+        ensures last { OnOk result (self.new.last ≡ Some key.now) }
+        ensures opened { OnOk result (IsOpened board.now key.now self.new.trial.scene) }
+        ensures legal { OnOk result (All (IsLegal board.now key.now) self.new.pushes.items) }
+        ensures whole { OnOk result ((push : Push)
+            → IsLegal board.now key.now push → Contains self.new.pushes.items push) }
+    {
+        if !self.follow_last(alloc, board, key, origin)? {
+            self.trial.scene.open(board, key)?;
+        }
+        list_pushes(board, key, &self.trial.scene, &mut self.pushes)?;
+        self.last = Some(key.copy(alloc)?);
+        self.index = index;
+        Ok(())
+    }
+
+    /// Follows the push that led to a state from the one that was expanded last, and tells whether it
+    /// comes from there.
+    fn follow_last(
+        &mut self,
+        alloc: Global,
+        board: &Board,
+        key: &Key,
+        origin: Option<Origin>,
+    ) -> Result<bool, Memory>
+        requires accepted { IsAccepted board.now }
+        requires ready { IsReady board.now self.old }
+        ensures matching { self.new.trial.matching ≡ self.old.trial.matching }
+        ensures matched { self.new.trial.matched ≡ self.old.trial.matched }
+        ensures laid { OnOk result
+            ((boxes : List ℕ) × IsLaidOut board.now boxes self.new.trial.scene.layout) }
+        ensures followed { IfOk result
+            (λ came. IsTrue came → IsOpened board.now key.now self.new.trial.scene) }
+    {
+        let Some(origin) = origin else {
+            return Ok(false);
+        };
+        let Some(last) = &self.last else {
+            return Ok(false);
+        };
+        if origin.parent != self.index || !is_listed(&self.pushes, origin.push) {
+            return Ok(false);
+        }
+        let next = self.trial.scene.follow(alloc, board, last, origin.push)?;
+        Ok(next == *key)
+    }
+}
+
+/// Whether a push is one of some.
+fn is_listed(pushes: &[Push], push: Push) -> bool
+    ensures { IsTrue result → Contains pushes.now push }
+{
+    for one in pushes {
+        if *one == push {
+            return true;
+        }
+    }
+    false
 }
 
 /// Follows some legal pushes from a state that was taken.
@@ -65,11 +145,11 @@ fn follow(
 ) -> Result<Reached, Memory>
     requires state { HoldsState board.now tables.now limit index key.now depth search.old }
     requires trial { IsTrial board.now key.now.boxes trial.old.matching trial.old.matched }
-    requires laid { IsLaidOut board.now key.now.boxes trial.old.layout }
+    requires opened { IsOpened board.now key.now trial.old.scene }
     requires legal { All (IsLegal board.now key.now) pushes.now }
     ensures trial { OnOk result
         (IsTrial board.now key.now.boxes trial.new.matching trial.new.matched) }
-    ensures laid { OnOk result (IsLaidOut board.now key.now.boxes trial.new.layout) }
+    ensures opened { OnOk result (IsOpened board.now key.now trial.new.scene) }
     ensures tells { IfOk result (TellsFollowed board.now limit (progress_of search.old) index
         key.now depth pushes.now (progress_of search.new)) }
 {
@@ -95,30 +175,23 @@ pub(crate) fn expand(
     index: usize,
     key: &Key,
     depth: u32,
+    origin: Option<Origin>,
 ) -> Result<Reached, Memory>
     requires state { HoldsState board.now tables.now limit index key.now depth search.old }
-    requires ready { IsReady board.now scratch.old.trial }
-    ensures ready { OnOk result (IsReady board.now scratch.new.trial) }
+    requires ready { IsReady board.now scratch.old }
+    ensures ready { OnOk result (IsReady board.now scratch.new) }
     ensures tells { IfOk result (TellsExpanded board.now limit (progress_of search.old) index
         key.now depth (progress_of search.new)) }
 {
-    let trial = &mut scratch.trial;
-    trial.matched = false;
-    trial.layout.lay(board, key.boxes.list())?;
-    list_pushes(
-        board,
-        key,
-        &trial.layout,
-        &mut trial.seen,
-        &mut scratch.pushes,
-    )?;
+    scratch.trial.matched = false;
+    scratch.open(alloc, board, index as u32, key, origin)?;
     follow(
         alloc,
         board,
         tables,
         limit,
         search,
-        trial,
+        &mut scratch.trial,
         index,
         key,
         depth,

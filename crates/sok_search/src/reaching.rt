@@ -5,9 +5,8 @@ ghost use Rattle.sok_alone.specs.Losses.{IsLostBy, KeepsLosses, KeepsPlaces, los
 ghost use Rattle.sok_board.specs.Area.{IsAccepted, beside};
 ghost use Rattle.sok_board.specs.BoxSets.{put_in_order};
 ghost use Rattle.sok_push.specs.Distances.{Distances};
-ghost use Rattle.sok_region.specs.Layouts.{IsLaidOut};
 ghost use Rattle.sok_state.specs.Keys.{IsKey};
-ghost use Rattle.sok_state.specs.Pushes.{IsLegal};
+ghost use Rattle.sok_state.specs.Pushes.{IsLegal, IsOpened};
 ghost use Rattle.sok_search.specs.Steps.{Nears, reopened};
 ghost use Rattle.sok_search.specs.Trials.{IsTrial};
 ghost use Rattle.sok_search.specs.Views.{progress_of, HoldsState, TellsReached};
@@ -24,7 +23,7 @@ use sok_state::key::Key;
 use sok_state::legal::after;
 use sok_state::normalizer::Normalizer;
 use sok_state::push::Push;
-use sok_state::stepping::{square_ahead, step};
+use sok_state::stepping::square_ahead;
 use std::alloc::Global;
 
 /// That a search goes on, or that its table is full and lacks a state that is reached: then the
@@ -115,11 +114,11 @@ pub(crate) fn reach(
 ) -> Result<Reached, Memory>
     requires state { HoldsState board.now tables.now limit index key.now depth search.old }
     requires trial { IsTrial board.now key.now.boxes trial.old.matching trial.old.matched }
-    requires laid { IsLaidOut board.now key.now.boxes trial.old.layout }
+    requires opened { IsOpened board.now key.now trial.old.scene }
     requires legal { IsLegal board.now key.now push }
     ensures trial { OnOk result
         (IsTrial board.now key.now.boxes trial.new.matching trial.new.matched) }
-    ensures laid { OnOk result (IsLaidOut board.now key.now.boxes trial.new.layout) }
+    ensures opened { OnOk result (IsOpened board.now key.now trial.new.scene) }
     ensures tells { IfOk result (TellsReached board.now limit (progress_of search.old) index
         key.now depth push (progress_of search.new)) }
 {
@@ -190,14 +189,14 @@ fn arrive(
 ) -> Result<Reached, Memory>
     requires state { HoldsState board.now tables.now limit index key.now depth search.old }
     requires trial { IsTrial board.now key.now.boxes trial.old.matching trial.old.matched }
-    requires laid { IsLaidOut board.now key.now.boxes trial.old.layout }
+    requires opened { IsOpened board.now key.now trial.old.scene }
     requires legal { IsLegal board.now key.now push }
     requires ahead { beside board.now push.from push.dir ≡ Some to }
     requires lost { IfSome lost (IsLostBy board.now push.from
         (put_in_order push.from to key.now.boxes) (losses_of search.old.losses)) }
     ensures trial { OnOk result
         (IsTrial board.now key.now.boxes trial.new.matching trial.new.matched) }
-    ensures laid { OnOk result (IsLaidOut board.now key.now.boxes trial.new.layout) }
+    ensures opened { OnOk result (IsOpened board.now key.now trial.new.scene) }
     ensures tells { IfOk result (TellsReached board.now limit (progress_of search.old) index
         key.now depth push (progress_of search.new)) }
 {
@@ -205,7 +204,7 @@ fn arrive(
         return arrive_full(alloc, board, limit, search, index, key, depth, push);
     }
     let from = push.from;
-    let least = step(board, push, to, &mut trial.layout, &mut trial.seen);
+    let least = trial.scene.step(board, key, push, to);
     let origin = Some(Origin {
         parent: index as u32,
         push,

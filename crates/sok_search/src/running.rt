@@ -50,10 +50,10 @@ fn visit(
     bound: u32,
 ) -> Result<Reached, Memory>
     requires held { IsRunning board.now tables.now limit (holding index (progress_of search.old)) }
-    requires ready { IsReady board.now scratch.old.trial }
+    requires ready { IsReady board.now scratch.old }
     requires noted { slice_get search.old.notes.items index ≡ Some note }
     requires is_open { note.standing ≡ Open bound }
-    ensures ready { OnOk result (IsReady board.now scratch.new.trial) }
+    ensures ready { OnOk result (IsReady board.now scratch.new) }
     ensures tells { IfOk result (TellsTurned board.now limit
         (holding index (progress_of search.old)) (progress_of search.new)) }
 {
@@ -67,7 +67,16 @@ fn visit(
         return Ok(Reached::On);
     }
     match expand(
-        alloc, board, tables, limit, search, scratch, index, &key, depth,
+        alloc,
+        board,
+        tables,
+        limit,
+        search,
+        scratch,
+        index,
+        &key,
+        depth,
+        note.origin,
     )? {
         Reached::On => {
             let standing = Standing::Expanded(bound);
@@ -94,8 +103,8 @@ fn turn(
     index: usize,
 ) -> Result<Reached, Memory>
     requires held { IsRunning board.now tables.now limit (holding index (progress_of search.old)) }
-    requires ready { IsReady board.now scratch.old.trial }
-    ensures ready { OnOk result (IsReady board.now scratch.new.trial) }
+    requires ready { IsReady board.now scratch.old }
+    ensures ready { OnOk result (IsReady board.now scratch.new) }
     ensures tells { IfOk result (TellsTurned board.now limit
         (holding index (progress_of search.old)) (progress_of search.new)) }
 {
@@ -120,7 +129,7 @@ pub(crate) fn run(
     scratch: &mut Scratch,
 ) -> Result<Reached, Memory>
     requires running { IsRunning board.now tables.now limit (progress_of search.old) }
-    requires ready { IsReady board.now scratch.old.trial }
+    requires ready { IsReady board.now scratch.old }
     ensures { IfOk result
         (TellsFinished board.now limit (progress_of search.old) (progress_of search.new)) }
 {

@@ -16,20 +16,18 @@ use sok_bar::layout_jam::has_jam;
 use sok_board::area::Sq;
 use sok_board::board::Board;
 use sok_board::box_set::BoxSet;
-use sok_field::field::Field;
 use sok_price::matching::Matching;
 use sok_push::tables::Tables;
 use sok_region::layout::Layout;
 use sok_rules::fault::Memory;
+use sok_state::scene::Scene;
 use std::alloc::Global;
 
-/// What pushes from a state are tried with: its boxes, laid out; room for the squares that the
-/// player comes to after a push; and a matching, which is made that of its boxes once a bound is
-/// asked for.
+/// What pushes from a state are tried with: the state, laid out, and a matching, which is made that
+/// of its boxes once a bound is asked for.
 #[derive(Drop)]
 pub(crate) struct Trial {
-    pub(crate) layout: Layout,
-    pub(crate) seen: Field,
+    pub(crate) scene: Scene,
     pub(crate) matching: Matching,
     pub(crate) matched: bool,
 }
@@ -39,7 +37,7 @@ fn match_boxes(board: &Board, trial: &mut Trial, boxes: &BoxSet)
     requires trial { IsTrial board.now boxes.now trial.old.matching trial.old.matched }
     requires exist { All (λ square. square < length board.now.area) boxes.now }
     ensures trial { IsTrial board.now boxes.now trial.new.matching trial.new.matched }
-    ensures layout { trial.new.layout ≡ trial.old.layout }
+    ensures scene { trial.new.scene ≡ trial.old.scene }
 {
     if trial.matched {
         return;
@@ -64,7 +62,7 @@ fn bound_after(
     requires moved { AreMoved board.now before.now from to (put_in_order from to before.now) }
     ensures trial { OnOk result
         (IsTrial board.now before.now trial.new.matching trial.new.matched) }
-    ensures layout { trial.new.layout ≡ trial.old.layout }
+    ensures scene { trial.new.scene ≡ trial.old.scene }
     ensures least { IfOk result (TellsLeast board.now (put_in_order from to before.now)) }
 {
     match_boxes(board, trial, before);
@@ -109,11 +107,12 @@ pub(crate) fn judge_after(
     requires accepted { IsAccepted board.now }
     requires tables { tables.now.board ≡ board.now }
     requires trial { IsTrial board.now before.now trial.old.matching trial.old.matched }
-    requires laid { IsLaidOut board.now before.now trial.old.layout }
+    requires laid { IsLaidOut board.now before.now trial.old.scene.layout }
     requires moved { AreMoved board.now before.now from to (put_in_order from to before.now) }
     ensures trial { OnOk result
         (IsTrial board.now before.now trial.new.matching trial.new.matched) }
-    ensures laid { OnOk result (IsLaidOut board.now before.now trial.new.layout) }
+    ensures laid { OnOk result (IsLaidOut board.now before.now trial.new.scene.layout) }
+    ensures reached { trial.new.scene.reached ≡ trial.old.scene.reached }
     ensures judged { (losses : List Loss) (player : ℕ)
         → IfSome lost (IsLostBy board.now player (put_in_order from to before.now) losses)
         → IfOk result (IsJudged board.now losses player (put_in_order from to before.now)) }
@@ -121,7 +120,7 @@ pub(crate) fn judge_after(
     if tables.stuck(to) {
         return Ok(Standing::Dead);
     }
-    if is_jammed(board, tables, &mut trial.layout, from, to) {
+    if is_jammed(board, tables, &mut trial.scene.layout, from, to) {
         return Ok(Standing::Dead);
     }
     if let Some(place) = lost {

@@ -1,12 +1,9 @@
 -- Which pushes are legal, over the squares that the boxes leave free and those to which the man comes.
-use Rattle.std.proofs.Common.{ℕ, ◌≡◌, Bool, List, true, Contains}
+use Rattle.std.proofs.Common.{ℕ, List, Contains}
 use Rattle.sok_rules.specs.Squares.{opposite}
 use Rattle.sok_board.specs.Area.{Numbered, IsAccepted}
 use Rattle.sok_board.proofs.Beside.{beside-within}
-use Rattle.sok_field.specs.Numbers.{Draws}
-use Rattle.sok_field.specs.Trails.{Leads}
-use Rattle.sok_region.specs.Regions.{IsPlaced}
-use Rattle.sok_region.proofs.Regions.{drawn-same, through-exact}
+use Rattle.sok_region.proofs.Regions.{through-exact}
 use Rattle.sok_state.specs.declared.key.Key.{Key}
 use Rattle.sok_state.specs.declared.push.Push.{Push}
 use Rattle.sok_state.specs.Listing.{HasBeside, IsDrawn}
@@ -46,13 +43,3 @@ module _ (b : Numbered) (accepted : IsAccepted b) (key : Key) (free seen : List 
         has = (through-exact b accepted.numbered key.boxes free drawn.left onward.ahead
             (beside-within b push.dir push.from onward.ahead onward.ahead_is)).1 onward.clear;
       }
-
--- a flood from the least square draws where the man comes
-pub IsDrawn-flooded : (b : Numbered) → IsAccepted b → (key : Key) (free seen : List ℕ) → IsPlaced b key.boxes key.least
-    → Draws b (λ n. Contains key.boxes n → ⊥) free → ((lets : ℕ → Bool) → Draws b (λ n. lets n ≡ true) free → Draws b (Leads b lets key.least) seen)
-    → IsDrawn b key free seen
-IsDrawn-flooded b accepted key free seen placed drawn flooded = record {
-  placed = placed;
-  left = drawn;
-  reached = drawn-same b key.boxes key.least free seen accepted.proper accepted.numbered placed drawn flooded;
-}

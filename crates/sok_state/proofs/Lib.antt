@@ -8,4 +8,5 @@ pub mod Packing
 pub mod Placed
 pub mod States
 pub mod Stepped
+pub mod Surroundings
 pub mod Unpacking

@@ -18,8 +18,8 @@ use Rattle.sok_region.proofs.Regions.{IsStanding-placed, drawn-numbered, drawn-s
 use Rattle.sok_region.proofs.Walks.{not_listed}
 use Rattle.sok_state.specs.declared.key.Key.{Key}
 use Rattle.sok_state.specs.declared.push.Push.{Push}
+use Rattle.sok_state.specs.declared.scene.Scene.{Scene}
 use Rattle.sok_state.specs.Keys.{IsKey, IsKeyOf}
-use Rattle.sok_region.specs.Layouts.{Laid}
 use Rattle.sok_state.specs.Pushes.{IsKeyAfter, IsLegal, IsPushable}
 use Rattle.sok_state.specs.Tables.{IsNext}
 use Rattle.sok_state.proofs.LegalPushes.{IsPlaced-after, clear-legal, clear_ahead}
@@ -60,20 +60,20 @@ placed-after b accepted key push ahead boxes state legal = IsPlaced-after b acce
 abbrev pub next_of : Key → ℕ → ℕ → ℕ → Key
 next_of key from to least = record { boxes = put_in_order from to key.boxes; least = least }
 
-pub next-made : (b : Numbered) → IsAccepted b → (key : Key) (push : Push) (to least : ℕ) (layout : Laid) → IsPushable b push layout key
+pub next-made : (b : Numbered) → IsAccepted b → (key : Key) (push : Push) (to least : ℕ) (scene : Scene) → IsPushable b push scene key
     → beside b push.from push.dir ≡ Some to
     → IsNext key push.from to least (next_of key push.from to least) × (length (next_of key push.from to least).boxes ≡ length key.boxes)
-next-made b accepted key push to least layout can ahead =
+next-made b accepted key push to least scene can ahead =
     let placed = can.state.is.placed in
     let there = (clear-legal b accepted.numbered key placed push can.legal).0 in
     let (list, as_many) = IsBoxList-put push.from to key.boxes placed.rising can.few there (clear-after b accepted key push to can.state can.legal ahead) in
     (record { moved = IsMoved-put push.from to key.boxes; rising = list.rising; least_is = refl }, as_many)
 
 -- each other one has as many boxes
-pub next-as_many : (b : Numbered) → IsAccepted b → (key next : Key) (push : Push) (to least : ℕ) (layout : Laid) → IsPushable b push layout key
+pub next-as_many : (b : Numbered) → IsAccepted b → (key next : Key) (push : Push) (to least : ℕ) (scene : Scene) → IsPushable b push scene key
     → beside b push.from push.dir ≡ Some to → IsNext key push.from to least next → length next.boxes ≡ length key.boxes
-next-as_many b accepted key next push to least layout can ahead is =
-    let (made, as_many) = next-made b accepted key push to least layout can ahead in
+next-as_many b accepted key next push to least scene can ahead is =
+    let (made, as_many) = next-made b accepted key push to least scene can ahead in
     ap (λ (k : Key). length k.boxes) (next-same key push.from to least next (next_of key push.from to least) is made) ∙ as_many
 
 -- what is known of it
@@ -81,13 +81,13 @@ pub record ComesNext (b : Numbered) (key : Key) (push : Push) (to least : ℕ) :
   pub is : IsNext key push.from to least (next_of key push.from to least)
   pub came : IsKeyAfter b key push (next_of key push.from to least)
 
-pub comes-next : (b : Numbered) → IsAccepted b → (key : Key) (push : Push) (to least : ℕ) (layout : Laid) → IsPushable b push layout key
+pub comes-next : (b : Numbered) → IsAccepted b → (key : Key) (push : Push) (to least : ℕ) (scene : Scene) → IsPushable b push scene key
     → beside b push.from push.dir ≡ Some to
-    → ((other next : Key) → IsPushable b push layout other → IsNext other push.from to least next → IsKeyAfter b other push next)
+    → ((next : Key) → IsNext key push.from to least next → IsKeyAfter b key push next)
     → ComesNext b key push to least
-comes-next b accepted key push to least layout can ahead comes =
-    let (is, as_many) = next-made b accepted key push to least layout can ahead in
-    record { is = is; came = comes key (next_of key push.from to least) can is }
+comes-next b accepted key push to least scene can ahead comes =
+    let (is, as_many) = next-made b accepted key push to least scene can ahead in
+    record { is = is; came = comes (next_of key push.from to least) is }
 
 -- the first square that a flood draws makes the key
 pub first-key : (b : Numbered) → IsAccepted b → (boxes : List ℕ) (player : ℕ) (free seen : List ℕ) → IsPlaced b boxes player

@@ -4,6 +4,7 @@ pub mod Normalizers
 pub mod Pushes
 pub mod Tables
 -- Words of the proofs alone
+pub mod Around
 pub mod Listing
 pub mod PackedKeys
 pub mod Stores

@@ -1,21 +1,19 @@
 -- The legal pushes of a state, listed from the first on.
-use Rattle.std.specs.Prelude.{ℕ, ◌≡◌, ◌+◌, ◌*◌, ◌<◌, ◌↔◌, List, AllPairs, Contains, IsTrue, Some, length}
+use Rattle.std.specs.Prelude.{ℕ, ◌≡◌, ◌+◌, ◌*◌, ◌<◌, ◌↔◌, List, AllPairs, Contains, IsTrue, Some}
 use Rattle.sok_rules.specs.declared.cell.Dir.{Dir}
-use Rattle.sok_rules.specs.States.{Same}
-use Rattle.sok_board.specs.Area.{Numbered, beside, position_of, spot_of}
+use Rattle.sok_board.specs.Area.{Numbered, beside, spot_of}
 use Rattle.sok_field.specs.Fields.{has}
 use Rattle.sok_field.specs.Numbers.{Draws}
 use Rattle.sok_region.specs.Regions.{IsPlaced}
 use Rattle.sok_state.specs.declared.key.Key.{Key}
 use Rattle.sok_state.specs.declared.push.Push.{Push}
-use Rattle.sok_state.specs.Keys.{key_position}
-use Rattle.sok_state.specs.Pushes.{IsLegal, rank}
+use Rattle.sok_state.specs.Pushes.{IsLegal, Reaches, rank}
 
 -- of a state, the squares that its boxes leave free, and those to which the man comes
 pub record IsDrawn (b : Numbered) (key : Key) (free seen : List ℕ) : Type 0 where
   pub placed : IsPlaced b key.boxes key.least
   pub left : Draws b (λ n. Contains key.boxes n → ⊥) free
-  pub reached : (s : ℕ) → s < length b.area → IsTrue (has seen (spot_of b s)) ↔ Same b.rows (key_position b key) (position_of b s key.boxes)
+  pub reached : Reaches b key seen
 
 -- the square beside one is of a set
 pub record HasBeside (b : Numbered) (set : List ℕ) (square : ℕ) (d : Dir) : Type 0 where

@@ -1,14 +1,16 @@
 -- The pushes that are legal from some position of a state.
-use Rattle.std.specs.Prelude.{ℕ, ◌≡◌, ◌<◌, ◌≤◌, ◌⊎◌, Some, true, length}
+use Rattle.std.specs.Prelude.{ℕ, ◌≡◌, ◌<◌, ◌≤◌, ◌⊎◌, ◌↔◌, IsTrue, List, Some, true, length}
 use Rattle.sok_rules.specs.declared.cell.Dir.{Dir}
 use Rattle.sok_rules.specs.declared.cell.Dir.TheVariants.{Left, Up, Right, Down}
 use Rattle.sok_rules.specs.Play.{Position, step}
 use Rattle.sok_rules.specs.States.{Same}
 use Rattle.sok_board.specs.Area.{Numbered, spot_of, position_of}
 use Rattle.sok_board.specs.Limits.{box_limit}
-use Rattle.sok_region.specs.Layouts.{IsLaidOut, Laid}
+use Rattle.sok_field.specs.Fields.{has}
+use Rattle.sok_region.specs.Layouts.{IsLaidOut}
 use Rattle.sok_state.specs.declared.key.Key.{Key}
 use Rattle.sok_state.specs.declared.push.Push.{Push}
+use Rattle.sok_state.specs.declared.scene.Scene.{Scene}
 use Rattle.sok_state.specs.Keys.{IsKey, IsKeyOf}
 
 -- the push is legal from a position of the state and leads to another: the man ends where the box stood
@@ -30,12 +32,26 @@ pub record IsKeyAfter (b : Numbered) (key : Key) (push : Push) (next : Key) : Ty
   pub of_board : IsKey b next
   pub as_many : length next.boxes ≡ length key.boxes
 
--- a push from a state of the board, whose boxes are laid out
-pub record IsPushable (b : Numbered) (push : Push) (layout : Laid) (key : Key) : Type 0 where
+-- a set has the squares to which the man comes from one among boxes
+abbrev pub ReachesFrom : Numbered → ℕ → List ℕ → List ℕ → Type 0
+ReachesFrom b player boxes reached =
+    (s : ℕ) → s < length b.area → IsTrue (has reached (spot_of b s)) ↔ Same b.rows (position_of b player boxes) (position_of b s boxes)
+
+-- those to which he comes in a state
+abbrev pub Reaches : Numbered → Key → List ℕ → Type 0
+Reaches b key reached = ReachesFrom b key.least key.boxes reached
+
+-- a state that is laid out: its boxes, and the squares to which the man comes
+pub record IsOpened (b : Numbered) (key : Key) (scene : Scene) : Type 0 where
+  pub laid : IsLaidOut b key.boxes scene.layout
+  pub reached : Reaches b key scene.reached
+
+-- a push from a state of the board that is laid out
+pub record IsPushable (b : Numbered) (push : Push) (scene : Scene) (key : Key) : Type 0 where
   pub state : IsKey b key
   pub few : length key.boxes ≤ box_limit
   pub legal : IsLegal b key push
-  pub laid : IsLaidOut b key.boxes layout
+  pub opened : IsOpened b key scene
 
 -- left, up, right, down
 abbrev pub rank : Dir → ℕ

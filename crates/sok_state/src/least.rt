@@ -5,6 +5,7 @@ ghost use Rattle.sok_board.specs.Area.{IsAccepted, position_of};
 ghost use Rattle.sok_field.specs.Numbers.{Draws};
 ghost use Rattle.sok_region.specs.Regions.{IsPlaced};
 ghost use Rattle.sok_state.specs.Keys.{IsKeyOf};
+ghost use Rattle.sok_state.specs.Pushes.{ReachesFrom};
 
 use sok_board::area::Sq;
 use sok_board::board::Board;
@@ -12,15 +13,18 @@ use sok_field::drawing;
 use sok_field::field::Field;
 
 /// The least square to which the player walks from one, over the squares that boxes leave free. The
-/// other set is a place for those that the player comes to.
+/// other set becomes that of those that the player comes to.
 pub(crate) fn least_square(board: &Board, free: &Field, seen: &mut Field, player: Sq) -> Sq
     requires accepted { IsAccepted board.now }
     requires drawn { (boxes : List ℕ) × IsPlaced board.now boxes player
         × Draws board.now (λ n. Contains boxes n → ⊥) free.now }
-    ensures { (boxes : List ℕ) → IsPlaced board.now boxes player
+    ensures key { (boxes : List ℕ) → IsPlaced board.now boxes player
         → Draws board.now (λ n. Contains boxes n → ⊥) free.now
         → IsKeyOf board.now (position_of board.now player boxes)
         (record { boxes = boxes; least = result }) }
+    ensures reached { (boxes : List ℕ) → IsPlaced board.now boxes player
+        → Draws board.now (λ n. Contains boxes n → ⊥) free.now
+        → ReachesFrom board.now player boxes seen.new }
 {
     drawing::flood_from(seen, free, board, player);
     match seen.first() {

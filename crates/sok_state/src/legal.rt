@@ -4,24 +4,22 @@ ghost use Rattle.std.specs.Prelude.{◌≡◌, ◌+◌, ◌*◌, ◌<◌, ◌≤
 ghost use Rattle.std.specs.Prelude.{AllPairs, Contains, length, vec_capacity, vec_len};
 ghost use Rattle.sok_rules.specs.Play.{Position};
 ghost use Rattle.sok_board.specs.Area.{IsAccepted, position_of};
-ghost use Rattle.sok_region.specs.Layouts.{IsLaidOut};
 ghost use Rattle.sok_region.specs.Regions.{IsPlaced};
 ghost use Rattle.sok_state.specs.declared.key.Key.{Key};
 ghost use Rattle.sok_state.specs.declared.push.Push.{Push};
 ghost use Rattle.sok_state.specs.Keys.{IsKey};
 ghost use Rattle.sok_state.specs.Listing.{HasBeside, IsDrawn, Lists, place};
 ghost use Rattle.sok_state.specs.Normalizers.{Normalizes};
-ghost use Rattle.sok_state.specs.Pushes.{IsKeyAfter, IsLegal, LeadsTo, Precedes};
+ghost use Rattle.sok_state.specs.Pushes.{IsKeyAfter, IsLegal, IsOpened, LeadsTo, Precedes};
 
 use crate::key::Key;
 use crate::normalizer::Normalizer;
 use crate::push::Push;
+use crate::scene::Scene;
 use sok_board::area::Sq;
 use sok_board::board::Board;
 use sok_board::box_set::BoxSet;
-use sok_field::drawing;
 use sok_field::field::Field;
-use sok_region::layout::Layout;
 use sok_rules::cell::Dir;
 use sok_rules::fault::Memory;
 use std::alloc::Global;
@@ -35,27 +33,24 @@ pub fn pushes(alloc: Global, board: &Board, key: &Key) -> Result<Vec<Push>, Memo
         → IsLegal board.now key.now push → Contains pushes.items push) }
     ensures in_order { IfOk result (λ pushes. AllPairs Precedes pushes.items) }
 {
-    let mut layout = Layout::new(alloc, board);
-    layout.lay(board, key.boxes.list())?;
-    let mut seen = Field::new();
+    let mut scene = Scene::new(alloc, board);
+    scene.open(board, key)?;
     let mut pushes = Vec::new(alloc);
-    list_pushes(board, key, &layout, &mut seen, &mut pushes)?;
+    list_pushes(board, key, &scene, &mut pushes)?;
     Ok(pushes)
 }
 
-/// Makes a list the pushes that `pushes` gives of a state whose boxes are laid out. The set of
-/// squares is a place for those that the player comes to. It refuses only for want of memory, and
-/// then the list stays: it asks first for room for four pushes of each box.
+/// Makes a list the pushes that `pushes` gives of a state that is laid out. It refuses only for want
+/// of memory, and then the list stays: it asks first for room for four pushes of each box.
 pub fn list_pushes(
     board: &Board,
     key: &Key,
-    layout: &Layout,
-    seen: &mut Field,
+    scene: &Scene,
     pushes: &mut Vec<Push>,
 ) -> Result<(), Memory>
     requires accepted { IsAccepted board.now }
     requires key { IsKey board.now key.now }
-    requires laid { IsLaidOut board.now key.now.boxes layout.now }
+    requires opened { IsOpened board.now key.now scene.now }
     ensures legal { OnOk result (All (IsLegal board.now key.now) pushes.new.items) }
     ensures whole { OnOk result ((push : Push)
         → IsLegal board.now key.now push → Contains pushes.new.items push) }
@@ -65,10 +60,9 @@ pub fn list_pushes(
     let boxes = key.boxes.list();
     pushes.reserve(boxes.len() * 4)?;
     pushes.clear();
-    let free = layout.free();
-    drawing::flood_from(seen, free, board, key.least);
+    let free = scene.layout.free();
     for from in boxes {
-        list_box(board, free, seen, *from, pushes);
+        list_box(board, free, &scene.reached, *from, pushes);
     }
     Ok(())
 }

@@ -2,6 +2,7 @@
 //!
 //! | Module | What it holds |
 //! |---|---|
+//! | `around` | where the player comes after a push, told from the squares around its box (private) |
 //! | `expansion` | a state whose pushes are followed |
 //! | `key` | the boxes of a state, and the least square that the player can walk to |
 //! | `law` | keys tell states apart |
@@ -11,10 +12,12 @@
 //! | `packed` | the key of a state in bits (private) |
 //! | `packed_table` | packed keys of one width in the order of their insertion, with depths (private) |
 //! | `push` | a push, by the square of its box and its direction |
-//! | `stepping` | the state that a push leads to, over boxes that are laid out |
+//! | `scene` | a state that is laid out |
+//! | `stepping` | the state that a push leads to from one that is laid out |
 //! | `table` | keys in the order of their insertion, with depths, as narrow as a board allows |
 #![tactic(auto)]
 
+mod around;
 pub mod expansion;
 pub mod key;
 pub mod law;
@@ -24,5 +27,6 @@ pub mod normalizer;
 mod packed;
 mod packed_table;
 pub mod push;
+pub mod scene;
 pub mod stepping;
 pub mod table;

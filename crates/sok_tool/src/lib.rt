@@ -1,6 +1,6 @@
 //! The program: its words, its files, its databases and streams, what it writes, and how it ends.
-//! The engines and what they share are those of `sok_play`, `sok_judge` and `sok_engine`, passed
-//! on, and the files those of `sok_files`.
+//! The engines and what they share are those of `sok_play`, `sok_judge` and `sok_engine`, and the
+//! files those of `sok_files`.
 //!
 //! | Module | What it holds |
 //! |---|---|
@@ -22,9 +22,3 @@ mod keeping;
 mod letters;
 mod opening;
 pub mod program;
-
-pub use sok_engine::{fault, input};
-pub use sok_files::{ending, folder, notes, watched};
-pub use sok_judge::check;
-pub use sok_play::{drawing, listing, play};
-pub use sok_words::{job, words};

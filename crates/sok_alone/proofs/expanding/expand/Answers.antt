@@ -37,7 +37,7 @@ follow_all-requires g c =
           reached-at b g.start c.args.limit c.args.known.now c.requires.1.0 c.requires.0.accepted c.args.index key c.in_ok-key.ensures,
           (
             subst (λ (pushes : List Push). All (IsLegal b key) pushes) (sym c.deref.ensures.value) c.in_ok-open.ensures.legal,
-            c.requires.1.1.1.1.normalizes,
+            c.in_ok-open.ensures.opened,
           ),
         ),
       ),

@@ -13,9 +13,21 @@ pub loop-push-init : goal.loop-push-init
 loop-push-init g c = record {
   known = c.requires.1.0;
   grows = Grows-refl c.args.known.now;
-  normalizes = c.requires.1.1.1.1;
+  opened = c.requires.1.1.1.1;
   found = λ i push below there. absurd (omega (arith, below));
 }
+
+pub after-requires-clause-pushable : goal.after-requires-clause-pushable
+after-requires-clause-pushable g c =
+    let reached = c.requires.1.1.0 in
+    let same = reached.as_many in
+    let few = c.requires.0.few_boxes in
+    record {
+      state = reached.state;
+      few = omega (arith, same, few);
+      legal = c.requires.1.1.1.0 c.loop-push.push-index no_push c.loop-push-test.true;
+      opened = c.loop-push.invariant.opened;
+    }
 
 pub meet-requires : goal.meet-requires
 meet-requires g c =
@@ -45,7 +57,7 @@ loop-push-preserved g c =
     record {
       known = met.known;
       grows = Grows-trans c.args.known.now before new c.loop-push.invariant.grows met.grows;
-      normalizes = c.in_ok-next.ensures.normalizes;
+      opened = c.after.ensures.opened;
       found = before_more (λ _ other. IsFound b new.table.entries key 0 other) pushes i push (slice_get-get_or pushes i no_push c.loop-push-test.true)
           (λ j other below there. found-grows before new met.grows b key 0 other (c.loop-push.invariant.found j other below there))
           (found-met b g.start c.args.limit before new key c.in_ok-next.next push c.in_ok-next.ensures.after.exact met);

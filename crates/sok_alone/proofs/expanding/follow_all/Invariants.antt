@@ -1,6 +1,6 @@
 use Rattle.std.proofs.Common.{ℕ, ◌≡◌, ◌<◌, Some, slice_get}
 use Rattle.sok_state.specs.declared.push.Push.{Push}
-use Rattle.sok_state.specs.Normalizers.{Normalizes}
+use Rattle.sok_state.specs.Pushes.{IsOpened}
 use Rattle.sok_closed.specs.Lookup.{IsFound}
 use Rattle.sok_alone.specs.Known.{IsKnown}
 use Rattle.sok_alone.specs.Meeting.{Grows}
@@ -13,6 +13,6 @@ abbrev pub invariant-loop-push : goal.invariant-loop-push
 invariant-loop-push g l = record {
   known : IsKnown l.board g.start l.limit l.known;
   grows : Grows l.initial.known l.known;
-  normalizes : Normalizes l.board l.normalizer;
+  opened : IsOpened l.board l.key l.scene;
   found : (i : ℕ) (push : Push) → i < l.push-index → slice_get l.pushes i ≡ Some push → IsFound l.board l.known.table.entries l.key 0 push;
 }

@@ -1,9 +1,15 @@
+use Rattle.std.proofs.Common.{◌≤◌, All, length}
+use Rattle.sok_board.specs.Limits.{box_limit}
 use Rattle.sok_state.specs.Keys.{IsKey}
+use Rattle.sok_state.specs.Pushes.{IsLegal, IsOpened}
 use Rattle.sok_alone.specs.Workspace.{IsWorkspace}
 use Rattle.sok_alone.proofs.probing.are_soon_solved.Given as goal
 
 abbrev pub invariant-loop : goal.invariant-loop
 invariant-loop l = record {
   state : IsKey l.board l.key;
+  few : length l.key.boxes ≤ box_limit;
+  opened : IsOpened l.board l.key l.workspace.expansion.scene;
+  legal : All (IsLegal l.board l.key) l.workspace.expansion.pushes.items;
   workspace : IsWorkspace l.board l.workspace;
 }

@@ -6,28 +6,26 @@ use Rattle.sok_closed.proofs.Looking.{no_push}
 use Rattle.sok_closed.proofs.following.first_missing.Goals as goal
 
 pub loop-place-init : goal.loop-place-init
-loop-place-init c = record { laid = λ key at legal. at; found = λ key at legal i push below _. absurd (omega (arith, below)) }
+loop-place-init c = record { opened = c.requires.opened; found = λ i push below _. absurd (omega (arith, below)) }
 
-pub is_found-requires-clause-legal : goal.is_found-requires-clause-legal
-is_found-requires-clause-legal c =
-    let (key, at, legal) = c.requires.legal in
-    (key, c.loop-place.invariant.laid key at legal, legal c.loop-place.place no_push c.loop-place-test.true)
-
-pub returns-then-not-is_found-clause-laid : goal.returns-then-not-is_found-clause-laid
-returns-then-not-is_found-clause-laid c = λ key at legal.
-    c.is_found.ensures.laid key (c.loop-place.invariant.laid key at legal) (legal c.loop-place.place no_push c.loop-place-test.true)
+pub is_found-requires-clause-pushable : goal.is_found-requires-clause-pushable
+is_found-requires-clause-pushable c = record {
+  state = c.requires.key;
+  few = c.requires.few;
+  legal = c.requires.legal c.loop-place.place no_push c.loop-place-test.true;
+  opened = c.loop-place.invariant.opened;
+}
 
 pub returns-then-not-is_found-clause-first : goal.returns-then-not-is_found-clause-first
-returns-then-not-is_found-clause-first c = λ key at legal.
+returns-then-not-is_found-clause-first c =
     let place = c.loop-place.place in
-    let push = get_or c.args.pushes.now place no_push in
-    let told = c.is_found.ensures.found key (c.loop-place.invariant.laid key at legal) (legal place no_push c.loop-place-test.true) in (
+    let push = get_or c.args.pushes.now place no_push in (
       (
         push,
         slice_get-get_or c.args.pushes.now place no_push c.loop-place-test.true,
-        subst (TellsFound c.args.board.now c.args.table.now.entries key c.args.depth push) c.if-not-is_found.true told,
+        subst (TellsFound c.args.board.now c.args.table.now.entries c.args.key.now c.args.depth push) c.if-not-is_found.true c.is_found.ensures.found,
       ),
-      c.loop-place.invariant.found key at legal,
+      c.loop-place.invariant.found,
     )
 
 pub loop-place-preserved : goal.loop-place-preserved
@@ -36,17 +34,16 @@ loop-place-preserved c =
     let push = get_or c.args.pushes.now place no_push in
     let b = c.args.board.now in
     let table = c.args.table.now.entries in
+    let key = c.args.key.now in
     record {
-      laid = λ key at legal. c.is_found.ensures.laid key (c.loop-place.invariant.laid key at legal) (legal place no_push c.loop-place-test.true);
-      found = λ key at legal.
-          let told = c.is_found.ensures.found key (c.loop-place.invariant.laid key at legal) (legal place no_push c.loop-place-test.true) in
-          before_more (λ _ one. IsFound b table key c.args.depth one) c.args.pushes.now place push
-          (slice_get-get_or c.args.pushes.now place no_push c.loop-place-test.true) (c.loop-place.invariant.found key at legal)
-          (subst (TellsFound b table key c.args.depth push) c.if-not-is_found.false told);
+      opened = c.is_found.ensures.opened;
+      found = before_more (λ _ one. IsFound b table key c.args.depth one) c.args.pushes.now place push
+          (slice_get-get_or c.args.pushes.now place no_push c.loop-place-test.true) c.loop-place.invariant.found
+          (subst (TellsFound b table key c.args.depth push) c.if-not-is_found.false c.is_found.ensures.found);
     }
 
 pub returns-clause-first : goal.returns-clause-first
-returns-clause-first c = λ key at legal i push there.
+returns-clause-first c = λ i push there.
     let past = c.loop-place-test.false in
     let within = slice_get_within c.args.pushes.now i push there in
-    c.loop-place.invariant.found key at legal i push (omega (arith, within, past)) there
+    c.loop-place.invariant.found i push (omega (arith, within, past)) there

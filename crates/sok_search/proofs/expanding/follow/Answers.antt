@@ -11,7 +11,7 @@ loop-push-init c = record {
   followed = followed-none c.args.board.now c.args.limit
       (progress_of c.args.search.now) c.args.index c.args.key.now c.args.depth c.args.pushes.now c.requires.state.running.search;
   trial = c.requires.trial;
-  laid = c.requires.laid;
+  opened = c.requires.opened;
 }
 
 pub reach-requires-clause-state : goal.reach-requires-clause-state
@@ -39,7 +39,7 @@ loop-push-preserved c =
           (progress_of c.reach.new.search) c.args.index c.args.key.now c.args.depth pushes n push
           (slice_get-get_or pushes n no_push c.loop-push-test.true) c.loop-push.invariant.followed told;
       trial = c.in_ok-reach.ensures.trial;
-      laid = c.in_ok-reach.ensures.laid;
+      opened = c.in_ok-reach.ensures.opened;
     }
 
 pub returns-clause-tells : goal.returns-clause-tells

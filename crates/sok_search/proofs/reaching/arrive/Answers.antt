@@ -1,4 +1,4 @@
-use Rattle.std.proofs.Common.{◌≡◌, ◌+◌, ap, subst, refl, arith, length}
+use Rattle.std.proofs.Common.{◌≡◌, ◌+◌, ap, subst, refl, sym, arith, length}
 use Rattle.sok_board.proofs.Beside.{beside-within}
 use Rattle.sok_closed.proofs.Starting.{at-within}
 use Rattle.sok_state.specs.declared.key.Key.{Key}
@@ -6,7 +6,7 @@ use Rattle.sok_state.specs.Tables.{Entries, Enters, GoesLast, Stays, Tabled}
 use Rattle.sok_alone.specs.Losses.{losses_of}
 use Rattle.sok_search.specs.declared.search.Search.{Search}
 use Rattle.sok_search.specs.Searches.{Frame}
-use Rattle.sok_state.specs.Pushes.{IsPushable}
+use Rattle.sok_state.specs.Pushes.{IsPushable, Reaches}
 use Rattle.sok_search.specs.Views.{progress_of}
 use Rattle.sok_search.proofs.Adding.{added-made, note-within, taken, taken-deep, taken-pushable}
 use Rattle.sok_search.proofs.Moving.{moved-next}
@@ -18,9 +18,8 @@ use Rattle.sok_search.proofs.reaching.arrive.Goals.{After-step-least, Then-not-i
 
 pub step-least-requires-clause-pushable : goal.step-least-requires-clause-pushable
 step-least-requires-clause-pushable c =
-    let can = taken-pushable c.args.board.now c.requires.state.running.accepted c.args.limit c.args.index (progress_of c.args.search.now) c.args.key.now c.args.depth
-    c.requires.state.running.search c.requires.state.there c.requires.state.depth_is c.args.push c.requires.legal c.args.trial.now.layout c.requires.laid in
-    (c.args.key.now, can)
+    taken-pushable c.args.board.now c.requires.state.running.accepted c.args.limit c.args.index (progress_of c.args.search.now) c.args.key.now c.args.depth
+    c.requires.state.running.search c.requires.state.there c.requires.state.depth_is c.args.push c.requires.legal c.args.trial.now.scene c.requires.opened
 
 pub insert_next-requires-clause-exists : goal.insert_next-requires-clause-exists
 insert_next-requires-clause-exists c = at-within c.args.search.now.table.entries c.args.key.now c.args.index c.requires.state.there
@@ -44,14 +43,14 @@ overflow_add-deeper c =
     omega (arith, deep, c.ranges.limit.fits)
 
 -- the push can be made
-can_in : (c : After-step-least) → IsPushable c.args.board.now c.args.push c.args.trial.now.layout c.args.key.now
+can_in : (c : After-step-least) → IsPushable c.args.board.now c.args.push c.args.trial.now.scene c.args.key.now
 can_in c = taken-pushable c.args.board.now c.requires.state.running.accepted c.args.limit c.args.index (progress_of c.args.search.now) c.args.key.now c.args.depth
-    c.requires.state.running.search c.requires.state.there c.requires.state.depth_is c.args.push c.requires.legal c.args.trial.now.layout c.requires.laid
+    c.requires.state.running.search c.requires.state.there c.requires.state.depth_is c.args.push c.requires.legal c.args.trial.now.scene c.requires.opened
 
 -- and leads to a state
 comes_in : (c : After-step-least) → ComesNext c.args.board.now c.args.key.now c.args.push c.args.to c.step-least.result
 comes_in c = comes-next c.args.board.now c.requires.state.running.accepted c.args.key.now c.args.push c.args.to c.step-least.result
-    c.args.trial.now.layout (can_in c) c.requires.ahead c.step-least.ensures.next
+    c.args.trial.now.scene (can_in c) c.requires.ahead c.step-least.ensures.next
 
 -- the frame of a search with another table
 abbrev frame_in : Search → Tabled → Frame
@@ -68,9 +67,9 @@ stays_in : (c : Then-not-is_new) → Stays c.args.search.now.table.entries (next
 unfolding next_in
 stays_in c =
     let can = taken-pushable c.args.board.now c.requires.state.running.accepted c.args.limit c.args.index (progress_of c.args.search.now) c.args.key.now c.args.depth
-    c.requires.state.running.search c.requires.state.there c.requires.state.depth_is c.args.push c.requires.legal c.args.trial.now.layout c.requires.laid in
+    c.requires.state.running.search c.requires.state.there c.requires.state.depth_is c.args.push c.requires.legal c.args.trial.now.scene c.requires.opened in
     let comes = comes-next c.args.board.now c.requires.state.running.accepted c.args.key.now c.args.push c.args.to c.step-least.result
-    c.args.trial.now.layout can c.requires.ahead c.step-least.ensures.next in
+    c.args.trial.now.scene can c.requires.ahead c.step-least.ensures.next in
     subst (λ t. Enters c.args.search.now.table.entries (next_in c) (c.args.depth + 1) c.in_ok-at.at t c.insert_next.new.self.entries)
     c.if-not-is_new.true (c.in_ok-at.ensures.inserted.enters c.args.key.now (next_in c) c.requires.state.there comes.is)
 
@@ -93,10 +92,6 @@ pub approach-requires-clause-noted : goal.approach-requires-clause-noted
 approach-requires-clause-noted c =
     let here = (goal.at.approach-requires-clause-noted c).Then-not-is_new in
     note-within c.args.board.now c.args.limit c.args.index (progress_of c.args.search.now) c.requires.state.running.search c.in_ok-at.at (next_in here) (stays_in here).there
-
-pub returns-then-not-is_new-clause-laid : goal.returns-then-not-is_new-clause-laid
-returns-then-not-is_new-clause-laid c =
-    c.step-least.ensures.laid c.args.key.now (can_in ((goal.at.returns-then-not-is_new-clause-laid c).After-step-least))
 
 pub returns-then-not-is_new-clause-tells : goal.returns-then-not-is_new-clause-tells
 unfolding next_in
@@ -126,8 +121,7 @@ add-requires c =
     omega (arith, at, room, length_is, c.ranges.limit.fits)
 
 pub judge_after-requires-clause-laid : goal.judge_after-requires-clause-laid
-judge_after-requires-clause-laid c =
-    c.step-least.ensures.laid c.args.key.now (can_in ((goal.at.judge_after-requires-clause-laid c).After-step-least))
+judge_after-requires-clause-laid c = c.step-least.ensures.opened.laid
 
 pub judge_after-requires-clause-moved : goal.judge_after-requires-clause-moved
 judge_after-requires-clause-moved c =
@@ -153,7 +147,7 @@ returns-clause-tells c =
     let here = (goal.at.returns-clause-tells c).After-step-least in
     let losses = losses_of c.args.search.now.losses in
     let judged = c.in_ok-standing.ensures.judged losses c.step-least.result
-    (lost-next c.args.board.now c.requires.state.running.accepted c.args.key.now c.args.push c.args.to c.args.trial.now.layout (can_in here)
+    (lost-next c.args.board.now c.requires.state.running.accepted c.args.key.now c.args.push c.args.to c.args.trial.now.scene (can_in here)
     c.requires.ahead c.step-least.result comes losses c.args.lost c.requires.lost) in
     pushed-added c.args.board.now c.args.limit c.args.index p c.requires.state.running.search c.args.key.now
     c.args.depth c.requires.state.there c.requires.state.depth_is one.note one.note_is
@@ -162,3 +156,9 @@ returns-clause-tells c =
     (added-made p (frame_in c.args.search.now c.insert_next.new.self) c.insert_next.new.self.entries q next (c.args.depth + 1) at _
     (same_frame c.args.search.now c.insert_next.new.self c.in_ok-at.ensures.room) last
     c.in_ok-add.ensures)
+
+pub returns-clause-opened : goal.returns-clause-opened
+returns-clause-opened c = record {
+  laid = c.in_ok-standing.ensures.laid;
+  reached = subst (Reaches c.args.board.now c.args.key.now) (sym c.judge_after.ensures.reached) c.step-least.ensures.opened.reached;
+}

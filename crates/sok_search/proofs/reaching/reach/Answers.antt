@@ -53,11 +53,11 @@ returns-then-is_some-clause-tells c =
     let key = c.args.key.now in
     let running = c.requires.state.running in
     let can = taken-pushable b running.accepted c.args.limit c.args.index p key c.args.depth running.search c.requires.state.there c.requires.state.depth_is c.args.push
-    c.requires.legal c.args.trial.now.layout c.requires.laid in
+    c.requires.legal c.args.trial.now.scene c.requires.opened in
     pushed-knowing b c.args.limit (holding c.args.index p) c.ask.new.losses key c.args.depth c.args.push (holding c.args.index q)
     (pushed-left_out b c.args.limit c.args.index q (known-in ((goal.at.returns-then-is_some-clause-tells c).In_ok-lost)) key c.args.depth c.args.push (record {
       part = c.if-not-search-2.true;
-      nowhere = lost-found b running.accepted key c.args.push c.square_ahead-to.result c.args.trial.now.layout can c.square_ahead-to.ensures
+      nowhere = lost-found b running.accepted key c.args.push c.square_ahead-to.result c.args.trial.now.scene can c.square_ahead-to.ensures
           (losses_of c.ask.new.losses) c.in_ok-lost.lost (sym c.is_some.ensures ∙ c.if-is_some.true) c.in_ok-lost.ensures.lost;
     }))
 

@@ -5,6 +5,7 @@ use Rattle.sok_search.proofs.Reasons.{stuck-among, stuck-crowd}
 use Rattle.sok_board.specs.BoxSets.{put_in_order}
 use Rattle.sok_region.specs.Layouts.{IsLaidOut}
 use Rattle.sok_price.specs.Matched.{TellsLeast}
+use Rattle.sok_state.specs.declared.scene.Scene.{Scene}
 use Rattle.sok_bar.specs.Bars.{Barring}
 use Rattle.sok_search.proofs.trial.judge_after.Goals as goal
 
@@ -34,11 +35,11 @@ returns-in-Some-clause-laid c =
     c.is_jammed.ensures.laid c.args.before.now (put_in_order c.args.from c.args.to c.args.before.now) c.requires.moved c.requires.laid
 
 pub returns-in-Some-2-clause-laid : goal.returns-in-Some-2-clause-laid
-returns-in-Some-2-clause-laid c = subst (IsLaidOut c.args.board.now c.args.before.now) (sym c.bound_after.ensures.layout)
+returns-in-Some-2-clause-laid c = subst (λ (scene : Scene). IsLaidOut c.args.board.now c.args.before.now scene.layout) (sym c.bound_after.ensures.scene)
     (c.is_jammed.ensures.laid c.args.before.now (put_in_order c.args.from c.args.to c.args.before.now) c.requires.moved c.requires.laid)
 
 pub returns-in-None-clause-laid : goal.returns-in-None-clause-laid
-returns-in-None-clause-laid c = subst (IsLaidOut c.args.board.now c.args.before.now) (sym c.bound_after.ensures.layout)
+returns-in-None-clause-laid c = subst (λ (scene : Scene). IsLaidOut c.args.board.now c.args.before.now scene.layout) (sym c.bound_after.ensures.scene)
     (c.is_jammed.ensures.laid c.args.before.now (put_in_order c.args.from c.args.to c.args.before.now) c.requires.moved c.requires.laid)
 
 pub returns-in-None-clause-judged : goal.returns-in-None-clause-judged

@@ -20,7 +20,7 @@ least_square-least-requires-clause-drawn c = (
 )
 
 pub returns-clause-key : goal.returns-clause-key
-returns-clause-key c = c.least_square-least.ensures c.args.boxes c.requires.placed
+returns-clause-key c = c.least_square-least.ensures.key c.args.boxes c.requires.placed
     (subst (λ boxes. Draws c.args.board.now (λ n. Contains boxes n → ⊥) c.take_boxes.new.field) c.list.ensures.list c.take_boxes.ensures)
 
 pub returns-clause-of_board : goal.returns-clause-of_board

@@ -1,6 +1,6 @@
 use Rattle.std.proofs.Common.{◌∙◌, ap, is_some, sym, true≢false}
 use Rattle.sok_board.specs.Area.{spot_of}
-use Rattle.sok_region.proofs.Regions.{drawn-numbered, player-drawn, through-exact}
+use Rattle.sok_region.proofs.Regions.{drawn-numbered, drawn-same, player-drawn, through-exact}
 use Rattle.sok_state.proofs.Stepped.{first-key}
 use Rattle.sok_state.proofs.least.least_square.Goals as goal
 
@@ -26,7 +26,13 @@ unreachable-requires c =
     c.flood_from.ensures in
     absurd (true≢false (sym here ∙ c.in-None.ensures (spot_of b c.args.player)))
 
-pub returns : goal.returns
-returns c = λ boxes placed drawn.
+pub returns-clause-reached : goal.returns-clause-reached
+returns-clause-reached c = λ boxes placed drawn.
+    let accepted = c.requires.accepted in
+    drawn-same c.args.board.now boxes c.args.player c.args.free.now c.flood_from.new.seen accepted.proper accepted.numbered placed drawn
+    c.flood_from.ensures
+
+pub returns-clause-key : goal.returns-clause-key
+returns-clause-key c = λ boxes placed drawn.
     first-key c.args.board.now c.requires.accepted boxes c.args.player c.args.free.now c.flood_from.new.seen placed drawn c.flood_from.ensures
     c.in-Some.spot c.unwrap.result c.in-Some.ensures (sym c.square.ensures.number ∙ c.unwrap.ensures)

@@ -1,19 +1,9 @@
 use Rattle.std.proofs.Common.{◌<◌, ◌+◌, ◌*◌, ap, subst, sym, Contains, arith, length, get_or}
 use Rattle.std.proofs.lemmas.List.Elements.{Contains-get_or}
 use Rattle.sok_field.specs.Numbers.{Draws}
-use Rattle.sok_region.proofs.Regions.{through-exact}
-use Rattle.sok_state.specs.Listing.{Lists}
-use Rattle.sok_state.proofs.Drawn.{IsDrawn-flooded}
+use Rattle.sok_state.specs.Listing.{IsDrawn, Lists}
 use Rattle.sok_state.proofs.Listed.{IsListing-more, Lists-next, listed_legal, listed_whole, listed_in_order}
 use Rattle.sok_state.proofs.legal.list_pushes.Goals as goal
-
-pub flood_from-requires-clause-start : goal.flood_from-requires-clause-start
-flood_from-requires-clause-start c =
-    let b = c.args.board.now in
-    let key = c.args.key.now in
-    let placed = c.requires.key.is.placed in
-    let drawn = subst (Draws b (λ n. Contains key.boxes n → ⊥)) (sym c.free-free.ensures) c.requires.laid.free in
-    (through-exact b c.requires.accepted.numbered key.boxes c.free-free.result.now drawn key.least placed.player_exists).1 placed.free
 
 pub loop-from-preserved : goal.loop-from-preserved
 loop-from-preserved c =
@@ -24,8 +14,11 @@ loop-from-preserved c =
     let test = c.loop-from-test.true in
     let within : done < length key.boxes = omega (arith, long, test) in
     let before = c.loop-from.invariant in
-    let drawn = IsDrawn-flooded b c.requires.accepted key c.free-free.result.now c.flood_from.new.seen c.requires.key.is.placed
-    (subst (Draws b (λ n. Contains key.boxes n → ⊥)) (sym c.free-free.ensures) c.requires.laid.free) c.flood_from.ensures in
+    let drawn : IsDrawn b key c.free-free.result.now c.args.scene.now.reached = record {
+      placed = c.requires.key.is.placed;
+      left = subst (Draws b (λ n. Contains key.boxes n → ⊥)) (sym c.free-free.ensures) c.requires.opened.laid.free;
+      reached = c.requires.opened.reached;
+    } in
     let listed = subst (λ boxes. Contains key.boxes (get_or boxes done 0) → Lists b key (get_or boxes done 0 * 4) c.loop-from.pushes.items
     → Lists b key (get_or boxes done 0 * 4 + 4) c.list_box.new.pushes.items) c.list-boxes.ensures.list (c.list_box.ensures.listed key drawn) in
     record {

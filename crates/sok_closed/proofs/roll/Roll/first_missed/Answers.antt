@@ -1,4 +1,4 @@
-use Rattle.std.proofs.Common.{◌≡◌, ◌∙◌, Bool, List, Some, ap, false, slice_get, subst, true}
+use Rattle.std.proofs.Common.{◌≡◌, ◌∙◌, Bool, List, Some, ap, arith, false, length, refl, slice_get, subst, true}
 use Rattle.std.proofs.lemmas.Option.{slice_get-get_or}
 use Rattle.sok_closed.specs.Lookup.{TellsOpen}
 use Rattle.sok_closed.proofs.Missed.{followed-more, followed-unmarked}
@@ -53,3 +53,10 @@ loop-index-preserved c =
           c.loop-index.invariant.followed;
       laid = c.in_ok-push.ensures.laid;
     }
+
+pub returns : goal.returns
+returns c = λ i key depth below marked.
+    let past = c.loop-index-test.false in
+    let long = ap length c.deref-expanded-items.ensures.value in
+    let same : length c.args.self.now.marks ≡ length c.self.inside.marks.items = rw (← c.self.view_is) refl in
+    c.loop-index.invariant.followed i key depth (omega (arith, below, past, long, same)) marked

@@ -1,0 +1,50 @@
+//! A state that is laid out.
+
+ghost use Rattle.std.specs.Prelude.{ℕ, List, OnOk};
+ghost use Rattle.sok_board.specs.Area.{IsAccepted};
+ghost use Rattle.sok_region.specs.Layouts.{IsLaidOut};
+ghost use Rattle.sok_state.specs.Keys.{IsKey};
+ghost use Rattle.sok_state.specs.Pushes.{IsOpened};
+
+use crate::key::Key;
+use sok_board::board::Board;
+use sok_field::drawing;
+use sok_field::field::Field;
+use sok_region::layout::Layout;
+use sok_rules::fault::Memory;
+use std::alloc::Global;
+
+/// A state that is laid out: its boxes, the squares to which the player comes, and a place for those
+/// to which he comes after a push. It is kept from state to state, so that nothing is made anew.
+#[derive(Drop)]
+pub struct Scene {
+    pub layout: Layout,
+    pub reached: Field,
+    pub seen: Field,
+}
+
+impl Scene {
+    /// No state yet. It keeps the allocator for the boxes.
+    pub fn new(alloc: Global, board: &Board) -> Scene
+        ensures laid { (boxes : List ℕ) × IsLaidOut board.now boxes result.layout }
+        ensures accepted { IsAccepted board.now }
+    {
+        Scene {
+            layout: Layout::new(alloc, board),
+            reached: Field::new(),
+            seen: Field::new(),
+        }
+    }
+
+    /// Lays out a state. It refuses only for want of memory, and is then of no more use.
+    pub fn open(&mut self, board: &Board, key: &Key) -> Result<(), Memory>
+        requires accepted { IsAccepted board.now }
+        requires key { IsKey board.now key.now }
+        requires laid { (boxes : List ℕ) × IsLaidOut board.now boxes self.old.layout }
+        ensures { OnOk result (IsOpened board.now key.now self.new) }
+    {
+        self.layout.lay(board, key.boxes.list())?;
+        drawing::flood_from(&mut self.reached, self.layout.free(), board, key.least);
+        Ok(())
+    }
+}
