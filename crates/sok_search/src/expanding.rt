@@ -57,7 +57,7 @@ impl Scratch {
     }
 
     /// Lays out a state that was taken, and lists its pushes: behind the push that led to it, where it
-    /// comes from the state that was expanded last, which most do.
+    /// comes from the state that was expanded last, and else anew.
     fn open(
         &mut self,
         alloc: Global,

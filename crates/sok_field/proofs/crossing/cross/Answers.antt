@@ -1,4 +1,4 @@
-use Rattle.std.proofs.Common.{◌∙◌, ◌≡◌, ◌+◌, ap, refl, subst, sym, arith, get_or, set, bit_and, bit_or}
+use Rattle.std.proofs.Common.{◌∙◌, ◌≡◌, ◌+◌, refl, subst, sym, arith, get_or, set, bit_and, bit_or}
 use Rattle.sok_field.specs.Rounds.{from_high, from_low}
 use Rattle.sok_field.proofs.Seams.{AreAcross, AreAcross-more, every-across}
 use Rattle.sok_field.proofs.crossing.cross.Goals as goal
