@@ -39,23 +39,26 @@ pub record AreAcross (across : ℕ → ℕ) (seen free out : List ℕ) (r : ℕ)
   pub done : (k : ℕ) → k < r → get_or out k 0 ≡ spread_beside (across k) seen free k
   pub rest : (k : ℕ) → r ≤ k → get_or out k 0 ≡ spread_row seen free k
 
--- a row that a round over its half leaves alone, with what comes across
-pub closed-row : (across : ℕ) (seen free : List ℕ) (r : ℕ) → get_or seen r 0 ≡ spread_row seen free r
-    → bit_or (get_or seen r 0) (bit_and (get_or free r 0) across) ≡ spread_beside across seen free r
-closed-row across seen free r closed = ap (λ row. bit_or row (bit_and (get_or free r 0) across)) closed ∙ beside-row across seen free r
-
--- so it is where nothing comes across
-pub AreAcross-stays : {across : ℕ → ℕ} {seen free : List ℕ} {r : ℕ} → AreAcross across seen free seen r
-    → bit_or (get_or seen r 0) (bit_and (get_or free r 0) (across r)) ≡ get_or seen r 0 → AreAcross across seen free seen (r + 1)
-AreAcross-stays {across = across} {seen = seen} {free = free} {r = r} are none = record {
+-- no more is added where nothing comes across
+pub AreAcross-stays : {across : ℕ → ℕ} {seen free out : List ℕ} {r : ℕ} → AreAcross across seen free out r
+    → bit_or (get_or out r 0) (bit_and (get_or free r 0) (across r)) ≡ get_or out r 0 → AreAcross across seen free out (r + 1)
+AreAcross-stays {across = across} {seen = seen} {free = free} {out = out} {r = r} are none = record {
   whole = are.whole;
   done = λ k below. elim (cases_eq k r) [
     | inl same ↦
-        subst (λ n. get_or seen n 0 ≡ spread_beside (across n) seen free n) (sym same) (sym none ∙ closed-row (across r) seen free r (are.rest r (omega arith)))
+        subst (λ n. get_or out n 0 ≡ spread_beside (across n) seen free n) (sym same)
+        (sym none ∙ ap (λ row. bit_or row (bit_and (get_or free r 0) (across r))) (are.rest r (omega arith)) ∙ beside-row (across r) seen free r)
     | inr apart ↦ are.done k (omega (arith, below, apart))
   ];
   rest = λ k past. are.rest k (omega (arith, past));
 }
+
+-- and nothing does where a round over both changes no row
+pub none-across : {across : ℕ → ℕ} {seen free out : List ℕ} {r : ℕ} → AreAcross across seen free out r → get_or seen r 0 ≡ spread_row seen free r
+    → get_or seen r 0 ≡ spread_beside (across r) seen free r → bit_or (get_or out r 0) (bit_and (get_or free r 0) (across r)) ≡ get_or out r 0
+none-across {across = across} {seen = seen} {free = free} {out = out} {r = r} are closed beside =
+    let same : get_or out r 0 ≡ spread_row seen free r = are.rest r (omega arith) in
+    ap (λ row. bit_or row (bit_and (get_or free r 0) (across r))) same ∙ beside-row (across r) seen free r ∙ sym beside ∙ closed ∙ sym same
 
 pub AreAcross-more : {across : ℕ → ℕ} {seen free out : List ℕ} {r : ℕ} → AreAcross across seen free out r → r < length out
     → AreAcross across seen free (set out r (bit_or (get_or out r 0) (bit_and (get_or free r 0) (across r)))) (r + 1)

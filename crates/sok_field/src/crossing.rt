@@ -42,47 +42,34 @@ pub(crate) fn flood_halves(
     loop {
         flood_all(free_low, low);
         flood_all(free_high, high);
-        if are_closed(free_low, free_high, low, high) {
+        if !cross(free_low, free_high, low, high) {
             return;
         }
-        cross(free_low, free_high, low, high);
     }
-}
-
-/// Whether a round over both halves changes nothing, where a round over each changes nothing.
-fn are_closed(free_low: &[u64], free_high: &[u64], low: &[u64], high: &[u64]) -> bool
-    requires free { length free_high.now ≡ length free_low.now }
-    requires low { length low.now ≡ length free_low.now }
-    requires high { length high.now ≡ length free_low.now }
-    requires closed_low { IsClosed low.now free_low.now }
-    requires closed_high { IsClosed high.now free_high.now }
-    ensures { IsTrue result ↔ AreClosed free_low.now free_high.now low.now high.now }
-{
-    for r in 0..low.len() {
-        let (left, right) = (low[r], high[r]);
-        if left | (free_low[r] & right << 63) != left {
-            return false;
-        }
-        if right | (free_high[r] & left >> 63) != right {
-            return false;
-        }
-    }
-    true
 }
 
 /// Makes a round over both halves in place, where a round over each changes nothing: so only what
-/// comes across the seam is added.
-fn cross(free_low: &[u64], free_high: &[u64], low: &mut [u64], high: &mut [u64])
+/// comes across the seam is added. Tells whether anything does.
+fn cross(free_low: &[u64], free_high: &[u64], low: &mut [u64], high: &mut [u64]) -> bool
     requires free { length free_high.now ≡ length free_low.now }
     requires low { length low.old ≡ length free_low.now }
     requires high { length high.old ≡ length free_low.now }
     requires closed_low { IsClosed low.old free_low.now }
     requires closed_high { IsClosed high.old free_high.now }
-    ensures { IsCrossed free_low.now free_high.now low.old high.old low.new high.new }
+    ensures crossed { IsCrossed free_low.now free_high.now low.old high.old low.new high.new }
+    ensures more { IsTrue result → AreClosed free_low.now free_high.now low.old high.old → ⊥ }
+    ensures closed { result ≡ false → AreClosed free_low.now free_high.now low.new high.new }
 {
+    let mut changed = false;
     for r in 0..low.len() {
         let (left, right) = (low[r], high[r]);
-        low[r] = left | (free_low[r] & right << 63);
-        high[r] = right | (free_high[r] & left >> 63);
+        let more_left = left | (free_low[r] & right << 63);
+        let more_right = right | (free_high[r] & left >> 63);
+        if more_left != left || more_right != right {
+            low[r] = more_left;
+            high[r] = more_right;
+            changed = true;
+        }
     }
+    changed
 }

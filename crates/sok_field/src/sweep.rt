@@ -55,21 +55,16 @@ fn meet_row(free: &[u64], seen: &mut [u64], r: usize, beside: u64) -> (u64, bool
     (word, true)
 }
 
-/// Has each row meet the squares beside those of the row above, and what is joined to its squares
-/// within it.
-pub(crate) fn step_rows(free: &[u64], seen: &mut [u64])
+/// Has some rows meet what is joined within each to its squares.
+pub(crate) fn step_rows(free: &[u64], seen: &mut [u64], first: usize, last: usize)
+    requires last { last < length seen.old }
     requires whole { length free.now ≡ length seen.old }
     requires inside { (s : Spot) → has seen.old s ≡ true → has free.now s ≡ true }
     ensures { (start : Spot → Bool) → IsSpreading free.now start seen.old
         → GoesOn free.now start seen.old seen.new false }
 {
-    let mut above = 0;
-    for r in 0..seen.len() {
-        let (_, met) = meet_row(free, seen, r, above);
-        if !met {
-            step_row(free, seen, r);
-        }
-        above = seen[r];
+    for r in first..last + 1 {
+        step_row(free, seen, r);
     }
 }
 

@@ -26,20 +26,31 @@ pub(crate) fn stream_of<'a, R: Read>(
     ensures much { IsErrOf result InputFault.TooMuch
         → IfSome (R.remaining reader.old) (λ input. cert_limit < length input) }
 {
-    let mut stream = Stream::new(alloc, board)?;
-    let mut total: usize = 0;
     let mut room = room_for(alloc, PIECE)?;
     let buffer = room.as_mut_slice();
+    let mut stream = Stream::new(alloc, board)?;
+    let mut total: usize = 0;
     'input: while total <= CERT_LIMIT {
-        let count = reader.read(buffer)?;
+        let count = match reader.read(buffer) {
+            Ok(count) => count,
+            Err(_) => {
+                let_go(stream);
+                return Err(InputFault::ReadFailed);
+            }
+        };
         if count == 0 {
             return Ok(stream);
         }
         stream = stream.take(&buffer[..count])?;
         total += count;
     }
+    let_go(stream);
     Err(InputFault::TooMuch)
 }
+
+/// Lets go of a stream. It stands apart: a function that does more takes much longer to prove where it
+/// lets go of one.
+fn let_go(_stream: Stream<'_>) {}
 
 /// Room for so many bytes.
 fn room_for(alloc: Global, bytes: usize) -> Result<Vec<u8>, AllocError>

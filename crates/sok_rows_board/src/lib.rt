@@ -9,7 +9,7 @@
 //! | `distances` | how far a box is from each goal, and where it is stuck |
 //! | `jams` | frozen boxes as a reason, and which are found |
 //! | `layouts` | a layout after pushes and back, and jams over it |
-//! | `matching` | a matching that is kept, beside one found from nothing |
+//! | `matching` | a matching that is kept from one set of boxes to the next |
 //! | `mazes` | regions of spirals, combs and wide rooms |
 //! | `pairs` | pairs of boxes that are never solved, taken alone |
 //! | `positions` | positions, and whether a reason holds of one (no test) |

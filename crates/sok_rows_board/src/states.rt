@@ -9,9 +9,9 @@ use sok_board::board::Board;
 use sok_rules::cell::Dir;
 use sok_sketch::sketch;
 use sok_state::key::Key;
-use sok_state::legal::{after, pushes};
-use sok_state::normalizer::Normalizer;
+use sok_state::legal::pushes;
 use sok_state::push::Push;
+use sok_state::scene::Scene;
 use std::alloc::Global;
 use std::process::Abort;
 use std::test::Fail;
@@ -89,12 +89,15 @@ fn has_pushes(
 fn next(alloc: Global, board: &Board, state: &Key) -> Result<Option<Key>, Fail>
     requires { IsKey board.now state.now }
 {
+    // The list of a set of boxes tells that they are not too many.
+    let _boxes = state.boxes.list();
     let legal = pushes(alloc, board, state)?;
     if legal.len() == 0 {
         return Ok(None);
     }
-    let mut normalizer = Normalizer::new(board);
-    Ok(Some(after(alloc, board, &mut normalizer, state, legal[0])?))
+    let mut scene = Scene::new(alloc, board);
+    scene.open(board, state)?;
+    Ok(Some(scene.after(alloc, board, state, legal[0])?))
 }
 
 /// Whether the state after the first legal push has these boxes and this least square.

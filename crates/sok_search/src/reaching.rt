@@ -20,9 +20,8 @@ use sok_board::board::Board;
 use sok_push::tables::Tables;
 use sok_rules::fault::Memory;
 use sok_state::key::Key;
-use sok_state::legal::after;
-use sok_state::normalizer::Normalizer;
 use sok_state::push::Push;
+use sok_state::scene::Scene;
 use sok_state::stepping::square_ahead;
 use std::alloc::Global;
 
@@ -144,6 +143,7 @@ fn arrive_full(
     board: &Board,
     limit: u32,
     search: &mut Search,
+    scene: &mut Scene,
     index: usize,
     key: &Key,
     depth: u32,
@@ -152,12 +152,13 @@ fn arrive_full(
     requires state { (t : Distances)
         × HoldsState board.now t limit index key.now depth search.old }
     requires full { limit ≤ length search.old.table.entries }
+    requires opened { IsOpened board.now key.now scene.old }
     requires legal { IsLegal board.now key.now push }
-    ensures { IfOk result (TellsReached board.now limit (progress_of search.old) index key.now
-        depth push (progress_of search.new)) }
+    ensures opened { OnOk result (IsOpened board.now key.now scene.new) }
+    ensures tells { IfOk result (TellsReached board.now limit (progress_of search.old) index
+        key.now depth push (progress_of search.new)) }
 {
-    let mut normalizer = Normalizer::new(board);
-    let next = after(alloc, board, &mut normalizer, key, push)?;
+    let next = scene.after(alloc, board, key, push)?;
     match search.table.get(&next) {
         Some(at) => {
             let origin = Some(Origin {
@@ -201,7 +202,8 @@ fn arrive(
         key.now depth push (progress_of search.new)) }
 {
     if search.table.len() >= limit as usize {
-        return arrive_full(alloc, board, limit, search, index, key, depth, push);
+        let scene = &mut trial.scene;
+        return arrive_full(alloc, board, limit, search, scene, index, key, depth, push);
     }
     let from = push.from;
     let least = trial.scene.step(board, key, push, to);

@@ -21,7 +21,7 @@ use crate::halted::least_open;
 use crate::outcome::Outcome;
 use crate::reaching::Reached;
 use crate::running::run;
-use crate::search::Search;
+use crate::search::{Search, let_go};
 use crate::tracing::{find_solved, trace};
 use crate::trail::letters;
 use sok_board::board::Board;
@@ -166,23 +166,22 @@ fn answer<C: Entries>(
 {
     // Its clauses tell that the level is accepted.
     let _level = board.level();
-    let tables = Tables::new(alloc, board)?;
     let mut search = empty(alloc, board, true)?;
-    answer_by(alloc, board, &tables, limit, wanted, &mut search, entries)
+    let found = answer_by(alloc, board, limit, wanted, &mut search, entries);
+    let_go(search);
+    found
 }
 
 /// The same, by a search that knows nothing.
 fn answer_by<C: Entries>(
     alloc: Global,
     board: &Board,
-    tables: &Tables,
     limit: u32,
     wanted: bool,
     search: &mut Search,
     entries: &mut C,
 ) -> Result<Found, Memory>
     requires accepted { IsAccepted board.now }
-    requires tables { tables.now.board ≡ board.now }
     requires positive { 0 < limit }
     requires small { limit ≤ state_limit }
     requires empty { IsEmpty board.now search.old }
@@ -191,9 +190,10 @@ fn answer_by<C: Entries>(
     ensures { IfOk result
         (IsShown (λ taken. C.took taken entries.new) board.now.rows limit wanted) }
 {
-    match search_all(alloc, board, tables, limit, search)? {
-        Reached::On => conclude(alloc, board, tables, search, entries),
-        Reached::Full => halt(alloc, board, tables, limit, wanted, search, entries),
+    let tables = Tables::new(alloc, board)?;
+    match search_all(alloc, board, &tables, limit, search)? {
+        Reached::On => conclude(alloc, board, &tables, search, entries),
+        Reached::Full => halt(alloc, board, &tables, limit, wanted, search, entries),
     }
 }
 
@@ -204,26 +204,21 @@ fn find_on(alloc: Global, board: &Board, limit: u32) -> Result<Found, Memory>
 {
     // Its clauses tell that the level is accepted.
     let _level = board.level();
-    let tables = Tables::new(alloc, board)?;
     let mut search = empty(alloc, board, false)?;
-    find_by(alloc, board, &tables, limit, &mut search)
+    let found = find_by(alloc, board, limit, &mut search);
+    let_go(search);
+    found
 }
 
 /// The same, by a search that knows nothing.
-fn find_by(
-    alloc: Global,
-    board: &Board,
-    tables: &Tables,
-    limit: u32,
-    search: &mut Search,
-) -> Result<Found, Memory>
+fn find_by(alloc: Global, board: &Board, limit: u32, search: &mut Search) -> Result<Found, Memory>
     requires accepted { IsAccepted board.now }
-    requires tables { tables.now.board ≡ board.now }
     requires positive { 0 < limit }
     requires empty { IsEmpty board.now search.old }
     ensures { IfOk result (IsFound board.now.rows limit) }
 {
-    match search_all(alloc, board, tables, limit, search)? {
+    let tables = Tables::new(alloc, board)?;
+    match search_all(alloc, board, &tables, limit, search)? {
         Reached::On => find_in(alloc, board, search),
         Reached::Full => Ok(Found::Limit {
             states: limit,

@@ -1,10 +1,10 @@
 //! The letters that make pushes one after another.
 
 ghost use Rattle.std.specs.Prelude.{◌<◌, IfOk, length};
-ghost use Rattle.sok_board.specs.Area.{position_of};
+ghost use Rattle.sok_board.specs.Area.{IsAccepted, position_of};
 ghost use Rattle.sok_rules.specs.States.{Same};
 ghost use Rattle.sok_state.specs.Keys.{IsKey};
-ghost use Rattle.sok_state.specs.Pushes.{IsLegal};
+ghost use Rattle.sok_state.specs.Pushes.{IsLegal, IsOpened};
 ghost use Rattle.sok_search.specs.Trails.{GoesOn, IsBegun, IsFollowed, IsTrail};
 ghost use Rattle.sok_search.specs.Trails.{IsSolvedWith, IsSolvingTrace};
 
@@ -14,9 +14,8 @@ use sok_region::region::Region;
 use sok_rules::cell::Dir;
 use sok_rules::fault::Memory;
 use sok_state::key::Key;
-use sok_state::legal::after;
-use sok_state::normalizer::Normalizer;
 use sok_state::push::Push;
+use sok_state::scene::Scene;
 use std::alloc::Global;
 
 /// Letters from the start, the state to which they lead, and the square on which the player stands
@@ -36,9 +35,11 @@ pub(crate) fn letters(alloc: Global, board: &Board, trace: Vec<Push>) -> Result<
     // Its clauses tell that the level is accepted.
     let _level = board.level();
     let mut trail = begin(alloc, board)?;
+    let mut scene = Scene::new(alloc, board);
+    scene.open(board, &trail.key)?;
     let mut rest = trace;
     while let Some(push) = rest.pop() {
-        trail = follow(alloc, board, trail, push)?;
+        trail = follow(alloc, board, &mut scene, trail, push)?;
     }
     let Trail {
         key: _,
@@ -61,11 +62,20 @@ fn begin(alloc: Global, board: &Board) -> Result<Trail, Memory>
     })
 }
 
-/// A walk to behind a box and a push of it.
-fn follow(alloc: Global, board: &Board, trail: Trail, push: Push) -> Result<Trail, Memory>
+/// A walk to behind a box and a push of it, from the state that is laid out.
+fn follow(
+    alloc: Global,
+    board: &Board,
+    scene: &mut Scene,
+    trail: Trail,
+    push: Push,
+) -> Result<Trail, Memory>
+    requires accepted { IsAccepted board.now }
     requires trail { IsTrail board.now trail }
     requires legal { IsLegal board.now trail.key push }
-    ensures { IfOk result (IsFollowed board.now trail push) }
+    requires opened { IsOpened board.now trail.key scene.old }
+    ensures followed { IfOk result (IsFollowed board.now trail push) }
+    ensures opened { IfOk result (λ after. IsOpened board.now after.key scene.new) }
 {
     let Trail {
         key,
@@ -73,8 +83,9 @@ fn follow(alloc: Global, board: &Board, trail: Trail, push: Push) -> Result<Trai
         letters,
     } = trail;
     let letters = go(alloc, board, &key, player, push, letters)?;
-    let mut normalizer = Normalizer::new(board);
-    let key = after(alloc, board, &mut normalizer, &key, push)?;
+    // The list of a set of boxes tells that they are not too many.
+    let _boxes = key.boxes.list();
+    let key = scene.follow(alloc, board, &key, push)?;
     Ok(Trail {
         key,
         player: push.from,

@@ -149,22 +149,7 @@ IsPlaced-after b area key placed push ahead boxes legal ahead_is moves rising =
     (beside-within b push.dir push.from ahead ahead_is) moves
     (beside-apart b push.dir push.from ahead ahead_is) rising
 
--- two facts of what a call gives make a third
-pub IfOk-both : {X E : Type 0} (r : Result X E) (P Q R : X → Type 0) → ((x : X) → P x → Q x → R x) → IfOk r P → IfOk r Q → IfOk r R
-IfOk-both (Ok x) P Q R make p q = make x p q
-IfOk-both (Err e) P Q R make p q = tt
-
 -- the key of the position with these numbers is that of a position to which the push leads
 pub key_after : (b : Numbered) (next : Key) (push : Push) (boxes : List ℕ) (after : Position) → position_of b push.from boxes ≡ after
     → IsKeyOf b (position_of b push.from boxes) next → IsKeyOf b after next
 key_after b next push boxes after is of_numbers = subst (λ x. IsKeyOf b x next) is of_numbers
-
--- and so of each
-pub IsKeyAfter-numbers : (b : Numbered) (key next : Key) (push : Push) (boxes : List ℕ) → IsKeyOf b (position_of b push.from boxes) next → IsKey b next
-    → next.boxes ≡ boxes → ((after : Position) → LeadsTo b key push after → position_of b push.from boxes ≡ after) → length boxes ≡ length key.boxes
-    → IsKeyAfter b key push next
-IsKeyAfter-numbers b key next push boxes is of_board same leads as_many = record {
-  exact = λ after led. key_after b next push boxes after (leads after led) is;
-  of_board = of_board;
-  as_many = ap length same ∙ as_many;
-}

@@ -1,7 +1,8 @@
 -- The squares around a box that is pushed tell where the man comes behind it.
-use Rattle.std.proofs.Common.{ℕ, ◌≡◌, ◌<◌, ◌≤◌, ◌↔◌, ◌⊎◌, ◌∙◌, inl, inr, refl, sym, ap, subst, arith, List, Bool, true, Option, None, Some, IfSome, Contains, length, IsTrue}
+use Rattle.std.proofs.Common.{ℕ, ◌≡◌, ◌<◌, ◌≤◌, ◌↔◌, ◌⊎◌, ◌∙◌, inl, inr, refl, sym, ap, subst, arith, List, Bool, true, Option, None, Some, IfSome, Contains, length, min, IsTrue}
 use Rattle.std.specs.List.Sorted.{IsStrictlyIncreasing}
-use Rattle.std.proofs.lemmas.Bool.{cases_eq}
+use Rattle.std.proofs.Math.Nat.{min-eq_left, min-eq_right, min-le_left, min-le_right}
+use Rattle.std.proofs.lemmas.Bool.{cases_eq, cases_lt}
 use Rattle.sok_rules.specs.declared.cell.Dir.{Dir}
 use Rattle.sok_rules.specs.declared.cell.Spot.{Spot}
 use Rattle.sok_rules.specs.Squares.{opposite}
@@ -52,7 +53,7 @@ module _ (b : Numbered) (accepted : IsAccepted b) (key : Key) (push : Push) (to 
   through : (n : ℕ) → n < length b.area → (lets n ≡ true) ↔ (Contains after n → ⊥)
   through = through-exact b accepted.numbered after free stepping.left
 
-  to_within : to < length b.area
+  pub to_within : to < length b.area
   to_within = beside-within b push.dir from to stepping.ahead
 
   -- on the square that the box takes nobody walks, and on another one that was free he does
@@ -150,15 +151,17 @@ module _ (b : Numbered) (accepted : IsAccepted b) (key : Key) (push : Push) (to 
 
   -- so the lesser of two squares is the least
   pub least-key : ((d : Dir) → IsReachedBeside b free reached from d) → (among b reached to ≡ true → (d : Dir) → IsLedBeside b free from to d)
-      → (key.least ≡ to → ⊥) → (least : ℕ) → (least ≡ key.least) ⊎ (least ≡ from) → least ≤ key.least → least ≤ from
-      → IsKeyOf b (position_of b from after) (record { boxes = after; least = least })
-  least-key near round apart least is_one up_to_least up_to_from =
+      → (key.least ≡ to → ⊥) → (least : ℕ) → least ≡ min key.least from → IsKeyOf b (position_of b from after) (record { boxes = after; least = least })
+  least-key near round apart least is =
+      let up_to_least : least ≤ key.least = subst (λ n. n ≤ key.least) (sym is) (min-le_left key.least from) in
+      let up_to_from : least ≤ from = subst (λ n. n ≤ from) (sym is) (min-le_right key.least from) in
       let start = key_position b key in
       let here = (stepping.came key.least placed.player_exists).1 (Same-refl b.rows start) in
-      let led : Leads b lets from least = elim is_one [
-        | inl is ↦ subst (Leads b lets from) (sym is) (came-led round key.least placed.player_exists here apart)
-        | inr is ↦ subst (Leads b lets from) (sym is) (Leads-start b lets from)
-      ] in
+      let led : Leads b lets from least = subst (Leads b lets from) (sym is) (elim (cases_lt from key.least) [
+        | inl below ↦ subst (Leads b lets from) (sym (min-eq_right (omega (arith, below)))) (Leads-start b lets from)
+        | inr past ↦ subst (Leads b lets from) (sym (min-eq_left (omega (arith, past))))
+            (came-led round key.least placed.player_exists here apart)
+      ]) in
       let within : least < length b.area = let exists = placed.player_exists in omega (arith, up_to_least, exists) in
       let leads_same = Leads-same b after from accepted.proper accepted.numbered placed_after lets through in
       let same = (leads_same least within).0 led in
@@ -173,7 +176,7 @@ module _ (b : Numbered) (accepted : IsAccepted b) (key : Key) (push : Push) (to 
         };
         same = same;
         least = λ s s_within walked. elim (led-came near s ((leads_same s s_within).1 walked)).1 [
-          | inl is ↦ omega (arith, up_to_from, is)
+          | inl at ↦ omega (arith, up_to_from, at)
           | inr (came, _) ↦
               let up = known.least s s_within (Same-trans b.rows _ start (position_of b s key.boxes) known.same ((stepping.came s s_within).0 came)) in
               omega (arith, up, up_to_least)

@@ -1,24 +1,19 @@
-//! The pushes that are legal from a state, and the states that they lead to.
+//! The pushes that are legal from a state.
 
 ghost use Rattle.std.specs.Prelude.{◌≡◌, ◌+◌, ◌*◌, ◌<◌, ◌≤◌, ◌↔◌, IfOk, OnOk, OnErr, IsTrue, All};
 ghost use Rattle.std.specs.Prelude.{AllPairs, Contains, length, vec_capacity, vec_len};
-ghost use Rattle.sok_rules.specs.Play.{Position};
-ghost use Rattle.sok_board.specs.Area.{IsAccepted, position_of};
-ghost use Rattle.sok_region.specs.Regions.{IsPlaced};
+ghost use Rattle.sok_board.specs.Area.{IsAccepted};
 ghost use Rattle.sok_state.specs.declared.key.Key.{Key};
 ghost use Rattle.sok_state.specs.declared.push.Push.{Push};
 ghost use Rattle.sok_state.specs.Keys.{IsKey};
 ghost use Rattle.sok_state.specs.Listing.{HasBeside, IsDrawn, Lists, place};
-ghost use Rattle.sok_state.specs.Normalizers.{Normalizes};
-ghost use Rattle.sok_state.specs.Pushes.{IsKeyAfter, IsLegal, IsOpened, LeadsTo, Precedes};
+ghost use Rattle.sok_state.specs.Pushes.{IsLegal, IsOpened, Precedes};
 
 use crate::key::Key;
-use crate::normalizer::Normalizer;
 use crate::push::Push;
 use crate::scene::Scene;
 use sok_board::area::Sq;
 use sok_board::board::Board;
-use sok_board::box_set::BoxSet;
 use sok_field::field::Field;
 use sok_rules::cell::Dir;
 use sok_rules::fault::Memory;
@@ -65,39 +60,6 @@ pub fn list_pushes(
         list_box(board, free, &scene.reached, *from, pushes);
     }
     Ok(())
-}
-
-/// The key of the state that a push leads to, from whichever position of the state it is made. It
-/// refuses only for want of memory.
-pub fn after(
-    alloc: Global,
-    board: &Board,
-    normalizer: &mut Normalizer,
-    key: &Key,
-    push: Push,
-) -> Result<Key, Memory>
-    requires accepted { IsAccepted board.now }
-    requires normalizes { Normalizes board.now normalizer.old }
-    requires key { IsKey board.now key.now }
-    requires legal { IsLegal board.now key.now push }
-    ensures after { IfOk result (IsKeyAfter board.now key.now push) }
-    ensures normalizes { Normalizes board.now normalizer.new }
-{
-    let boxes = boxes_after(alloc, board, key, push)?;
-    Ok(normalizer.key(board, boxes, push.from))
-}
-
-/// The boxes after a push.
-fn boxes_after(alloc: Global, board: &Board, key: &Key, push: Push) -> Result<BoxSet, Memory>
-    requires key { IsKey board.now key.now }
-    requires legal { IsLegal board.now key.now push }
-    ensures placed { IfOk result (λ boxes. IsPlaced board.now boxes push.from) }
-    ensures leads { IfOk result (λ boxes. (after : Position)
-        → LeadsTo board.now key.now push after → position_of board.now push.from boxes ≡ after) }
-    ensures as_many { IfOk result (λ boxes. length boxes ≡ length key.now.boxes) }
-{
-    let ahead = board.neighbour(push.from, push.dir).unwrap();
-    key.boxes.moved(alloc, push.from, ahead)
 }
 
 /// Lists the legal pushes of one box of a state that is drawn, for which there is room.

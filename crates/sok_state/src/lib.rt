@@ -7,7 +7,7 @@
 //! | `key` | the boxes of a state, and the least square that the player can walk to |
 //! | `law` | keys tell states apart |
 //! | `least` | the least square that the player can walk to (private) |
-//! | `legal` | the pushes that are legal from a state, and the states that they lead to |
+//! | `legal` | the pushes that are legal from a state |
 //! | `normalizer` | keys of positions, made one after another |
 //! | `packed` | the key of a state in bits (private) |
 //! | `packed_table` | packed keys of one width in the order of their insertion, with depths (private) |

@@ -20,7 +20,7 @@ use std::alloc::Global;
 pub struct Scene {
     pub layout: Layout,
     pub reached: Field,
-    pub seen: Field,
+    pub(crate) seen: Field,
 }
 
 impl Scene {

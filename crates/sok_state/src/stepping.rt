@@ -1,7 +1,9 @@
 //! The state that a push leads to from one that is laid out.
 
 ghost use Rattle.std.specs.Prelude.{◌≡◌, Some, IfOk, OnErr};
+ghost use Rattle.std.specs.List.Sorted.{IsStrictlyIncreasing};
 ghost use Rattle.sok_board.specs.Area.{IsAccepted, beside};
+ghost use Rattle.sok_board.specs.BoxSets.{IsMoved};
 ghost use Rattle.sok_state.specs.declared.key.Key.{Key};
 ghost use Rattle.sok_state.specs.Keys.{IsKey};
 ghost use Rattle.sok_state.specs.Pushes.{IsKeyAfter, IsLegal, IsOpened, IsPushable};
@@ -13,6 +15,7 @@ use crate::push::Push;
 use crate::scene::Scene;
 use sok_board::area::Sq;
 use sok_board::board::Board;
+use sok_board::box_set::BoxSet;
 use sok_rules::fault::Memory;
 use std::alloc::Global;
 
@@ -23,6 +26,24 @@ pub fn square_ahead(board: &Board, push: Push) -> Sq
     ensures { beside board.now push.from push.dir ≡ Some result }
 {
     board.neighbour(push.from, push.dir).unwrap()
+}
+
+/// The boxes after a push from a state, which brings its box to a square.
+fn boxes_after(
+    alloc: Global,
+    board: &Board,
+    key: &Key,
+    push: Push,
+    to: Sq,
+) -> Result<BoxSet, Memory>
+    requires accepted { IsAccepted board.now }
+    requires state { IsKey board.now key.now }
+    requires legal { IsLegal board.now key.now push }
+    requires ahead { beside board.now push.from push.dir ≡ Some to }
+    ensures moved { IfOk result (IsMoved key.now.boxes push.from to) }
+    ensures rising { IfOk result IsStrictlyIncreasing }
+{
+    key.boxes.moved(alloc, push.from, to)
 }
 
 impl Scene {
@@ -60,7 +81,7 @@ impl Scene {
     {
         let to = square_ahead(board, push);
         let least = self.step(board, key, push, to);
-        let boxes = key.boxes.moved(alloc, push.from, to)?;
+        let boxes = boxes_after(alloc, board, key, push, to)?;
         Ok(Key { boxes, least })
     }
 
@@ -80,7 +101,7 @@ impl Scene {
         ensures refused { OnErr result (self.new ≡ self.old) }
     {
         let to = square_ahead(board, push);
-        let boxes = key.boxes.moved(alloc, push.from, to)?;
+        let boxes = boxes_after(alloc, board, key, push, to)?;
         self.layout.shift(board, push.from, to);
         let free = self.layout.free();
         let least = reach_after(board, key, push, to, free, &mut self.reached);

@@ -18,12 +18,12 @@ ghost use Rattle.sok_settle.specs.Offers.{OffersBytes, WritesOffers};
 ghost use Rattle.sok_settle.specs.Settles.{SettlesSome, WritesSettling};
 ghost use Rattle.sok_tool.specs.Databases.{IsWithoutBook, OfOpened, OpensFound, WorksOn, place};
 ghost use Rattle.sok_tool.specs.Certs.{keeping_of};
-ghost use Rattle.sok_tool.specs.declared.databases.Access.{Access};
-ghost use Rattle.sok_tool.specs.declared.databases.Access.TheVariants as accesses;
+ghost use Rattle.sok_databases.specs.declared.databases.Access.{Access};
+ghost use Rattle.sok_databases.specs.declared.databases.Access.TheVariants as accesses;
 
 use crate::certs::CertFolder;
-use crate::databases::{Access, Databases};
 use sok_book::fault::BookFault;
+use sok_databases::databases::{Access, Databases};
 use sok_engine::fault::ToolFault;
 use sok_files::file::open;
 use sok_files::folder::Folder;

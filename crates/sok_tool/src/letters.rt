@@ -11,10 +11,10 @@ ghost use Rattle.sok_play.specs.Drawings.{IsDrawing};
 ghost use Rattle.sok_play.specs.Plays.{IsReplay};
 ghost use Rattle.sok_tool.specs.Databases.{WorksOn, place};
 ghost use Rattle.sok_tool.specs.Letters.{IsLetters, IsUnread, OnLetters};
-ghost use Rattle.sok_tool.specs.declared.databases.Access.TheVariants as accesses;
+ghost use Rattle.sok_databases.specs.declared.databases.Access.TheVariants as accesses;
 
-use crate::databases::Databases;
 use crate::keeping;
+use sok_databases::databases::Databases;
 use sok_engine::fault::ToolFault;
 use sok_engine::input::read_input;
 use sok_files::command;

@@ -9,11 +9,11 @@ ghost use Rattle.sok_files.specs.Endings.{Runs};
 ghost use Rattle.sok_files.specs.Files.{IsMade};
 ghost use Rattle.sqlite.specs.Held.{Held, state};
 ghost use Rattle.sok_tool.specs.Commands.{Serves};
-ghost use Rattle.sok_tool.specs.declared.databases.Access.TheVariants as accesses;
+ghost use Rattle.sok_databases.specs.declared.databases.Access.TheVariants as accesses;
 
-use crate::databases::Databases;
 use crate::keeping::{add, offers, prove, settle, show, tell};
 use crate::letters::{draw, offer, replay};
+use sok_databases::databases::Databases;
 use sok_files::command::{check, list, solve};
 use sok_files::ending::{ended, refused};
 use sok_files::folder::Folder;

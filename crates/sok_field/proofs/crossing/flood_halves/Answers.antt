@@ -7,7 +7,7 @@ use Rattle.sok_field.proofs.Halves.{has-lower, has-upper}
 use Rattle.sok_field.proofs.OneSquare.{has-within}
 use Rattle.sok_field.proofs.Spreading.{has-col}
 use Rattle.sok_field.proofs.crossing.flood_halves.Goals as goal
-use Rattle.sok_field.proofs.crossing.flood_halves.Goals.{then-from-lt-COLUMNS, else-from-lt-COLUMNS}
+use Rattle.sok_field.proofs.crossing.flood_halves.Goals.{After-cross, then-from-lt-COLUMNS, else-from-lt-COLUMNS}
 
 pub put-requires-clause-row : goal.put-requires-clause-row
 put-requires-clause-row c =
@@ -32,8 +32,8 @@ put-requires-else-from-lt-COLUMNS-clause-col c =
     let col = ap (λ (s : Spot). s.col) c.within.ensures in
     omega (arith, inside, col)
 
-pub loop-low-init : goal.loop-low-init
-loop-low-init c =
+pub loop-init : goal.loop-init
+loop-init c =
     let free_low = c.args.free_low.now in
     let free_high = c.args.free_high.now in
     let free : AreFree free_low free_high = record {
@@ -54,27 +54,30 @@ loop-low-init c =
       ];
     }
 
-pub returns-then-are_closed : goal.returns-then-are_closed
-returns-then-are_closed c =
-    let free = c.loop-low.invariant.free in
-    let low = wide-low free c.loop-low.invariant.wide c.flood_all.new.seen (omega arith) c.flood_all.ensures.reaches in
-    let both = wide-high free low c.flood_all-in-loop-low.new.seen (omega arith) c.flood_all-in-loop-low.ensures.reaches in
-    wide-exact free both (c.are_closed.ensures.0 c.if-are_closed.true)
+-- each half is flooded
+both : (c : After-cross) → IsWide c.args.free_low.now c.args.free_high.now c.args.from c.flood_all.new.seen c.flood_all-in-loop.new.seen
+both c =
+    let free = c.loop.invariant.free in
+    let low = wide-low free c.loop.invariant.wide c.flood_all.new.seen (omega arith) c.flood_all.ensures.reaches in
+    wide-high free low c.flood_all-in-loop.new.seen (omega arith) c.flood_all-in-loop.ensures.reaches
 
-pub loop-low-smaller : goal.loop-low-smaller
-loop-low-smaller c =
-    let free = c.loop-low.invariant.free in
-    let low = wide-low free c.loop-low.invariant.wide c.flood_all.new.seen (omega arith) c.flood_all.ensures.reaches in
-    let both = wide-high free low c.flood_all-in-loop-low.new.seen (omega arith) c.flood_all-in-loop-low.ensures.reaches in
-    let rises = sum-flooded c.args.free_low.now c.loop-low.low c.flood_all.new.seen (omega arith) c.flood_all.ensures.reaches in
-    let rises_too = sum-flooded c.args.free_high.now c.loop-low.high c.flood_all-in-loop-low.new.seen (omega arith) c.flood_all-in-loop-low.ensures.reaches in
-    let more = wide-more free both c.cross.ensures (λ closed. true≢false (sym (c.are_closed.ensures.1 closed) ∙ c.if-are_closed.false)) in
-    let inside = sum-wide free (wide-crossed free both c.cross.ensures) in
+pub loop-preserved : goal.loop-preserved
+loop-preserved c = record {
+  free = c.loop.invariant.free;
+  wide = wide-crossed c.loop.invariant.free (both ((goal.at.loop-preserved c).After-cross)) c.cross.ensures.crossed;
+}
+
+pub returns-then-not-cross : goal.returns-then-not-cross
+returns-then-not-cross c =
+    let free = c.loop.invariant.free in
+    wide-exact free (wide-crossed free (both ((goal.at.returns-then-not-cross c).After-cross)) c.cross.ensures.crossed) (c.cross.ensures.closed c.if-not-cross.true)
+
+pub loop-smaller : goal.loop-smaller
+loop-smaller c =
+    let free = c.loop.invariant.free in
+    let flooded = both ((goal.at.loop-smaller c).After-cross) in
+    let rises = sum-flooded c.args.free_low.now c.loop.low c.flood_all.new.seen (omega arith) c.flood_all.ensures.reaches in
+    let rises_too = sum-flooded c.args.free_high.now c.loop.high c.flood_all-in-loop.new.seen (omega arith) c.flood_all-in-loop.ensures.reaches in
+    let more = wide-more free flooded c.cross.ensures.crossed (c.cross.ensures.more c.if-not-cross.false) in
+    let inside = sum-wide free (wide-crossed free flooded c.cross.ensures.crossed) in
     omega (arith, rises, rises_too, more, inside)
-
-pub loop-low-preserved : goal.loop-low-preserved
-loop-low-preserved c =
-    let free = c.loop-low.invariant.free in
-    let low = wide-low free c.loop-low.invariant.wide c.flood_all.new.seen (omega arith) c.flood_all.ensures.reaches in
-    let both = wide-high free low c.flood_all-in-loop-low.new.seen (omega arith) c.flood_all-in-loop-low.ensures.reaches in
-    record { free = free; wide = wide-crossed free both c.cross.ensures }

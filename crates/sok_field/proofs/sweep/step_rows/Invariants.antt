@@ -1,12 +1,8 @@
-use Rattle.std.proofs.Common.{◌≡◌, Bool, false}
+use Rattle.std.proofs.Common.{Bool, false}
 use Rattle.sok_rules.specs.declared.cell.Spot.{Spot}
 use Rattle.sok_field.specs.Floods.{IsSpreading}
-use Rattle.sok_field.specs.Rounds.{above}
 use Rattle.sok_field.specs.Sweeps.{GoesOn}
 use Rattle.sok_field.proofs.sweep.step_rows.Given as goal
 
 abbrev pub invariant-loop-r : goal.invariant-loop-r
-invariant-loop-r l = record {
-  above : l.above ≡ above l.seen l.r;
-  goes_on : (start : Spot → Bool) → IsSpreading l.free start l.initial.seen → GoesOn l.free start l.initial.seen l.seen false;
-}
+invariant-loop-r l = (start : Spot → Bool) → IsSpreading l.free start l.initial.seen → GoesOn l.free start l.initial.seen l.seen false

@@ -9,14 +9,14 @@ input-init g c = ReadSo-start _ c.args.board.now c.in_ok-stream.stream c.in_ok-s
 
 pub input-preserved : goal.input-preserved
 input-preserved g c =
-    let read = c.in_ok-count.ensures in
+    let read = c.in-Ok.ensures in
     let next = c.in_ok-stream-2 in
-    ReadSo-more _ _ _ c.args.board.now c.input.stream next.stream c.input.total c.in_ok-count.count (take c.in_ok-count.count c.read.new.buf) c.input.invariant
+    ReadSo-more _ _ _ c.args.board.now c.input.stream next.stream c.input.total c.in-Ok.count (take c.in-Ok.count c.read.new.buf) c.input.invariant
     read.bytes.0 (sym read.bound.1) next.ensures.board next.ensures.stands
 
 pub returns-then-count-eq0-clause-stands : goal.returns-then-count-eq0-clause-stands
 returns-then-count-eq0-clause-stands g c =
-    let read = c.in_ok-count.ensures in
+    let read = c.in-Ok.ensures in
     let none = c.if-count-eq0.true in
     let room : 0 < length c.read.new.buf = omega (arith, c.in_ok-room.ensures, c.as_mut_slice-buffer.ensures.len, c.input.auto.buffer) in
     ReadSo-end _ _ _ cert_limit _ _ c.input.total c.input.invariant

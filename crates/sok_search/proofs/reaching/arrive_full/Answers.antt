@@ -2,15 +2,16 @@ use Rattle.std.proofs.Common.{refl, arith}
 use Rattle.sok_closed.proofs.Starting.{at-within}
 use Rattle.sok_search.specs.Steps.{holding}
 use Rattle.sok_search.specs.Views.{progress_of}
-use Rattle.sok_search.proofs.Adding.{note-within, taken, taken-deep, taken-key}
+use Rattle.sok_search.proofs.Adding.{note-within, taken, taken-deep, taken-pushable}
 use Rattle.sok_search.proofs.Filling.{full-more}
 use Rattle.sok_search.proofs.Pushing.{pushed-known}
 use Rattle.sok_search.proofs.reaching.arrive_full.Goals as goal
 
-pub after-requires-clause-key : goal.after-requires-clause-key
-after-requires-clause-key c =
+pub after-requires-clause-pushable : goal.after-requires-clause-pushable
+after-requires-clause-pushable c =
     let held = c.requires.state.1 in
-    taken-key c.args.board.now c.args.limit c.args.index (progress_of c.args.search.now) c.args.key.now c.args.depth held.running.search held.there held.depth_is
+    taken-pushable c.args.board.now held.running.accepted c.args.limit c.args.index (progress_of c.args.search.now) c.args.key.now c.args.depth
+    held.running.search held.there held.depth_is c.args.push c.requires.legal c.args.scene.now c.requires.opened
 
 pub overflow_cast-origin : goal.overflow_cast-origin
 overflow_cast-origin c =
@@ -39,8 +40,8 @@ pub approach-requires-clause-noted : goal.approach-requires-clause-noted
 approach-requires-clause-noted c = note-within c.args.board.now c.args.limit c.args.index (progress_of c.args.search.now)
     c.requires.state.1.running.search c.in-Some.at c.in_ok-next.next c.in-Some.ensures
 
-pub returns-in-Some : goal.returns-in-Some
-returns-in-Some c =
+pub returns-in-Some-clause-tells : goal.returns-in-Some-clause-tells
+returns-in-Some-clause-tells c =
     let held = c.requires.state.1 in
     let p = progress_of c.args.search.now in
     let one = taken c.args.board.now c.args.limit c.args.index p c.args.key.now c.args.depth held.running.search held.there held.depth_is in
@@ -49,8 +50,8 @@ returns-in-Some c =
     c.args.push c.requires.legal next.next next.ensures.after.exact next.ensures.after.of_board next.ensures.after.as_many c.in-Some.at p.frame p.table refl
     (record { there = c.in-Some.ensures; unchanged = refl }) (progress_of c.approach.new.search) c.in_ok-approach-in-Some.ensures
 
-pub returns : goal.returns
-returns c =
+pub returns-clause-tells : goal.returns-clause-tells
+returns-clause-tells c =
     let held = c.requires.state.1 in
     let next = c.in_ok-next in
     let legal = c.requires.legal in

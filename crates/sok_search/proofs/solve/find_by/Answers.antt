@@ -22,7 +22,7 @@ cut c = subst (TellsSearched c.args.board.now c.args.limit c.args.search.now.who
 pub least_open-requires : goal.least_open-requires
 least_open-requires c = (c.args.board.now, (c.args.limit, (cut (goal.at.least_open-requires c).In-Full).search))
 
-pub returns-in-Full : goal.returns-in-Full
-returns-in-Full c =
-    let halted = cut (goal.at.returns-in-Full c).In-Full in
+pub returns : goal.returns
+returns c =
+    let halted = cut (goal.at.returns c).In-Full in
     cut-short c.args.board.now c.requires.accepted c.args.limit (progress_of c.search_all.new.search) halted.search halted.more halted.full _ c.least_open.ensures

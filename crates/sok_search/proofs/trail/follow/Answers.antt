@@ -2,6 +2,14 @@ use Rattle.std.proofs.Common.{refl}
 use Rattle.sok_search.proofs.Trails.{followed-made}
 use Rattle.sok_search.proofs.trail.follow.Goals as goal
 
-pub returns : goal.returns
-returns c = followed-made c.args.board.now c.args.trail _ c.args.push c.requires.trail c.in_ok-letters.ensures c.in_ok-key.ensures.after.of_board
+pub follow-requires-clause-pushable : goal.follow-requires-clause-pushable
+follow-requires-clause-pushable c = record {
+  state = c.requires.trail.state;
+  few = c.list-boxes.ensures.few;
+  legal = c.requires.legal;
+  opened = c.requires.opened;
+}
+
+pub returns-clause-followed : goal.returns-clause-followed
+returns-clause-followed c = followed-made c.args.board.now c.args.trail _ c.args.push c.requires.trail c.in_ok-letters.ensures c.in_ok-key.ensures.after.of_board
     c.in_ok-key.ensures.after.exact refl

@@ -4,26 +4,32 @@ use Rattle.sok_search.proofs.Trails.{under_way-all, under_way-legal, under_way-m
 use Rattle.sok_search.proofs.trail.letters.Goals as goal
 
 pub loop-push-init : goal.loop-push-init
-loop-push-init c =
-    under_way-none c.args.board.now c.level-level.ensures.accepted c.in_ok-trail.trail c.args.trace.items c.requires
-    c.in_ok-trail.ensures
+loop-push-init c = record {
+  way = under_way-none c.args.board.now c.level-level.ensures.accepted c.in_ok-trail.trail c.args.trace.items c.requires c.in_ok-trail.ensures;
+  opened = c.in_ok-open.ensures;
+}
+
+pub open-requires-clause-key : goal.open-requires-clause-key
+open-requires-clause-key c = c.in_ok-trail.ensures.trail_is.state
 
 pub follow-requires-clause-trail : goal.follow-requires-clause-trail
-follow-requires-clause-trail c = c.loop-push.invariant.is
+follow-requires-clause-trail c = c.loop-push.invariant.way.is
 
 pub follow-requires-clause-legal : goal.follow-requires-clause-legal
 follow-requires-clause-legal c =
     under_way-legal c.args.board.now
-    (length c.args.trace.items) c.loop-push.trail c.pop.new.self.items c.in-Some.push c.loop-push.rest.items c.in-Some.ensures.items c.loop-push.invariant
+    (length c.args.trace.items) c.loop-push.trail c.pop.new.self.items c.in-Some.push c.loop-push.rest.items c.in-Some.ensures.items c.loop-push.invariant.way
 
 pub loop-push-preserved : goal.loop-push-preserved
-loop-push-preserved c =
-    under_way-more c.args.board.now c.level-level.ensures.accepted
-    (length c.args.trace.items) c.loop-push.trail c.in_ok-trail-2.trail c.pop.new.self.items c.in-Some.push c.loop-push.rest.items
-    c.in-Some.ensures.items c.loop-push.invariant c.in_ok-trail-2.ensures
+loop-push-preserved c = record {
+  way = under_way-more c.args.board.now c.level-level.ensures.accepted
+      (length c.args.trace.items) c.loop-push.trail c.in_ok-trail-2.trail c.pop.new.self.items c.in-Some.push c.loop-push.rest.items
+      c.in-Some.ensures.items c.loop-push.invariant.way c.in_ok-trail-2.ensures.followed;
+  opened = c.in_ok-trail-2.ensures.opened;
+}
 
 pub returns : goal.returns
 returns c =
     let empty = c.in_default.ensures.cases in
     under_way-all c.args.board.now (length c.args.trace.items) c.loop-push.trail c.loop-push.rest.items
-    (nil_from_length c.loop-push.rest.items (omega (arith, empty))) c.loop-push.invariant
+    (nil_from_length c.loop-push.rest.items (omega (arith, empty))) c.loop-push.invariant.way

@@ -1,6 +1,3 @@
-use Rattle.std.proofs.Common.{◌≤◌, ◌∙◌, inl, inr, arith, subst, sym}
-use Rattle.std.proofs.Math.Nat.{min-eq_left, min-eq_right, min-le_left, min-le_right}
-use Rattle.std.proofs.lemmas.Bool.{cases_lt}
 use Rattle.sok_board.proofs.Beside.{beside-within}
 use Rattle.sok_state.proofs.Surroundings.{least-key, placed_after}
 use Rattle.sok_state.proofs.around.least_after.Goals as goal
@@ -25,14 +22,8 @@ pub returns-then-keeps_reached : goal.returns-then-keeps_reached
 returns-then-keeps_reached c = λ after stepping.
     let keeps = c.if-keeps_reached.true in
     let kept = c.keeps_reached.ensures in
-    let least = c.args.key.now.least in
-    let from = c.args.push.from in
-    let is = c.min.ensures in
     least-key c.args.board.now c.requires.accepted c.args.key.now c.args.push c.args.to c.args.free.now c.args.reached.now after stepping
-    (kept.near keeps) (kept.round keeps) (kept.apart keeps) c.min.result (elim (cases_lt from least) [
-      | inl below ↦ inr (is ∙ min-eq_right (omega (arith, below)))
-      | inr past ↦ inl (is ∙ min-eq_left (omega (arith, past)))
-    ]) (subst (λ n. n ≤ least) (sym is) (min-le_left least from)) (subst (λ n. n ≤ from) (sym is) (min-le_right least from))
+    (kept.near keeps) (kept.round keeps) (kept.apart keeps) c.min.result c.min.ensures
 
 pub returns-else-keeps_reached : goal.returns-else-keeps_reached
 returns-else-keeps_reached c = λ after stepping.

@@ -1,6 +1,4 @@
-use Rattle.std.proofs.Common.{◌≡◌, ◌≤◌, ◌⊎◌, ◌↔◌, ◌∙◌, inl, inr, arith, subst, sym, IsTrue}
-use Rattle.std.proofs.Math.Nat.{min-eq_left, min-eq_right, min-le_left, min-le_right}
-use Rattle.std.proofs.lemmas.Bool.{cases_lt}
+use Rattle.std.proofs.Common.{◌≡◌, ◌⊎◌, ◌↔◌, subst, IsTrue}
 use Rattle.sok_rules.specs.declared.cell.Spot.{Spot}
 use Rattle.sok_board.proofs.Beside.{beside-within}
 use Rattle.sok_field.specs.Fields.{has}
@@ -28,14 +26,8 @@ pub returns-then-keeps_reached-clause-key : goal.returns-then-keeps_reached-clau
 returns-then-keeps_reached-clause-key c = λ after stepping.
     let keeps = c.if-keeps_reached.true in
     let kept = c.keeps_reached.ensures in
-    let least = c.args.key.now.least in
-    let from = c.args.push.from in
-    let is = c.min.ensures in
     least-key c.args.board.now c.requires.accepted c.args.key.now c.args.push c.args.to c.args.free.now c.args.reached.now after stepping
-    (kept.near keeps) (kept.round keeps) (kept.apart keeps) c.min.result (elim (cases_lt from least) [
-      | inl below ↦ inr (is ∙ min-eq_right (omega (arith, below)))
-      | inr past ↦ inl (is ∙ min-eq_left (omega (arith, past)))
-    ]) (subst (λ n. n ≤ least) (sym is) (min-le_left least from)) (subst (λ n. n ≤ from) (sym is) (min-le_right least from))
+    (kept.near keeps) (kept.round keeps) (kept.apart keeps) c.min.result c.min.ensures
 
 pub returns-else-keeps_reached-clause-key : goal.returns-else-keeps_reached-clause-key
 returns-else-keeps_reached-clause-key c = λ after stepping.

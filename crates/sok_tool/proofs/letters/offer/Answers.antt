@@ -3,7 +3,7 @@ use Rattle.sqlite.specs.Held.{state}
 use Rattle.sok_keep.specs.Offers.{OffersText, WritesOffer}
 use Rattle.sok_keep.proofs.Ids.{of_passed}
 use Rattle.sok_tool.specs.Databases.{WorksOn, place}
-use Rattle.sok_tool.specs.declared.databases.Access.TheVariants as accesses
+use Rattle.sok_databases.specs.declared.databases.Access.TheVariants as accesses
 use Rattle.sok_tool.proofs.Plain.{none_read, on_read}
 use Rattle.sok_tool.proofs.letters.offer.Goals as goal
 

@@ -1,0 +1,90 @@
+//! Databases by their paths.
+
+ghost use Rattle.std.specs.Prelude.{◌≡◌, ◌⊎◌, ℕ, List, IfErr, IfOk, ⊤};
+ghost use Rattle.sok_book.specs.declared.fault.BookFault.TheVariants as refusal;
+ghost use Rattle.sok_engine.specs.declared.fault.ToolFault.{ToolFault};
+ghost use Rattle.sok_engine.specs.declared.fault.ToolFault.TheVariants as tool;
+ghost use Rattle.sok_databases.specs.declared.databases.Access.{Access};
+
+use crate::book_file::BookFile;
+use crate::opening::{Unopened, open};
+use sok_engine::fault::ToolFault;
+use sok_files::watched::Watched;
+use sqlite::{Connection, FileStore};
+
+/// How a database is opened.
+#[derive(Clone, Copy, Debug, PartialEq, Eq)]
+pub enum Access {
+    /// To be changed, and an empty one is made where none is there.
+    Make,
+    /// To be changed. It is refused where none is there, and none is made.
+    Change,
+    /// To be read, as it was last committed. It may be in use, and one that can't be written: nothing
+    /// is written to it or beside it. It is refused where none is there.
+    Read,
+}
+
+/// Databases by their paths, as those in files of the machine.
+pub trait Databases {
+    type Opened: Drop;
+
+    // The database at this path may be opened as this connection: one that is there, one that is
+    // made, or what is read of one.
+    ghost keeps: { Self → Access → List ℕ → Self.Opened → Type 0 };
+
+    // The database at this path may be refused, and this is told.
+    ghost refuses: { Self → List ℕ → ToolFault → Type 0 };
+
+    // This connection to the database at this path was given back.
+    ghost leaves: { Self → List ℕ → Self.Opened → Type 0 };
+
+    /// Opens the database at a path, or makes an empty one where none is there and one may be made.
+    /// Where it can't be opened, for another cause than memory, that is `Database`.
+    fn database(&self, path: &str, access: Access) -> Result<Self::Opened, ToolFault>
+        ensures kept { IfOk result (keeps self.now access path.now) }
+        ensures refuses { IfErr result (refuses self.now path.now) }
+        ensures refused { IfErr result
+            (λ fault. (fault ≡ tool.Memory) ⊎ (fault ≡ tool.Book refusal.Database)) };
+
+    /// Takes a connection back, when the work on the database at a path is done.
+    fn close(&self, path: &str, connection: Self::Opened)
+        ensures { leaves self.now path.now connection };
+}
+
+/// Those of the machine, of which no contract knows what they hold. Why one can't be opened is noted.
+impl Databases for Watched<'_, HostRuntime> {
+    type Opened = Connection<FileStore<BookFile>>;
+
+    ghost keeps = { λ _ _ _ _. ⊤ };
+
+    ghost refuses = { λ _ _ _. ⊤ };
+
+    ghost leaves = { λ _ _ _. ⊤ };
+
+    fn database(
+        &self,
+        path: &str,
+        access: Access,
+    ) -> Result<Connection<FileStore<BookFile>>, ToolFault> {
+        match open(self.inner(), path, access) {
+            Ok(connection) => Ok(connection),
+            Err(cause) => {
+                self.fail(path, Some(cause.error()));
+                Err(cause.fault())
+            }
+        }
+    }
+
+    fn close(&self, path: &str, connection: Connection<FileStore<BookFile>>)
+        ensures { ⊤ }
+    {
+        // The log is copied into the database file. Where that fails, the next open reads the log. Of a
+        // copy both are in memory.
+        let cause = match connection.close() {
+            Ok(()) => None,
+            Err(error) => Some(Unopened::Refused(error).error()),
+        };
+        // Where nothing else failed, it was the database, or it was not at fault and is not told.
+        self.fail(path, cause);
+    }
+}
