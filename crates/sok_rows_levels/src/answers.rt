@@ -5,7 +5,6 @@ use sok_cert::reading::read;
 use sok_sketch::sketch;
 use sok_text::line::cut_line;
 use std::alloc::Global;
-use std::process::Abort;
 use std::test::Fail;
 
 /// What solving a level leaves behind.
@@ -33,20 +32,12 @@ pub(crate) fn answered(alloc: Global, board: &str, limit: u32) -> Result<Reply, 
     Ok(Reply { status, out, cert })
 }
 
-/// Asserts that the answer is the same where no certificate is asked for.
-fn assert_found(
-    rt: &impl Abort,
-    alloc: Global,
-    board: &str,
-    limit: u32,
-    reply: &Reply,
-) -> Result<(), Fail> {
+/// Whether the answer is the same where no certificate is asked for.
+fn is_found(alloc: Global, board: &str, limit: u32, reply: &Reply) -> Result<bool, Fail> {
     let boards = second(alloc, board)?;
     let mut out = Vec::new(alloc);
     let status = find_bytes(alloc, &mut boards.as_bytes(), 2, limit, false, &mut out)?;
-    assert_eq!(rt; out.as_slice(), reply.out.as_slice());
-    assert_eq!(rt; status, reply.status);
-    Ok(())
+    Ok(out.as_slice() == reply.out.as_slice() && status == reply.status)
 }
 
 /// How many entries a certificate has. The lines of a pattern are none by themselves.
@@ -55,21 +46,18 @@ fn entries_of(alloc: Global, text: &[u8]) -> Result<usize, Fail> {
     Ok(cert.entries.len())
 }
 
-/// Asserts that a certificate has at most so many entries, and is accepted.
-fn assert_accepted(
-    rt: &impl Abort,
+/// Whether a certificate has at most so many entries, and is accepted.
+fn is_accepted(
     alloc: Global,
     board: &str,
     limit: u32,
     cert: &[u8],
     line: &str,
-) -> Result<(), Fail> {
-    assert!(rt; entries_of(alloc, cert)? <= limit as usize);
+) -> Result<bool, Fail> {
     let mut out = Vec::new(alloc);
     let status = check_bytes(alloc, &mut board.as_bytes(), 1, &mut { cert }, &mut out)?;
-    assert_eq!(rt; out.as_slice(), line.as_bytes());
-    assert_eq!(rt; status, 0);
-    Ok(())
+    let entries = entries_of(alloc, cert)?;
+    Ok(entries <= limit as usize && status == 0 && out.as_slice() == line.as_bytes())
 }
 
 /// Whether a text replays on a board to this line.
@@ -86,58 +74,40 @@ fn tells(alloc: Global, board: &str, out: &[u8], pushes: u32) -> Result<bool, Fa
     Ok(line.starts_with(front.as_bytes()) && replays(alloc, board, text, line)?)
 }
 
-/// Asserts that a level is solved with so many pushes: the text that is written is replayed, and
-/// the certificate judged.
-pub(crate) fn assert_solved(
-    rt: &impl Abort,
-    alloc: Global,
-    board: &str,
-    limit: u32,
-    pushes: u32,
-) -> Result<(), Fail> {
+/// Whether a level is solved with so many pushes: the text that is written is replayed, and the
+/// certificate judged.
+pub(crate) fn is_solved(alloc: Global, board: &str, limit: u32, pushes: u32) -> Result<bool, Fail> {
     let reply = answered(alloc, board, limit)?;
-    assert_reply(rt, alloc, board, limit, pushes, &reply)
-}
-
-/// Asserts it of what solving the level left behind.
-fn assert_reply(
-    rt: &impl Abort,
-    alloc: Global,
-    board: &str,
-    limit: u32,
-    pushes: u32,
-    reply: &Reply,
-) -> Result<(), Fail> {
-    assert_found(rt, alloc, board, limit, reply)?;
-    assert!(rt; reply.status == 0 && tells(alloc, board, &reply.out, pushes)?);
     let accepted = format!(in alloc; "accepted at least {pushes} pushes\n")?;
-    assert_accepted(rt, alloc, board, limit, reply.cert.as_slice(), &accepted)
+    Ok(
+        reply.status == 0
+            && tells(alloc, board, &reply.out, pushes)?
+            && is_shown(alloc, board, limit, &reply, &accepted)?,
+    )
 }
 
-/// Asserts that none solves a level, and that its certificate says so.
-pub(crate) fn assert_unsolvable(
-    rt: &impl Abort,
-    alloc: Global,
-    board: &str,
-    limit: u32,
-) -> Result<(), Fail> {
+/// Whether none solves a level, and its certificate says so.
+pub(crate) fn is_unsolvable(alloc: Global, board: &str, limit: u32) -> Result<bool, Fail> {
     let reply = answered(alloc, board, limit)?;
-    assert_no_solution(rt, alloc, board, limit, &reply)
+    Ok(
+        reply.status == 0
+            && reply.out.as_slice() == b"unsolvable\n".as_slice()
+            && is_shown(alloc, board, limit, &reply, "accepted unsolvable\n")?,
+    )
 }
 
-/// Asserts it of what solving the level left behind.
-fn assert_no_solution(
-    rt: &impl Abort,
+/// Whether an answer is the same without a certificate, and is shown by the one that it has.
+fn is_shown(
     alloc: Global,
     board: &str,
     limit: u32,
     reply: &Reply,
-) -> Result<(), Fail> {
-    assert_found(rt, alloc, board, limit, reply)?;
-    assert_eq!(rt; reply.out.as_slice(), b"unsolvable\n".as_slice());
-    assert_eq!(rt; reply.status, 0);
-    let line = "accepted unsolvable\n";
-    assert_accepted(rt, alloc, board, limit, reply.cert.as_slice(), line)
+    accepted: &str,
+) -> Result<bool, Fail> {
+    Ok(
+        is_found(alloc, board, limit, reply)?
+            && is_accepted(alloc, board, limit, reply.cert.as_slice(), accepted)?,
+    )
 }
 
 /// A level, a limit, and the fewest pushes, or that none solves it. Both numbers are those of a
@@ -233,31 +203,30 @@ pub(crate) const SLANTED_ROOM: &str = "\
 #[test]
 fn levels(rt: HostRuntime) -> Result<(), Fail> {
     for (board, limit, pushes) in LEVELS {
-        match pushes {
-            Some(pushes) => assert_solved(&rt, rt.alloc(), board, limit, pushes)?,
-            None => assert_unsolvable(&rt, rt.alloc(), board, limit)?,
-        }
+        let is_so = match pushes {
+            Some(pushes) => is_solved(rt.alloc(), board, limit, pushes)?,
+            None => is_unsolvable(rt.alloc(), board, limit)?,
+        };
+        assert!(rt; is_so, "{board}");
     }
     Ok(())
 }
 
-/// Asserts that a level is answered by this text, with a certificate unless the limit is met.
-fn assert_answered(
-    rt: &impl Abort,
+/// Whether a level is answered by this text, with a certificate unless the limit is met.
+fn is_answered(
     alloc: Global,
     board: &str,
     limit: u32,
     text: &str,
     status: u8,
-) -> Result<(), Fail> {
+) -> Result<bool, Fail> {
     let reply = answered(alloc, board, limit)?;
-    assert_found(rt, alloc, board, limit, &reply)?;
-    assert!(rt; reply.out.as_slice() == text.as_bytes(), "{text}");
-    assert!(rt;
-        reply.status == status && reply.cert.is_empty() == (status == 4),
-        "{text}"
-    );
-    Ok(())
+    Ok(
+        reply.status == status
+            && reply.out.as_slice() == text.as_bytes()
+            && reply.cert.is_empty() == (status == 4)
+            && is_found(alloc, board, limit, &reply)?,
+    )
 }
 
 /// Answers that are no other: the text of the solution, or the limit, which has no certificate.
@@ -271,33 +240,35 @@ fn whole_answers(rt: HostRuntime) -> Result<(), Fail> {
         (sketch::CORRIDOR_OF_SIX_PUSHES, 1, "limit 1\n", 4),
         (sketch::CORRIDOR_OF_SIX_PUSHES, 2, "limit 2\n", 4),
     ] {
-        assert_answered(&rt, rt.alloc(), board, limit, text, status)?;
+        assert!(rt;
+            is_answered(rt.alloc(), board, limit, text, status)?,
+            "{text}"
+        );
     }
     Ok(())
 }
 
-/// Asserts what is told of a limit that is met where a bound is asked for: with a certificate, which
+/// Whether this is told of a limit that is met where a bound is asked for: with a certificate, which
 /// is accepted for as many pushes, and without.
-fn assert_bounded(
-    rt: &impl Abort,
-    alloc: Global,
-    limit: u32,
-    line: &str,
-    accepted: &str,
-) -> Result<(), Fail> {
+fn is_bounded(alloc: Global, limit: u32, line: &str, accepted: &str) -> Result<bool, Fail> {
     let board = sketch::CORRIDOR_OF_SIX_PUSHES;
     let mut out = Vec::new(alloc);
     let mut cert = Vec::new(alloc);
     let mut input = board.as_bytes();
     let status = solve_bytes(alloc, &mut input, 1, limit, true, &mut out, &mut cert)?;
-    assert!(rt; status == 4 && out.as_slice() == line.as_bytes(), "{line}");
-    let mut alone = Vec::new(alloc);
-    let status = find_bytes(alloc, &mut board.as_bytes(), 1, limit, true, &mut alone)?;
-    assert!(rt;
-        status == 4 && alone.as_slice() == line.as_bytes(),
-        "{line}"
-    );
-    assert_accepted(rt, alloc, board, limit, cert.as_slice(), accepted)
+    Ok(
+        status == 4
+            && out.as_slice() == line.as_bytes()
+            && is_bounded_alone(alloc, board, limit, line)?
+            && is_accepted(alloc, board, limit, cert.as_slice(), accepted)?,
+    )
+}
+
+/// Whether this is told without a certificate.
+fn is_bounded_alone(alloc: Global, board: &str, limit: u32, line: &str) -> Result<bool, Fail> {
+    let mut out = Vec::new(alloc);
+    let status = find_bytes(alloc, &mut board.as_bytes(), 1, limit, true, &mut out)?;
+    Ok(status == 4 && out.as_slice() == line.as_bytes())
 }
 
 /// The start alone waits, whose box is two pushes from the goal; or it was pushed once, and then it
@@ -308,7 +279,7 @@ fn bounds_are_told(rt: HostRuntime) -> Result<(), Fail> {
         (1, "limit 1 at least 2\n", "accepted at least 2 pushes\n"),
         (2, "limit 2 at least 4\n", "accepted at least 4 pushes\n"),
     ] {
-        assert_bounded(&rt, rt.alloc(), limit, line, accepted)?;
+        assert!(rt; is_bounded(rt.alloc(), limit, line, accepted)?, "{line}");
     }
     Ok(())
 }

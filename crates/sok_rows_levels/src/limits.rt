@@ -83,9 +83,8 @@ const WITH_MEMBERS: [Case<'_>; 4] = [
 /// Asserts of each case whether it fits.
 fn assert_fit(rt: &impl Abort, alloc: Global, cases: &[Case<'_>]) -> Result<(), Fail> {
     for case in cases {
-        let (pushes, depth, boxes, _given, fit) = *case;
-        let found = is_fit(alloc, *case)?;
-        assert_eq!(rt; found, fit, "{pushes} pushes, {boxes:?} at {depth}");
+        let (pushes, depth, _boxes, _given, fit) = *case;
+        assert!(rt; is_fit(alloc, *case)? == fit, "{pushes} pushes at {depth}");
     }
     Ok(())
 }

@@ -2,8 +2,7 @@
 //! and 128 columns.
 
 use crate::answers::{
-    GOALS_IN_THREE_CORNERS, RING_OF_BOXES, SLANTED_ROOM, TWO_CHAMBERS, assert_solved,
-    assert_unsolvable,
+    GOALS_IN_THREE_CORNERS, RING_OF_BOXES, SLANTED_ROOM, TWO_CHAMBERS, is_solved, is_unsolvable,
 };
 use sok_sketch::rooms::CORRIDOR_AROUND;
 use std::alloc::{AllocError, Global};
@@ -32,10 +31,13 @@ fn levels_about_two_columns(rt: HostRuntime) -> Result<(), Fail> {
             (TWO_CHAMBERS, 54, 4),
         ] {
             let board = moved(rt.alloc(), board, columns)?;
-            assert_solved(&rt, rt.alloc(), board.as_str(), limit, pushes)?;
+            assert!(rt;
+                is_solved(rt.alloc(), board.as_str(), limit, pushes)?,
+                "{board}"
+            );
         }
         let board = moved(rt.alloc(), SLANTED_ROOM, columns)?;
-        assert_unsolvable(&rt, rt.alloc(), board.as_str(), 86)?;
+        assert!(rt; is_unsolvable(rt.alloc(), board.as_str(), 86)?, "{board}");
     }
     Ok(())
 }
@@ -44,5 +46,6 @@ fn levels_about_two_columns(rt: HostRuntime) -> Result<(), Fail> {
 #[test]
 fn a_level_of_128_rows_and_columns(rt: HostRuntime) -> Result<(), Fail> {
     let board = CORRIDOR_AROUND.text(rt.alloc())?;
-    assert_solved(&rt, rt.alloc(), board.as_str(), 126, 4)
+    assert!(rt; is_solved(rt.alloc(), board.as_str(), 126, 4)?);
+    Ok(())
 }
