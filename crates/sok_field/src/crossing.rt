@@ -1,6 +1,6 @@
 //! The squares that are joined to one over both halves of a set.
 
-ghost use Rattle.std.specs.Prelude.{◌≡◌, ◌≤◌, ◌↔◌, IsTrue, false, length};
+ghost use Rattle.std.specs.Prelude.{◌≡◌, ◌<◌, ◌≤◌, ◌↔◌, IfNone, IfSome, IsTrue, false, length};
 ghost use Rattle.sok_rules.specs.declared.cell.Spot.{Spot};
 ghost use Rattle.sok_field.specs.Crossings.{AreClosed, IsCrossed};
 ghost use Rattle.sok_field.specs.Fields.{has};
@@ -9,7 +9,7 @@ ghost use Rattle.sok_field.specs.Rounds.{IsClosed};
 ghost use Rattle.sok_field.specs.Ways.{Joined};
 
 use crate::field::ROWS;
-use crate::flood::flood_all;
+use crate::flood::flood_rows;
 use crate::half::COLUMNS;
 use crate::{bits, field};
 use sok_rules::cell::Spot;
@@ -39,28 +39,42 @@ pub(crate) fn flood_halves(
     } else {
         bits::put(high, field::within(from));
     }
+    let mut first = from.row as usize;
+    let mut last = first;
     loop {
-        flood_all(free_low, low);
-        flood_all(free_high, high);
-        if !cross(free_low, free_high, low, high) {
+        flood_rows(free_low, low, first, last);
+        flood_rows(free_high, high, first, last);
+        let Some((top, bottom)) = cross(free_low, free_high, low, high) else {
             return;
-        }
+        };
+        first = top;
+        last = bottom;
     }
 }
 
 /// Makes a round over both halves in place, where a round over each changes nothing: so only what
-/// comes across the seam is added. Tells whether anything does.
-fn cross(free_low: &[u64], free_high: &[u64], low: &mut [u64], high: &mut [u64]) -> bool
+/// comes across the seam is added. Tells the first and the last row with more, if there is one.
+fn cross(
+    free_low: &[u64],
+    free_high: &[u64],
+    low: &mut [u64],
+    high: &mut [u64],
+) -> Option<(usize, usize)>
     requires free { length free_high.now ≡ length free_low.now }
     requires low { length low.old ≡ length free_low.now }
     requires high { length high.old ≡ length free_low.now }
     requires closed_low { IsClosed low.old free_low.now }
     requires closed_high { IsClosed high.old free_high.now }
     ensures crossed { IsCrossed free_low.now free_high.now low.old high.old low.new high.new }
-    ensures more { IsTrue result → AreClosed free_low.now free_high.now low.old high.old → ⊥ }
-    ensures closed { result ≡ false → AreClosed free_low.now free_high.now low.new high.new }
+    ensures more { IfSome result (λ _.
+        AreClosed free_low.now free_high.now low.old high.old → ⊥) }
+    ensures first { IfSome result (λ rows. rows.0 < length low.old) }
+    ensures last { IfSome result (λ rows. rows.1 < length low.old) }
+    ensures closed { IfNone result (AreClosed free_low.now free_high.now low.new high.new) }
 {
     let mut changed = false;
+    let mut first = low.len();
+    let mut last = 0;
     for r in 0..low.len() {
         let (left, right) = (low[r], high[r]);
         let more_left = left | (free_low[r] & right << 63);
@@ -69,7 +83,9 @@ fn cross(free_low: &[u64], free_high: &[u64], low: &mut [u64], high: &mut [u64])
             low[r] = more_left;
             high[r] = more_right;
             changed = true;
+            first = first.min(r);
+            last = r;
         }
     }
-    changed
+    if changed { Some((first, last)) } else { None }
 }

@@ -68,8 +68,8 @@ pub(crate) fn step_rows(free: &[u64], seen: &mut [u64], first: usize, last: usiz
     }
 }
 
-/// Goes down from a row as far as squares are met. Tells the last row.
-pub(crate) fn sweep_down(free: &[u64], seen: &mut [u64], low: usize) -> usize
+/// Goes down from a row to another one at least, and on as far as squares are met. Tells the last row.
+pub(crate) fn sweep_down(free: &[u64], seen: &mut [u64], low: usize, high: usize) -> usize
     requires row { low < length seen.old }
     requires whole { length free.now ≡ length seen.old }
     ensures within { result < length seen.old }
@@ -80,8 +80,8 @@ pub(crate) fn sweep_down(free: &[u64], seen: &mut [u64], low: usize) -> usize
     let mut above = seen[low];
     while r + 1 < seen.len() {
         r += 1;
-        let (row, _) = meet_row(free, seen, r, above);
-        if row == 0 {
+        let (row, met) = meet_row(free, seen, r, above);
+        if !met && r > high {
             break;
         }
         above = row;
@@ -89,7 +89,7 @@ pub(crate) fn sweep_down(free: &[u64], seen: &mut [u64], low: usize) -> usize
     r
 }
 
-/// Goes up from a row as far as squares are met, and at least to a second row. Tells the last row,
+/// Goes up from a row to another one at least, and on as far as squares are met. Tells the last row,
 /// and whether any were met.
 pub(crate) fn sweep_up(free: &[u64], seen: &mut [u64], high: usize, low: usize) -> (usize, bool)
     requires row { high < length seen.old }
@@ -106,7 +106,7 @@ pub(crate) fn sweep_up(free: &[u64], seen: &mut [u64], high: usize, low: usize) 
         let (row, met) = meet_row(free, seen, r, below);
         if met {
             grown = true;
-        } else if row == 0 && r < low {
+        } else if r < low {
             break;
         }
         below = row;

@@ -1,15 +1,17 @@
-use Rattle.std.proofs.Common.{◌∙◌, ◌≡◌, ◌+◌, refl, subst, sym, true≢false, arith, get_or, set, bit_and, bit_or, ℕ, List}
+use Rattle.std.proofs.Common.{◌∙◌, ◌≡◌, ◌<◌, ◌+◌, length, refl, subst, sym, true≢false, arith, get_or, set, bit_and, bit_or, ℕ, List}
 use Rattle.sok_field.specs.Crossings.{IsCrossed}
 use Rattle.sok_field.specs.Rounds.{from_high, from_low}
 use Rattle.sok_field.proofs.Seams.{AreAcross, AreAcross-more, AreAcross-stays, every-across, none-across}
 use Rattle.sok_field.proofs.crossing.cross.Goals as goal
-use Rattle.sok_field.proofs.crossing.cross.Goals.{then-more_left-left, then-more_left-left-via-then-more_left-left, then-more_left-left-via-else-more_left-left+then-more_right-right, else-more_left-left+else-more_right-right}
+use Rattle.sok_field.proofs.crossing.cross.Goals.{After-loop-r, then-more_left-left, then-more_left-left-via-then-more_left-left, then-more_left-left-via-else-more_left-left+then-more_right-right, else-more_left-left+else-more_right-right}
 
 pub loop-r-init : goal.loop-r-init
 loop-r-init c = record {
   low = record { whole = refl; done = λ k below. absurd (omega (arith, below)); rest = λ k _. c.requires.closed_low k };
   high = record { whole = refl; done = λ k below. absurd (omega (arith, below)); rest = λ k _. c.requires.closed_high k };
   more = λ e. cc;
+  first = λ e. cc;
+  last = λ e. cc;
   same_low = λ _. refl;
   same_high = λ _. refl;
 }
@@ -41,6 +43,8 @@ loop-r-preserved c =
           | then-more_left-left-via-else-more_left-left+then-more_right-right w' ↦ w'.if-more_right-right.true
               (subst (λ n. into_high n ≡ get_or high r 0) left (none-across so_far.high (c.requires.closed_high r) (closed.round_high r)))
         ];
+        first = λ _. omega (arith, w.first-is, w.min-first.ensures);
+        last = λ _. omega (arith, w.last-is);
         same_low = λ e. absurd (true≢false (sym w.changed-is ∙ e));
         same_high = λ e. absurd (true≢false (sym w.changed-is ∙ e));
       }
@@ -50,12 +54,14 @@ loop-r-preserved c =
         high = subst upper (sym w.high-is)
             (AreAcross-stays so_far.high (subst (λ n. into_high n ≡ get_or high r 0) (sym left) w.if-more_right-right.false));
         more = λ e. so_far.more (sym w.changed-is ∙ e);
+        first = λ e. subst (λ n. n < length first) (sym w.first-is) (so_far.first (sym w.changed-is ∙ e));
+        last = λ e. subst (λ n. n < length first) (sym w.last-is) (so_far.last (sym w.changed-is ∙ e));
         same_low = λ e. w.low-is ∙ so_far.same_low (sym w.changed-is ∙ e);
         same_high = λ e. w.high-is ∙ so_far.same_high (sym w.changed-is ∙ e);
       }
     ]
 
-crossed : (c : goal.After-loop-r) → IsCrossed c.args.free_low.now c.args.free_high.now c.args.low.now c.args.high.now c.loop-r.low c.loop-r.high
+crossed : (c : After-loop-r) → IsCrossed c.args.free_low.now c.args.free_high.now c.args.low.now c.args.high.now c.loop-r.low c.loop-r.high
 crossed c = record {
   whole_low = c.loop-r.invariant.low.whole;
   whole_high = c.loop-r.invariant.high.whole;
@@ -63,10 +69,16 @@ crossed c = record {
   round_high = every-across c.loop-r.invariant.high (omega arith) (omega arith);
 }
 
-pub returns-clause-crossed : goal.returns-clause-crossed
-returns-clause-crossed c = crossed c
+pub returns-then-changed-clause-crossed : goal.returns-then-changed-clause-crossed
+returns-then-changed-clause-crossed c = crossed (goal.at.returns-then-changed-clause-crossed c).After-loop-r
 
-pub returns-clause-closed : goal.returns-clause-closed
-returns-clause-closed c e = subst (λ (T : Type 0). T)
-    (λ i. IsCrossed c.args.free_low.now c.args.free_high.now (sym (c.loop-r.invariant.same_low e) i) (sym (c.loop-r.invariant.same_high e) i) c.loop-r.low c.loop-r.high)
-    (crossed c)
+pub returns-else-changed-clause-crossed : goal.returns-else-changed-clause-crossed
+returns-else-changed-clause-crossed c = crossed (goal.at.returns-else-changed-clause-crossed c).After-loop-r
+
+pub returns-else-changed-clause-closed : goal.returns-else-changed-clause-closed
+returns-else-changed-clause-closed c =
+    let same_low = c.loop-r.invariant.same_low c.if-changed.false in
+    let same_high = c.loop-r.invariant.same_high c.if-changed.false in
+    subst (λ (T : Type 0). T)
+    (λ i. IsCrossed c.args.free_low.now c.args.free_high.now (sym same_low i) (sym same_high i) c.loop-r.low c.loop-r.high)
+    (crossed (goal.at.returns-else-changed-clause-closed c).After-loop-r)

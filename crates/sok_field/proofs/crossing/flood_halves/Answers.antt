@@ -1,13 +1,22 @@
-use Rattle.std.proofs.Common.{◌∙◌, ap, arith, subst, sym, true≢false}
+use Rattle.std.proofs.Common.{ℕ, ◌≡◌, ◌<◌, ◌∙◌, inl, inr, List, true, length, ap, arith, subst, sym, true≢false}
+use Rattle.std.proofs.lemmas.Bool.{cases_lt}
 use Rattle.sok_rules.specs.declared.cell.Spot.{Spot}
 use Rattle.sok_field.specs.Crossings.{IsWide}
-use Rattle.sok_field.specs.Halves.{within}
+use Rattle.sok_field.specs.Fields.{has}
+use Rattle.sok_field.specs.Halves.{halves, within}
 use Rattle.sok_field.proofs.Across.{AreFree, put-high, put-low, sum-flooded, sum-wide, wide-crossed, wide-exact, wide-high, wide-low, wide-more}
 use Rattle.sok_field.proofs.Halves.{has-lower, has-upper}
 use Rattle.sok_field.proofs.OneSquare.{has-within}
 use Rattle.sok_field.proofs.Spreading.{has-col}
 use Rattle.sok_field.proofs.crossing.flood_halves.Goals as goal
 use Rattle.sok_field.proofs.crossing.flood_halves.Goals.{After-cross, then-from-lt-COLUMNS, else-from-lt-COLUMNS}
+
+-- a square of both halves lies in a row that they have
+row-within : (low high : List ℕ) (s : Spot) → length high ≡ length low → has (halves low high) s ≡ true → s.row < length low
+row-within low high s same there = elim (cases_lt s.col 64) [
+  | inl inside ↦ has-within low s (sym (has-lower low high s inside) ∙ there)
+  | inr past ↦ let row = has-within high (within s) (sym (has-upper low high s past) ∙ there) in omega (arith, same, row)
+]
 
 pub put-requires-clause-row : goal.put-requires-clause-row
 put-requires-clause-row c =
@@ -32,8 +41,8 @@ put-requires-else-from-lt-COLUMNS-clause-col c =
     let col = ap (λ (s : Spot). s.col) c.within.ensures in
     omega (arith, inside, col)
 
-pub loop-init : goal.loop-init
-loop-init c =
+pub loop-top-init : goal.loop-top-init
+loop-top-init c =
     let free_low = c.args.free_low.now in
     let free_high = c.args.free_high.now in
     let free : AreFree free_low free_high = record {
@@ -52,32 +61,36 @@ loop-init c =
             (omega (arith, w.if-from-lt-COLUMNS.false)) w.within.ensures c.requires.blank_high c.requires.blank_low w.put-else-from-lt-COLUMNS.ensures
             c.requires.from)
       ];
+      first = row-within free_low free_high c.args.from c.requires.free c.requires.from;
+      last = row-within free_low free_high c.args.from c.requires.free c.requires.from;
     }
 
 -- each half is flooded
-both : (c : After-cross) → IsWide c.args.free_low.now c.args.free_high.now c.args.from c.flood_all.new.seen c.flood_all-in-loop.new.seen
+both : (c : After-cross) → IsWide c.args.free_low.now c.args.free_high.now c.args.from c.flood_rows.new.seen c.flood_rows-in-loop-top.new.seen
 both c =
-    let free = c.loop.invariant.free in
-    let low = wide-low free c.loop.invariant.wide c.flood_all.new.seen (omega arith) c.flood_all.ensures.reaches in
-    wide-high free low c.flood_all-in-loop.new.seen (omega arith) c.flood_all-in-loop.ensures.reaches
+    let free = c.loop-top.invariant.free in
+    let low = wide-low free c.loop-top.invariant.wide c.flood_rows.new.seen (omega arith) c.flood_rows.ensures.reaches in
+    wide-high free low c.flood_rows-in-loop-top.new.seen (omega arith) c.flood_rows-in-loop-top.ensures.reaches
 
-pub loop-preserved : goal.loop-preserved
-loop-preserved c = record {
-  free = c.loop.invariant.free;
-  wide = wide-crossed c.loop.invariant.free (both ((goal.at.loop-preserved c).After-cross)) c.cross.ensures.crossed;
+pub loop-top-preserved : goal.loop-top-preserved
+loop-top-preserved c = record {
+  free = c.loop-top.invariant.free;
+  wide = wide-crossed c.loop-top.invariant.free (both ((goal.at.loop-top-preserved c).After-cross)) c.cross.ensures.crossed;
+  first = omega (arith, c.in-Some.ensures.first);
+  last = omega (arith, c.in-Some.ensures.last);
 }
 
-pub returns-then-not-cross : goal.returns-then-not-cross
-returns-then-not-cross c =
-    let free = c.loop.invariant.free in
-    wide-exact free (wide-crossed free (both ((goal.at.returns-then-not-cross c).After-cross)) c.cross.ensures.crossed) (c.cross.ensures.closed c.if-not-cross.true)
+pub returns-in_default : goal.returns-in_default
+returns-in_default c =
+    let free = c.loop-top.invariant.free in
+    wide-exact free (wide-crossed free (both ((goal.at.returns-in_default c).After-cross)) c.cross.ensures.crossed) c.in_default.ensures.closed
 
-pub loop-smaller : goal.loop-smaller
-loop-smaller c =
-    let free = c.loop.invariant.free in
-    let flooded = both ((goal.at.loop-smaller c).After-cross) in
-    let rises = sum-flooded c.args.free_low.now c.loop.low c.flood_all.new.seen (omega arith) c.flood_all.ensures.reaches in
-    let rises_too = sum-flooded c.args.free_high.now c.loop.high c.flood_all-in-loop.new.seen (omega arith) c.flood_all-in-loop.ensures.reaches in
-    let more = wide-more free flooded c.cross.ensures.crossed (c.cross.ensures.more c.if-not-cross.false) in
+pub loop-top-smaller : goal.loop-top-smaller
+loop-top-smaller c =
+    let free = c.loop-top.invariant.free in
+    let flooded = both ((goal.at.loop-top-smaller c).After-cross) in
+    let rises = sum-flooded c.args.free_low.now c.loop-top.low c.flood_rows.new.seen (omega arith) c.flood_rows.ensures.reaches in
+    let rises_too = sum-flooded c.args.free_high.now c.loop-top.high c.flood_rows-in-loop-top.new.seen (omega arith) c.flood_rows-in-loop-top.ensures.reaches in
+    let more = wide-more free flooded c.cross.ensures.crossed c.in-Some.ensures.more in
     let inside = sum-wide free (wide-crossed free flooded c.cross.ensures.crossed) in
     omega (arith, rises, rises_too, more, inside)

@@ -11,7 +11,7 @@ loop-r-preserved c = record {
       GoesOn-then so_far (c.meet_row-row.ensures.goes_on start so_far.flooding);
 }
 
-pub returns-then-row-eq0-clause-goes_on : goal.returns-then-row-eq0-clause-goes_on
-returns-then-row-eq0-clause-goes_on c = λ start flood.
+pub returns-then-r-high-clause-goes_on : goal.returns-then-r-high-clause-goes_on
+returns-then-r-high-clause-goes_on c = λ start flood.
     let so_far = c.loop-r.invariant.goes_on start flood in
     GoesOn-then so_far (c.meet_row-row.ensures.goes_on start so_far.flooding)

@@ -1,7 +1,7 @@
 use Rattle.std.proofs.Common.{arith}
 use Rattle.sok_field.specs.Fields.{has}
 use Rattle.sok_field.proofs.Flooding.{IsSpreading-begun, flood-exact, has-from_within, reaches-on}
-use Rattle.sok_field.proofs.flood.flood_all.Goals as goal
+use Rattle.sok_field.proofs.flood.flood_rows.Goals as goal
 
 pub sweep-requires : goal.sweep-requires
 sweep-requires c =
@@ -9,7 +9,6 @@ sweep-requires c =
     let start = c.args.seen.now in
     let flood = (c.step_rows.ensures (has start) (IsSpreading-begun free start c.requires.whole c.requires.inside)).flooding in
     let whole = flood.whole in
-    let some = c.requires.some in
     record {
       whole = flood.whole;
       rows = c.requires.rows;
