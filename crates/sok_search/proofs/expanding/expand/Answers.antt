@@ -1,4 +1,4 @@
-use Rattle.std.proofs.Common.{sym, subst, Contains, IfSome, List, Option}
+use Rattle.std.proofs.Common.{◌∙◌, sym, subst, true≢false, Contains, IfSome, List, Option}
 use Rattle.std.proofs.lemmas.Result.{IfOk-weaker}
 use Rattle.sok_state.specs.declared.key.Key.{Key}
 use Rattle.sok_state.specs.declared.push.Push.{Push}
@@ -14,6 +14,12 @@ use Rattle.sok_search.proofs.expanding.expand.Goals as goal
 pub open-requires-clause-state : goal.open-requires-clause-state
 open-requires-clause-state c = taken-key c.args.board.now c.args.limit c.args.index
     (progress_of c.args.search.now) c.args.key.now c.args.depth c.requires.state.running.search c.requires.state.there c.requires.state.depth_is
+
+pub follow-requires-clause-trial : goal.follow-requires-clause-trial
+follow-requires-clause-trial c = record {
+  serves = c.in_ok-open.ensures.serves;
+  holds = λ matched. absurd (true≢false (sym matched ∙ c.in_ok-open.ensures.matched));
+}
 
 pub returns-clause-ready : goal.returns-clause-ready
 returns-clause-ready c =
