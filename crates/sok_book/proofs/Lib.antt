@@ -1,6 +1,12 @@
-pub mod Pages
+pub mod Ascii
+pub mod Blocks
+pub mod Commands
+pub mod Exports
+pub mod Laws
+pub mod Lurd
 pub mod NoProofs
 pub mod NoSolutions
-pub mod Commands
-pub mod Laws
 pub mod Outcomes
+pub mod Pages
+pub mod Texts
+pub mod Titles

@@ -1,5 +1,5 @@
 -- A book: levels with their titles, best solutions and verdicts.
-use Rattle.std.specs.Prelude.{ℕ, zero, suc, ◌≡◌, List, Option, Some, None, IfSome, length, slice_get}
+use Rattle.std.specs.Prelude.{ℕ, ℤ, zero, suc, ◌≡◌, List, Option, Some, None, IfSome, length, slice_get}
 use Rattle.sok_rules.specs.declared.cell.Dir.{Dir}
 use Rattle.sok_rules.specs.Squares.{Rows}
 use Rattle.sok_rules.specs.Play.{start, pushes, Solves, IsFewest, IsUnsolvable}
@@ -18,6 +18,11 @@ pub record Page : Type 0 where
   pub title : Option (List ℕ)
   pub best : Option Solution
   pub verdict : Verdict
+
+-- a page with its id
+pub record PageWithId : Type 0 where
+  pub id : ℤ
+  pub page : Page
 
 abbrev pub Book : Type 0
 Book = List Page

@@ -1,4 +1,8 @@
-//! Verdicts on levels, and what becomes of an offer.
+//! Levels of a book, with what is known of them.
+
+use sok_rules::cell::Dir;
+use sok_rules::level::Level;
+use std::marker::Model;
 
 /// What is known of a level's best solution.
 #[derive(Clone, Copy, Debug, PartialEq, Eq)]
@@ -18,4 +22,52 @@ pub enum Offer {
     Stored,
     /// The best is as it was: it has no more pushes.
     Kept,
+}
+
+/// A solution as it is kept. It is seen as its letters and their numbers.
+#[derive(Debug, Drop)]
+pub struct Best {
+    pub letters: Vec<Dir>,
+    /// How many letters push a box.
+    pub pushes: u32,
+    /// How many letters there are, pushes included.
+    pub moves: u32,
+}
+
+impl Model for Best {
+    ghost use Rattle.sok_book.specs.Books.{Solution};
+
+    ghost Value = { Solution };
+
+    ghost view = { λ best.
+        record { letters = best.letters.items; pushes = best.pushes; moves = best.moves } };
+}
+
+/// A level of a book, with what is known of it. It is seen as its id and its page.
+#[derive(Debug, Drop)]
+pub struct Record {
+    /// From 1 on, without a gap.
+    pub id: i64,
+    pub level: Level,
+    /// One line, without blanks at its ends, and not empty.
+    pub title: Option<Vec<u8>>,
+    pub best: Option<Best>,
+    pub verdict: Verdict,
+}
+
+impl Model for Record {
+    ghost use Rattle.std.specs.Prelude.{option_map};
+    ghost use Rattle.sok_book.specs.Books.{PageWithId};
+
+    ghost Value = { PageWithId };
+
+    ghost view = { λ kept. record {
+      id = kept.id;
+      page = record {
+        level = kept.level;
+        title = option_map (λ title. title.items) kept.title;
+        best = kept.best;
+        verdict = kept.verdict;
+      };
+    } };
 }

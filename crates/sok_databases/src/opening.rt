@@ -9,7 +9,7 @@ use crate::copying::copy;
 use crate::databases::Access;
 use sok_book::fault::BookFault;
 use sok_engine::fault::ToolFault;
-use sok_row::fault::fault_of;
+use sok_store::fault::fault_of;
 use sqlite::{Connection, Error, ErrorCode, FileStore, Files, Options, Unknown};
 use sqlite_std_file::OpenError;
 use std::alloc::AllocError;

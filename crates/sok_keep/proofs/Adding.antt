@@ -27,7 +27,7 @@ use Rattle.sok_engine.specs.Inputs.{UnlessMuch}
 use Rattle.sok_engine.specs.Written.{Answer, Answers, AppendsFront}
 use Rattle.sok_engine.proofs.Answering.{too_much}
 use Rattle.sok_judge.proofs.Checking.{some_text}
-use Rattle.sok_row.specs.Faults.{IsOutside}
+use Rattle.sok_store.specs.Faults.{IsOutside}
 use Rattle.sok_store.specs.Calls.{Keeps, Turns, id_number, title_kept}
 use Rattle.sok_keep.specs.Adds.{AddsFirst, AddsLevel, IsEndAt, IsStopAt, WritesAdding, added, faulty, fault_line, id_line, more, none, title_at, unaccepted}
 use Rattle.sok_keep.specs.Adding.{IsStop, LeavesLevel, LeavesLevels}

@@ -12,7 +12,7 @@ use Rattle.sok_engine.specs.declared.fault.ToolFault.{ToolFault}
 use Rattle.sok_engine.specs.Faults.{of_book, of_lurd}
 use Rattle.sok_engine.specs.Written.{IsFaultOf, WritesOne}
 use Rattle.sok_engine.proofs.Answering.{Writes-one}
-use Rattle.sok_row.specs.Faults.{IsOutside}
+use Rattle.sok_store.specs.Faults.{IsOutside}
 use Rattle.sok_store.specs.Calls.{Changes, Keeps, Turns, id_number}
 use Rattle.sok_store.specs.Standing.{OffersTelling}
 use Rattle.sok_store.specs.declared.standing.Standing.{Standing}

@@ -17,7 +17,7 @@ use Rattle.sok_engine.specs.Limits.{cert_limit}
 use Rattle.sok_engine.specs.Written.{Answer, IsFaultOf, WritesOne}
 use Rattle.sok_engine.proofs.Answering.{Writes-none, Writes-read, Writes-unread}
 use Rattle.sok_judge.specs.Verdicts.{verdict_answer}
-use Rattle.sok_row.specs.Faults.{IsOutside}
+use Rattle.sok_store.specs.Faults.{IsOutside}
 use Rattle.sok_store.specs.Calls.{Changes, Keeps, Turns, id_number}
 use Rattle.sok_store.proofs.Calls.{held}
 use Rattle.sok_keep.specs.Proves.{IsProof, WritesProof, failed, proved, proved_answer, refused, unproved}

@@ -1,21 +1,19 @@
 -- What is shown of a book, as a call answers it.
 use Rattle.std.proofs.Common.{ℕ, ℤ, ◌≡◌, ◌⊎◌, ◌∙◌, ◌+◌, inl, inr, List, [], ◌∷◌, Option, Some, None}
-use Rattle.std.proofs.Common.{IsNone, IsSomeAnd, Ok, Err, ap, map, refl, subst, sym, true≢false}
+use Rattle.std.proofs.Common.{IsNone, Ok, Err, ap, refl, subst, sym, true≢false}
 use Rattle.sqlite.specs.State.{State}
 use Rattle.sok_book.specs.declared.fault.BookFault.{BookFault}
 use Rattle.sok_book.specs.declared.fault.BookFault.TheVariants as refusal
-use Rattle.sok_book.specs.Books.{Book, Page, page_at}
-use Rattle.sok_page.specs.declared.record.Record.{Record}
-use Rattle.sok_page.specs.Texts.{page_text, record_text}
-use Rattle.sok_shelf.specs.declared.text.BookText.{BookText}
-use Rattle.sok_shelf.specs.BookTexts.{book_text}
-use Rattle.sok_shelf.specs.Shown.{shown_text}
+use Rattle.sok_book.specs.Books.{Book, Page, PageWithId, page_at}
+use Rattle.sok_book.specs.declared.text.BookText.{BookText}
+use Rattle.sok_book.specs.BookTexts.{book_text}
+use Rattle.sok_book.specs.Shown.{shown_text}
 use Rattle.sok_engine.specs.declared.fault.ToolFault.{ToolFault}
 use Rattle.sok_engine.specs.declared.fault.ToolFault.TheVariants as tool
 use Rattle.sok_engine.specs.Faults.{of_book}
 use Rattle.sok_engine.specs.Written.{Answer, IsFaultOf, Writes}
-use Rattle.sok_row.specs.Faults.{IsOutside}
-use Rattle.sok_row.specs.Told.{AreRecordsOf, IsRecordOf, Told, told, telling, telling_from}
+use Rattle.sok_store.specs.Faults.{IsOutside}
+use Rattle.sok_book.specs.Records.{AreRecordsOf, IsRecordAt, pages_from, pages_of}
 use Rattle.sok_store.specs.Calls.{Keeps, id_number}
 use Rattle.sok_keep.specs.Shows.{IsBookText, IsShow, show_answer}
 use Rattle.sok_keep.proofs.Ending.{ends_unwritten}
@@ -25,17 +23,11 @@ pub same_answer : (answer : Answer) (text : List ℕ) (status : ℕ) → answer.
     → answer ≡ record { text = text; status = status }
 same_answer answer text status texts statuses = λ i. record { text = texts i; status = statuses i }
 
--- the page of a record
-shown_page : (o : Option Page) (n : ℕ) (kept : Record) (answer : Answer) → IsSomeAnd o (λ page. IsRecordOf n page kept)
-    → answer.text ≡ shown_text (record_text kept) → answer.status ≡ 0 → Ok answer ≡ show_answer o
-shown_page None n kept answer found text status = absurd found
-shown_page (Some page) n kept answer found text status =
-    let texts : record_text kept ≡ page_text page = ap (λ (t : Told). t.texts) found in
-    ap Ok (same_answer answer (shown_text (page_text page)) 0 (text ∙ ap shown_text texts) status)
-
-pub shows : (book : Book) (id : ℤ) (kept : Record) (answer : Answer) → IsSomeAnd (page_at book (id_number id)) (λ page. IsRecordOf (id_number id) page kept)
-    → answer.text ≡ shown_text (record_text kept) → answer.status ≡ 0 → IsShow book id (Ok answer)
-shows book id kept answer found text status = inr (shown_page (page_at book (id_number id)) (id_number id) kept answer found text status)
+pub shows : (book : Book) (id : ℤ) (kept : PageWithId) (answer : Answer) → IsRecordAt book (id_number id) kept
+    → answer.text ≡ shown_text kept.page → answer.status ≡ 0 → IsShow book id (Ok answer)
+shows book id kept answer at text status =
+    let told : Ok answer ≡ show_answer (Some kept.page) = ap Ok (same_answer answer (shown_text kept.page) 0 text status) in
+    inr (told ∙ ap show_answer (sym at.there))
 
 -- there is no such page
 no_page : (o : Option Page) → IsNone o → Err (tool.Book refusal.NoLevel) ≡ show_answer o
@@ -50,24 +42,17 @@ not_shown book id fault (inl (inr database)) = subst (λ f. IsFaultOf (IsShow bo
 not_shown book id fault (inr (missing, none)) =
     subst (λ f. IsFaultOf (IsShow book id) (of_book f)) (sym missing) (inr (no_page (page_at book (id_number id)) none))
 
--- the texts of the records of pages are those of the pages
-texts_of : (n : ℕ) (book : Book) (records : List Record) → map told records ≡ telling_from n book → map record_text records ≡ map page_text book
-texts_of n [] [] same = refl
-texts_of n [] (kept ∷ records) same = let none : ⊥ = cc in absurd none
-texts_of n (page ∷ book) [] same = let none : ⊥ = cc in absurd none
-texts_of n (page ∷ book) (kept ∷ records) same =
-    let first : told kept ≡ telling n page = cc in
-    let others : map told records ≡ telling_from (n + 1) book = cc in
-    let texts : record_text kept ≡ page_text page = ap (λ (t : Told). t.texts) first in
-    let rest = texts_of (n + 1) book records others in
-    λ i. texts i ∷ rest i
+-- the pages of the records of a book are its own
+pages_are : (n : ℕ) (book : Book) → pages_of (pages_from n book) ≡ book
+pages_are n [] = refl
+pages_are n (page ∷ book) = ap (λ more. page ∷ more) (pages_are (n + 1) book)
 
 -- so a text of all records is that of all pages
-pub tells_all : (text : BookText) (book : Book) (records : List Record) (answer : Answer) → AreRecordsOf book records
-    → answer.text ≡ book_text text (map record_text records) → answer.status ≡ 0 → IsBookText text book (Ok answer)
+pub tells_all : (text : BookText) (book : Book) (records : List PageWithId) (answer : Answer) → AreRecordsOf book records
+    → answer.text ≡ book_text text (pages_of records) → answer.status ≡ 0 → IsBookText text book (Ok answer)
 tells_all text book records answer are same status =
-    let told = same ∙ ap (book_text text) (texts_of 1 book records are) in
-    inr (ap Ok (same_answer answer (book_text text (map page_text book)) 0 told status))
+    let told = same ∙ ap (λ rs. book_text text (pages_of rs)) are ∙ ap (book_text text) (pages_are 1 book) in
+    inr (ap Ok (same_answer answer (book_text text book) 0 told status))
 
 -- ---- calls
 

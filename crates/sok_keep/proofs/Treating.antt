@@ -17,8 +17,8 @@ use Rattle.sok_book.specs.Refusals.{IsNotAdded}
 use Rattle.sok_engine.specs.declared.fault.ToolFault.{ToolFault}
 use Rattle.sok_engine.specs.declared.fault.ToolFault.TheVariants as tool
 use Rattle.sok_engine.specs.Faults.{of_board, of_book, of_level}
-use Rattle.sok_row.specs.Faults.{IsOutside}
-use Rattle.sok_row.specs.Kept.{ShowsBook}
+use Rattle.sok_store.specs.Faults.{IsOutside}
+use Rattle.sok_store.specs.Rows.{ShowsBook}
 use Rattle.sok_store.specs.Calls.{Carries, Changes, IsCaused, Keeps, KeepsOpen, Stops, Turns, id_number, title_kept}
 use Rattle.sok_store.specs.Running.{Admits}
 use Rattle.sok_store.proofs.Calls.{held_shown, shown, stops_less, stops_same}

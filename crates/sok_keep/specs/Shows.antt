@@ -1,11 +1,10 @@
 -- What is shown of a book.
-use Rattle.std.specs.Prelude.{ℤ, ◌≡◌, ◌⊎◌, Option, Some, None, Result, Ok, Err, map}
+use Rattle.std.specs.Prelude.{ℤ, ◌≡◌, ◌⊎◌, Option, Some, None, Result, Ok, Err}
 use Rattle.sok_book.specs.declared.fault.BookFault.TheVariants as refusal
 use Rattle.sok_book.specs.Books.{Book, Page, page_at}
-use Rattle.sok_page.specs.Texts.{page_text}
-use Rattle.sok_shelf.specs.declared.text.BookText.{BookText}
-use Rattle.sok_shelf.specs.BookTexts.{book_text}
-use Rattle.sok_shelf.specs.Shown.{shown_text}
+use Rattle.sok_book.specs.declared.text.BookText.{BookText}
+use Rattle.sok_book.specs.BookTexts.{book_text}
+use Rattle.sok_book.specs.Shown.{shown_text}
 use Rattle.sok_engine.specs.declared.fault.ToolFault.{ToolFault}
 use Rattle.sok_engine.specs.declared.fault.ToolFault.TheVariants as tool
 use Rattle.sok_engine.specs.Written.{Answer, Answers}
@@ -18,14 +17,14 @@ UnlessRefused P answer = (answer ≡ Err (tool.Book refusal.Database)) ⊎ P ans
 -- the page as it is shown, or that there is none
 abbrev pub show_answer : Option Page → Result Answer ToolFault
 show_answer None = Err (tool.Book refusal.NoLevel)
-show_answer (Some page) = Ok (record { text = shown_text (page_text page); status = 0 })
+show_answer (Some page) = Ok (record { text = shown_text page; status = 0 })
 
 -- the answer that shows the page with an id
 abbrev pub IsShow : Book → ℤ → Answers
 IsShow book id = UnlessRefused (λ answer. answer ≡ show_answer (page_at book (id_number id)))
 
 abbrev pub book_answer : BookText → Book → Answer
-book_answer text book = record { text = book_text text (map page_text book); status = 0 }
+book_answer text book = record { text = book_text text book; status = 0 }
 
 -- the answer that has such a text of all levels
 abbrev pub IsBookText : BookText → Book → Answers

@@ -1,23 +1,23 @@
 //! One level of a book is shown, or a text of all is written.
 
-ghost use Rattle.std.specs.Prelude.{◌≡◌, ◌⊎◌, IfErr, IfOk, IsNone, IsSomeAnd};
+ghost use Rattle.std.specs.Prelude.{◌≡◌, ◌⊎◌, IfErr, IfOk, IsNone};
 ghost use Rattle.sqlite.specs.Held.{state};
 ghost use Rattle.sok_book.specs.Books.{page_at};
+ghost use Rattle.sok_book.specs.Records.{IsRecordAt};
 ghost use Rattle.sok_book.specs.declared.fault.BookFault.{BookFault};
 ghost use Rattle.sok_book.specs.declared.fault.BookFault.TheVariants as refusal;
 ghost use Rattle.sok_engine.specs.Faults.{of_book};
 ghost use Rattle.sok_engine.specs.Written.{Gives, Writes};
-ghost use Rattle.sok_row.specs.Faults.{IsOutside};
-ghost use Rattle.sok_row.specs.Told.{IsRecordOf};
+ghost use Rattle.sok_store.specs.Faults.{IsOutside};
 ghost use Rattle.sok_store.specs.Calls.{Keeps, MakesNone, Stops, id_number};
 ghost use Rattle.sok_keep.specs.Causes.{IsCausedFault};
 ghost use Rattle.sok_keep.specs.Shows.{IsBookText, IsShow};
 
+use sok_book::record::Record;
+use sok_book::show::shown_text;
+use sok_book::text::{BookText, book_text};
 use sok_engine::answer::Answer;
 use sok_engine::fault::ToolFault;
-use sok_page::record::Record;
-use sok_shelf::show::shown_text;
-use sok_shelf::text::{BookText, book_text};
 use sok_store::book::Book;
 use sqlite::Alter;
 use std::alloc::Global;
@@ -60,8 +60,7 @@ fn shown<S: Alter>(alloc: Global, book: &mut Book<S>, id: i64) -> Result<Answer,
 /// The record of the level with an id.
 fn record_at<S: Alter>(book: &mut Book<S>, id: i64) -> Result<Record, ToolFault>
     ensures found { IfOk result (λ kept. Keeps (state S.Store book.old) (state S.Store book.new)
-        (λ pages. IsSomeAnd (page_at pages (id_number id))
-        (λ page. IsRecordOf (id_number id) page kept))) }
+        (λ pages. IsRecordAt pages (id_number id) kept)) }
     ensures unfound { IfErr result (λ told. (fault : BookFault) × (told ≡ of_book fault)
         × Keeps (state S.Store book.old) (state S.Store book.new) (λ pages. IsOutside fault
         ⊎ ((fault ≡ refusal.NoLevel) × IsNone (page_at pages (id_number id))))) }

@@ -3,9 +3,9 @@
 #![tactic(auto)]
 
 use sok_book::fault::BookFault;
+use sok_book::text::BookText;
 use sok_engine::fault::ToolFault;
 use sok_keep::show::{book_bytes, show_bytes};
-use sok_shelf::text::BookText;
 use sok_store::book::Book;
 use sqlite::{Alter, Connection, Options, Unknown};
 use std::alloc::Global;

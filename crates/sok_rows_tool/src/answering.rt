@@ -1,6 +1,7 @@
 //! Commands on a book, with what they write.
 
 use sok_book::fault::BookFault;
+use sok_book::text::BookText;
 use sok_engine::fault::ToolFault;
 use sok_keep::add::add_bytes;
 use sok_keep::offer::offer_bytes;
@@ -9,7 +10,6 @@ use sok_keep::show::{book_bytes, show_bytes};
 use sok_settle::certs::NoCerts;
 use sok_settle::offers::offers_bytes;
 use sok_settle::settle::settle_bytes;
-use sok_shelf::text::BookText;
 use sok_store::book::Book;
 use sqlite::{Alter, Connection, MemStore};
 use std::alloc::Global;

@@ -3,8 +3,8 @@
 use crate::answering::{Command, answer, book_in, empty_book};
 use sok_book::fault::BookFault;
 use sok_book::limits::LEVEL_LIMIT;
+use sok_book::record::Record;
 use sok_engine::fault::ToolFault;
-use sok_page::record::Record;
 use sok_sketch::sketch::{ONE_PUSH, SOLVED, level};
 use sok_sql::making::create;
 use sok_sql::writing::insert;

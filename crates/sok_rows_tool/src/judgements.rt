@@ -4,10 +4,10 @@ use sok_board::board::Board;
 use sok_book::fault::BookFault;
 use sok_book::offering::judge_letters;
 use sok_book::proving::judge_proof;
+use sok_book::writing::lurd_of;
 use sok_cert::claim::Claim;
-use sok_page::writing::best_of;
 use sok_rules::cell::Dir;
-use sok_rules::fault::PlayFault;
+use sok_rules::fault::{Memory, PlayFault};
 use sok_rules::level::Level;
 use sok_sketch::sets::board;
 use sok_sketch::sketch::{ROOM_OF_TWO_ROWS, level};
@@ -21,36 +21,24 @@ fn judged(alloc: Global, room: &Level, letters: &[Dir]) -> Result<(u64, u64), Bo
     Ok((tally.pushes, tally.moves))
 }
 
-/// Whether letters are written as a best solution of this text and these numbers, or are refused.
-fn is_written(
-    alloc: Global,
-    room: &Level,
-    letters: &[Dir],
-    text: &str,
-    answer: Result<(u64, u64), BookFault>,
-) -> bool {
-    match best_of(alloc, room, letters) {
-        Ok(best) => {
-            best.lurd.as_str() == text
-                && Ok((u64::from(best.pushes), u64::from(best.moves))) == answer
-        }
-        Err(fault) => Err(fault) == answer,
-    }
+/// Whether letters are written as this text.
+fn are_written(alloc: Global, room: &Level, letters: &[Dir], text: &str) -> Result<bool, Memory> {
+    Ok(lurd_of(alloc, room, letters)?.as_str() == text)
 }
 
 #[test]
 fn letters_are_judged_and_written(rt: HostRuntime) -> Result<(), Fail> {
     let room = level(rt.alloc(), ROOM_OF_TWO_ROWS)?;
-    for (text, answer) in [
-        ("ulldRR", Ok((2, 6))),
-        ("rlulldRurrdLulldRR", Ok((4, 18))),
-        ("ulld", Err(BookFault::NotSolved)),
-        ("uu", Err(BookFault::Letters(PlayFault::Blocked(1)))),
+    for (text, written, answer) in [
+        ("ulldrr", "ulldRR", Ok((2, 6))),
+        ("rlulldrurrdlulldrr", "rlulldRurrdLulldRR", Ok((4, 18))),
+        ("ulld", "ulld", Err(BookFault::NotSolved)),
+        ("uu", "u", Err(BookFault::Letters(PlayFault::Blocked(1)))),
     ] {
         let letters = read_lurd(rt.alloc(), text.as_bytes())?;
         assert!(rt; judged(rt.alloc(), &room, &letters) == answer, "{text}");
         assert!(rt;
-            is_written(rt.alloc(), &room, &letters, text, answer),
+            are_written(rt.alloc(), &room, &letters, written)?,
             "{text}"
         );
     }

@@ -14,7 +14,7 @@
 //! | `letters` | a text of as many letters as may be offered |
 //! | `lines` | what lines of words ask for, and the texts that are printed for some of them |
 //! | `listing` | `list` on files |
-//! | `pages` | rows as records, and what is shown of them |
+//! | `pages` | what is shown of records |
 //! | `plays` | the replay of a text, its words and its streams |
 //! | `printing` | the line of each fault |
 //! | `reads` | readers that fail, for the commands on a book |

@@ -1,99 +1,81 @@
-//! Rows as records, and what is shown of them.
+//! What is shown of records.
 
-use sok_page::columns::{Columns, columns_of};
-use sok_page::reading::record_of;
-use sok_page::record::Record;
-use sok_page::title::kept_title;
-use sok_shelf::export::export_text;
-use sok_shelf::overview::overview_text;
-use sok_shelf::show::shown_text;
-use std::alloc::{AllocError, Global};
+use sok_book::export::export_text;
+use sok_book::overview::overview_text;
+use sok_book::record::{Best, Record, Verdict};
+use sok_book::show::shown_text;
+use sok_book::title::kept_title;
+use sok_rules::fault::Memory;
+use sok_sketch::sketch::level;
+use sok_text::lurd::{LurdFault, read_lurd};
+use std::alloc::Global;
 use std::process::Abort;
 use std::test::Fail;
 
-/// The values of a row.
-#[derive(Clone, Copy)]
-struct Row<'a> {
-    text: &'a str,
-    title: Option<&'a str>,
-    lurd: Option<&'a str>,
-    pushes: Option<u32>,
-    moves: Option<u32>,
-    verdict: u32,
-}
+const ROOM: &str = "######\n#    #\n# $@.#\n######\n";
 
-/// A room with its best solution, which is proved.
-const ROOM: Row<'static> = Row {
-    text: "######\n#    #\n# $@.#\n######\n",
-    title: Some("A room"),
-    lurd: Some("ulldRR"),
-    pushes: Some(2),
-    moves: Some(6),
-    verdict: 1,
-};
+const UNTITLED: &str = "#####\n#@$.#\n#####\n";
 
-/// A level of which nothing is known.
-const UNTITLED: Row<'static> = Row {
-    text: "#####\n#@$.#\n#####\n",
-    title: None,
-    lurd: None,
-    pushes: None,
-    moves: None,
-    verdict: 0,
-};
-
-fn columns(alloc: Global, row: Row<'_>) -> Result<Columns, AllocError> {
-    let text = String::from_str(alloc, row.text)?;
-    let title = match row.title {
-        Some(title) => Some(title.as_bytes().to_vec(alloc)?),
-        None => None,
-    };
-    let lurd = match row.lurd {
-        Some(lurd) => Some(String::from_str(alloc, lurd)?),
-        None => None,
-    };
-    Ok(Columns {
-        text,
-        title,
-        lurd,
-        pushes: row.pushes,
-        moves: row.moves,
-        verdict: row.verdict,
+/// A solution of the room.
+fn best(alloc: Global) -> Result<Best, LurdFault> {
+    Ok(Best {
+        letters: read_lurd(alloc, b"ulldrr")?,
+        pushes: 2,
+        moves: 6,
     })
 }
 
-/// The record of a row, which is shown as its text and these lines.
-fn record(
-    rt: &impl Abort,
-    alloc: Global,
-    id: i64,
-    row: Row<'_>,
-    lines: &str,
-) -> Result<Record, Fail> {
-    let kept = record_of(alloc, id, columns(alloc, row)?)?;
-    let shown = shown_text(alloc, &kept)?;
-    let whole = format!(in alloc; "{}{lines}", row.text)?;
-    assert!(rt; shown.as_slice() == whole.as_bytes(), "{lines}");
-    Ok(kept)
+/// The room with its best solution, which is proved.
+fn room(alloc: Global) -> Result<Record, Fail> {
+    Ok(Record {
+        id: 1,
+        level: level(alloc, ROOM)?,
+        title: Some(b"A room".to_vec(alloc)?),
+        best: Some(best(alloc)?),
+        verdict: Verdict::Optimal,
+    })
+}
+
+/// A level of which nothing is known.
+fn untitled(alloc: Global) -> Result<Record, Fail> {
+    Ok(Record {
+        id: 2,
+        level: level(alloc, UNTITLED)?,
+        title: None,
+        best: None,
+        verdict: Verdict::Untested,
+    })
 }
 
 /// Both records.
-fn records(rt: &impl Abort, alloc: Global) -> Result<Vec<Record>, Fail> {
+fn records(alloc: Global) -> Result<Vec<Record>, Fail> {
     let mut records = Vec::new(alloc);
-    for (id, row, lines) in [
-        (1, ROOM, "title A room\nbest 2 6 ulldRR\nverdict optimal\n"),
-        (2, UNTITLED, "best none\nverdict untested\n"),
-    ] {
-        records.push(record(rt, alloc, id, row, lines)?)?;
-    }
+    records.push(room(alloc)?)?;
+    records.push(untitled(alloc)?)?;
     Ok(records)
+}
+
+/// Whether a record is shown as this text.
+fn is_shown(alloc: Global, kept: &Record, text: &str) -> Result<bool, Memory> {
+    Ok(shown_text(alloc, kept)?.as_slice() == text.as_bytes())
+}
+
+/// Asserts that each is shown as its rows and these lines.
+fn assert_shown(rt: &impl Abort, alloc: Global, records: &[Record]) -> Result<(), Fail> {
+    for (kept, text) in records.iter().zip([
+        "######\n#    #\n# $@.#\n######\ntitle A room\nbest 2 6 ulldRR\nverdict optimal\n",
+        "#####\n#@$.#\n#####\nbest none\nverdict untested\n",
+    ]) {
+        assert!(rt; is_shown(alloc, kept, text)?, "{text}");
+    }
+    Ok(())
 }
 
 /// Whether both are exported with these notes behind the first, which are those of its solution, or
 /// none.
 fn are_exported(alloc: Global, records: &[Record], notes: &str) -> Result<bool, Fail> {
     let told = export_text(alloc, records, !notes.is_empty())?;
-    let whole = format!(in alloc; "; A room\n{}{notes}\n{}\n", ROOM.text, UNTITLED.text)?;
+    let whole = format!(in alloc; "; A room\n{ROOM}{notes}\n{UNTITLED}\n")?;
     Ok(told.as_slice() == whole.as_bytes())
 }
 
@@ -112,20 +94,11 @@ fn assert_texts(rt: &impl Abort, alloc: Global, records: &[Record]) -> Result<()
     Ok(())
 }
 
-/// Asserts that each is written as the columns that it was read from.
-fn assert_columns(rt: &impl Abort, records: Vec<Record>) {
-    for kept in records {
-        let again = columns_of(kept);
-        assert_eq!(rt; again.pushes.is_some(), again.verdict == 1);
-    }
-}
-
 #[test]
 fn records_are_shown_exported_and_told(rt: HostRuntime) -> Result<(), Fail> {
-    let records = records(&rt, rt.alloc())?;
-    assert_texts(&rt, rt.alloc(), &records)?;
-    assert_columns(&rt, records);
-    Ok(())
+    let records = records(rt.alloc())?;
+    assert_shown(&rt, rt.alloc(), &records)?;
+    assert_texts(&rt, rt.alloc(), &records)
 }
 
 #[test]

@@ -9,8 +9,8 @@ use Rattle.sok_book.specs.Books.{Book}
 use Rattle.sok_engine.specs.declared.fault.ToolFault.{ToolFault}
 use Rattle.sok_engine.specs.declared.fault.ToolFault.TheVariants as tool
 use Rattle.sok_engine.specs.Faults.{of_book}
-use Rattle.sok_row.specs.Faults.{IsOutside}
-use Rattle.sok_row.specs.Kept.{IsKeptBook}
+use Rattle.sok_store.specs.Faults.{IsOutside}
+use Rattle.sok_store.specs.Rows.{IsKeptBook}
 use Rattle.sok_store.specs.Calls.{Carries, Changes, Stops, Turns}
 use Rattle.sok_store.proofs.Calls.{changes_turns, held_shown, shown, stops_same}
 use Rattle.sok_keep.specs.Causes.{IsCausedFault}

@@ -19,8 +19,8 @@ use Rattle.sok_book.specs.Books.{Book, Page, Solution, page_at, solution_of}
 use Rattle.sok_book.specs.Commands.{Meets, Offers, best_pushes, is_better, offer_answer, with_best, with_page, verdict_of}
 use Rattle.sok_book.specs.Refusals.{IsNotOffered}
 use Rattle.sok_book.proofs.Outcomes.{offers-are-not-refused}
-use Rattle.sok_page.specs.Kept.{IsKeptPage, IsKeptSolution}
-use Rattle.sok_row.specs.Kept.{IsKeptBook}
+use Rattle.sok_book.specs.Kept.{IsKeptPage, IsKeptSolution}
+use Rattle.sok_store.specs.Rows.{IsKeptBook}
 use Rattle.sok_store.specs.Calls.{id_number}
 use Rattle.sok_store.specs.Known.{IsNotKnown, ProvesKnown}
 use Rattle.sok_store.proofs.Found.{kept_at, page_there, some_and}

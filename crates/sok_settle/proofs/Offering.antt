@@ -18,8 +18,8 @@ use Rattle.sok_book.specs.Refusals.{IsNotOffered}
 use Rattle.sok_engine.specs.declared.fault.ToolFault.{ToolFault}
 use Rattle.sok_engine.specs.declared.fault.ToolFault.TheVariants as tool
 use Rattle.sok_engine.specs.Faults.{of_book}
-use Rattle.sok_row.specs.Faults.{IsOutside}
-use Rattle.sok_row.specs.Kept.{IsKeptBook}
+use Rattle.sok_store.specs.Faults.{IsOutside}
+use Rattle.sok_store.specs.Rows.{IsKeptBook}
 use Rattle.sok_store.specs.Calls.{Changes, IsCaused, Stops, id_number}
 use Rattle.sok_store.specs.Calls as calls
 use Rattle.sok_store.specs.Known.{IsNotKnown, ProvesKnown}

@@ -1,6 +1,6 @@
 -- Levels that are settled one after another.
 use Rattle.std.proofs.Common.{ℕ, ℤ, pos, zero, suc, ◌≡◌, ◌∙◌, ◌+◌, ◌-◌, ◌&&◌, inl, inr, List, [], ◌∷◌, Option, Some, Result, Ok, Err}
-use Rattle.std.proofs.Common.{Bool, true, IfErr, IsSomeAnd, OnOk, ap, arith, length, map, refl, slice_get, subst, sym}
+use Rattle.std.proofs.Common.{Bool, true, IfErr, OnOk, ap, arith, length, refl, slice_get, subst, sym}
 use Rattle.std.proofs.lemmas.Option.{none-some, same_Some}
 use Rattle.std.specs.List.{slice_set}
 use Rattle.std.proofs.KnownBytes.{Appends-nil, Keeps-refl}
@@ -12,21 +12,19 @@ use Rattle.sok_cert.specs.Claim.TheVariants as claim
 use Rattle.sok_search.specs.Faults.{IsBadLimit}
 use Rattle.sok_book.specs.declared.fault.BookFault.{BookFault}
 use Rattle.sok_book.specs.declared.record.Offer.{Offer}
-use Rattle.sok_book.specs.Books.{Book, Page, page_at}
+use Rattle.sok_book.specs.Books.{Book, Page, PageWithId, page_at}
 use Rattle.sok_book.specs.Commands.{Offers}
-use Rattle.sok_page.specs.declared.record.Record.{Record}
 use Rattle.sok_engine.specs.declared.fault.ToolFault.{ToolFault}
 use Rattle.sok_engine.specs.declared.fault.ToolFault.TheVariants as tool
 use Rattle.sok_engine.specs.Faults.{of_book}
-use Rattle.sok_row.specs.Faults.{IsOutside}
-use Rattle.sok_row.specs.Told.{AreRecordsOf, IsRecordOf, Told, telling, telling_from, told}
-use Rattle.sok_row.proofs.Reading.{length-records}
+use Rattle.sok_store.specs.Faults.{IsOutside}
+use Rattle.sok_book.specs.Records.{AreRecordsOf, pages_from, with_id}
+use Rattle.sok_store.proofs.ReadRows.{length-records}
 use Rattle.sok_store.specs.Calls.{Carries, EndsOpen, Finds, IsCaused, MakesNone, Stops, Turns, id_number}
 use Rattle.sok_store.specs.Calls as calls
 use Rattle.sok_store.specs.Known.{ProvesKnown}
 use Rattle.sok_store.proofs.Calls.{held, held_shown, shown, stops_later}
 use Rattle.sok_store.proofs.Caused.{cause_before}
-use Rattle.sok_store.proofs.Found.{some_and}
 use Rattle.sok_keep.specs.Causes.{IsCausedFault}
 use Rattle.sok_keep.proofs.Ending.{caused_more}
 use Rattle.sok_settle.specs.Going.{EndsAt, GoesWhere, HasGone, more, none}
@@ -70,34 +68,28 @@ else_settled keeping limit from id book after line settled (is_too_much page tri
 
 -- ---- the record of a page
 
-telling_at : (start n : ℕ) (book : Book) (records : List Record) (kept : Record) → map told records ≡ telling_from start book
-    → slice_get records n ≡ Some kept → (page : Page) × (slice_get book n ≡ Some page) × (told kept ≡ telling (start + n) page)
-telling_at start n [] [] kept are at = absurd (none-some kept at)
-telling_at start n [] (r ∷ records) kept are at = let no : ⊥ = cc in absurd no
-telling_at start n (page ∷ book) [] kept are at = absurd (none-some kept at)
-telling_at start zero (page ∷ book) (r ∷ records) kept are at =
-    let first : told r ≡ telling start page = cc in
-    let one : r ≡ kept = same_Some r kept at in
-    let place : start ≡ start + 0 = omega arith in
-    (page, refl, ap told (sym one) ∙ first ∙ ap (λ n. telling n page) place)
-telling_at start (suc n) (page ∷ book) (r ∷ records) kept are at =
-    let others : map told records ≡ telling_from (start + 1) book = cc in
-    let (there, is, tale) = telling_at (start + 1) n book records kept others at in
+listed_at : (start n : ℕ) (book : Book) (kept : PageWithId) → slice_get (pages_from start book) n ≡ Some kept
+    → (page : Page) × (slice_get book n ≡ Some page) × (kept ≡ with_id (start + n) page)
+listed_at start n [] kept at = absurd (none-some kept at)
+listed_at start zero (page ∷ book) kept at =
+    let place : start ≡ start + 0 = omega arith in (page, refl, sym (same_Some (with_id start page) kept at) ∙ ap (λ n. with_id n page) place)
+listed_at start (suc n) (page ∷ book) kept at =
+    let (there, is, listed) = listed_at (start + 1) n book kept at in
     let place : start + 1 + n ≡ start + suc n = omega arith in
-    (there, is, tale ∙ ap (λ n. telling n there) place)
+    (there, is, listed ∙ ap (λ n. with_id n there) place)
 
 -- it is the record of the page there, also where only pages before it changed
-record_in : (book middle : Book) (records : List Record) (n : ℕ) (kept : Record) → AreRecordsOf book records → slice_get records n ≡ Some kept
+record_in : (book middle : Book) (records : List PageWithId) (n : ℕ) (kept : PageWithId) → AreRecordsOf book records → slice_get records n ≡ Some kept
     → StaysFrom n book middle → IsRecordIn kept middle × (kept.id ≡ pos (n + 1))
 record_in book middle records n kept are at stays =
-    let (page, there, tale) = telling_at 1 n book records kept are at in
+    let (page, there, listed) = listed_at 1 n book kept (ap (λ (rs : List PageWithId). slice_get rs n) (sym are) ∙ at) in
     let place : 1 + n ≡ suc n = omega arith in
-    let is : IsRecordOf (suc n) page kept = tale ∙ ap (λ k. telling k page) place in
-    let id : kept.id ≡ pos (suc n) = ap (λ (t : Told). t.id) is in
+    let is : kept ≡ with_id (suc n) page = listed ∙ ap (λ k. with_id k page) place in
+    let id : kept.id ≡ pos (suc n) = ap (λ (k : PageWithId). k.id) is in
+    let number : id_number kept.id ≡ suc n = ap id_number id in
     let last : suc n ≡ n + 1 = omega arith in
-    let here : page_at middle (suc n) ≡ Some page = stays n (omega arith) ∙ there in (
-      subst (λ k. IsSomeAnd (page_at middle k) (λ p. IsRecordOf k p kept)) (sym (ap id_number id))
-          (some_and (page_at middle (suc n)) (λ p. IsRecordOf (suc n) p kept) page here is),
+    let here : page_at middle (suc n) ≡ Some kept.page = stays n (omega arith) ∙ there ∙ ap Some (sym (ap (λ (k : PageWithId). k.page) is)) in (
+      record { id_is = id ∙ ap pos (sym number); there = ap (page_at middle) number ∙ here },
       id ∙ ap pos last,
     )
 
@@ -115,7 +107,7 @@ module _ (keeping : Keeping) (limit : ℕ) (from : ℤ) where
   pub stays : (n : ℕ) (book : Book) → (level_leave keeping limit from n).leaves book book
   stays n book = inl refl
 
-  module _ (records : List Record) where
+  module _ (records : List PageWithId) where
     abbrev ArePages : Book → Type 0
     ArePages book = AreRecordsOf book records
 
@@ -140,7 +132,7 @@ module _ (keeping : Keeping) (limit : ℕ) (from : ℤ) where
         stepping.gone_all (level_step keeping limit from) (level_leave keeping limit from) stays ArePages (λ book after. EndsSettling keeping limit from book after first here (Ok status)) old new
         n all status first here (λ book after text are written. (end ∙ length-records book records are, refl, told_status, written))
 
-    module _ (old mid new : State) (n : ℕ) (all : Bool) (kept : Record) (at : slice_get records n ≡ Some kept) (first here later : Option (List ℕ))
+    module _ (old mid new : State) (n : ℕ) (all : Bool) (kept : PageWithId) (at : slice_get records n ≡ Some kept) (first here later : Option (List ℕ))
         (gone : Gone old mid n all first here) (stop : MayGo old mid) where
       -- the next level is that of its record
       abbrev IsNext : Book → Type 0

@@ -12,7 +12,7 @@ use Rattle.sok_book.specs.Refusals.{IsNotOffered}
 use Rattle.sok_engine.specs.declared.fault.ToolFault.{ToolFault}
 use Rattle.sok_engine.specs.declared.fault.ToolFault.TheVariants as tool
 use Rattle.sok_engine.specs.Faults.{of_book, of_lurd}
-use Rattle.sok_row.specs.Faults.{IsOutside}
+use Rattle.sok_store.specs.Faults.{IsOutside}
 use Rattle.sok_store.specs.Calls.{Carries, Changes, IsCaused, ShowsOn, Stops, Turns, id_number}
 use Rattle.sok_store.specs.Calls as calls
 use Rattle.sok_store.specs.Standing.{OffersTelling}

@@ -10,7 +10,7 @@ use Rattle.sok_engine.specs.declared.fault.ToolFault.TheVariants as tool
 use Rattle.sok_engine.specs.FaultLines.{fault_words}
 use Rattle.sok_engine.specs.Faults.{of_book, of_lurd}
 use Rattle.sok_engine.specs.Written.{AppendsFront}
-use Rattle.sok_row.specs.Faults.{IsOutside}
+use Rattle.sok_store.specs.Faults.{IsOutside}
 
 -- the id of a level, and its fault
 abbrev pub fault_line : ℤ → ToolFault → List ℕ

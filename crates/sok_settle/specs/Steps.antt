@@ -1,11 +1,10 @@
 -- How far a level is settled when a call on it ends.
-use Rattle.std.specs.Prelude.{ℕ, ℤ, ◌≡◌, ◌≤◌, List, Bool, Option, Result, IsSomeAnd, slice_get}
+use Rattle.std.specs.Prelude.{ℕ, ℤ, ◌≡◌, ◌≤◌, List, Bool, Option, Result, slice_get}
 use Rattle.sqlite.specs.State.{State}
 use Rattle.sok_rules.specs.Squares.{Rows}
 use Rattle.sok_cert.specs.Claim.{Claim}
-use Rattle.sok_book.specs.Books.{Book, Page, page_at}
-use Rattle.sok_page.specs.declared.record.Record.{Record}
-use Rattle.sok_row.specs.Told.{IsRecordOf}
+use Rattle.sok_book.specs.Books.{Book, Page, PageWithId}
+use Rattle.sok_book.specs.Records.{IsRecordAt}
 use Rattle.sok_engine.specs.declared.fault.ToolFault.{ToolFault}
 use Rattle.sok_store.specs.Calls.{id_number}
 use Rattle.sok_settle.specs.Going.{GoesStep, Leave, MayStep, StepsOnce}
@@ -37,8 +36,8 @@ abbrev pub GoesBy : ℤ → ℤ → Rows → Claim → State → State → Optio
 GoesBy from id rows shown = GoesStep (IsTriedAs from id rows) (SettlesBy id rows shown) (leave_of_kept from id)
 
 -- this is the record of a level
-abbrev pub IsRecordIn : Record → Book → Type 0
-IsRecordIn kept book = IsSomeAnd (page_at book (id_number kept.id)) (λ page. IsRecordOf (id_number kept.id) page kept)
+abbrev pub IsRecordIn : PageWithId → Book → Type 0
+IsRecordIn kept book = IsRecordAt book (id_number kept.id) kept
 
 -- the page at each place from this one on is as it was
 abbrev pub StaysFrom : ℕ → Book → Book → Type 0

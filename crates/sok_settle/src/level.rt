@@ -1,10 +1,11 @@
 //! One level of a book is settled.
 
-ghost use Rattle.std.specs.Prelude.{ℤ, ◌≡◌, ◌≤◌, ◌<◌, ◌<ℤ◌, false, length};
+ghost use Rattle.std.specs.Prelude.{ℤ, ◌≤◌, ◌<◌, false, length};
 ghost use Rattle.sqlite.specs.Held.{state};
 ghost use Rattle.sok_rules.specs.Limits.{letter_limit};
 ghost use Rattle.sok_rules.specs.Play.{IsUnsolvable};
 ghost use Rattle.sok_board.specs.Refusals.{IsAcceptable};
+ghost use Rattle.sok_book.specs.Kept.{IsKeptPage};
 ghost use Rattle.sok_cert.specs.Claim.TheVariants as claim;
 ghost use Rattle.sok_search.specs.Faults.{IsBadLimit};
 ghost use Rattle.sok_search.specs.Outcomes.{IsLeastSolution, IsShown};
@@ -16,11 +17,9 @@ use crate::line::{limit_line, optimal_line, tell, tell_fault, tell_unkept, unsol
 use crate::search::search;
 use sok_book::fault::BookFault;
 use sok_book::offering::LETTER_LIMIT;
-use sok_book::record::Verdict;
+use sok_book::record::{Record, Verdict};
 use sok_cert::claim::Claim;
 use sok_engine::fault::ToolFault;
-use sok_page::reading::level_of;
-use sok_page::record::Record;
 use sok_rules::cell::Dir;
 use sok_rules::fault::PlayFault;
 use sok_rules::level::Level;
@@ -41,7 +40,8 @@ pub(crate) fn settle_kept<S: Alter, C: Certs, W: Write>(
     certs: &C,
     out: &mut W,
 ) -> Result<bool, ToolFault>
-    requires { IsBadLimit limit → ⊥ }
+    requires good_limit { IsBadLimit limit → ⊥ }
+    requires kept { IsKeptPage kept.now.page }
     ensures { GoesThrough (IsRecordIn kept.now) (C.keeping certs.now) limit from kept.now.id
         (state S.Store book.old) (state S.Store book.new)
         (W.contents out.old) (W.contents out.new) result }
@@ -50,32 +50,9 @@ pub(crate) fn settle_kept<S: Alter, C: Certs, W: Write>(
         return Ok(true);
     }
     match kept.verdict {
-        Verdict::Untested => settle_untested(alloc, book, limit, from, kept, certs, out),
+        Verdict::Untested => settle_level(alloc, book, limit, kept.id, &kept.level, certs, out),
         Verdict::Optimal => Ok(true),
         Verdict::Unsolvable => Ok(true),
-    }
-}
-
-/// Settles a level that nothing is proved of.
-fn settle_untested<S: Alter, C: Certs, W: Write>(
-    alloc: Global,
-    book: &mut Book<S>,
-    limit: u32,
-    from: i64,
-    kept: &Record,
-    certs: &C,
-    out: &mut W,
-) -> Result<bool, ToolFault>
-    requires good_limit { IsBadLimit limit → ⊥ }
-    requires begun { kept.now.id <ℤ from → ⊥ }
-    requires untested { kept.now.verdict ≡ Verdict.Untested }
-    ensures { GoesThrough (IsRecordIn kept.now) (C.keeping certs.now) limit from kept.now.id
-        (state S.Store book.old) (state S.Store book.new)
-        (W.contents out.old) (W.contents out.new) result }
-{
-    match level_of(alloc, kept.id, kept.text.as_bytes()) {
-        Ok(level) => settle_level(alloc, book, limit, kept.id, &level, certs, out),
-        Err(fault) => Err(ToolFault::from(fault)),
     }
 }
 

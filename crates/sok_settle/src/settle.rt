@@ -1,9 +1,11 @@
 //! The levels of a book are settled.
 
-ghost use Rattle.std.specs.Prelude.{◌≡◌, ◌↔◌, Err, IfErr, IsTrue, OnOk};
+ghost use Rattle.std.specs.Prelude.{◌≡◌, ◌↔◌, All, Err, IfErr, IsTrue, OnOk};
 ghost use Rattle.sqlite.specs.Held.{state};
+ghost use Rattle.sok_book.specs.Books.{PageWithId};
+ghost use Rattle.sok_book.specs.Kept.{IsKeptPage};
+ghost use Rattle.sok_book.specs.Records.{AreRecordsOf};
 ghost use Rattle.sok_engine.specs.declared.fault.ToolFault.TheVariants as tool;
-ghost use Rattle.sok_row.specs.Told.{AreRecordsOf};
 ghost use Rattle.sok_search.specs.Faults.{IsBadLimit};
 ghost use Rattle.sok_store.specs.Calls.{EndsOpen, Stops, Turns};
 ghost use Rattle.sok_keep.specs.Causes.{IsCausedFault};
@@ -12,8 +14,8 @@ ghost use Rattle.sok_settle.specs.Settles.{SettlesSome, WritesSettling, settle_s
 
 use crate::certs::Certs;
 use crate::level::settle_kept;
+use sok_book::record::Record;
 use sok_engine::fault::ToolFault;
-use sok_page::record::Record;
 use sok_search::solve::LIMIT;
 use sok_store::book::Book;
 use sqlite::Alter;
@@ -79,7 +81,8 @@ fn settle_all<S: Alter, C: Certs, W: Write>(
     certs: &C,
     out: &mut W,
 ) -> Result<u8, ToolFault>
-    requires { IsBadLimit limit → ⊥ }
+    requires good_limit { IsBadLimit limit → ⊥ }
+    requires kept { All (λ (kept : PageWithId). IsKeptPage kept.page) records.now }
     ensures { GoesWhere (λ pages. AreRecordsOf pages records.now)
         (state S.Store book.old) (state S.Store book.new) (λ pages after.
         WritesSettling (C.keeping certs.now) limit from pages after

@@ -18,19 +18,19 @@ use Rattle.sok_book.specs.Books.{Book, Page}
 use Rattle.sok_book.specs.Commands.{Adds, IsUnknown, is_known, is_new, level_limit, new_page}
 use Rattle.sok_book.specs.Faults.{of_board}
 use Rattle.sok_book.specs.Refusals.{IsNotAdded}
-use Rattle.sok_page.specs.Titles.{IsTitle}
-use Rattle.sok_page.proofs.Titles.{kept-are-titles}
+use Rattle.sok_book.specs.Titles.{IsTitle}
+use Rattle.sok_book.proofs.Titles.{kept-are-titles}
 use Rattle.sok_sql.specs.Causes.{AreApart, IsExcused, IsMemory, IsTooBig}
 use Rattle.sok_sql.specs.Connections.{Holds, Rests, Shows, Stores}
 use Rattle.sok_sql.specs.Leaves.{Leaf, HasLeaves, ids_with, new_leaf}
 use Rattle.sok_sql.specs.Statements.{Inserts}
-use Rattle.sok_row.specs.Faults.{IsOutside}
-use Rattle.sok_row.specs.Kept.{HoldsBook, IsKeptBook, StoresBook, leaves_of}
-use Rattle.sok_row.proofs.Finding.{stands_found, unknown_unfound}
-use Rattle.sok_row.proofs.Changes.{IsKeptPage-new}
-use Rattle.sok_row.proofs.Books.{IsKeptBook-push, leaves_of-push, length-leaves_of}
+use Rattle.sok_store.specs.Faults.{IsOutside}
+use Rattle.sok_store.specs.Rows.{HoldsBook, IsKeptBook, StoresBook, leaves_of}
+use Rattle.sok_store.proofs.Finding.{stands_found, unknown_unfound}
+use Rattle.sok_store.proofs.KeptPages.{IsKeptPage-new}
+use Rattle.sok_store.proofs.KeptBooks.{IsKeptBook-push, leaves_of-push, length-leaves_of}
 use Rattle.sok_store.specs.Calls.{Changes, IsCaused, Keeps, MakesNone, Stops, id_number, title_kept}
-use Rattle.sok_store.specs.Entries.{AddsPage, IsCausedAdding, IsFull, IsNewPage, StopsAdding}
+use Rattle.sok_store.specs.Changing.{AddsPage, IsCausedAdding, IsFull, IsNewPage, StopsAdding}
 use Rattle.sok_store.specs.Running.{Admits, RunsAdding, RunsAddingPage}
 use Rattle.sok_store.proofs.Calls.{held, held_shown, rests_holds, rests_stops, shown, stops_later}
 use Rattle.sok_store.proofs.Caused.{cause_before, few_leaves, kept_apart}

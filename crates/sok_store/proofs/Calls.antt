@@ -6,7 +6,7 @@ use Rattle.sqlite.proofs.StateLemmas.{survives_weaker, survives_then}
 use Rattle.sok_book.specs.declared.fault.BookFault.{BookFault}
 use Rattle.sok_book.specs.Books.{Book}
 use Rattle.sok_sql.specs.Connections.{Rests}
-use Rattle.sok_row.specs.Kept.{HasBook, HoldsBook, ShowsBook, StoresBook, leaves_of}
+use Rattle.sok_store.specs.Rows.{HasBook, HoldsBook, ShowsBook, StoresBook, leaves_of}
 use Rattle.sok_store.specs.Calls.{Changes, Finds, Keeps, MakesNone, ShowsOn, Stops, Turns}
 
 -- what is shown is held

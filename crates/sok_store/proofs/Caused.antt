@@ -11,11 +11,11 @@ use Rattle.sok_text.specs.Canonical.{level_text}
 use Rattle.sok_book.specs.declared.fault.BookFault.{BookFault}
 use Rattle.sok_book.specs.declared.fault.BookFault.TheVariants.{BadBook, Database, Memory}
 use Rattle.sok_book.specs.Books.{Book, Page}
-use Rattle.sok_page.proofs.Rows.{one_level}
+use Rattle.sok_book.proofs.Texts.{one_level}
 use Rattle.sok_sql.specs.Causes.{AreApart, HasCause, IsExcused, IsMemory}
 use Rattle.sok_sql.specs.Leaves.{Leaf}
-use Rattle.sok_row.specs.Kept.{HoldsBook, IsKeptBook, leaf_of, leaves_of}
-use Rattle.sok_row.proofs.Books.{length-leaves_of, slice_get-leaves_of}
+use Rattle.sok_store.specs.Rows.{HoldsBook, IsKeptBook, leaf_of, leaves_of}
+use Rattle.sok_store.proofs.KeptBooks.{length-leaves_of, slice_get-leaves_of}
 use Rattle.sok_store.specs.Calls.{IsCaused, MakesNone}
 
 -- ---- causes over two calls

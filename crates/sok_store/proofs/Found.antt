@@ -1,25 +1,24 @@
 -- The row with an id in the table of a book is that of the page with this id.
-use Rattle.std.proofs.Common.{◌≡◌, ◌≢◌, ◌⊎◌, inl, inr, refl, sym, ap, subst, ◌∙◌, ℕ, zero, suc, ◌+◌, ◌-◌, ◌<◌, ◌≤◌, Option, Some, None, arith}
+use Rattle.std.proofs.Common.{◌≡◌, inl, inr, refl, sym, ap, subst, ◌∙◌, ℕ, zero, suc, ◌+◌, ◌-◌, ◌<◌, ◌≤◌, Option, Some, None, arith}
 use Rattle.std.proofs.Common.{List, Result, Ok, Err, IfErr, IfOk, IsNone, IsSomeAnd, length, option_map, slice_get, slice_set}
 use Rattle.std.proofs.lemmas.Option.{none-some, same_Some}
 use Rattle.sqlite.specs.declared.error.Error.{Error}
-use Rattle.sqlite.specs.Order.{Row, column}
+use Rattle.sqlite.specs.Order.{Row}
 use Rattle.sqlite.specs.State.{State, HasCleanDisk}
 use Rattle.sok_book.specs.declared.fault.BookFault.{BookFault}
-use Rattle.sok_book.specs.declared.fault.BookFault.TheVariants.{BadBook, Memory, NoLevel}
-use Rattle.sok_book.specs.Books.{Book, Page, page_at}
+use Rattle.sok_book.specs.declared.fault.BookFault.TheVariants.{Memory, NoLevel}
+use Rattle.sok_book.specs.Books.{Book, Page, PageWithId, page_at}
 use Rattle.sok_book.specs.Commands.{level_limit, with_page}
-use Rattle.sok_page.specs.declared.record.Record.{Record}
-use Rattle.sok_page.specs.Kept.{IsKeptPage}
+use Rattle.sok_book.specs.Kept.{IsKeptPage}
 use Rattle.sok_sql.specs.Causes.{HasTable, IsExcused, IsMemory}
 use Rattle.sok_sql.specs.Connections.{Holds, Rests, Stores}
 use Rattle.sok_sql.specs.Leaves.{Leaf, shown}
-use Rattle.sok_row.specs.Faults.{IsOutside}
-use Rattle.sok_row.specs.Kept.{HoldsBook, IsKeptBook, StoresBook, leaf_of, leaves_of}
-use Rattle.sok_row.specs.Opening.{id_or_place}
-use Rattle.sok_row.specs.Told.{IsRecordOf}
-use Rattle.sok_row.proofs.Books.{slice_get-leaves_of}
-use Rattle.sok_row.proofs.Pages.{one_page}
+use Rattle.sok_store.specs.Faults.{IsOutside}
+use Rattle.sok_store.specs.Rows.{HoldsBook, IsKeptBook, StoresBook, leaf_of, leaves_of}
+use Rattle.sok_book.specs.Records.{IsRecordAt}
+use Rattle.sok_store.specs.ReadRows.{IsNoRecordIn, IsRecordIn}
+use Rattle.sok_store.proofs.KeptBooks.{slice_get-leaves_of}
+use Rattle.sok_store.proofs.Leaves.{one_page}
 use Rattle.sok_store.specs.Calls.{MakesNone}
 use Rattle.sok_store.specs.Running.{RunsReading}
 use Rattle.sok_store.proofs.Calls.{held, rests_holds, rests_stops, same_on, stops_same, stores_on}
@@ -81,20 +80,14 @@ row_missing book (suc n) is =
     let here = is n (omega arith) ∙ ap (option_map (shown (suc n))) (slice_get-leaves_of book n) in
     subst (λ (o : Option Page). IsNone o) (sym (none_of (suc n) (slice_get book n) here)) refl
 
--- a page of the row is the page with the id
-pub same_page : (book : Book) (id : ℕ) (row : Row) (at : IsRowAt book id row) (page : Page) → IsKeptPage page → row ≡ shown id (leaf_of page) → page ≡ at.page
-same_page book id row at page kept is = one_page id id page at.page kept at.kept (sym is ∙ at.row_is)
-
-pub record_read : (book : Book) (id : ℕ) (row : Row) → IsRowAt book id row → (kept : Record)
-    → (page : Page) × IsKeptPage page × (row ≡ shown id (leaf_of page)) × IsRecordOf id page kept
-    → IsSomeAnd (page_at book id) (λ page. IsRecordOf id page kept)
-record_read book id row at kept (page, of, is, told) =
-    some_and (page_at book id) (λ p. IsRecordOf id p kept) at.page at.at (subst (λ p. IsRecordOf id p kept) (same_page book id row at page of is) told)
+-- so the record of the row is that of the page with the id
+pub record_read : (book : Book) (id : ℕ) (row : Row) → IsRowAt book id row → (kept : PageWithId) → IsRecordIn id row kept → IsRecordAt book id kept
+record_read book id row at kept is =
+    let same = one_page id id kept.page at.page is.kept at.kept (sym is.row_is ∙ at.row_is) in
+    record { id_is = is.id_is; there = at.at ∙ ap Some (sym same) }
 
 -- and so no row of a book is a bad one
-pub record_refused : (book : Book) (id : ℕ) (row : Row) → IsRowAt book id row → (fault : BookFault)
-    → (fault ≡ Memory) ⊎ ((fault ≡ BadBook (id_or_place id (column row 0))) × ((page : Page) → IsKeptPage page → row ≢ shown id (leaf_of page)))
-    → IsOutside fault
+pub record_refused : (book : Book) (id : ℕ) (row : Row) → IsRowAt book id row → (fault : BookFault) → IsNoRecordIn id row fault → IsOutside fault
 record_refused book id row at fault (inl memory) = inl memory
 record_refused book id row at fault (inr bad) = absurd (bad.1 at.page at.kept at.row_is)
 
@@ -112,11 +105,8 @@ module _ (old new : State) (id : ℕ) (low : 0 < id) (rests : Rests old new) whe
       (holds.0, (shows clean (leaves_of book) (id - 1) holds.1 before).0),
     )
 
-    pub row_reads : (result : Result Record BookFault)
-        → IfOk result (λ kept. (page : Page) × IsKeptPage page × (row ≡ shown id (leaf_of page)) × IsRecordOf id page kept)
-        → IfErr result (λ fault. (fault ≡ Memory)
-        ⊎ ((fault ≡ BadBook (id_or_place id (column row 0))) × ((page : Page) → IsKeptPage page → row ≢ shown id (leaf_of page))))
-        → RunsReading old new id (IsRecordOf id) result
+    pub row_reads : (result : Result PageWithId BookFault) → IfOk result (IsRecordIn id row) → IfErr result (IsNoRecordIn id row)
+        → RunsReading old new id result
     row_reads (Ok kept) read broken = record {
       found = λ clean book holds. let (at, shows_book) = row_in clean book holds in (record_read book id row at kept read, shows_book);
       refused = tt;
@@ -134,7 +124,7 @@ module _ (old new : State) (id : ℕ) (low : 0 < id) (rests : Rests old new) whe
     }
 
   pub row_misses : (HasCleanDisk new → (leaves : List Leaf) (place : ℕ) → Holds old leaves → id ≡ 1 + place
-      → Stores new leaves × (None ≡ option_map (shown id) (slice_get leaves place))) → RunsReading old new id (IsRecordOf id) (Err NoLevel)
+      → Stores new leaves × (None ≡ option_map (shown id) (slice_get leaves place))) → RunsReading old new id (Err NoLevel)
   row_misses shows = record {
     found = tt;
     refused = λ clean book holds. (
@@ -147,7 +137,7 @@ module _ (old new : State) (id : ℕ) (low : 0 < id) (rests : Rests old new) whe
   }
 
   pub row_unread : (error : Error) (fault : BookFault) → IsOutside fault → (IsMemory error → fault ≡ Memory)
-      → (HasCleanDisk new → HasTable old → IsExcused old new error) → RunsReading old new id (IsRecordOf id) (Err fault)
+      → (HasCleanDisk new → HasTable old → IsExcused old new error) → RunsReading old new id (Err fault)
   row_unread error fault outside memory why = record {
     found = tt;
     refused = λ clean book holds. (inl outside, rests_holds old new rests clean book holds);
@@ -157,9 +147,8 @@ module _ (old new : State) (id : ℕ) (low : 0 < id) (rests : Rests old new) whe
   }
 
 -- an id that is that of no page
-pub reads_nowhere : {X : Type 0} (s : State) (id : ℕ) (Is : Page → X → Type 0) → ((book : Book) → length book ≤ level_limit → IsNone (page_at book id))
-    → RunsReading s s id Is (Err NoLevel)
-reads_nowhere s id Is none = record {
+pub reads_nowhere : (s : State) (id : ℕ) → ((book : Book) → length book ≤ level_limit → IsNone (page_at book id)) → RunsReading s s id (Err NoLevel)
+reads_nowhere s id none = record {
   found = tt;
   refused = λ clean book holds. (inr (refl, none book holds.0.few), holds);
   shows = same_on s NoLevel;
@@ -168,9 +157,8 @@ reads_nowhere s id Is none = record {
 }
 
 -- the page that is read
-pub page_read : {X : Type 0} (old new : State) (id : ℕ) (Is : Page → X → Type 0) (x : X) → RunsReading old new id Is (Ok x) → HasCleanDisk new
-    → (book : Book) → HoldsBook old book → (page : Page) × (page_at book id ≡ Some page) × IsKeptPage page × Is page x × StoresBook new book
-page_read old new id Is x read clean book holds =
-    let (some, shows) = read.found clean book holds in
-    let (page, at, is) = some_of (page_at book id) (λ page. Is page x) some in
-    (page, at, kept_at book id page holds.0 at, is, shows)
+pub page_read : (old new : State) (id : ℕ) (kept : PageWithId) → RunsReading old new id (Ok kept) → HasCleanDisk new
+    → (book : Book) → HoldsBook old book → (page_at book id ≡ Some kept.page) × IsKeptPage kept.page × StoresBook new book
+page_read old new id kept read clean book holds =
+    let (at, shows) = read.found clean book holds in
+    (at.there, kept_at book id kept.page holds.0 at.there, shows)

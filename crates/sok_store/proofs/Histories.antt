@@ -6,7 +6,7 @@ use Rattle.sok_book.specs.Books.{Book, IsTrueBook}
 use Rattle.sok_book.specs.Commands.{OneCommand, add, offer, prove}
 use Rattle.sok_book.specs.Laws as laws
 use Rattle.sok_book.proofs.Laws.{CommandsKeepTruth-all}
-use Rattle.sok_row.specs.Kept.{HoldsBook}
+use Rattle.sok_store.specs.Rows.{HoldsBook}
 use Rattle.sok_store.specs.Calls.{id_number}
 use Rattle.sok_store.specs.Histories.{AddsAreCalls, AreCalls, CallsFold, EmptyBooksAreMade, IsCall, IsMadeOf, KnownProofsAreCalls, OffersAreCalls, ProofsAreCalls, TellingsAreCalls}
 use Rattle.sok_store.specs.Histories as histories

@@ -1,4 +1,4 @@
--- What becomes of a claim that some certificate shows, by what is known of the page.
+-- What becomes of a claim that some certificate shows, for a page.
 use Rattle.std.proofs.Common.{◌≡◌, ◌≢◌, ◌⊎◌, inl, inr, sym, subst, ◌∙◌, ℕ, Option, Some, None, Result, Ok, Err, IfErr, IsNone, IsSomeAnd, Bool, Decides, List, ◌↔◌, IsTrue, ap}
 use Rattle.sqlite.specs.State.{State}
 use Rattle.sok_rules.specs.Squares.{Rows}
@@ -7,18 +7,16 @@ use Rattle.sok_text.specs.Canonical.{level_text}
 use Rattle.sok_cert.specs.Claim.{Claim}
 use Rattle.sok_book.specs.declared.fault.BookFault.{BookFault}
 use Rattle.sok_book.specs.declared.fault.BookFault.TheVariants.{ClaimDiffers, Database, Memory, NoLevel}
-use Rattle.sok_book.specs.Books.{Book, Page, page_at}
+use Rattle.sok_book.specs.Books.{Book, Page, PageWithId, page_at}
 use Rattle.sok_book.specs.Commands.{IsCertificate, Meets, StandsAt, best_pushes, verdict_of}
-use Rattle.sok_page.specs.Kept.{IsKeptPage}
-use Rattle.sok_page.proofs.Rows.{one_level}
-use Rattle.sok_store.specs.declared.entry.Entry.{Entry}
+use Rattle.sok_book.specs.Kept.{IsKeptPage}
+use Rattle.sok_book.proofs.Texts.{one_level}
 use Rattle.sok_store.specs.Calls.{IsCaused}
-use Rattle.sok_store.specs.Entries.{HasVerdict, IsEntryOf, entry_pushes}
+use Rattle.sok_store.specs.Changing.{HasVerdict}
 use Rattle.sok_store.specs.Known.{IsCertified, IsNoClaimOn, IsNotKnown, ProvesKnown}
 use Rattle.sok_store.specs.Running.{Runs, RunsKnown, RunsReading, RunsSetting}
 use Rattle.sok_store.proofs.Calls.{stops_less}
 use Rattle.sok_store.proofs.Found.{some_and}
-use Rattle.sok_store.proofs.Known.{pushes_are}
 use Rattle.sok_store.proofs.Proved.{proof_stored}
 use Rattle.sok_store.proofs.Running.{Replaces, replaced_runs, unreplaced_runs}
 
@@ -32,17 +30,16 @@ none_stands (Some page) P none stands = absurd cc
 stands_there : (book : Book) (id : ℕ) (page : Page) (rows : Rows) → page_at book id ≡ Some page → StandsAt book rows id → page.level ≡ rows
 stands_there book id page rows at stands = subst (λ (o : Option Page). IsSomeAnd o (λ p. p.level ≡ rows)) at stands
 
-pub known_refused : (id : ℕ) (rows : Rows) (claim : Claim) (entry : Entry) (fault : BookFault) → (fault ≡ Memory) ⊎ IsNoClaimOn entry rows claim fault
-    → (book : Book) (page : Page) → IsKeptPage page → page_at book id ≡ Some page → IsEntryOf page entry
-    → (fault ≡ Memory) ⊎ ((fault ≢ Database) × IsNotKnown book id rows claim fault)
-known_refused id rows claim entry fault (inl memory) book page kept at is = inl memory
-known_refused id rows claim entry fault (inr (inl (missing, other))) book page kept at is =
-    let refused : IsNotKnown book id rows claim NoLevel = λ stands. other (is.level ∙ stands_there book id page rows at stands) in
+pub known_refused : (id : ℕ) (rows : Rows) (claim : Claim) (page : Page) (fault : BookFault) → (fault ≡ Memory) ⊎ IsNoClaimOn page rows claim fault
+    → (book : Book) → IsKeptPage page → page_at book id ≡ Some page → (fault ≡ Memory) ⊎ ((fault ≢ Database) × IsNotKnown book id rows claim fault)
+known_refused id rows claim page fault (inl memory) book kept at = inl memory
+known_refused id rows claim page fault (inr (inl (missing, other))) book kept at =
+    let refused : IsNotKnown book id rows claim NoLevel = λ stands. other (stands_there book id page rows at stands) in
     inr ((λ database. let no : NoLevel ≡ Database = sym missing ∙ database in absurd cc), subst (IsNotKnown book id rows claim) (sym missing) refused)
-known_refused id rows claim entry fault (inr (inr (differs, same, unmet))) book page kept at is =
+known_refused id rows claim page fault (inr (inr (differs, same, unmet))) book kept at =
     let refused : IsNotKnown book id rows claim ClaimDiffers = (
-      some_and (page_at book id) (λ p. p.level ≡ rows) page at (sym is.level ∙ same),
-      some_and (page_at book id) (λ p. Meets claim (best_pushes p) → ⊥) page at (λ meets. unmet (subst (Meets claim) (sym (pushes_are page entry is)) meets)),
+      some_and (page_at book id) (λ p. p.level ≡ rows) page at same,
+      some_and (page_at book id) (λ p. Meets claim (best_pushes p) → ⊥) page at unmet,
     ) in
     inr ((λ database. let no : ClaimDiffers ≡ Database = sym differs ∙ database in absurd cc), subst (IsNotKnown book id rows claim) (sym differs) refused)
 
@@ -56,11 +53,11 @@ same_levels rows other level of_other text other_text is other_is same test = (
 
 -- ---- what is done of it
 
-pub known_stored : (id : ℕ) (rows : Rows) (claim : Claim) (entry : Entry) → IsCertified rows claim → entry.level ≡ rows → Meets claim (entry_pushes entry)
-    → Replaces {X = Unit {0}} id entry (λ _ book after. ProvesKnown book id claim after) tt (HasVerdict (verdict_of claim))
-known_stored id rows claim entry (bytes, certificate) same meets =
-    let it = proof_stored id bytes entry claim (subst (λ (r : Rows). IsCertificate r bytes claim) (sym same) certificate) meets in
-    record { after = it.after; makes = λ book page at is. (bytes, it.makes book page at is); writes = it.writes }
+pub known_stored : (id : ℕ) (rows : Rows) (claim : Claim) (page : Page) → IsCertified rows claim → page.level ≡ rows → Meets claim (best_pushes page)
+    → Replaces {X = Unit {0}} id page (λ _ book after. ProvesKnown book id claim after) tt (HasVerdict (verdict_of claim))
+known_stored id rows claim page (bytes, certificate) same meets =
+    let it = proof_stored id bytes page claim (subst (λ (r : Rows). IsCertificate r bytes claim) (sym same) certificate) meets in
+    record { after = it.after; makes = λ book at. (bytes, it.makes book at); writes = it.writes }
 
 -- so it may be made with nothing to answer
 caused_known : {X : Type 0} (old new : State) (id : ℕ) (claim : Claim) (result : Result X BookFault)
@@ -84,10 +81,10 @@ known_runs old new id rows claim result runs = record {
 }
 
 -- the verdict is set, or not
-pub known_set : (old mid new : State) (id : ℕ) (rows : Rows) (claim : Claim) (entry : Entry) → IsCertified rows claim → entry.level ≡ rows
-    → Meets claim (entry_pushes entry) → RunsReading old mid id IsEntryOf (Ok entry) → (result : Result (Unit {0}) BookFault)
+pub known_set : (old mid new : State) (id : ℕ) (rows : Rows) (claim : Claim) (kept : PageWithId) → IsCertified rows claim → kept.page.level ≡ rows
+    → Meets claim (best_pushes kept.page) → RunsReading old mid id (Ok kept) → (result : Result (Unit {0}) BookFault)
     → RunsSetting mid new id (HasVerdict (verdict_of claim)) result → RunsKnown old new id rows claim result
-known_set old mid new id rows claim entry certified same meets read (Ok x) set =
-    known_runs old new id rows claim (Ok x) (replaced_runs (known_stored id rows claim entry certified same meets) old mid new read _ x set)
-known_set old mid new id rows claim entry certified same meets read (Err fault) set =
-    known_runs old new id rows claim (Err fault) (unreplaced_runs (known_stored id rows claim entry certified same meets) old mid new read _ fault set)
+known_set old mid new id rows claim kept certified same meets read (Ok x) set =
+    known_runs old new id rows claim (Ok x) (replaced_runs (known_stored id rows claim kept.page certified same meets) old mid new read _ x set)
+known_set old mid new id rows claim kept certified same meets read (Err fault) set =
+    known_runs old new id rows claim (Err fault) (unreplaced_runs (known_stored id rows claim kept.page certified same meets) old mid new read _ fault set)

@@ -1,14 +1,22 @@
 pub mod Added
 pub mod Calls
 pub mod Caused
+pub mod Finding
 pub mod Found
 pub mod Histories
-pub mod Known
+pub mod KeptBooks
+pub mod KeptPages
 pub mod KnownProofs
+pub mod Laws
+pub mod Leaves
+pub mod NextRow
 pub mod Offered
 pub mod Opened
+pub mod Parsed
 pub mod Proved
+pub mod ReadRows
 pub mod Refusing
 pub mod Running
 pub mod Setting
 pub mod Wide
+mod Wider

@@ -14,7 +14,7 @@ use Rattle.sok_sql.specs.Causes.{HasCause, HasTable, IsEmpty, IsExcused, IsMemor
 use Rattle.sok_book.specs.Books.{Book}
 use Rattle.sok_sql.specs.Connections.{IsSame, IsSettled, LeavesEmpty, Rests}
 use Rattle.sok_sql.specs.Leaves.{HasLeaves, ListsTable, level_schema, no_schema, seen, shown_from}
-use Rattle.sok_row.specs.Kept.{IsKeptBook, leaves_of}
+use Rattle.sok_store.specs.Rows.{IsKeptBook, leaves_of}
 use Rattle.sok_store.specs.Opening.{IsCausedOpening, LeavesOpening, Opens}
 use Rattle.sok_store.proofs.Caused.{cause_after, cause_before}
 

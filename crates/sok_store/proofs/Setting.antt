@@ -1,6 +1,6 @@
 -- Another page of the same level in the place of one.
 use Rattle.std.proofs.Common.{◌≡◌, inl, inr, refl, sym, ap, subst, ◌∙◌, ℕ, zero, suc, ◌+◌, ◌-◌, List, [], ◌∷◌, Some, arith}
-use Rattle.std.proofs.Common.{Ok, Err, option_map, slice_get}
+use Rattle.std.proofs.Common.{Ok, Err, option_map, slice_get, string_bytes}
 use Rattle.std.specs.List.{slice_set}
 use Rattle.std.proofs.lemmas.Option.{none-some, same_Some}
 use Rattle.sqlite.specs.declared.error.Error.{Error}
@@ -11,19 +11,17 @@ use Rattle.sok_book.specs.declared.fault.BookFault.{BookFault}
 use Rattle.sok_book.specs.declared.fault.BookFault.TheVariants.{Memory}
 use Rattle.sok_book.specs.Books.{Book, Page, page_at}
 use Rattle.sok_book.specs.Commands.{with_page}
-use Rattle.sok_page.specs.declared.record.Best.{Best}
-use Rattle.sok_page.specs.Kept.{IsKeptPage}
-use Rattle.sok_page.specs.Rows.{verdict_number}
-use Rattle.sok_page.specs.Texts.{SolutionText, best_text}
+use Rattle.sok_book.specs.Kept.{IsKeptPage}
 use Rattle.sok_sql.specs.Causes.{AreApart, IsMemory, IsTooBig}
 use Rattle.sok_sql.specs.Connections.{Holds, Shows}
 use Rattle.sok_sql.specs.Leaves.{Leaf, HasLeaves, with_best, with_verdict}
 use Rattle.sok_sql.specs.Statements.{Updates, UpdatesLeaf}
-use Rattle.sok_row.specs.Faults.{IsOutside}
-use Rattle.sok_row.specs.Kept.{IsKeptBook, leaf_of, leaves_of}
-use Rattle.sok_row.proofs.Changes.{IsKeptPage-solved, solved}
-use Rattle.sok_row.proofs.Books.{IsKeptBook-set, leaves_of-set, slice_get-leaves_of}
-use Rattle.sok_store.specs.Entries.{HasBest, HasVerdict, StopsSetting}
+use Rattle.sok_store.specs.Faults.{IsOutside}
+use Rattle.sok_store.specs.Rows.{IsKeptBook, leaf_of, leaves_of, verdict_number}
+use Rattle.sok_store.specs.declared.columns.BestColumns.{BestColumns}
+use Rattle.sok_store.proofs.KeptPages.{IsKeptPage-solved, solved}
+use Rattle.sok_store.proofs.KeptBooks.{IsKeptBook-set, leaves_of-set, slice_get-leaves_of}
+use Rattle.sok_store.specs.Changing.{HasBest, HasVerdict, StopsSetting}
 use Rattle.sok_store.specs.Running.{RunsSetting}
 use Rattle.sok_store.proofs.Caused.{kept_apart, set_get}
 use Rattle.sok_store.proofs.Found.{kept_at, one_less}
@@ -36,13 +34,16 @@ pub record IsChanged (change : Leaf → Leaf) (page after : Page) : Type 0 where
 
 -- ---- a solution, or a verdict
 
-pub best_changed : (best : Best) (page after : Page) → IsKeptPage page → HasBest best page after
-    → IsChanged (with_best (best_text best).lurd best.pushes best.moves) page after
+pub best_changed : (best : BestColumns) (page after : Page) → IsKeptPage page → HasBest best page after
+    → IsChanged (with_best (string_bytes best.lurd) best.pushes best.moves) page after
 best_changed best page after kept has =
-    let change = with_best (best_text best).lurd best.pushes best.moves in
-    let leaf = ap (λ (t : SolutionText). with_best t.lurd t.pushes t.moves (leaf_of page)) (sym has.text) in
-    let changed : IsChanged change page (solved page has.solution) =
-    record { level = refl; kept = IsKeptPage-solved page has.solution kept has.kept; leaf = leaf } in
+    let change = with_best (string_bytes best.lurd) best.pushes best.moves in
+    let are = has.columns_are in
+    let changed : IsChanged change page (solved page has.solution) = record {
+      level = refl;
+      kept = IsKeptPage-solved page has.solution kept has.kept;
+      leaf = λ i. with_best (sym are.lurd i) (sym are.pushes i) (sym are.moves i) (leaf_of page);
+    } in
     subst (IsChanged change page) (sym has.after_is) changed
 
 pub verdict_changed : (verdict : Verdict) (page after : Page) → IsKeptPage page → HasVerdict verdict page after

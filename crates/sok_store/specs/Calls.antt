@@ -4,12 +4,12 @@ use Rattle.sqlite.specs.State.{State, HasCleanDisk, Survives}
 use Rattle.sok_book.specs.declared.fault.BookFault.{BookFault}
 use Rattle.sok_book.specs.declared.fault.BookFault.TheVariants.{Database}
 use Rattle.sok_book.specs.Books.{Book}
-use Rattle.sok_page.specs.Titles.{kept_title}
+use Rattle.sok_book.specs.Titles.{kept_title}
 use Rattle.sok_sql.specs.Causes.{HasCause, IsTooBig}
 use Rattle.sok_sql.specs.Connections.{StaysOpen}
 use Rattle.sok_sql.specs.Leaves.{Leaf}
-use Rattle.sok_row.specs.Faults.{IsOutside}
-use Rattle.sok_row.specs.Kept.{HasBook, HoldsBook, ShowsBook, StoresBook, leaves_of}
+use Rattle.sok_store.specs.Faults.{IsOutside}
+use Rattle.sok_store.specs.Rows.{HasBook, HoldsBook, ShowsBook, StoresBook, leaves_of}
 
 -- an id as a number: 0, which is the id of no page, where it is negative
 abbrev pub id_number : ℤ → ℕ

@@ -10,7 +10,7 @@ use Rattle.sok_book.specs.declared.record.Offer.{Offer}
 use Rattle.sok_book.specs.Books.{Book, IsTrueBook}
 use Rattle.sok_book.specs.Commands.{OneCommand}
 use Rattle.sok_book.specs.Laws.{IsMade}
-use Rattle.sok_row.specs.Kept.{HoldsBook}
+use Rattle.sok_store.specs.Rows.{HoldsBook}
 use Rattle.sok_store.specs.Calls.{Turns}
 use Rattle.sok_store.specs.Running.{RunsAdding, RunsKnown, RunsOffering, RunsProving, RunsTelling}
 use Rattle.sok_store.specs.declared.standing.Standing.{Standing}

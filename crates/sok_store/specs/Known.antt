@@ -4,10 +4,8 @@ use Rattle.sok_rules.specs.Squares.{Rows}
 use Rattle.sok_cert.specs.Claim.{Claim}
 use Rattle.sok_book.specs.declared.fault.BookFault.{BookFault}
 use Rattle.sok_book.specs.declared.fault.BookFault.TheVariants.{ClaimDiffers, NoLevel}
-use Rattle.sok_book.specs.Books.{Book, page_at}
+use Rattle.sok_book.specs.Books.{Book, Page, page_at}
 use Rattle.sok_book.specs.Commands.{IsCertificate, Meets, Proves, StandsAt, best_pushes}
-use Rattle.sok_store.specs.declared.entry.Entry.{Entry}
-use Rattle.sok_store.specs.Entries.{entry_pushes}
 
 -- some certificate of a level shows the claim
 abbrev pub IsCertified : Rows → Claim → Type 0
@@ -23,7 +21,7 @@ IsNotKnown book id rows claim NoLevel = StandsAt book rows id → ⊥
 IsNotKnown book id rows claim ClaimDiffers = StandsAt book rows id × IsSomeAnd (page_at book id) (λ page. Meets claim (best_pushes page) → ⊥)
 IsNotKnown book id rows claim _ = ⊥
 
--- why a claim on a level is not one on an entry: it is another level, or the claim is not about its best solution
-abbrev pub IsNoClaimOn : Entry → Rows → Claim → BookFault → Type 0
-IsNoClaimOn entry rows claim fault =
-    ((fault ≡ NoLevel) × (entry.level ≢ rows)) ⊎ ((fault ≡ ClaimDiffers) × (entry.level ≡ rows) × (Meets claim (entry_pushes entry) → ⊥))
+-- why a claim on a level is not one on a page: it is another level, or the claim is not about its best solution
+abbrev pub IsNoClaimOn : Page → Rows → Claim → BookFault → Type 0
+IsNoClaimOn page rows claim fault =
+    ((fault ≡ NoLevel) × (page.level ≢ rows)) ⊎ ((fault ≡ ClaimDiffers) × (page.level ≡ rows) × (Meets claim (best_pushes page) → ⊥))

@@ -1,8 +1,16 @@
--- Words of public contracts: `Calls`, `Known`, `Standing`, `Opening`, `Histories`. The proof's own: `Entries`, `Running`.
+-- Words of public contracts: a book as rows (`Rows`, `BadRows`, `Laws`, `Faults`), and its calls (`Calls`, `Known`, `Standing`, `Opening`, `Histories`). The
+-- proof's own: `Changing`, `Parsing`, `ReadRows`, `Readable`, `Running`.
+pub mod BadRows
 pub mod Calls
-pub mod Entries
+pub mod Changing
+pub mod Faults
 pub mod Histories
 pub mod Known
+pub mod Laws
 pub mod Opening
+pub mod Parsing
+pub mod ReadRows
+pub mod Readable
+pub mod Rows
 pub mod Running
 pub mod Standing

@@ -8,9 +8,9 @@ use Rattle.sok_sql.specs.Leaves.{level_schema, no_schema}
 use Rattle.sok_book.specs.declared.fault.BookFault.{BookFault}
 use Rattle.sok_book.specs.declared.fault.BookFault.TheVariants.{BadBook, Database}
 use Rattle.sok_book.specs.Books.{Book}
-use Rattle.sok_row.specs.Faults.{IsOutside}
-use Rattle.sok_row.specs.Kept.{HasBook, StoresBook}
-use Rattle.sok_row.specs.Opening.{IsBadTable}
+use Rattle.sok_store.specs.Faults.{IsOutside}
+use Rattle.sok_store.specs.Rows.{HasBook, StoresBook}
+use Rattle.sok_store.specs.BadRows.{IsBadTable}
 
 -- where there was nothing the book is empty, and where there was the table it is that of exactly its rows
 pub record Opens (old new : State) : Type 0 where

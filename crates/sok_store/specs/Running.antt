@@ -1,5 +1,5 @@
 -- What a command does with the book that a connection holds, to whichever of its ends it comes.
-use Rattle.std.specs.Prelude.{⊤, ℕ, ℤ, ◌≡◌, ◌⊎◌, List, Option, Result, IfErr, IfOk, IsNone, IsSomeAnd, OnErr, OnOk}
+use Rattle.std.specs.Prelude.{⊤, ℕ, ℤ, ◌≡◌, ◌⊎◌, List, Option, Result, IfErr, IfOk, IsNone, OnErr, OnOk}
 use Rattle.sqlite.specs.State.{State}
 use Rattle.sok_rules.specs.declared.cell.Dir.{Dir}
 use Rattle.sok_rules.specs.Squares.{Rows}
@@ -8,19 +8,20 @@ use Rattle.sok_cert.specs.Claim.{Claim}
 use Rattle.sok_book.specs.declared.fault.BookFault.{BookFault}
 use Rattle.sok_book.specs.declared.fault.BookFault.TheVariants.{NoLevel}
 use Rattle.sok_book.specs.declared.record.Offer.{Offer}
-use Rattle.sok_book.specs.Books.{Book, Page, page_at}
+use Rattle.sok_book.specs.Books.{Book, Page, PageWithId, page_at}
 use Rattle.sok_book.specs.Commands.{Adds, Offers, Proves}
+use Rattle.sok_book.specs.Records.{IsRecordAt}
 use Rattle.sok_book.specs.Refusals.{IsNotAdded, IsNotOffered, IsNotProved}
-use Rattle.sok_row.specs.Faults.{IsOutside}
+use Rattle.sok_store.specs.Faults.{IsOutside}
 use Rattle.sok_store.specs.Calls.{Changes, Finds, IsCaused, Keeps, MakesNone, ShowsOn, Stops, id_number}
 use Rattle.sok_store.specs.Known.{IsNotKnown, ProvesKnown}
 use Rattle.sok_store.specs.Standing.{OffersTelling}
 use Rattle.sok_store.specs.declared.standing.Standing.{Standing}
-use Rattle.sok_store.specs.Entries.{AddsPage, IsCausedAdding, IsCausedSetting, IsFull, Sets, StopsAdding, StopsSetting}
+use Rattle.sok_store.specs.Changing.{AddsPage, IsCausedAdding, IsCausedSetting, IsFull, Sets, StopsAdding, StopsSetting}
 
--- the page with an id is read, and this is told of it
-pub record RunsReading {X : Type 0} (old new : State) (id : ℕ) (Is : Page → X → Type 0) (result : Result X BookFault) : Type 0 where
-  pub found : IfOk result (λ x. Finds old new (λ book. IsSomeAnd (page_at book id) (λ page. Is page x)))
+-- the page with an id is read
+pub record RunsReading (old new : State) (id : ℕ) (result : Result PageWithId BookFault) : Type 0 where
+  pub found : IfOk result (λ kept. Finds old new (λ book. IsRecordAt book id kept))
   pub refused : IfErr result (λ fault. Keeps old new (λ book. IsOutside fault ⊎ ((fault ≡ NoLevel) × IsNone (page_at book id))))
   pub shows : IfErr result (ShowsOn old new)
   pub stop : Stops old new MakesNone

@@ -1,11 +1,9 @@
 -- What is told of an offer.
 use Rattle.std.specs.Prelude.{ℕ, ◌≡◌, List, Some, IsSomeAnd, false}
 use Rattle.sok_rules.specs.declared.cell.Dir.{Dir}
-use Rattle.sok_book.specs.Books.{Book, Solution, page_at}
+use Rattle.sok_book.specs.Books.{Book, Page, Solution, page_at}
 use Rattle.sok_book.specs.declared.record.Offer.TheVariants.{Kept}
 use Rattle.sok_book.specs.Commands.{Offers, is_better}
-use Rattle.sok_page.specs.declared.record.Best.{Best}
-use Rattle.sok_store.specs.declared.entry.Entry.{Entry}
 use Rattle.sok_store.specs.declared.standing.Standing.{Standing}
 
 -- letters are offered, and told are what became of them and the pushes and moves of the best after that
@@ -16,11 +14,11 @@ pub record OffersTelling (book : Book) (id : ℕ) (letters : List Dir) (told : S
   pub pushes : told.pushes ≡ best.pushes
   pub moves : told.moves ≡ best.moves
 
--- a solution does not push less than the best of an entry, and told is this one
-pub record StaysBest (entry : Entry) (best : Best) (told : Standing) : Type 0 where
-  pub there : Best
-  pub has : entry.best ≡ Some there
-  pub worse : is_better best.pushes (Some there.pushes) ≡ false
+-- a solution with so many pushes does not push less than the best of a page, and told is this one
+pub record StaysBest (page : Page) (pushed : ℕ) (told : Standing) : Type 0 where
+  pub best : Solution
+  pub has : page.best ≡ Some best
+  pub worse : is_better pushed (Some best.pushes) ≡ false
   pub offer : told.offer ≡ Kept
-  pub pushes : told.pushes ≡ there.pushes
-  pub moves : told.moves ≡ there.moves
+  pub pushes : told.pushes ≡ best.pushes
+  pub moves : told.moves ≡ best.moves

@@ -1,19 +1,20 @@
 //! A book over a connection to a database.
 
-ghost use Rattle.std.specs.Prelude.{◌≡◌, ◌⊎◌, false, IfErr, IfOk, IsNone, IsSomeAnd};
+ghost use Rattle.std.specs.Prelude.{◌≡◌, ◌⊎◌, false, All, IfErr, IfOk, IsNone};
 ghost use Rattle.std.specs.Prelude.{MatchResult, OnOk, option_map};
 ghost use Rattle.sqlite.specs.Held.{state};
 ghost use Rattle.sqlite.specs.State.{HasCleanDisk, Survives};
 ghost use Rattle.sok_sql.specs.Connections.{IsKnown, IsSame};
 ghost use Rattle.sok_board.specs.Refusals.{IsAcceptable};
 ghost use Rattle.sok_board.specs.declared.fault.BoardFault.{BoardFault};
-ghost use Rattle.sok_book.specs.Books.{page_at};
+ghost use Rattle.sok_book.specs.Books.{PageWithId, page_at};
 ghost use Rattle.sok_book.specs.Commands.{Adds, Offers, Proves};
+ghost use Rattle.sok_book.specs.Kept.{IsKeptPage};
+ghost use Rattle.sok_book.specs.Records.{AreRecordsOf, IsRecordAt};
 ghost use Rattle.sok_book.specs.Refusals.{IsNotAdded, IsNotOffered, IsNotProved};
 ghost use Rattle.sok_book.specs.declared.record.Offer.{Offer};
 ghost use Rattle.sok_cert.specs.Claim.{Claim};
-ghost use Rattle.sok_row.specs.Faults.{IsOutside};
-ghost use Rattle.sok_row.specs.Told.{AreRecordsOf, IsRecordOf};
+ghost use Rattle.sok_store.specs.Faults.{IsOutside};
 ghost use Rattle.sok_store.specs.Calls.{Changes, Finds, IsCaused, Keeps, MakesNone};
 ghost use Rattle.sok_store.specs.Calls.{ShowsOn, Stops};
 ghost use Rattle.sok_store.specs.Calls.{id_number, title_kept};
@@ -32,9 +33,8 @@ use crate::proving::prove_to;
 use crate::reading::record_at;
 use crate::standing::Standing;
 use sok_book::fault::BookFault;
-use sok_book::record::Offer;
+use sok_book::record::{Offer, Record};
 use sok_cert::claim::Claim;
-use sok_page::record::Record;
 use sok_rules::cell::Dir;
 use sok_rules::level::Level;
 use sqlite::{Alter, Connection};
@@ -118,8 +118,7 @@ impl<S: Alter> Book<S> {
     /// The level with an id, counted from 1. Another id, a negative one among them, is `NoLevel`.
     pub fn get(&mut self, id: i64) -> Result<Record, BookFault>
         ensures found { IfOk result (λ kept. Finds (state S.Store self.old) (state S.Store self.new)
-            (λ book. IsSomeAnd (page_at book (id_number id))
-            (λ page. IsRecordOf (id_number id) page kept))) }
+            (λ book. IsRecordAt book (id_number id) kept)) }
         ensures refused { IfErr result (λ fault.
             Keeps (state S.Store self.old) (state S.Store self.new)
             (λ book. IsOutside fault
@@ -133,6 +132,8 @@ impl<S: Alter> Book<S> {
 
     /// All levels, in order of their ids.
     pub fn list(&mut self) -> Result<Vec<Record>, BookFault>
+        ensures kept { IfOk result
+            (λ records. All (λ (kept : PageWithId). IsKeptPage kept.page) records.items) }
         ensures listed { IfOk result (λ records.
             Finds (state S.Store self.old) (state S.Store self.new)
             (λ book. AreRecordsOf book records.items)) }

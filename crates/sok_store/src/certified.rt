@@ -2,19 +2,18 @@
 
 ghost use Rattle.std.specs.Prelude.{◌≡◌, ◌⊎◌, ◌<◌, ◌↔◌, IfErr, IfOk, IsTrue, OnOk};
 ghost use Rattle.sqlite.specs.Held.{state};
-ghost use Rattle.sok_book.specs.Commands.{Meets};
+ghost use Rattle.sok_book.specs.Commands.{Meets, best_pushes};
 ghost use Rattle.sok_store.specs.Calls.{id_number};
-ghost use Rattle.sok_store.specs.Entries.{entry_pushes};
 ghost use Rattle.sok_store.specs.Known.{IsCertified, IsNoClaimOn};
 ghost use Rattle.sok_store.specs.Running.{RunsKnown};
 
-use crate::entry::{Entry, entry_at};
-use crate::proving::verdict_of;
-use crate::reading::place_of;
+use crate::proving::{pushes_of, verdict_of};
+use crate::reading::{place_of, read_record};
 use crate::writing::store_verdict;
 use sok_book::fault::BookFault;
+use sok_book::record::Record;
+use sok_book::writing::text_of;
 use sok_cert::claim::Claim;
-use sok_page::writing::text_of;
 use sok_rules::fault::Memory;
 use sok_rules::level::Level;
 use sqlite::{Alter, Connection};
@@ -51,32 +50,32 @@ fn prove_known_at<S: Alter>(
     ensures { RunsKnown (state S.Store conn.old) (state S.Store conn.new)
         id level.now claim result }
 {
-    let entry = match entry_at(conn, alloc, id) {
-        Ok(entry) => entry,
+    let kept = match read_record(conn, alloc, id) {
+        Ok(kept) => kept,
         Err(fault) => return Err(fault),
     };
-    match judge_claim(alloc, &entry, level, claim) {
+    match judge_claim(alloc, &kept, level, claim) {
         Ok(()) => store_verdict(conn, id, verdict_of(claim)),
         Err(fault) => Err(fault),
     }
 }
 
-/// Whether a claim on a level is one on an entry: it is the same level, and the claim is about its
-/// best solution.
-fn judge_claim(alloc: Global, entry: &Entry, level: &Level, claim: Claim) -> Result<(), BookFault>
-    ensures same { OnOk result (entry.now.level ≡ level.now) }
-    ensures meets { OnOk result (Meets claim (entry_pushes entry.now)) }
+/// Whether a claim on a level is one on a level of a book: it is the same level, and the claim is
+/// about its best solution.
+fn judge_claim(alloc: Global, kept: &Record, level: &Level, claim: Claim) -> Result<(), BookFault>
+    ensures same { OnOk result (kept.now.page.level ≡ level.now) }
+    ensures meets { OnOk result (Meets claim (best_pushes kept.now.page)) }
     ensures refused { IfErr result (λ fault.
-        (fault ≡ BookFault.Memory) ⊎ IsNoClaimOn entry.now level.now claim fault) }
+        (fault ≡ BookFault.Memory) ⊎ IsNoClaimOn kept.now.page level.now claim fault) }
 {
-    let same = match is_same(alloc, &entry.level, level) {
+    let same = match is_same(alloc, &kept.level, level) {
         Ok(same) => same,
         Err(fault) => return Err(BookFault::from(fault)),
     };
     if !same {
         return Err(BookFault::NoLevel);
     }
-    if !is_about(claim, entry.pushes()) {
+    if !is_about(claim, pushes_of(kept)) {
         return Err(BookFault::ClaimDiffers);
     }
     Ok(())

@@ -1,9 +1,11 @@
-//! Laws of a book over its calls.
+//! Laws of the rows of books, and of a book over its calls.
 
 ghost use Rattle.sqlite.specs.Held.{state};
 ghost use Rattle.sok_store.specs.Histories.{AddsAreCalls, OffersAreCalls, ProofsAreCalls};
 ghost use Rattle.sok_store.specs.Histories.{CallsFold, EmptyBooksAreMade, KnownProofsAreCalls};
 ghost use Rattle.sok_store.specs.Histories.{TellingsAreCalls};
+ghost use Rattle.sok_store.specs.Laws.{BadRowsHaveNoBook, OneRowIsFirstBad, RowsHaveOneBook};
+ghost use Rattle.sok_store.specs.Laws.{RowsHaveOnePage, RowsKeptBeforeAreKept};
 
 use sqlite::Alter;
 
@@ -20,4 +22,23 @@ pub fn calls_are_folded<S: Alter>()
     ensures known { KnownProofsAreCalls (state S.Store) }
     ensures folded { CallsFold (state S.Store) }
     ensures made { EmptyBooksAreMade }
+{}
+
+/// A row is of one page at most. So what is read of a row is the page that was written there.
+pub fn rows_have_one_page()
+    ensures { RowsHaveOnePage }
+{}
+
+/// A row that was kept while a level had at most 64 rows and 64 columns, and an area of at most
+/// 1,024 squares, is kept. So a book that was written then opens with the same records.
+pub fn rows_kept_before_are_kept()
+    ensures { RowsKeptBeforeAreKept }
+{}
+
+/// Rows are of one book at most, and where they are of none, one row is the first that is bad. So
+/// what is told of a table is told of no other book, and of no other row.
+pub fn rows_have_one_book()
+    ensures one { RowsHaveOneBook }
+    ensures none { BadRowsHaveNoBook }
+    ensures first { OneRowIsFirstBad }
 {}

@@ -1,15 +1,17 @@
 //! All levels of the book, as their rows stand in the table.
 
-ghost use Rattle.std.specs.Prelude.{IfErr, IfOk};
+ghost use Rattle.std.specs.Prelude.{All, IfErr, IfOk};
 ghost use Rattle.sqlite.specs.Held.{state};
-ghost use Rattle.sok_row.specs.Faults.{IsOutside};
-ghost use Rattle.sok_row.specs.Told.{AreRecordsOf};
+ghost use Rattle.sok_book.specs.Books.{PageWithId};
+ghost use Rattle.sok_book.specs.Kept.{IsKeptPage};
+ghost use Rattle.sok_book.specs.Records.{AreRecordsOf};
+ghost use Rattle.sok_store.specs.Faults.{IsOutside};
 ghost use Rattle.sok_store.specs.Calls.{Finds, IsCaused, Keeps, MakesNone, Stops};
 
+use crate::fault::fault_of;
+use crate::records::records_of;
 use sok_book::fault::BookFault;
-use sok_page::record::Record;
-use sok_row::book::records_of;
-use sok_row::fault::fault_of;
+use sok_book::record::Record;
 use sok_sql::reading::all_rows;
 use sqlite::{Alter, Connection};
 use std::alloc::Global;
@@ -19,6 +21,8 @@ pub(crate) fn records_in<S: Alter>(
     conn: &mut Connection<S>,
     alloc: Global,
 ) -> Result<Vec<Record>, BookFault>
+    ensures kept { IfOk result
+        (λ records. All (λ (kept : PageWithId). IsKeptPage kept.page) records.items) }
     ensures listed { IfOk result (λ records.
         Finds (state S.Store conn.old) (state S.Store conn.new)
         (λ book. AreRecordsOf book records.items)) }

@@ -2,21 +2,18 @@
 
 ghost use Rattle.std.specs.Prelude.{◌≡◌, ◌<◌, IfErr, MatchOption, true};
 ghost use Rattle.sqlite.specs.Held.{state};
-ghost use Rattle.sok_book.specs.Commands.{is_better};
+ghost use Rattle.sok_book.specs.Commands.{best_pushes, is_better};
 ghost use Rattle.sok_store.specs.Calls.{ShowsOn, id_number};
-ghost use Rattle.sok_store.specs.Entries.{entry_pushes};
 ghost use Rattle.sok_store.specs.Running.{RunsTelling};
 ghost use Rattle.sok_store.specs.Standing.{StaysBest};
 
-use crate::entry::{Entry, entry_at};
-use crate::reading::place_of;
+use crate::columns::best_columns;
+use crate::reading::{place_of, read_record};
 use crate::standing::Standing;
 use crate::writing::store_best;
 use sok_book::fault::BookFault;
 use sok_book::offering::is_better;
-use sok_book::record::Offer;
-use sok_page::record::Best;
-use sok_page::writing::best_of;
+use sok_book::record::{Offer, Record};
 use sok_rules::cell::Dir;
 use sqlite::{Alter, Connection};
 use std::alloc::Global;
@@ -50,35 +47,43 @@ fn offer_at<S: Alter>(
         id letters.now result }
     ensures shows { IfErr result (ShowsOn (state S.Store conn.old) (state S.Store conn.new)) }
 {
-    let entry = match entry_at(conn, alloc, id) {
-        Ok(entry) => entry,
+    let kept = match read_record(conn, alloc, id) {
+        Ok(kept) => kept,
         Err(fault) => return Err(fault),
     };
-    let best = match best_of(alloc, &entry.level, letters) {
+    let best = match best_columns(alloc, &kept.level, letters) {
         Ok(best) => best,
         Err(fault) => return Err(fault),
     };
-    match kept_best(&entry, &best) {
+    match kept_best(&kept, best.pushes) {
         Some(told) => Ok(told),
         None => match store_best(conn, id, &best) {
-            Ok(()) => Ok(Standing::new(Offer::Stored, &best)),
+            Ok(()) => Ok(Standing {
+                offer: Offer::Stored,
+                pushes: best.pushes,
+                moves: best.moves,
+            }),
             Err(fault) => Err(fault),
         },
     }
 }
 
-/// What is told where the best of an entry stays, since a solution does not push less.
-fn kept_best(entry: &Entry, best: &Best) -> Option<Standing>
+/// What is told where the best of a level stays, since a solution does not push less.
+fn kept_best(kept: &Record, pushes: u32) -> Option<Standing>
     ensures { MatchOption result
-        (is_better best.now.pushes (entry_pushes entry.now) ≡ true)
-        (StaysBest entry.now best.now) }
+        (is_better pushes (best_pushes kept.now.page) ≡ true)
+        (StaysBest kept.now.page pushes) }
 {
-    match &entry.best {
+    match &kept.best {
         Some(there) => {
-            if is_better(u64::from(best.pushes), Some(u64::from(there.pushes))) {
+            if is_better(u64::from(pushes), Some(u64::from(there.pushes))) {
                 None
             } else {
-                Some(Standing::new(Offer::Kept, there))
+                Some(Standing {
+                    offer: Offer::Kept,
+                    pushes: there.pushes,
+                    moves: there.moves,
+                })
             }
         }
         None => None,

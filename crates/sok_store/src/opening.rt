@@ -6,9 +6,9 @@ ghost use Rattle.sqlite.specs.State.{HasCleanDisk, Survives};
 ghost use Rattle.sok_sql.specs.Connections.{IsKnown, IsSame, IsSettled};
 ghost use Rattle.sok_store.specs.Opening.{IsCausedOpening, IsUnopened, LeavesOpening, Opens};
 
+use crate::fault::fault_of;
+use crate::records::records_of;
 use sok_book::fault::BookFault;
-use sok_row::book::records_of;
-use sok_row::fault::fault_of;
 use sok_sql::making::create;
 use sok_sql::reading::all_rows;
 use sqlite::{Alter, Connection, Error};

@@ -2,21 +2,18 @@
 
 ghost use Rattle.std.specs.Prelude.{◌≡◌, ◌⊎◌, ◌<◌, IfErr, IfOk};
 ghost use Rattle.sqlite.specs.Held.{state};
-ghost use Rattle.sok_book.specs.Books.{Page};
-ghost use Rattle.sok_book.specs.Commands.{IsCertificate, Meets, verdict_of};
+ghost use Rattle.sok_book.specs.Commands.{IsCertificate, Meets, best_pushes, verdict_of};
+ghost use Rattle.sok_book.specs.Kept.{IsKeptPage};
 ghost use Rattle.sok_book.specs.Refusals.{IsUnproved};
-ghost use Rattle.sok_page.specs.Kept.{IsKeptPage};
 ghost use Rattle.sok_store.specs.Calls.{id_number};
-ghost use Rattle.sok_store.specs.Entries.{IsEntryOf, entry_pushes};
 ghost use Rattle.sok_store.specs.Running.{RunsProving};
 
-use crate::entry::{Entry, entry_at};
-use crate::reading::place_of;
+use crate::reading::{place_of, read_record};
 use crate::writing::store_verdict;
 use sok_board::board::Board;
 use sok_book::fault::BookFault;
 use sok_book::proving::judge_proof;
-use sok_book::record::Verdict;
+use sok_book::record::{Record, Verdict};
 use sok_cert::claim::Claim;
 use sqlite::{Alter, Connection};
 use std::alloc::Global;
@@ -48,11 +45,11 @@ fn prove_at<S: Alter>(
     ensures { RunsProving (state S.Store conn.old) (state S.Store conn.new)
         id bytes.now result }
 {
-    let entry = match entry_at(conn, alloc, id) {
-        Ok(entry) => entry,
+    let kept = match read_record(conn, alloc, id) {
+        Ok(kept) => kept,
         Err(fault) => return Err(fault),
     };
-    let claim = match judge_entry(alloc, &entry, bytes) {
+    let claim = match judge_record(alloc, &kept, bytes) {
         Ok(claim) => claim,
         Err(fault) => return Err(fault),
     };
@@ -63,18 +60,27 @@ fn prove_at<S: Alter>(
 }
 
 /// The claim that bytes show of a level and its best solution.
-fn judge_entry(alloc: Global, entry: &Entry, bytes: &[u8]) -> Result<Claim, BookFault>
-    ensures certificate { IfOk result (IsCertificate entry.now.level bytes.now) }
-    ensures meets { IfOk result (λ claim. Meets claim (entry_pushes entry.now)) }
-    ensures refused { IfErr result (λ fault. (page : Page)
-        → IsKeptPage page → IsEntryOf page entry.now
-        → (fault ≡ BookFault.Memory) ⊎ IsUnproved page bytes.now fault) }
+fn judge_record(alloc: Global, kept: &Record, bytes: &[u8]) -> Result<Claim, BookFault>
+    ensures certificate { IfOk result (IsCertificate kept.now.page.level bytes.now) }
+    ensures meets { IfOk result (λ claim. Meets claim (best_pushes kept.now.page)) }
+    ensures refused { IfErr result (λ fault. IsKeptPage kept.now.page
+        → (fault ≡ BookFault.Memory) ⊎ IsUnproved kept.now.page bytes.now fault) }
 {
-    let board = match Board::new(alloc, &entry.level) {
+    let board = match Board::new(alloc, &kept.level) {
         Ok(board) => board,
         Err(fault) => return Err(BookFault::from(fault)),
     };
-    judge_proof(alloc, &board, entry.pushes(), bytes)
+    judge_proof(alloc, &board, pushes_of(kept), bytes)
+}
+
+/// The pushes of the best solution, if there is one.
+pub(crate) fn pushes_of(kept: &Record) -> Option<u64>
+    ensures { result ≡ best_pushes kept.now.page }
+{
+    match &kept.best {
+        Some(best) => Some(u64::from(best.pushes)),
+        None => None,
+    }
 }
 
 /// The verdict that a claim is.

@@ -4,14 +4,13 @@ ghost use Rattle.std.specs.Prelude.{◌≡◌, ◌<◌, ◌≤◌, IsNone, Match
 ghost use Rattle.sqlite.specs.Held.{state};
 ghost use Rattle.sok_book.specs.Books.{Book, page_at};
 ghost use Rattle.sok_book.specs.Commands.{level_limit};
-ghost use Rattle.sok_row.specs.Told.{IsRecordOf};
 ghost use Rattle.sok_store.specs.Calls.{id_number};
 ghost use Rattle.sok_store.specs.Running.{RunsReading};
 
+use crate::fault::fault_of;
+use crate::page::record_in;
 use sok_book::fault::BookFault;
-use sok_page::record::Record;
-use sok_row::fault::fault_of;
-use sok_row::page::record_in;
+use sok_book::record::Record;
 use sok_sql::reading::row_at;
 use sqlite::{Alter, Connection};
 use std::alloc::Global;
@@ -23,10 +22,10 @@ pub(crate) fn record_at<S: Alter>(
     id: i64,
 ) -> Result<Record, BookFault>
     ensures { RunsReading (state S.Store conn.old) (state S.Store conn.new)
-        (id_number id) (IsRecordOf (id_number id)) result }
+        (id_number id) result }
 {
     match place_of(id) {
-        Some(place) => record_of(conn, alloc, place),
+        Some(place) => read_record(conn, alloc, place),
         None => Err(BookFault::NoLevel),
     }
 }
@@ -44,14 +43,13 @@ pub(crate) fn place_of(id: i64) -> Option<u32>
 }
 
 /// The level with an id.
-pub(crate) fn record_of<S: Alter>(
+pub(crate) fn read_record<S: Alter>(
     conn: &mut Connection<S>,
     alloc: Global,
     id: u32,
 ) -> Result<Record, BookFault>
     requires { 0 < id }
-    ensures { RunsReading (state S.Store conn.old) (state S.Store conn.new)
-        id (IsRecordOf id) result }
+    ensures { RunsReading (state S.Store conn.old) (state S.Store conn.new) id result }
 {
     match row_at(conn, id) {
         Ok(Some(row)) => record_in(alloc, id, &row),

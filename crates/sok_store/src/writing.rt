@@ -1,14 +1,13 @@
 //! What a command writes of a level of the book.
 
 ghost use Rattle.sqlite.specs.Held.{state};
-ghost use Rattle.sok_store.specs.Entries.{HasBest, HasVerdict};
+ghost use Rattle.sok_store.specs.Changing.{HasBest, HasVerdict};
 ghost use Rattle.sok_store.specs.Running.{RunsSetting};
 
+use crate::columns::{BestColumns, verdict_number};
+use crate::fault::fault_of;
 use sok_book::fault::BookFault;
 use sok_book::record::Verdict;
-use sok_page::columns::verdict_number;
-use sok_page::record::Best;
-use sok_row::fault::fault_of;
 use sok_sql::writing::{set_best, set_verdict};
 use sqlite::{Alter, Connection};
 
@@ -16,7 +15,7 @@ use sqlite::{Alter, Connection};
 pub(crate) fn store_best<S: Alter>(
     conn: &mut Connection<S>,
     id: u32,
-    best: &Best,
+    best: &BestColumns,
 ) -> Result<(), BookFault>
     ensures { RunsSetting (state S.Store conn.old) (state S.Store conn.new)
         id (HasBest best.now) result }

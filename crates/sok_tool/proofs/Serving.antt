@@ -11,7 +11,7 @@ use Rattle.sok_play.specs.Drawings.{IsDrawing}
 use Rattle.sok_play.specs.Plays.{IsReplay}
 use Rattle.sok_keep.specs.Shows.{IsBookText, IsShow}
 use Rattle.sok_keep.proofs.Ids.{fits, of_passed, passed}
-use Rattle.sok_shelf.specs.declared.text.BookText.TheVariants as texts
+use Rattle.sok_book.specs.declared.text.BookText.TheVariants as texts
 use Rattle.sok_words.specs.declared.job.Job.TheVariants as job
 use Rattle.sok_words.specs.Forms.{Form, IsId, IsPlain, Means, add, check, draw, export, from_of, id_value, limit_of, list, offer, offers, prove, replay, settle, show, solve, words_of}
 use Rattle.sok_files.specs.Endings.{Ends}

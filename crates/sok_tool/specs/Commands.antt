@@ -22,7 +22,7 @@ use Rattle.sok_settle.specs.Settles.{SettlesSome, WritesSettling}
 use Rattle.sok_play.specs.Drawings.{IsDrawing}
 use Rattle.sok_play.specs.Listing.{IsListing}
 use Rattle.sok_play.specs.Plays.{IsReplay}
-use Rattle.sok_shelf.specs.declared.text.BookText.TheVariants.{Overview, Export}
+use Rattle.sok_book.specs.declared.text.BookText.TheVariants.{Overview, Export}
 use Rattle.sok_store.specs.Calls.{MakesNone}
 use Rattle.sok_words.specs.Forms.{Form, add, check, draw, export, from_of, id_value, limit_of, list, offer, offers, prove, replay, settle, show, solve}
 use Rattle.sok_tool.specs.Certs.{keeping_of}

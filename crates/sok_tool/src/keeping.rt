@@ -34,7 +34,7 @@ use sok_keep::show::{book_bytes, show_bytes};
 use sok_settle::certs::NoCerts;
 use sok_settle::offers::offers_bytes;
 use sok_settle::settle::settle_bytes;
-use sok_shelf::text::BookText;
+use sok_book::text::BookText;
 use sok_store::book::{Book, OpenRefused};
 use sqlite::{Alter, Connection};
 use std::io::Write;

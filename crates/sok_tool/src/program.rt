@@ -18,7 +18,7 @@ use sok_files::command::{check, list, solve};
 use sok_files::ending::{ended, refused};
 use sok_files::folder::Folder;
 use sok_play::play::play_bytes;
-use sok_shelf::text::BookText;
+use sok_book::text::BookText;
 use sok_words::job::Job;
 use sok_words::words::job;
 use sqlite::{Alter, Connection};

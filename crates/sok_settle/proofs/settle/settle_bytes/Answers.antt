@@ -1,7 +1,7 @@
 use Rattle.std.proofs.Common.{subst, sym, w64}
 use Rattle.std.proofs.lemmas.Int.{to_z-of_z}
 use Rattle.sqlite.specs.Held.{state}
-use Rattle.sok_row.specs.Told.{AreRecordsOf}
+use Rattle.sok_book.specs.Records.{AreRecordsOf}
 use Rattle.sok_store.specs.Calls.{Finds}
 use Rattle.sok_store.proofs.Calls.{stops_none}
 use Rattle.sok_settle.proofs.Settling.{bad_turns, unlisted_caused, unlisted_turns, whole_caused, whole_open, whole_stops, whole_turns}

@@ -9,7 +9,7 @@ use Rattle.sok_store.proofs.Calls.{rests_holds, rests_stops, stops_same}
 use Rattle.sok_store.proofs.Added.{is_there, level_runs}
 use Rattle.sok_store.proofs.Wide.{wide}
 use Rattle.sok_store.proofs.Caused.{few_leaves, told}
-use Rattle.sok_row.specs.Kept.{leaves_of}
+use Rattle.sok_store.specs.Rows.{leaves_of}
 use Rattle.sok_store.proofs.adding.add_accepted.Goals as goal
 
 pub returns-in-Err-clause-runs : goal.returns-in-Err-clause-runs

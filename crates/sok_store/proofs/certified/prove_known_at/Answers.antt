@@ -5,18 +5,18 @@ use Rattle.sok_store.proofs.certified.prove_known_at.Goals as goal
 
 pub returns-in-Err : goal.returns-in-Err
 returns-in-Err g c =
-    unread_runs (state g.S.Store c.args.conn.now) (state g.S.Store c.entry_at.new.conn) _ _ _ c.args.id _ c.in-Err.fault c.in-Err.ensures
+    unread_runs (state g.S.Store c.args.conn.now) (state g.S.Store c.read_record.new.conn) _ _ _ c.args.id c.in-Err.fault c.in-Err.ensures
     (λ book none. none_stands _ _ none)
 
 pub returns-in-Ok-judge_claim : goal.returns-in-Ok-judge_claim
 returns-in-Ok-judge_claim g c =
     let judged = c.in-Ok-judge_claim.ensures in
-    known_set (state g.S.Store c.args.conn.now) (state g.S.Store c.entry_at.new.conn) (state g.S.Store c.store_verdict.new.conn) c.args.id c.args.level.now
-    c.args.claim c.in-Ok.entry c.requires.certified judged.same judged.meets c.in-Ok.ensures c.store_verdict.result
+    known_set (state g.S.Store c.args.conn.now) (state g.S.Store c.read_record.new.conn) (state g.S.Store c.store_verdict.new.conn) c.args.id c.args.level.now
+    c.args.claim c.in-Ok.kept c.requires.certified judged.same judged.meets c.in-Ok.ensures c.store_verdict.result
     (rw c.verdict_of.ensures at c.store_verdict.ensures)
 
 pub returns : goal.returns
 returns g c =
     let refused = c.in-Err-judge_claim in
-    refused_runs (state g.S.Store c.args.conn.now) (state g.S.Store c.entry_at.new.conn) _ _ _ c.args.id _ refused.fault c.in-Ok.entry c.in-Ok.ensures
-    (known_refused c.args.id c.args.level.now c.args.claim c.in-Ok.entry refused.fault refused.ensures.refused)
+    refused_runs (state g.S.Store c.args.conn.now) (state g.S.Store c.read_record.new.conn) _ _ _ c.args.id refused.fault c.in-Ok.kept c.in-Ok.ensures
+    (known_refused c.args.id c.args.level.now c.args.claim c.in-Ok.kept.page refused.fault refused.ensures.refused)

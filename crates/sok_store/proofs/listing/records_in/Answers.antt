@@ -1,13 +1,19 @@
 use Rattle.std.proofs.Common.{sym, ◌∙◌, subst, inl, inr, pos}
-use Rattle.sok_row.specs.Faults.{IsOutside}
-use Rattle.sok_row.specs.Told.{AreRecordsOf}
-use Rattle.sok_row.specs.Kept.{leaves_of}
-use Rattle.sok_row.proofs.Laws.{bad-rows-have-no-book, rows-have-one-book}
+use Rattle.sok_store.specs.Faults.{IsOutside}
+use Rattle.sok_book.specs.Records.{AreRecordsOf}
+use Rattle.sok_store.specs.Rows.{leaves_of}
+use Rattle.sok_store.proofs.Laws.{bad-rows-have-no-book, rows-have-one-book}
 use Rattle.sok_store.proofs.Calls.{rests_holds, rests_stops}
 use Rattle.sok_store.proofs.Caused.{row_told, told}
 use Rattle.sqlite.specs.Held.{state}
 use Rattle.sok_store.specs.Calls.{MakesNone}
+use Rattle.sok_store.proofs.ReadRows.{all-kept}
 use Rattle.sok_store.proofs.listing.records_in.Goals as goal
+
+pub returns-in-Ok-records_of-clause-kept : goal.returns-in-Ok-records_of-clause-kept
+returns-in-Ok-records_of-clause-kept g c =
+    let (book, kept, are, records) = c.in-Ok-records_of.ensures.read in
+    all-kept book kept c.in-Ok-records_of.records.items records
 
 pub returns-in-Ok-records_of-clause-listed : goal.returns-in-Ok-records_of-clause-listed
 returns-in-Ok-records_of-clause-listed g c clean book holds =

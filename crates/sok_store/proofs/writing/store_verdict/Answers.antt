@@ -1,7 +1,7 @@
 use Rattle.sqlite.specs.Held.{state}
 use Rattle.sok_sql.specs.Leaves.{with_verdict}
-use Rattle.sok_page.specs.Rows.{verdict_number}
-use Rattle.sok_store.specs.Entries.{HasVerdict}
+use Rattle.sok_store.specs.Rows.{verdict_number}
+use Rattle.sok_store.specs.Changing.{HasVerdict}
 use Rattle.sok_store.proofs.Setting.{page_set, page_unset, verdict_changed}
 use Rattle.sok_store.proofs.writing.store_verdict.Goals as goal
 

@@ -1,5 +1,0 @@
-use Rattle.sok_shelf.proofs.Blocks.{exports-read-back}
-use Rattle.sok_shelf.proofs.export.exports_read_back.Goals as goal
-
-pub returns : goal.returns
-returns c = exports-read-back
