@@ -30,36 +30,36 @@ pub trait Databases {
 
     // The database at this path may be opened as this connection: one that is there, one that is
     // made, or what is read of one.
-    ghost keeps: { Self → Access → List ℕ → Self.Opened → Type 0 };
+    ghost opens_as: { Self → Access → List ℕ → Self.Opened → Type 0 };
 
     // The database at this path may be refused, and this is told.
     ghost refuses: { Self → List ℕ → ToolFault → Type 0 };
 
     // This connection to the database at this path was given back.
-    ghost leaves: { Self → List ℕ → Self.Opened → Type 0 };
+    ghost closes_as: { Self → List ℕ → Self.Opened → Type 0 };
 
     /// Opens the database at a path, or makes an empty one where none is there and one may be made.
     /// Where it can't be opened, for another cause than memory, that is `Database`.
     fn database(&self, path: &str, access: Access) -> Result<Self::Opened, ToolFault>
-        ensures kept { IfOk result (keeps self.now access path.now) }
+        ensures opened { IfOk result (opens_as self.now access path.now) }
         ensures refuses { IfErr result (refuses self.now path.now) }
         ensures refused { IfErr result
             (λ fault. (fault ≡ tool.Memory) ⊎ (fault ≡ tool.Book refusal.Database)) };
 
     /// Takes a connection back, when the work on the database at a path is done.
     fn close(&self, path: &str, connection: Self::Opened)
-        ensures { leaves self.now path.now connection };
+        ensures { closes_as self.now path.now connection };
 }
 
 /// Those of the machine, of which no contract knows what they hold. Why one can't be opened is noted.
 impl Databases for Watched<'_, HostRuntime> {
     type Opened = Connection<FileStore<BookFile>>;
 
-    ghost keeps = { λ _ _ _ _. ⊤ };
+    ghost opens_as = { λ _ _ _ _. ⊤ };
 
     ghost refuses = { λ _ _ _. ⊤ };
 
-    ghost leaves = { λ _ _ _. ⊤ };
+    ghost closes_as = { λ _ _ _. ⊤ };
 
     fn database(
         &self,

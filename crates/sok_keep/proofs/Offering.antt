@@ -16,7 +16,7 @@ use Rattle.sok_store.specs.Faults.{IsOutside}
 use Rattle.sok_store.specs.Calls.{Changes, Keeps, Turns, id_number}
 use Rattle.sok_store.specs.Standing.{OffersTelling}
 use Rattle.sok_store.specs.declared.standing.Standing.{Standing}
-use Rattle.sok_store.proofs.Calls.{held}
+use Rattle.sok_store.proofs.Calls.{changes_more, keeps_turns, same_turns}
 use Rattle.sok_keep.specs.Offers.{IsOffer, TellsOffer, WritesOffer, told_offer}
 use Rattle.sok_keep.proofs.Ending.{book_fault, ends_unwritten, lurd_fault, stays_written}
 
@@ -43,28 +43,29 @@ letter_fault book id text letters after fault spelled (inr refused) =
 -- the text does not spell letters
 pub offer_unread : (s : State) (id : ℤ) (text : List ℕ) (held : Option (List ℕ)) (fault : LurdFault) → (fault ≡ lurd.Memory) ⊎ GoesWrong text fault
     → Turns s s (λ b after. WritesOffer b id text after held held (Err (of_lurd fault)))
-offer_unread s id text held fault why clean book holds =
+offer_unread s id text held fault why = same_turns _ (λ book.
     let is : IsFaultOf (IsOffer book id text book) (of_lurd fault) = elim why [
       | inl memory ↦ subst (λ f. IsFaultOf (IsOffer book id text book) (of_lurd f)) (sym memory) tt
       | inr wrong ↦ lurd_fault (IsOffer book id text book) fault (inl (fault, wrong, refl))
     ] in
-    (book, (ends_unwritten (IsOffer book id text book) held (of_lurd fault) is, inr refl), holds)
+    (ends_unwritten (IsOffer book id text book) held (of_lurd fault) is, inr refl))
 
 -- they are refused
 pub offer_refused : (old new : State) (id : ℤ) (text : List ℕ) (letters : List Dir) (held : Option (List ℕ)) (fault : BookFault) → Spells text letters
     → Keeps old new (λ b. IsOutside fault ⊎ IsNotOffered b (id_number id) letters fault)
     → Turns old new (λ b after. WritesOffer b id text after held held (Err (of_book fault)))
-offer_refused old new id text letters held fault spelled keeps clean book holds =
-    let (why, after) = keeps clean book holds in
-    let is = letter_fault book id text letters book fault spelled why in
-    (book, (ends_unwritten (IsOffer book id text book) held (of_book fault) is, inr refl), after)
+offer_refused old new id text letters held fault spelled keeps = keeps_turns _ (λ book why. (
+  ends_unwritten (IsOffer book id text book) held (of_book fault) (letter_fault book id text letters book fault spelled why),
+  inr refl,
+)) keeps
 
 -- or the offer was done, and is told
 pub offer_done : (old new : State) (id : ℤ) (text : List ℕ) (letters : List Dir) (told : Standing) (before after : Option (List ℕ))
     (result : Result ℕ ToolFault) → Spells text letters → Changes old new (λ b later. OffersTelling b (id_number id) letters told later)
     → WritesOne (told_offer told.offer told.pushes told.moves) before after result → Turns old new (λ b later. WritesOffer b id text later before after result)
-offer_done old new id text letters told before after result spelled changes written clean book holds =
+offer_done old new id text letters told before after result spelled changes written =
     let answer = told_offer told.offer told.pushes told.moves in
-    let (later, done, shows) = changes clean book holds in
-    let one = Writes-one (IsOffer book id text later) before after answer result (letters, spelled, tells book (id_number id) letters told later done) written in
-    (later, (one, stays_written answer before after result book later written), held new later shows)
+    changes_more (λ book later done. (
+      Writes-one (IsOffer book id text later) before after answer result (letters, spelled, tells book (id_number id) letters told later done) written,
+      stays_written answer before after result book later written,
+    )) changes

@@ -18,9 +18,9 @@ IsStop level book (tool.Book refusal.BookFull) = (rows : Rows) × (level ≡ Ok 
 IsStop level book fault = ⊥
 
 -- the level was added, and its line is told behind the others; or all is as it was, and the call ends
-abbrev pub LeavesLevel : ℕ → Result Rows LevelFault → Option (List ℕ) → Book → Book → List ℕ → List ℕ → Result (Unit {0}) ToolFault → Type 0
-LeavesLevel n level title book after told whole (Ok done) = (line : List ℕ) × AddsLevel n level title book line after × (whole ≡ told ++ line)
-LeavesLevel n level title book after told whole (Err fault) = (after ≡ book) × (whole ≡ told) × IsStop level book fault
+abbrev pub EndsLevel : ℕ → Result Rows LevelFault → Option (List ℕ) → Book → Book → List ℕ → List ℕ → Result (Unit {0}) ToolFault → Type 0
+EndsLevel n level title book after told whole (Ok done) = (line : List ℕ) × AddsLevel n level title book line after × (whole ≡ told ++ line)
+EndsLevel n level title book after told whole (Err fault) = (after ≡ book) × (whole ≡ told) × IsStop level book fault
 
 -- the level is added, with some line
 abbrev pub AddsNext : ℕ → Result Rows LevelFault → Option (List ℕ) → Book → Book → Type 0
@@ -31,6 +31,6 @@ abbrev pub AddsSome : List Block → Book → Book → Type 0
 AddsSome blocks book after = (n : ℕ) × AddsCount blocks n book after
 
 -- all levels were added, with these lines; or the first, until one was not
-abbrev pub LeavesLevels : List Block → Book → Book → List ℕ → Result (Unit {0}) ToolFault → Type 0
-LeavesLevels blocks book after text (Ok done) = AddsFirst blocks book (length blocks) text after
-LeavesLevels blocks book after text (Err fault) = (n : ℕ) × AddsFirst blocks book n text after × IsStopAt blocks (n + 1) after fault
+abbrev pub EndsLevels : List Block → Book → Book → List ℕ → Result (Unit {0}) ToolFault → Type 0
+EndsLevels blocks book after text (Ok done) = AddsFirst blocks book (length blocks) text after
+EndsLevels blocks book after text (Err fault) = (n : ℕ) × AddsFirst blocks book n text after × IsStopAt blocks (n + 1) after fault

@@ -11,7 +11,7 @@ ghost use Rattle.sok_engine.specs.Faults.{of_board, of_book, of_level};
 ghost use Rattle.sok_engine.specs.declared.fault.ToolFault.TheVariants as tool;
 ghost use Rattle.sok_store.specs.Calls.{KeepsOpen, Stops, Turns};
 ghost use Rattle.sok_keep.specs.Adds.{AddsBytes, WritesAdding, fault_line, id_line, title_at};
-ghost use Rattle.sok_keep.specs.Adding.{AddsNext, AddsSome, LeavesLevel, LeavesLevels};
+ghost use Rattle.sok_keep.specs.Adding.{AddsNext, AddsSome, EndsLevel, EndsLevels};
 ghost use Rattle.sok_keep.specs.Causes.{IsCausedFault, Treats};
 
 use crate::line::{LINE_ROOM, Line};
@@ -69,7 +69,7 @@ fn add_all<S: Alter>(
 ) -> Result<(), ToolFault>
     requires { lines.old.items ≡ [] }
     ensures leaves { Turns (state S.Store book.old) (state S.Store book.new) (λ pages after.
-        LeavesLevels (blocks_of bytes.now) pages after lines.new.items result) }
+        EndsLevels (blocks_of bytes.now) pages after lines.new.items result) }
     ensures treats { Treats (state S.Store book.old) (state S.Store book.new)
         (AddsSome (blocks_of bytes.now)) result }
 {
@@ -85,7 +85,7 @@ fn add_levels<S: Alter>(
 ) -> Result<(), ToolFault>
     requires { lines.old.items ≡ [] }
     ensures leaves { Turns (state S.Store book.old) (state S.Store book.new) (λ pages after.
-        LeavesLevels collection.now pages after lines.new.items result) }
+        EndsLevels collection.now pages after lines.new.items result) }
     ensures treats { Treats (state S.Store book.old) (state S.Store book.new)
         (AddsSome collection.now) result }
 {
@@ -107,7 +107,7 @@ fn add_level<S: Alter>(
 ) -> Result<(), ToolFault>
     requires { vec_len lines.old + LINE_ROOM ≤ vec_capacity lines.old }
     ensures leaves { Turns (state S.Store book.old) (state S.Store book.new) (λ pages after.
-        LeavesLevel n (level_at collection.now n) (title_at collection.now n) pages after
+        EndsLevel n (level_at collection.now n) (title_at collection.now n) pages after
         lines.old.items lines.new.items result) }
     ensures treats { Treats (state S.Store book.old) (state S.Store book.new)
         (AddsNext n (level_at collection.now n) (title_at collection.now n)) result }
@@ -149,7 +149,7 @@ fn add_made<S: Alter>(
 ) -> Result<(), ToolFault>
     requires { vec_len lines.old + LINE_ROOM ≤ vec_capacity lines.old }
     ensures leaves { Turns (state S.Store book.old) (state S.Store book.new) (λ pages after.
-        LeavesLevel n (Ok level.now) (option_map (λ t. t.now) title.entry) pages after
+        EndsLevel n (Ok level.now) (option_map (λ t. t.now) title.entry) pages after
         lines.old.items lines.new.items result) }
     ensures treats { Treats (state S.Store book.old) (state S.Store book.new)
         (AddsNext n (Ok level.now) (option_map (λ t. t.now) title.entry)) result }

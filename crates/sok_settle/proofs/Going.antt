@@ -12,7 +12,7 @@ use Rattle.sok_engine.specs.Faults.{of_book}
 use Rattle.sok_store.specs.Faults.{IsOutside}
 use Rattle.sok_store.specs.Rows.{IsKeptBook}
 use Rattle.sok_store.specs.Calls.{Carries, Changes, Stops, Turns}
-use Rattle.sok_store.proofs.Calls.{changes_turns, held_shown, shown, stops_same}
+use Rattle.sok_store.proofs.Calls.{changes_turns, held_shown, same_turns, shown, stops_same, turns_more}
 use Rattle.sok_keep.specs.Causes.{IsCausedFault}
 use Rattle.sok_keep.proofs.Ending.{book_database}
 use Rattle.sok_settle.specs.Going.{Goes, GoesStep, Leave, MayStep, Step, StepsOnce}
@@ -70,9 +70,7 @@ module _ (One : Step) (Left : Leave) where
         → Stops old new (λ book after. P book → MayStep One Left book after) → TellsLine line well held later result
         → GoesStep P One Left old new held later result
     told_goes old new line well held later (Ok told) (turns, carries) stop tells = record {
-      turns = λ clean book holds.
-          let (after, makes, held_after) = turns clean book holds in
-          (after, λ p. told_steps line well held later (Ok told) tells book after (makes p), held_after);
+      turns = turns_more (λ book after makes p. told_steps line well held later (Ok told) tells book after (makes p)) turns;
       done = λ clean book shows.
           let (after, makes, shown_after, stays) = carries clean book shows in
           (after, λ p. told_steps line well held later (Ok told) tells book after (makes p), shown_after, stays);
@@ -80,9 +78,7 @@ module _ (One : Step) (Left : Leave) where
       cause = tt;
     }
     told_goes old new line well held later (Err fault) (turns, carries) stop tells = record {
-      turns = λ clean book holds.
-          let (after, makes, held_after) = turns clean book holds in
-          (after, λ p. told_steps line well held later (Err fault) tells book after (makes p), held_after);
+      turns = turns_more (λ book after makes p. told_steps line well held later (Err fault) tells book after (makes p)) turns;
       done = tt;
       stop = stop;
       cause = write_uncaused old new _ fault tells.0;
@@ -93,9 +89,7 @@ module _ (One : Step) (Left : Leave) where
         → Turns old new (λ book after. P book → Left.leaves book after) → Stops old new (λ book after. P book → MayStep One Left book after)
         → GoesStep P One Left old new held later (Err fault)
     memory_goes old new held later fault memory keeps turns stop = record {
-      turns = λ clean book holds.
-          let (after, left, held_after) = turns clean book holds in
-          (after, λ p. subst (λ f. StepsOnce One Left book after held later (Err f)) (sym memory) (left p, keeps), held_after);
+      turns = turns_more (λ book after left p. subst (λ f. StepsOnce One Left book after held later (Err f)) (sym memory) (left p, keeps)) turns;
       done = tt;
       stop = stop;
       cause = memory_uncaused old new _ fault memory;
@@ -105,7 +99,7 @@ module _ (One : Step) (Left : Leave) where
     pub unwritten_goes : (s : State) (held later : Option (List ℕ)) → Keeps held later → ((book : Book) → P book → Left.unwritten book)
         → GoesStep P One Left s s held later (Err tool.WriteFailed)
     unwritten_goes s held later keeps why = record {
-      turns = λ clean book holds. (book, λ p. inr (why book p, refl, keeps), holds);
+      turns = same_turns _ (λ book p. inr (why book p, refl, keeps));
       done = tt;
       stop = stops_same s _;
       cause = write_uncaused s s _ tool.WriteFailed refl;

@@ -16,7 +16,7 @@ use Rattle.sok_engine.specs.declared.input.InputFault.TheVariants as input
 use Rattle.sok_engine.specs.Faults.{of_input}
 use Rattle.sok_engine.specs.Limits.{input_limit}
 use Rattle.sok_store.specs.Calls.{Carries, KeepsOpen, Stops, Turns}
-use Rattle.sok_store.proofs.Calls.{stops_less, stops_same}
+use Rattle.sok_store.proofs.Calls.{same_turns, stops_less, stops_same, turns_more}
 use Rattle.sok_keep.specs.Causes.{IsCausedFault}
 use Rattle.sok_keep.proofs.Adding.{some_longer}
 use Rattle.sok_keep.proofs.Treating.{carries_open}
@@ -134,7 +134,7 @@ module _ (bytes : List ℕ) where
   module _ (known : Option (List ℕ)) (are : IfSome known (λ all. bytes ≡ all)) (old new : State) (first later : Option (List ℕ)) (result : Result ℕ ToolFault)
       (goes : GoesLines old new first later result) where
     pub read_turns : Turns old new (λ book after. WritesOffers book known after first later result)
-    read_turns clean book holds = let (after, made, holds_new) = goes.turns clean book holds in (after, (bytes, are, made tt), holds_new)
+    read_turns = turns_more (λ book after made. (bytes, are, made tt)) goes.turns
 
     pub read_open : OnOk result (KeepsOpen old new)
     read_open = go result goes.done
@@ -179,4 +179,4 @@ unread book known held input.TooMuch much =
 pub unread_turns : (s : State) (known held : Option (List ℕ)) (fault : InputFault)
     → (fault ≡ input.TooMuch → IfSome known (λ all. input_limit < length all))
     → Turns s s (λ book after. WritesOffers book known after held held (Err (of_input fault)))
-unread_turns s known held fault much clean book holds = (book, unread book known held fault much, holds)
+unread_turns s known held fault much = same_turns _ (λ book. unread book known held fault much)

@@ -23,7 +23,7 @@ use Rattle.sok_store.proofs.ReadRows.{length-records}
 use Rattle.sok_store.specs.Calls.{Carries, EndsOpen, Finds, IsCaused, MakesNone, Stops, Turns, id_number}
 use Rattle.sok_store.specs.Calls as calls
 use Rattle.sok_store.specs.Known.{ProvesKnown}
-use Rattle.sok_store.proofs.Calls.{held, held_shown, shown, stops_later}
+use Rattle.sok_store.proofs.Calls.{finds_then, held, held_shown, keeps_turns, same_turns, shown, stops_later}
 use Rattle.sok_store.proofs.Caused.{cause_before}
 use Rattle.sok_keep.specs.Causes.{IsCausedFault}
 use Rattle.sok_keep.proofs.Ending.{caused_more}
@@ -183,9 +183,7 @@ module _ (keeping : Keeping) (limit : ℕ) (from : ℤ) where
           let (after, makes, has) = made book (shown mid book stores) in (after, makes are, has)) goes.stop
 
       pub whole_turns : Turns old new (λ book after. WritesSettling keeping limit from book after first later result)
-      whole_turns clean book holds =
-          let (are, stores) = found (early clean) book holds in
-          let (after, makes, holds_after) = goes.turns clean book (held mid book stores) in (after, makes are, holds_after)
+      whole_turns = finds_then early (λ book after are makes. makes are) found goes.turns
 
       pub whole_open : OnOk result (EndsOpen old new)
       whole_open = go result goes.done
@@ -215,11 +213,8 @@ module _ (keeping : Keeping) (limit : ℕ) (from : ℤ) where
   -- the limit is refused
   pub bad_turns : (s : State) (held_now : Option (List ℕ)) → IsBadLimit limit
       → Turns s s (λ book after. WritesSettling keeping limit from book after held_now held_now (Err tool.BadLimit))
-  bad_turns s held_now bad clean book holds = (
-    book,
-    record { count = 0; text = []; all = true; before = book; gone = none; ended = (bad, refl, refl, Keeps-refl held_now) },
-    holds,
-  )
+  bad_turns s held_now bad =
+      same_turns _ (λ book. record { count = 0; text = []; all = true; before = book; gone = none; ended = (bad, refl, refl, Keeps-refl held_now) })
 
   -- the levels are not read, for a cause outside
   unlisted : (book : Book) (held_now : Option (List ℕ)) (fault : BookFault) → IsOutside fault
@@ -231,8 +226,7 @@ module _ (keeping : Keeping) (limit : ℕ) (from : ℤ) where
 
   pub unlisted_turns : (old new : State) (held_now : Option (List ℕ)) (fault : BookFault) → calls.Keeps old new (λ _. IsOutside fault)
       → Turns old new (λ book after. WritesSettling keeping limit from book after held_now held_now (Err (of_book fault)))
-  unlisted_turns old new held_now fault keeps clean book holds =
-      let (why, after) = keeps clean book holds in (book, unlisted book held_now fault why, after)
+  unlisted_turns old new held_now fault = keeps_turns _ (λ book why. unlisted book held_now fault why)
 
   pub unlisted_caused : (old new : State) (fault : BookFault) → IsCaused old new MakesNone fault
       → IsCausedFault old new (SettlesSome keeping limit from) (of_book fault)

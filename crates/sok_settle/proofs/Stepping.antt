@@ -12,6 +12,7 @@ use Rattle.sok_engine.specs.declared.fault.ToolFault.TheVariants as tool
 use Rattle.sok_store.specs.Calls.{Stops}
 use Rattle.sok_store.specs.Histories.{IsMadeOf}
 use Rattle.sok_store.specs.Histories as histories
+use Rattle.sok_store.proofs.Calls.{turns_more, turns_then}
 use Rattle.sok_store.proofs.Caused.{cause_before}
 use Rattle.sok_keep.specs.Causes.{IsCausedFault}
 use Rattle.sok_settle.specs.Going.{EndsAt, GoesFirst, GoesSome, GoesStep, GoesUntil, GoesWhere, HasGone, Leave, MayStep, Step, StepsOnce, more, none}
@@ -101,7 +102,7 @@ module _ (StepAt : ℕ → Step) (LeaveAt : ℕ → Leave) where
           let until : (book after : Book) → P book → HasGone StepAt n all book after first here → GoesUntil StepAt (Ends book after) book =
           λ book after p it. record { count = n; text = it.text; all = all; before = after; gone = it.gone; ended = ends book after it.text p it.written } in
           record {
-            turns = λ clean book holds. let (after, made, held_after) = turns clean book holds in (after, λ p. until book after p (made p), held_after);
+            turns = turns_more (λ book after made p. until book after p (made p)) turns;
             done = λ clean book shows.
                 let (after, made, shown_after, stays) = carries clean book shows in (after, λ p. until book after p (made p), shown_after, stays);
             stop = stop;
@@ -146,9 +147,7 @@ module _ (StepAt : ℕ → Step) (LeaveAt : ℕ → Leave) where
             λ book middle after made makes p.
             let it = made p in
             let (line, step, appends) = makes (link book middle p it) in grown book middle after n all well line first here later it step appends in (
-              λ clean book holds.
-                  let (middle, made, held_mid) = gone.0 (before clean) book holds in
-                  let (after, makes, held_after) = goes.turns clean middle held_mid in (after, next book middle after made makes, held_after),
+              turns_then before next gone.0 goes.turns,
               λ clean book shows.
                   let (middle, made, shows_mid, up_mid) = gone.1 (before clean) book shows in
                   let (after, makes, shows_after, up_after) = goes.done clean middle shows_mid in
@@ -161,16 +160,11 @@ module _ (StepAt : ℕ → Step) (LeaveAt : ℕ → Leave) where
             → Ends book after k text every before)
             → GoesStep Q (StepAt n) (LeaveAt n) mid new here later (Err fault) → GoesAll Ends old new (Err fault)
         gone_ended Ends fault ends goes = record {
-          turns = λ clean book holds.
-              let (middle, made, held_mid) = gone.0 (early (Err fault) goes clean) book holds in
-              let (after, makes, held_after) = goes.turns clean middle held_mid in (
-                after,
-                λ p.
-                    let it = made p in
-                    let at = ends_at book middle after n all first here later fault it (makes (link book middle p it)) in
-                    record { count = n; text = it.text; all = all; before = middle; gone = it.gone; ended = ends book after n it.text all middle at },
-                held_after,
-              );
+          turns = turns_then (early (Err fault) goes) (λ book middle after made makes p.
+              let it = made p in
+              let at = ends_at book middle after n all first here later fault it (makes (link book middle p it)) in
+              record { count = n; text = it.text; all = all; before = middle; gone = it.gone; ended = ends book after n it.text all middle at })
+              gone.0 goes.turns;
           done = tt;
           stop = next_stops (Err fault) goes;
           cause = next_caused (Err fault) goes;

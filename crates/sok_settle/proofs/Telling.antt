@@ -17,7 +17,7 @@ use Rattle.sok_store.specs.Calls.{Carries, Changes, IsCaused, ShowsOn, Stops, Tu
 use Rattle.sok_store.specs.Calls as calls
 use Rattle.sok_store.specs.Standing.{OffersTelling}
 use Rattle.sok_store.specs.declared.standing.Standing.{Standing}
-use Rattle.sok_store.proofs.Calls.{held_shown, stops_less, stops_same}
+use Rattle.sok_store.proofs.Calls.{held_shown, keeps_turns, same_turns, stops_less, stops_same}
 use Rattle.sok_keep.specs.Offers.{offer_line, told_offer}
 use Rattle.sok_keep.proofs.Ending.{book_database, caused_more, lurd_database}
 use Rattle.sok_keep.proofs.Offering.{tells}
@@ -50,12 +50,12 @@ module _ (id : ℤ) (text : List ℕ) where
       → (fault ≡ lurd.Memory) ⊎ GoesWrong text fault → TellsUnread id fault held later result → GoesOffer s s held later result
   unread_goes s held later fault result why (inl (memory, is, keeps)) =
       subst (λ (r : Result Bool ToolFault). GoesOffer s s held later r) (sym is)
-      (memory_goes (AnswersOffer id text) Stays IsAnyBook s s held later tool.Memory refl keeps (λ clean book holds. (book, λ any. refl, holds)) (stops_same s _))
+      (memory_goes (AnswersOffer id text) Stays IsAnyBook s s held later tool.Memory refl keeps (same_turns _ (λ book any. refl)) (stops_same s _))
   unread_goes s held later fault result why (inr (other, tells_fault)) =
       let wrong : GoesWrong text fault = elim why [ inl memory ↦ absurd (other memory) | inr goes ↦ goes ] in
       fault_goes s s (of_lurd fault) held later result
       (same_leads s _ (λ book kept any. is_refused (of_lurd fault) (inl (fault, wrong, refl)) (lurd_database fault) refl refl refl))
-      (λ clean book holds. (book, λ any. refl, holds)) (stops_same s _) tells_fault
+      (same_turns _ (λ book any. refl)) (stops_same s _) tells_fault
 
   -- ---- its letters are offered
 
@@ -99,9 +99,7 @@ module _ (id : ℤ) (text : List ℕ) where
           → TellsRefused id fault held later result → GoesOffer old new held later result
       refused_goes held later result shows caused (inl (outside, is, unwritten)) =
           subst (λ (r : Result Bool ToolFault). GoesOffer old new held later r) (sym is) (record {
-            turns = λ clean book holds.
-                let (why, holds_new) = keeps clean book holds in
-                (book, λ any. left_steps (AnswersOffer id text) Stays book book held later fault outside refl unwritten, holds_new);
+            turns = keeps_turns _ (λ book why any. left_steps (AnswersOffer id text) Stays book book held later fault outside refl unwritten) keeps;
             done = tt;
             stop = offer_stops;
             cause = caused_more old new MayOffer IsOffered may fault caused;
@@ -109,11 +107,11 @@ module _ (id : ℤ) (text : List ℕ) where
       refused_goes held later result shows caused (inr (inside, tells_fault)) =
           let carries : Carries old new (λ book after. after ≡ book) = elim shows [ inl outside ↦ absurd (inside outside) | inr on ↦ on ] in
           fault_goes old new (of_book fault) held later result (
-            λ clean book holds. let (why, holds_new) = keeps clean book holds in (book, λ any. refused inside book book why refl, holds_new),
+            keeps_turns _ (λ book why any. refused inside book book why refl) keeps,
             λ clean book shows_old.
                 let (why, holds_new) = keeps clean book (held_shown old book shows_old) in
                 let (after, same, shows_new, up) = carries clean book shows_old in (after, λ any. refused inside book after why same, shows_new, up),
-          ) (λ clean book holds. let (why, holds_new) = keeps clean book holds in (book, λ any. refl, holds_new)) offer_stops tells_fault
+          ) (keeps_turns _ (λ book why any. refl) keeps) offer_stops tells_fault
 
 -- the same of an id and a text that are those
 pub same_goes : (id other : ℤ) (text more : List ℕ) (old new : State) (held later : Option (List ℕ)) (result : Result Bool ToolFault) → id ≡ other → text ≡ more

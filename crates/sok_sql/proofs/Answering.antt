@@ -48,11 +48,11 @@ module _ (old new : State) (leaves : List Leaf) (holds : Holds old leaves) where
       let a = answers all_text [] all_query names all_is all_plain all_unlisted rows h in
       (a.0, lists old.now.trees leaves rows a.1 a.2)
 
-  pub one_answers : (id place : ℕ) → id ≡ 1 + place → (rows : List Row) → Shown one_text (Int (pos id) ∷ []) old new rows
-      → Stores new leaves × (rows ≡ row_at id (slice_get leaves place))
-  one_answers id place is rows h =
+  pub one_answers : (id index : ℕ) → id ≡ 1 + index → (rows : List Row) → Shown one_text (Int (pos id) ∷ []) old new rows
+      → Stores new leaves × (rows ≡ row_at id (slice_get leaves index))
+  one_answers id index is rows h =
       let a = answers one_text (Int (pos id) ∷ []) (pick_query whole) names one_is one_plain one_unlisted rows h in
-      (a.0, reads_one id place old.now.trees leaves rows a.1 is a.2)
+      (a.0, reads_one id index old.now.trees leaves rows a.1 is a.2)
 
   pub find_answers : (text : List ℕ) (rows : List Row) → Shown find_text (Words text ∷ []) old new rows
       → Stores new leaves × (rows ≡ map id_row (ids_with text 1 leaves))

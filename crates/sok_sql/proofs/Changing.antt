@@ -61,16 +61,16 @@ module _ (old new : State) (leaves : List Leaf) (holds : Holds old leaves) where
   module _ (sql : List ℕ) (project : List Term) (more : Row) (out : Row → Row) (id : ℕ)
       (is : command_of (understood level_schema sql) ≡ update_with project) (plain : IsPlain (understood level_schema sql))
       (puts : (r : Row) → output (pick_query project) ((Int (pos id) ∷ more) ∷ r ∷ []) ≡ ([], out (seen r))) where
-    pub update_holds : (place : ℕ) (it after : Leaf) (count : ℕ) → id ≡ 1 + place → slice_get leaves place ≡ Some it → out (shown id it) ≡ rewritten id after
-        → Executes sql (Int (pos id) ∷ more) old new (Ok count) → Holds new (slice_set leaves place after)
-    update_holds place it after count at found becomes h up =
+    pub update_holds : (index : ℕ) (it after : Leaf) (count : ℕ) → id ≡ 1 + index → slice_get leaves index ≡ Some it → out (shown id it) ≡ rewritten id after
+        → Executes sql (Int (pos id) ∷ more) old new (Ok count) → Holds new (slice_set leaves index after)
+    update_holds index it after count at found becomes h up =
         let params = Int (pos id) ∷ more in
         let text = statement_of sql (understood level_schema sql) in
         let was = holds (ran_up old new sql params count h up) in
         let w = runs_as sql params old new level_schema was.schema (update_with project) is plain count h in
         let does = subst (DoesOn old.now.trees old.step_limit params text (update_with project) w.tally new.now) was.schema w.changed in
-        wrote (update_with project) text params count (slice_set leaves place after) w
-        (updated project more out id puts old.step_limit old.now.trees text after it place leaves w.tally new.now was.rows at found becomes does) up
+        wrote (update_with project) text params count (slice_set leaves index after) w
+        (updated project more out id puts old.step_limit old.now.trees text after it index leaves w.tally new.now was.rows at found becomes does) up
 
 -- ---- what a stop in the middle may leave
 
@@ -91,16 +91,16 @@ module _ (s : State) (leaves : List Leaf) (was : Shows s leaves) (db : Trees) wh
   module _ (sql : List ℕ) (project : List Term) (more : Row) (out : Row → Row) (id : ℕ)
       (is : command_of (understood level_schema sql) ≡ update_with project) (plain : IsPlain (understood level_schema sql))
       (puts : (r : Row) → output (pick_query project) ((Int (pos id) ∷ more) ∷ r ∷ []) ≡ ([], out (seen r))) where
-    pub update_commits : (place : ℕ) (it after : Leaf) → id ≡ 1 + place → slice_get leaves place ≡ Some it → out (shown id it) ≡ rewritten id after
-        → CommitsBy sql (Int (pos id) ∷ more) s db → HasLeaves db (slice_set leaves place after)
-    update_commits place it after at found becomes h =
+    pub update_commits : (index : ℕ) (it after : Leaf) → id ≡ 1 + index → slice_get leaves index ≡ Some it → out (shown id it) ≡ rewritten id after
+        → CommitsBy sql (Int (pos id) ∷ more) s db → HasLeaves db (slice_set leaves index after)
+    update_commits index it after at found becomes h =
         let params = Int (pos id) ∷ more in
         let text = statement_of sql (understood level_schema sql) in
         elim (commits_as sql params s level_schema was.schema (update_with project) is plain db h) [
           | inl ends ↦ elim ends.0 [ inl commit ↦ absurd cc | inr release ↦ absurd (let e = release.2 in cc) ]
           | inr w ↦
               let does = subst (DoesOn s.now.trees s.step_limit params text (update_with project) w.1 w.2) was.schema w.3 in
-              rw w.5 (updated project more out id puts s.step_limit s.now.trees text after it place leaves w.1 w.2 was.rows at found becomes does).1
+              rw w.5 (updated project more out id puts s.step_limit s.now.trees text after it index leaves w.1 w.2 was.rows at found becomes does).1
         ]
 
 -- ---- the table is made

@@ -47,14 +47,14 @@ none_above id at [] h = refl
 none_above id at (x ∷ more) h = rw (higher_id at id h) (none_above id (at + 1) more (omega arith))
 
 -- the rows with an id are the one at its place
-at_place : (place id at : ℕ) (leaves : List Leaf) → id ≡ at + place → filter (has_id id) (shown_from at leaves) ≡ row_at id (slice_get leaves place)
-at_place place id at [] is = refl
-at_place zero id at (x ∷ more) is =
+at_index : (index id at : ℕ) (leaves : List Leaf) → id ≡ at + index → filter (has_id id) (shown_from at leaves) ≡ row_at id (slice_get leaves index)
+at_index index id at [] is = refl
+at_index zero id at (x ∷ more) is =
     let same : id ≡ at = omega arith in
     rw (← same, same_id id) (ap (λ rest. shown id x ∷ rest) (none_above id (id + 1) more (omega arith)))
-at_place (suc place) id at (x ∷ more) is =
+at_index (suc index) id at (x ∷ more) is =
     let low : at < id = omega arith in
-    rw (lower_id at id low) (at_place place id (at + 1) more (omega arith))
+    rw (lower_id at id low) (at_index index id (at + 1) more (omega arith))
 
 nothing_more : {X : Type 0} (ys : List X) → IsPermutation [] ys → ys ≡ []
 nothing_more [] same = refl
@@ -82,34 +82,34 @@ module _ (id : ℕ) (more : Row) (project : List Term) (out : Row → Row)
       go true e all = rw (e, puts r) (ap (λ rest. unkeyed (seen r) ∷ rest) all)
       go false e all = rw e all
 
-  put_out : (place : ℕ) (leaves : List Leaf) (db : Trees) (rows : List Row) → IsPermutation (map seen (db 0)) (shown_from 1 leaves) → id ≡ 1 + place
-      → (a : IsAnswer (pick_query project) (overlay db []) params rows) → IsPermutation (map unkeyed (row_at id (slice_get leaves place))) a.ordered
-  put_out place leaves db rows has is a =
+  put_out : (index : ℕ) (leaves : List Leaf) (db : Trees) (rows : List Row) → IsPermutation (map seen (db 0)) (shown_from 1 leaves) → id ≡ 1 + index
+      → (a : IsAnswer (pick_query project) (overlay db []) params rows) → IsPermutation (map unkeyed (row_at id (slice_get leaves index))) a.ordered
+  put_out index leaves db rows has is a =
       let kept : a.kept ≡ map unkeyed (filter (has_id id) (map seen (db 0))) =
       a.distinct ∙ ap (map (output (pick_query project))) a.grouped ∙ picked_rows (db 0) in
       let all = IsPermutation-map unkeyed _ _ (IsPermutation-filter (has_id id) _ _ (IsPermutation-sym _ _ has)) in
-      let one = subst (λ l. IsPermutation (map unkeyed l) (map unkeyed (filter (has_id id) (map seen (db 0))))) (at_place place id 1 leaves is) all in
+      let one = subst (λ l. IsPermutation (map unkeyed l) (map unkeyed (filter (has_id id) (map seen (db 0))))) (at_index index id 1 leaves is) all in
       IsPermutation-trans _ _ _ one (subst (λ k. IsPermutation k a.ordered) kept a.same)
 
-  pub picks : (db : Trees) (it : Leaf) (place : ℕ) (leaves : List Leaf) (rows : List Row) → IsPermutation (map seen (db 0)) (shown_from 1 leaves)
-      → id ≡ 1 + place → slice_get leaves place ≡ Some it → IsAnswer (pick_query project) (overlay db []) params rows → rows ≡ out (shown id it) ∷ []
-  picks db it place leaves rows has is found a =
-      let same = put_out place leaves db rows has is a in
+  pub picks : (db : Trees) (it : Leaf) (index : ℕ) (leaves : List Leaf) (rows : List Row) → IsPermutation (map seen (db 0)) (shown_from 1 leaves)
+      → id ≡ 1 + index → slice_get leaves index ≡ Some it → IsAnswer (pick_query project) (overlay db []) params rows → rows ≡ out (shown id it) ∷ []
+  picks db it index leaves rows has is found a =
+      let same = put_out index leaves db rows has is a in
       let ordered = one_permutation (unkeyed (shown id it)) a.ordered (subst (λ o. IsPermutation (map unkeyed (row_at id o)) a.ordered) found same) in
       a.shown ∙ ap (λ xs. page (pick_query project) params (map (λ (p : Output). p.1) xs)) ordered
 
-  pub picks_none : (db : Trees) (place : ℕ) (leaves : List Leaf) (rows : List Row) → IsPermutation (map seen (db 0)) (shown_from 1 leaves) → id ≡ 1 + place
-      → slice_get leaves place ≡ None → IsAnswer (pick_query project) (overlay db []) params rows → rows ≡ []
-  picks_none db place leaves rows has is missing a =
-      let same = put_out place leaves db rows has is a in
+  pub picks_none : (db : Trees) (index : ℕ) (leaves : List Leaf) (rows : List Row) → IsPermutation (map seen (db 0)) (shown_from 1 leaves) → id ≡ 1 + index
+      → slice_get leaves index ≡ None → IsAnswer (pick_query project) (overlay db []) params rows → rows ≡ []
+  picks_none db index leaves rows has is missing a =
+      let same = put_out index leaves db rows has is a in
       let ordered = nothing_more a.ordered (subst (λ o. IsPermutation (map unkeyed (row_at id o)) a.ordered) missing same) in
       a.shown ∙ ap (λ xs. page (pick_query project) params (map (λ (p : Output). p.1) xs)) ordered
 
 -- the row with an id, whole
-pub reads_one : (id place : ℕ) (db : Trees) (leaves : List Leaf) (rows : List Row) → IsPermutation (map seen (db 0)) (shown_from 1 leaves) → id ≡ 1 + place
-    → IsAnswer (pick_query whole) (overlay db []) (Int (pos id) ∷ []) rows → rows ≡ row_at id (slice_get leaves place)
-reads_one id place db leaves rows has is a = go (slice_get leaves place) refl
+pub reads_one : (id index : ℕ) (db : Trees) (leaves : List Leaf) (rows : List Row) → IsPermutation (map seen (db 0)) (shown_from 1 leaves) → id ≡ 1 + index
+    → IsAnswer (pick_query whole) (overlay db []) (Int (pos id) ∷ []) rows → rows ≡ row_at id (slice_get leaves index)
+reads_one id index db leaves rows has is a = go (slice_get leaves index) refl
   where
-    go : (o : Option Leaf) → slice_get leaves place ≡ o → rows ≡ row_at id o
-    go None missing = picks_none id [] whole (λ row. row) (λ r. refl) db place leaves rows has is missing a
-    go (Some it) found = picks id [] whole (λ row. row) (λ r. refl) db it place leaves rows has is found a
+    go : (o : Option Leaf) → slice_get leaves index ≡ o → rows ≡ row_at id o
+    go None missing = picks_none id [] whole (λ row. row) (λ r. refl) db index leaves rows has is missing a
+    go (Some it) found = picks id [] whole (λ row. row) (λ r. refl) db it index leaves rows has is found a

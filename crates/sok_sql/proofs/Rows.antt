@@ -104,30 +104,30 @@ keep_higher : (id at : ℕ) (leaves : List Leaf) → id < at → filter (is_othe
 keep_higher id at [] h = refl
 keep_higher id at (x ∷ more) h = rw (above at id h) (ap (λ rows. shown at x ∷ rows) (keep_higher id (at + 1) more (omega arith)))
 
-replaced : (new : Leaf) (it : Leaf) (place id at : ℕ) (leaves : List Leaf) → id ≡ at + place → slice_get leaves place ≡ Some it
-    → IsPermutation (shown id new ∷ filter (is_other id) (shown_from at leaves)) (shown_from at (slice_set leaves place new))
-replaced new it place id at [] is found = absurd cc
+replaced : (new : Leaf) (it : Leaf) (index id at : ℕ) (leaves : List Leaf) → id ≡ at + index → slice_get leaves index ≡ Some it
+    → IsPermutation (shown id new ∷ filter (is_other id) (shown_from at leaves)) (shown_from at (slice_set leaves index new))
+replaced new it index id at [] is found = absurd cc
 replaced new it zero id at (x ∷ more) is found =
     let same : id ≡ at = omega arith in
     let here : shown at new ∷ filter (is_other at) (shown_from at (x ∷ more)) ≡ shown_from at (slice_set (x ∷ more) 0 new) =
     rw (same_id at, keep_higher at (at + 1) more (omega arith)) in
     subst (λ i. IsPermutation (shown i new ∷ filter (is_other i) (shown_from at (x ∷ more))) (shown_from at (slice_set (x ∷ more) 0 new))) (sym same)
     (subst (IsPermutation (shown at new ∷ filter (is_other at) (shown_from at (x ∷ more)))) here (IsPermutation-refl _))
-replaced new it (suc place) id at (x ∷ more) is found =
+replaced new it (suc index) id at (x ∷ more) is found =
     let low : at < id = omega arith in
-    let rest = replaced new it place id (at + 1) more (omega arith) found in
+    let rest = replaced new it index id (at + 1) more (omega arith) found in
     let others = filter (is_other id) (shown_from (at + 1) more) in
     rw (below at id low)
     (IsPermutation-trans _ _ _ (IsPermutation-sym _ _ (IsPermutation-middle (shown at x ∷ []) (shown id new) others))
     (IsPermutation-cons (shown at x) _ _ rest))
 
-pub put_in_place : (new it : Leaf) (place id : ℕ) (leaves : List Leaf) (rows : List Row) → id ≡ 1 + place → slice_get leaves place ≡ Some it
+pub put_in_place : (new it : Leaf) (index id : ℕ) (leaves : List Leaf) (rows : List Row) → id ≡ 1 + index → slice_get leaves index ≡ Some it
     → is_taken (without_rowid (pos id) rows) (stored id new) ≡ false → IsPermutation (map seen rows) (shown_from 1 leaves)
-    → IsPermutation (map seen (put_row (stored id new) (without_rowid (pos id) rows))) (shown_from 1 (slice_set leaves place new))
-put_in_place new it place id leaves rows is found free has =
+    → IsPermutation (map seen (put_row (stored id new) (without_rowid (pos id) rows))) (shown_from 1 (slice_set leaves index new))
+put_in_place new it index id leaves rows is found free has =
     let left = without_rowid (pos id) rows in
     let one_more = IsPermutation-map seen _ _ (IsPermutation-sym _ _ (put_fresh (stored id new) left free)) in
     let kept : map seen left ≡ filter (is_other id) (map seen rows) = sym (filter-map (is_other id) seen rows) in
     let others = subst (λ l. IsPermutation l (filter (is_other id) (shown_from 1 leaves))) (sym kept) (IsPermutation-filter (is_other id) _ _ has) in
     IsPermutation-trans _ _ _ one_more
-    (IsPermutation-trans _ _ _ (IsPermutation-cons (shown id new) _ _ others) (replaced new it place id 1 leaves is found))
+    (IsPermutation-trans _ _ _ (IsPermutation-cons (shown id new) _ _ others) (replaced new it index id 1 leaves is found))

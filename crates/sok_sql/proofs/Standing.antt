@@ -144,8 +144,8 @@ no_clash : (leaves : List Leaf) → AreApart leaves → (m n : ℕ) (leaf other 
 unfolding first_key
 no_clash leaves apart m n leaf other here there = elim (cases_Bool (bytes_eq leaf.text other.text)) [
   | inl same ↦
-      let place = apart m n leaf other here there ((bytes_eq-Decides leaf.text other.text).0 same) in
-      rw (equal_texts leaf.text other.text, same, place, same_differ (1 + n))
+      let index = apart m n leaf other here there ((bytes_eq-Decides leaf.text other.text).0 same) in
+      rw (equal_texts leaf.text other.text, same, index, same_differ (1 + n))
   | inr apart_texts ↦ rw (equal_texts leaf.text other.text, apart_texts)
 ]
 

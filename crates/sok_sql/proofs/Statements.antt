@@ -62,14 +62,14 @@ pub record IsUpdate (id : ℕ) (change : Leaf → Leaf) (sql : List ℕ) (more :
 module _ {id : ℕ} {change : Leaf → Leaf} {sql : List ℕ} {more : Row} (u : IsUpdate id change sql more) (low : id < 2 ^ 32) (old new : State)
     (stop : Survives old new (CommitsBy sql (Int (pos id) ∷ more) old)) where
   update_stop : Survives old new (λ db. UpdatesLeaf (Shows old) (HasLeaves db) id change)
-  update_stop = survives_weaker old new _ _ (λ _ db h leaves place leaf was at found.
-      update_commits old leaves was db sql u.project more u.out id u.is u.plain u.puts place leaf (change leaf) at found (u.becomes leaf) h) stop
+  update_stop = survives_weaker old new _ _ (λ _ db h leaves index leaf was at found.
+      update_commits old leaves was db sql u.project more u.out id u.is u.plain u.puts index leaf (change leaf) at found (u.becomes leaf) h) stop
 
   pub row_updated : {X : Type 0} (x : X) (count : ℕ) → (HasCleanDisk new → Executes sql (Int (pos id) ∷ more) old new (Ok count))
       → Updates {X = X} old new id change (Ok x)
   row_updated x count runs = record {
-    done = λ clean leaves place leaf holds at found. (
-      update_holds old new leaves holds sql u.project more u.out id u.is u.plain u.puts place leaf (change leaf) count at found (u.becomes leaf)
+    done = λ clean leaves index leaf holds at found. (
+      update_holds old new leaves holds sql u.project more u.out id u.is u.plain u.puts index leaf (change leaf) count at found (u.becomes leaf)
           (runs clean),
       update_open old new leaves holds sql u.project (Int (pos id) ∷ more) u.is u.plain count (runs clean),
     );
@@ -84,8 +84,8 @@ module _ {id : ℕ} {change : Leaf → Leaf} {sql : List ℕ} {more : Row} (u : 
     done = λ _ _ _ _ _ _ _. tt;
     kept = λ clean leaves holds. undone_holds old new leaves holds (refused_undone old new sql (Int (pos id) ∷ more) e (runs clean));
     stop = update_stop;
-    cause = λ clean leaves place leaf holds at found apart.
-        update_refused old new e leaves holds id low place leaf at found sql u.project more u.out u.is u.plain u.posed u.puts u.typed (change leaf)
+    cause = λ clean leaves index leaf holds at found apart.
+        update_refused old new e leaves holds id low index leaf at found sql u.project more u.out u.is u.plain u.posed u.puts u.typed (change leaf)
         (u.becomes leaf) apart (runs clean);
   }
 

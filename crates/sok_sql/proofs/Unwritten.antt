@@ -151,14 +151,14 @@ module _ (limit : Option ℕ) (db : Trees) (id : ℕ) (text : List ℕ) (title :
 module _ (project : List Term) (more : Row) (out : Row → Row) (id : ℕ)
     (puts : (r : Row) → output (pick_query project) ((Int (pos id) ∷ more) ∷ r ∷ []) ≡ ([], out (seen r)))
     (typed : accepts_program level_schema [] (pick_query project) (Int (pos id) ∷ more) ≡ true)
-    (limit : Option ℕ) (db : Trees) (new it : Leaf) (place : ℕ) (leaves : List Leaf) (low : id < 2 ^ 32) (has : HasLeaves db leaves) (is : id ≡ 1 + place)
-    (found : slice_get leaves place ≡ Some it) (becomes : out (shown id it) ≡ rewritten id new) (apart : AreApart (slice_set leaves place new)) where
+    (limit : Option ℕ) (db : Trees) (new it : Leaf) (index : ℕ) (leaves : List Leaf) (low : id < 2 ^ 32) (has : HasLeaves db leaves) (is : id ≡ 1 + index)
+    (found : slice_get leaves index ≡ Some it) (becomes : out (shown id it) ≡ rewritten id new) (apart : AreApart (slice_set leaves index new)) where
   update_allowed : (why : Refusal) → IsRefused level_schema Enforced db (putting (pos id ∷ []) id new) why → ⊥
   update_allowed =
       let free = left_free (db 0) id new in
       never_refused db (pos id ∷ []) id new low (ap (λ b. not b && true) free)
-      (keeps_once db (put_row (stored id new) (without_rowid (pos id) (db 0))) (slice_set leaves place new) apart
-      (put_in_place new it place id leaves (db 0) is found free has))
+      (keeps_once db (put_row (stored id new) (without_rowid (pos id) (db 0))) (slice_set leaves index new) apart
+      (put_in_place new it index id leaves (db 0) is found free has))
 
   update_stops : (stop : Option Error)
       → Updates (task limit (Int (pos id) ∷ more)) (record { lets = []; body = pick_query project }) (Int (pos id) ∷ more) db (Err stop)
@@ -166,7 +166,7 @@ module _ (project : List Term) (more : Row) (out : Row → Row) (id : ℕ)
   update_stops stop (inl (why, queried, ends)) =
       inr (query_stops limit (record { schema = level_schema; trees = db }) (Int (pos id) ∷ more) project typed why queried)
   update_stops stop (inr (rows, answers, inl (why, (refusal, writes, named), ends))) =
-      let one = picks id more project out puts db it place leaves rows has is found (answers.answer Null) in
+      let one = picks id more project out puts db it index leaves rows has is found (answers.answer Null) in
       let picked : rows ≡ rewritten id new ∷ [] = one ∙ ap (λ row. row ∷ []) becomes in
       let edit : edit_of db level (ids_of rows) Given 1 rows ≡ putting (pos id ∷ []) id new =
       ap (λ all. edit_of db level (ids_of all) Given 1 all) picked
@@ -219,13 +219,13 @@ module _ (old new : State) (e : Error) (leaves : List Leaf) (holds : Holds old l
     | inr shut ↦ inr (inr (inl shut))
   ]
 
-  module _ (place : ℕ) (it : Leaf) (at : id ≡ 1 + place) (found : slice_get leaves place ≡ Some it) where
+  module _ (index : ℕ) (it : Leaf) (at : id ≡ 1 + index) (found : slice_get leaves index ≡ Some it) where
     module _ (sql : List ℕ) (project : List Term) (more : Row) (out : Row → Row)
         (is : command_of (understood level_schema sql) ≡ update_with project) (plain : IsPlain (understood level_schema sql))
         (posed : IsPosed sql (length (Int (pos id) ∷ more)) (understood level_schema sql))
         (puts : (r : Row) → output (pick_query project) ((Int (pos id) ∷ more) ∷ r ∷ []) ≡ ([], out (seen r)))
         (typed : accepts_program level_schema [] (pick_query project) (Int (pos id) ∷ more) ≡ true) where
-      pub update_refused : (after : Leaf) → out (shown id it) ≡ rewritten id after → AreApart (slice_set leaves place after)
+      pub update_refused : (after : Leaf) → out (shown id it) ≡ rewritten id after → AreApart (slice_set leaves index after)
           → Executes sql (Int (pos id) ∷ more) old new (Err e) → IsTooBig id after ⊎ IsExcused old new e
       update_refused after becomes apart h = elim (cases_Bool old.is_open) [
         | inl up ↦
@@ -235,7 +235,7 @@ module _ (old new : State) (e : Error) (leaves : List Leaf) (holds : Holds old l
             let text = statement_of sql (understood level_schema sql) in
             elim (write_refused old new level_schema sql params was.schema plain posed command is refl (update_placed old 0 _) e h) [
               | inl stops ↦
-                  limited old new e _ (update_ends project more out id puts typed old.step_limit old.now.trees after it place leaves low was.rows at found
+                  limited old new e _ (update_ends project more out id puts typed old.step_limit old.now.trees after it index leaves low was.rows at found
                   becomes apart text stops.0
                   (subst (λ s. Does old.step_limit mode params (record { schema = s; trees = old.now.trees }) text None command (Err stops.0)) was.schema
                   stops.1))

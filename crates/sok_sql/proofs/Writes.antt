@@ -71,18 +71,18 @@ rewritten id leaf = Int (pos id) ∷ stored id leaf
 
 module _ (project : List Term) (more : Row) (out : Row → Row) (id : ℕ)
     (puts : (r : Row) → output (pick_query project) ((Int (pos id) ∷ more) ∷ r ∷ []) ≡ ([], out (seen r))) where
-  pub updated : (limit : Option ℕ) (db : Trees) (sql : List ℕ) (new it : Leaf) (place : ℕ) (leaves : List Leaf) (tally : Tally) (after : Database)
-      → HasLeaves db leaves → id ≡ 1 + place → slice_get leaves place ≡ Some it → out (shown id it) ≡ rewritten id new
+  pub updated : (limit : Option ℕ) (db : Trees) (sql : List ℕ) (new it : Leaf) (index : ℕ) (leaves : List Leaf) (tally : Tally) (after : Database)
+      → HasLeaves db leaves → id ≡ 1 + index → slice_get leaves index ≡ Some it → out (shown id it) ≡ rewritten id new
       → DoesOn db limit (Int (pos id) ∷ more) sql (update_with project) tally after level_schema
-      → (after.schema ≡ level_schema) × HasLeaves after.trees (slice_set leaves place new)
-  updated limit db sql new it place leaves tally after has is found becomes does =
+      → (after.schema ≡ level_schema) × HasLeaves after.trees (slice_set leaves index new)
+  updated limit db sql new it index leaves tally after has is found becomes does =
       let E = λ (all : List Row). edit_of db level (ids_of all) Given 1 all in
       let done = went does in
       let now : after ≡ record { schema = level_schema; trees = done.0.trees } = ap (λ (p : Tally × Database). p.1) (same_value (went (went done.2).2).2) in
       let queried = went done.1 in
       let written = went queried.2 in
       let trees : done.0.trees ≡ written.0 = ap (λ (it : Written). it.trees) (same_value written.2) in
-      let one = picks id more project out puts db it place leaves queried.0 has is found (queried.1.answer Null) in
+      let one = picks id more project out puts db it index leaves queried.0 has is found (queried.1.answer Null) in
       let picked : queried.0 ≡ rewritten id new ∷ [] = one ∙ ap (λ row. row ∷ []) becomes in
       let step = one_step level_schema _ db written.0 (E queried.0) refl written.1 in
       let edit : edited db (E queried.0) ≡ put_row (stored id new) (without_rowid (pos id) (db 0)) =
@@ -91,4 +91,4 @@ module _ (project : List Term) (more : Row) (out : Row → Row) (id : ℕ)
       let rows : after.trees 0 ≡ put_row (stored id new) (without_rowid (pos id) (db 0)) =
       ap (λ (d : Database). d.trees 0) now ∙ ap (λ (t : Trees). t 0) trees ∙ step.rows ∙ edit in
       let fresh = rw (cast_int (pos id)) at (subst (λ all. are_fresh (left_by db (E all)) (E all).news ≡ true) picked step.fresh) in
-      (ap (λ (d : Database). d.schema) now, rw rows (put_in_place new it place id leaves (db 0) is found (not_taken _ fresh) has))
+      (ap (λ (d : Database). d.schema) now, rw rows (put_in_place new it index id leaves (db 0) is found (not_taken _ fresh) has))

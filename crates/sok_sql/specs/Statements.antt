@@ -18,13 +18,13 @@ pub record Inserts {X : Type 0} (old new : State) (id : ℕ) (leaf : Leaf) (resu
 -- what was true of the leaves before, and what is true of them with the leaf with an id changed
 abbrev pub UpdatesLeaf : (List Leaf → Type 0) → (List Leaf → Type 0) → ℕ → (Leaf → Leaf) → Type 0
 UpdatesLeaf Before After id change =
-    (leaves : List Leaf) (place : ℕ) (leaf : Leaf) → Before leaves → id ≡ 1 + place → slice_get leaves place ≡ Some leaf
-    → After (slice_set leaves place (change leaf))
+    (leaves : List Leaf) (index : ℕ) (leaf : Leaf) → Before leaves → id ≡ 1 + index → slice_get leaves index ≡ Some leaf
+    → After (slice_set leaves index (change leaf))
 
 -- a statement that changes the leaf with an id, to whichever of its ends it comes
 pub record Updates {X : Type 0} (old new : State) (id : ℕ) (change : Leaf → Leaf) (result : Result X Error) : Type 0 where
   pub done : HasCleanDisk new → UpdatesLeaf (Holds old) (λ leaves. OnOk result (Holds new leaves × StaysOpen old new)) id change
   pub kept : HasCleanDisk new → (leaves : List Leaf) → Holds old leaves → OnErr result (Holds new leaves)
   pub stop : Survives old new (λ db. UpdatesLeaf (Shows old) (HasLeaves db) id change)
-  pub cause : HasCleanDisk new → (leaves : List Leaf) (place : ℕ) (leaf : Leaf) → Holds old leaves → id ≡ 1 + place → slice_get leaves place ≡ Some leaf
-      → AreApart (slice_set leaves place (change leaf)) → IfErr result (λ e. IsTooBig id (change leaf) ⊎ IsExcused old new e)
+  pub cause : HasCleanDisk new → (leaves : List Leaf) (index : ℕ) (leaf : Leaf) → Holds old leaves → id ≡ 1 + index → slice_get leaves index ≡ Some leaf
+      → AreApart (slice_set leaves index (change leaf)) → IfErr result (λ e. IsTooBig id (change leaf) ⊎ IsExcused old new e)

@@ -45,10 +45,10 @@ pub fn all_rows<S: Alter>(conn: &mut Connection<S>) -> Result<Vec<Row>, Error>
 pub fn row_at<S: Alter>(conn: &mut Connection<S>, id: u32) -> Result<Option<Row>, Error>
     ensures rests { Rests (state S.Store conn.old) (state S.Store conn.new) }
     ensures row { HasCleanDisk (state S.Store conn.new)
-        → (leaves : List Leaf) (place : _) → Holds (state S.Store conn.old) leaves
-        → id ≡ 1 + place
+        → (leaves : List Leaf) (index : _) → Holds (state S.Store conn.old) leaves
+        → id ≡ 1 + index
         → IfOk result (λ row. Stores (state S.Store conn.new) leaves
-        × (row ≡ option_map (shown id) (slice_get leaves place))) }
+        × (row ≡ option_map (shown id) (slice_get leaves index))) }
     ensures cause { HasCleanDisk (state S.Store conn.new) → HasTable (state S.Store conn.old)
         → IfErr result (IsExcused (state S.Store conn.old) (state S.Store conn.new)) }
 {
@@ -116,10 +116,10 @@ fn first_id(rows: &[Row]) -> Result<Option<u32>, Error>
 fn rows_at<S: Alter>(conn: &mut Connection<S>, id: u32) -> Result<Vec<Row>, Error>
     ensures rests { Rests (state S.Store conn.old) (state S.Store conn.new) }
     ensures rows { HasCleanDisk (state S.Store conn.new)
-        → (leaves : List Leaf) (place : _) → Holds (state S.Store conn.old) leaves
-        → id ≡ 1 + place
+        → (leaves : List Leaf) (index : _) → Holds (state S.Store conn.old) leaves
+        → id ≡ 1 + index
         → IfOk result (λ rows. Stores (state S.Store conn.new) leaves
-        × (rows.items ≡ row_at id (slice_get leaves place))) }
+        × (rows.items ≡ row_at id (slice_get leaves index))) }
     ensures cause { HasCleanDisk (state S.Store conn.new) → HasTable (state S.Store conn.old)
         → IfErr result (IsExcused (state S.Store conn.old) (state S.Store conn.new)) }
 {

@@ -30,6 +30,40 @@ finds_keeps old new P finds clean book holds = let (is, stores) = finds clean bo
 pub changes_turns : (old new : State) (Makes : Book → Book → Type 0) → Changes old new Makes → Turns old new Makes
 changes_turns old new Makes changes clean book holds = let (after, makes, stores) = changes clean book holds in (after, makes, held new after stores)
 
+-- what is made of the book is more than is said
+pub turns_more : {old new : State} {Makes More : Book → Book → Type 0} → ((book after : Book) → Makes book after → More book after)
+    → Turns old new Makes → Turns old new More
+turns_more so turns clean book holds = let (after, makes, held_after) = turns clean book holds in (after, so book after makes, held_after)
+
+pub changes_more : {old new : State} {Makes More : Book → Book → Type 0} → ((book after : Book) → Makes book after → More book after)
+    → Changes old new Makes → Turns old new More
+changes_more so changes = turns_more so (changes_turns _ _ _ changes)
+
+-- the book stays
+pub keeps_turns : {old new : State} {P : Book → Type 0} (Makes : Book → Book → Type 0) → ((book : Book) → P book → Makes book book)
+    → Keeps old new P → Turns old new Makes
+keeps_turns Makes so keeps clean book holds = let (is, held_after) = keeps clean book holds in (book, so book is, held_after)
+
+-- nothing is done
+pub same_turns : {s : State} (Makes : Book → Book → Type 0) → ((book : Book) → Makes book book) → Turns s s Makes
+same_turns Makes so clean book holds = (book, so book, holds)
+
+-- one call, and then another
+pub turns_then : {old mid new : State} {First Second Both : Book → Book → Type 0} → (HasCleanDisk new → HasCleanDisk mid)
+    → ((book middle after : Book) → First book middle → Second middle after → Both book after) → Turns old mid First → Turns mid new Second → Turns old new Both
+turns_then early so one two clean book holds =
+    let (middle, first, held_mid) = one (early clean) book holds in
+    let (after, second, held_after) = two clean middle held_mid in
+    (after, so book middle after first second, held_after)
+
+-- what is found of the book first is known of it then
+pub finds_then : {old mid new : State} {P : Book → Type 0} {Second Both : Book → Book → Type 0} → (HasCleanDisk new → HasCleanDisk mid)
+    → ((book after : Book) → P book → Second book after → Both book after) → Finds old mid P → Turns mid new Second → Turns old new Both
+finds_then {mid = mid} early so finds turns clean book holds =
+    let (is, stores) = finds (early clean) book holds in
+    let (after, second, held_after) = turns clean book (held mid book stores) in
+    (after, so book after is second, held_after)
+
 -- what is held is shown then
 pub stores_on : (old new : State) (fault : BookFault) → (HasCleanDisk new → (book : Book) → HoldsBook old book → StoresBook new book) → ShowsOn old new fault
 stores_on old new fault stores =

@@ -97,8 +97,8 @@ module _ (old new : State) (id : ℕ) (low : 0 < id) (rests : Rests old new) whe
   before : id ≡ 1 + (id - 1)
   before = omega (arith, low)
 
-  module _ (row : Row) (shows : HasCleanDisk new → (leaves : List Leaf) (place : ℕ) → Holds old leaves → id ≡ 1 + place
-      → Stores new leaves × (Some row ≡ option_map (shown id) (slice_get leaves place))) where
+  module _ (row : Row) (shows : HasCleanDisk new → (leaves : List Leaf) (index : ℕ) → Holds old leaves → id ≡ 1 + index
+      → Stores new leaves × (Some row ≡ option_map (shown id) (slice_get leaves index))) where
     row_in : HasCleanDisk new → (book : Book) → HoldsBook old book → IsRowAt book id row × StoresBook new book
     row_in clean book holds = (
       row_found book id row holds.0 low (λ n is. (shows clean (leaves_of book) n holds.1 is).1),
@@ -123,8 +123,8 @@ module _ (old new : State) (id : ℕ) (low : 0 < id) (rests : Rests old new) whe
       cause = row_told old new MakesNone fault _ _ broken;
     }
 
-  pub row_misses : (HasCleanDisk new → (leaves : List Leaf) (place : ℕ) → Holds old leaves → id ≡ 1 + place
-      → Stores new leaves × (None ≡ option_map (shown id) (slice_get leaves place))) → RunsReading old new id (Err NoLevel)
+  pub row_misses : (HasCleanDisk new → (leaves : List Leaf) (index : ℕ) → Holds old leaves → id ≡ 1 + index
+      → Stores new leaves × (None ≡ option_map (shown id) (slice_get leaves index))) → RunsReading old new id (Err NoLevel)
   row_misses shows = record {
     found = tt;
     refused = λ clean book holds. (

@@ -29,10 +29,10 @@ module _ (db : Place) (lacks : Type 0) (MayMake : Book → Book → Type 0) wher
 
   -- and where there is one, its connection is given back
   pub works : (Makes : Book → Book → Type 0) (out : Bytes) (result : Result ℕ ToolFault) (opened left given : db.Connection) → OpensFound db opened
-      → given ≡ left → db.leaves given → Turns (db.shows opened) (db.shows left) Makes → Stops (db.shows opened) (db.shows left) MayMake
+      → given ≡ left → db.closes_as given → Turns (db.shows opened) (db.shows left) Makes → Stops (db.shows opened) (db.shows left) MayMake
       → IfErr result (IsCausedFault (db.shows opened) (db.shows left) MayMake) → WorksOn db lacks MayMake Makes out result
   works Makes out result opened left given (found, kept, opens) same back turns stop cause =
-      worked found opened left kept (subst db.leaves same back) (λ is. opens (omega (arith, is, stop.clean))) turns stop cause
+      worked found opened left kept (subst db.closes_as same back) (λ is. opens (omega (arith, is, stop.clean))) turns stop cause
 
 -- what is made of a book is also something else
 pub Turns-weaker : (old new : State) (P Q : Book → Book → Type 0) → ((book after : Book) → P book after → Q book after) → Turns old new P → Turns old new Q
@@ -55,7 +55,7 @@ Keeps-turns old new P keeps clean book holds = let (is, held) = keeps clean book
 module _ (db : Place) (lacks : Type 0) (reads : Option (List ℕ) → Type 0) (known : Option (List ℕ)) (is : reads known) where
   -- what is made of the book and of what a file has left is made of such a file
   pub works_with_file : (MayMake Makes : Option (List ℕ) → Book → Book → Type 0) (out : Bytes) (result : Result ℕ ToolFault) (opened left given : db.Connection)
-      → OpensFound db opened → given ≡ left → db.leaves given → Turns (db.shows opened) (db.shows left) (Makes known)
+      → OpensFound db opened → given ≡ left → db.closes_as given → Turns (db.shows opened) (db.shows left) (Makes known)
       → Stops (db.shows opened) (db.shows left) (MayMake known) → IfErr result (IsCausedFault (db.shows opened) (db.shows left) (MayMake known))
       → WorksOn db lacks (λ book after. OfOpened reads (λ k. MayMake k book after)) (λ book after. OfOpened reads (λ k. Makes k book after)) out result
   works_with_file MayMake Makes out result opened left given opens same back turns stop cause =

@@ -17,34 +17,34 @@ use Rattle.sok_keep.specs.Causes.{IsCausedFault}
 pub record Place : Type 1 where
   pub Connection : Type 0
   pub shows : Connection → State
-  pub keeps : Connection → Type 0
+  pub opens_as : Connection → Type 0
   pub refuses : ToolFault → Type 0
-  pub leaves : Connection → Type 0
+  pub closes_as : Connection → Type 0
 
 abbrev pub place : {C : Type 0} → (C → State) → (C → Type 0) → (ToolFault → Type 0) → (C → Type 0) → Place
-place {C} shows keeps refuses leaves = record { Connection = C; shows = shows; keeps = keeps; refuses = refuses; leaves = leaves }
+place {C} shows opens_as refuses closes_as = record { Connection = C; shows = shows; opens_as = opens_as; refuses = refuses; closes_as = closes_as }
 
--- of the databases at all paths: `keeps` of those that are there, `makes` also of those that are made, and `reads` of those that are only read
+-- of the databases at all paths: `opens_as` of those that are there, `makes` also of those that are made, and `reads` of those that are only read
 pub record Databases : Type 1 where
   pub Connection : Type 0
   pub shows : Connection → State
-  pub keeps : List ℕ → Connection → Type 0
+  pub opens_as : List ℕ → Connection → Type 0
   pub makes : List ℕ → Connection → Type 0
   pub reads : List ℕ → Connection → Type 0
   pub refuses : List ℕ → ToolFault → Type 0
-  pub leaves : List ℕ → Connection → Type 0
+  pub closes_as : List ℕ → Connection → Type 0
 
 -- of the one that is at a path
 abbrev pub at : Databases → List ℕ → Place
-at databases path = place databases.shows (databases.keeps path) (databases.refuses path) (databases.leaves path)
+at databases path = place databases.shows (databases.opens_as path) (databases.refuses path) (databases.closes_as path)
 
 -- of the one that is there, or is made
 abbrev pub made_at : Databases → List ℕ → Place
-made_at databases path = place databases.shows (databases.makes path) (databases.refuses path) (databases.leaves path)
+made_at databases path = place databases.shows (databases.makes path) (databases.refuses path) (databases.closes_as path)
 
 -- of the one that is there, and is only read
 abbrev pub read_at : Databases → List ℕ → Place
-read_at databases path = place databases.shows (databases.reads path) (databases.refuses path) (databases.leaves path)
+read_at databases path = place databases.shows (databases.reads path) (databases.refuses path) (databases.closes_as path)
 
 -- this is true of what a file has left that may be opened
 abbrev pub OfOpened : (Option (List ℕ) → Type 0) → (Option (List ℕ) → Type 0) → Type 0
@@ -62,20 +62,20 @@ IsNoBook found left told =
 pub data IsWithoutBook (db : Place) (lacks : Type 0) (told : ToolFault) : Type 0 where
   unread : told ≡ tool.Memory → IsWithoutBook db lacks told
   unconnected : db.refuses told → (told ≡ tool.Memory) ⊎ (told ≡ tool.Book refusal.Database) → IsWithoutBook db lacks told
-  fileless : lacks → (found : db.Connection) → db.keeps found → db.leaves found → told ≡ tool.ReadFailed → IsWithoutBook db lacks told
-  busy : (found : db.Connection) → db.keeps found → db.leaves found → IsTrue (db.shows found).in_transaction → told ≡ tool.Book refusal.Database
+  fileless : lacks → (found : db.Connection) → db.opens_as found → db.closes_as found → told ≡ tool.ReadFailed → IsWithoutBook db lacks told
+  busy : (found : db.Connection) → db.opens_as found → db.closes_as found → IsTrue (db.shows found).in_transaction → told ≡ tool.Book refusal.Database
       → IsWithoutBook db lacks told
-  bookless : (found left : db.Connection) → db.keeps found → db.leaves left → IsNoBook (db.shows found) (db.shows left) told → IsWithoutBook db lacks told
+  bookless : (found left : db.Connection) → db.opens_as found → db.closes_as left → IsNoBook (db.shows found) (db.shows left) told → IsWithoutBook db lacks told
 
 -- a book was opened, that of exactly the rows that were found in what may be opened
 abbrev pub OpensFound : (db : Place) → db.Connection → Type 0
-OpensFound db opened = (found : db.Connection) × db.keeps found × (HasCleanDisk (db.shows opened) → Opens (db.shows found) (db.shows opened))
+OpensFound db opened = (found : db.Connection) × db.opens_as found × (HasCleanDisk (db.shows opened) → Opens (db.shows found) (db.shows opened))
 
 -- How a command on a book ends. Where it has none nothing is written. Else a book was opened, and the command makes so of it; a stop in the middle leaves
 -- the book that was opened, or one that the command may make, and it tells `Database` only with a cause.
 pub data WorksOn (db : Place) (lacks : Type 0) (MayMake Makes : Book → Book → Type 0) (out : Bytes) (result : Result ℕ ToolFault) : Type 0 where
   refused : (told : ToolFault) → IsWithoutBook db lacks told → result ≡ Err told → Stays out → WorksOn db lacks MayMake Makes out result
-  worked : (found opened left : db.Connection) → db.keeps found → db.leaves left
+  worked : (found opened left : db.Connection) → db.opens_as found → db.closes_as left
       → (HasCleanDisk (db.shows left) → Opens (db.shows found) (db.shows opened)) → Turns (db.shows opened) (db.shows left) Makes
       → Stops (db.shows opened) (db.shows left) MayMake → IfErr result (IsCausedFault (db.shows opened) (db.shows left) MayMake)
       → WorksOn db lacks MayMake Makes out result

@@ -23,6 +23,7 @@ ghost use Rattle.sok_databases.specs.declared.databases.Access.TheVariants as ac
 
 use crate::certs::CertFolder;
 use sok_book::fault::BookFault;
+use sok_book::text::BookText;
 use sok_databases::databases::{Access, Databases};
 use sok_engine::fault::ToolFault;
 use sok_files::file::open;
@@ -34,7 +35,6 @@ use sok_keep::show::{book_bytes, show_bytes};
 use sok_settle::certs::NoCerts;
 use sok_settle::offers::offers_bytes;
 use sok_settle::settle::settle_bytes;
-use sok_book::text::BookText;
 use sok_store::book::{Book, OpenRefused};
 use sqlite::{Alter, Connection};
 use std::io::Write;
@@ -46,7 +46,7 @@ pub(crate) fn add<
     W: Write,
 >(rt: &F, db: &str, path: &str, out: &mut W) -> Result<u8, ToolFault>
     ensures { WorksOn (place (state S.Store)
-        (F.keeps rt.now accesses.Make db.now) (F.refuses rt.now db.now) (F.leaves rt.now db.now)) (F.lacks rt.now path.now)
+        (F.opens_as rt.now accesses.Make db.now) (F.refuses rt.now db.now) (F.closes_as rt.now db.now)) (F.lacks rt.now path.now)
         (λ book after. OfOpened (F.reads rt.now path.now) (λ known. AddsBytes known book after))
         (λ book after. OfOpened (F.reads rt.now path.now) (λ known.
         WritesAdding book known after (W.contents out.old) (W.contents out.new) result))
@@ -67,7 +67,7 @@ pub(crate) fn offer<S: Alter + Drop, F: Databases<Opened = Connection<S>> + Allo
     out: &mut W,
 ) -> Result<u8, ToolFault>
     ensures { WorksOn (place (state S.Store)
-        (F.keeps rt.now accesses.Change db.now) (F.refuses rt.now db.now) (F.leaves rt.now db.now)) ⊥
+        (F.opens_as rt.now accesses.Change db.now) (F.refuses rt.now db.now) (F.closes_as rt.now db.now)) ⊥
         (OffersText id text.now)
         (λ book after.
         WritesOffer book id text.now after (W.contents out.old) (W.contents out.new) result)
@@ -86,7 +86,7 @@ pub(crate) fn offers<
     W: Write,
 >(rt: &F, db: &str, path: &str, out: &mut W) -> Result<u8, ToolFault>
     ensures { WorksOn (place (state S.Store)
-        (F.keeps rt.now accesses.Change db.now) (F.refuses rt.now db.now) (F.leaves rt.now db.now)) (F.lacks rt.now path.now)
+        (F.opens_as rt.now accesses.Change db.now) (F.refuses rt.now db.now) (F.closes_as rt.now db.now)) (F.lacks rt.now path.now)
         (λ book after. OfOpened (F.reads rt.now path.now) (λ known. OffersBytes known book after))
         (λ book after. OfOpened (F.reads rt.now path.now) (λ known.
         WritesOffers book known after (W.contents out.old) (W.contents out.new) result))
@@ -105,7 +105,7 @@ pub(crate) fn prove<
     W: Write,
 >(rt: &F, db: &str, id: i64, path: &str, out: &mut W) -> Result<u8, ToolFault>
     ensures { WorksOn (place (state S.Store)
-        (F.keeps rt.now accesses.Change db.now) (F.refuses rt.now db.now) (F.leaves rt.now db.now)) (F.lacks rt.now path.now)
+        (F.opens_as rt.now accesses.Change db.now) (F.refuses rt.now db.now) (F.closes_as rt.now db.now)) (F.lacks rt.now path.now)
         (λ book after. OfOpened (F.reads rt.now path.now) (λ known. ProvesBytes id known book after))
         (λ book after. OfOpened (F.reads rt.now path.now) (λ known.
         WritesProof book id known after (W.contents out.old) (W.contents out.new) result))
@@ -132,7 +132,7 @@ pub(crate) fn settle<
     out: &mut W,
 ) -> Result<u8, ToolFault>
     ensures { WorksOn (place (state S.Store)
-        (F.keeps rt.now accesses.Change db.now) (F.refuses rt.now db.now) (F.leaves rt.now db.now)) ⊥
+        (F.opens_as rt.now accesses.Change db.now) (F.refuses rt.now db.now) (F.closes_as rt.now db.now)) ⊥
         (SettlesSome (keeping_of (λ path. IsMade F.Output.contents (F.makes rt.now path))
         (option_map (λ s. string_bytes s) folder)) limit from)
         (λ book after. (IsBadLimit limit → result ≡ Err tool.BadLimit)
@@ -188,7 +188,7 @@ pub(crate) fn show<S: Alter + Drop, F: Databases<Opened = Connection<S>> + Alloc
     out: &mut W,
 ) -> Result<u8, ToolFault>
     ensures { WorksOn (place (state S.Store)
-        (F.keeps rt.now accesses.Read db.now) (F.refuses rt.now db.now) (F.leaves rt.now db.now)) ⊥ MakesNone
+        (F.opens_as rt.now accesses.Read db.now) (F.refuses rt.now db.now) (F.closes_as rt.now db.now)) ⊥ MakesNone
         (λ book after. (after ≡ book)
         × Writes (IsShow book id) (W.contents out.old) (W.contents out.new) result)
         (record { old = W.contents out.old; new = W.contents out.new }) result }
@@ -207,7 +207,7 @@ pub(crate) fn tell<S: Alter + Drop, F: Databases<Opened = Connection<S>> + Alloc
     out: &mut W,
 ) -> Result<u8, ToolFault>
     ensures { WorksOn (place (state S.Store)
-        (F.keeps rt.now accesses.Read db.now) (F.refuses rt.now db.now) (F.leaves rt.now db.now)) ⊥ MakesNone
+        (F.opens_as rt.now accesses.Read db.now) (F.refuses rt.now db.now) (F.closes_as rt.now db.now)) ⊥ MakesNone
         (λ book after. (after ≡ book)
         × Writes (IsBookText text book) (W.contents out.old) (W.contents out.new) result)
         (record { old = W.contents out.old; new = W.contents out.new }) result }
@@ -225,10 +225,10 @@ fn book_of<S: Alter + Drop, F: Databases<Opened = Connection<S>> + AllocGlobal>(
     access: Access,
 ) -> Result<Book<S>, ToolFault>
     ensures opens { IfOk result (OpensFound (place (state S.Store)
-        (F.keeps rt.now access db.now) (F.refuses rt.now db.now) (F.leaves rt.now db.now))) }
+        (F.opens_as rt.now access db.now) (F.refuses rt.now db.now) (F.closes_as rt.now db.now))) }
     ensures refused { IfErr result
         (IsWithoutBook (place (state S.Store)
-        (F.keeps rt.now access db.now) (F.refuses rt.now db.now) (F.leaves rt.now db.now)) ⊥) }
+        (F.opens_as rt.now access db.now) (F.refuses rt.now db.now) (F.closes_as rt.now db.now)) ⊥) }
 {
     let found = rt.database(db, access)?;
     opened(rt, db, found)
@@ -242,11 +242,11 @@ fn book_and_file<S: Alter + Drop, F: Folder + Databases<Opened = Connection<S>> 
     path: &str,
 ) -> Result<(Book<S>, F::Input), ToolFault>
     ensures opens { IfOk result (λ both. OpensFound (place (state S.Store)
-        (F.keeps rt.now access db.now) (F.refuses rt.now db.now) (F.leaves rt.now db.now)) both.0) }
+        (F.opens_as rt.now access db.now) (F.refuses rt.now db.now) (F.closes_as rt.now db.now)) both.0) }
     ensures reads { IfOk result (λ both. F.reads rt.now path.now (F.Input.remaining both.1)) }
     ensures refused { IfErr result
         (IsWithoutBook (place (state S.Store)
-        (F.keeps rt.now access db.now) (F.refuses rt.now db.now) (F.leaves rt.now db.now)) (F.lacks rt.now path.now)) }
+        (F.opens_as rt.now access db.now) (F.refuses rt.now db.now) (F.closes_as rt.now db.now)) (F.lacks rt.now path.now)) }
 {
     let connection = rt.database(db, access)?;
     match open(rt, path) {
@@ -265,12 +265,12 @@ fn opened<S: Alter + Drop, F: Databases<Opened = Connection<S>> + AllocGlobal>(
     db: &str,
     connection: Connection<S>,
 ) -> Result<Book<S>, ToolFault>
-    ensures opens { (access : Access) → F.keeps rt.now access db.now connection
+    ensures opens { (access : Access) → F.opens_as rt.now access db.now connection
         → IfOk result (OpensFound (place (state S.Store)
-        (F.keeps rt.now access db.now) (F.refuses rt.now db.now) (F.leaves rt.now db.now))) }
-    ensures refused { (access : Access) → F.keeps rt.now access db.now connection
+        (F.opens_as rt.now access db.now) (F.refuses rt.now db.now) (F.closes_as rt.now db.now))) }
+    ensures refused { (access : Access) → F.opens_as rt.now access db.now connection
         → IfErr result (IsWithoutBook (place (state S.Store)
-        (F.keeps rt.now access db.now) (F.refuses rt.now db.now) (F.leaves rt.now db.now)) ⊥) }
+        (F.opens_as rt.now access db.now) (F.refuses rt.now db.now) (F.closes_as rt.now db.now)) ⊥) }
 {
     if !connection.is_autocommit() {
         rt.close(db, connection);

@@ -80,7 +80,7 @@ pub(crate) fn offer<
     W: Write,
 >(rt: &F, db: &str, id: i64, word: &str, input: &mut R, out: &mut W) -> Result<u8, ToolFault>
     ensures { OnLetters word.now (R.remaining input.old) (λ letters. WorksOn (place (state S.Store)
-        (F.keeps rt.now accesses.Change db.now) (F.refuses rt.now db.now) (F.leaves rt.now db.now)) ⊥
+        (F.opens_as rt.now accesses.Change db.now) (F.refuses rt.now db.now) (F.closes_as rt.now db.now)) ⊥
         (OffersText id letters)
         (λ book after.
         WritesOffer book id letters after (W.contents out.old) (W.contents out.new) result)

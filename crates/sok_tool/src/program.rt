@@ -13,12 +13,12 @@ ghost use Rattle.sok_databases.specs.declared.databases.Access.TheVariants as ac
 
 use crate::keeping::{add, offers, prove, settle, show, tell};
 use crate::letters::{draw, offer, replay};
+use sok_book::text::BookText;
 use sok_databases::databases::Databases;
 use sok_files::command::{check, list, solve};
 use sok_files::ending::{ended, refused};
 use sok_files::folder::Folder;
 use sok_play::play::play_bytes;
-use sok_book::text::BookText;
 use sok_words::job::Job;
 use sok_words::words::job;
 use sqlite::{Alter, Connection};
@@ -54,11 +54,11 @@ pub fn run<
         }) (record {
           Connection = Held S;
           shows = state S.Store;
-          keeps = F.keeps rt.now accesses.Change;
-          makes = F.keeps rt.now accesses.Make;
-          reads = F.keeps rt.now accesses.Read;
+          opens_as = F.opens_as rt.now accesses.Change;
+          makes = F.opens_as rt.now accesses.Make;
+          reads = F.opens_as rt.now accesses.Read;
           refuses = F.refuses rt.now;
-          leaves = F.leaves rt.now;
+          closes_as = F.closes_as rt.now;
         }) form
         (record { old = W.contents out.old; new = W.contents out.new })
         (record { old = E.contents err.old; new = E.contents err.new }) result }
@@ -88,11 +88,11 @@ fn served<
         }) (record {
           Connection = Held S;
           shows = state S.Store;
-          keeps = F.keeps rt.now accesses.Change;
-          makes = F.keeps rt.now accesses.Make;
-          reads = F.keeps rt.now accesses.Read;
+          opens_as = F.opens_as rt.now accesses.Change;
+          makes = F.opens_as rt.now accesses.Make;
+          reads = F.opens_as rt.now accesses.Read;
           refuses = F.refuses rt.now;
-          leaves = F.leaves rt.now;
+          closes_as = F.closes_as rt.now;
         }) form
         (record { old = W.contents out.old; new = W.contents out.new })
         (record { old = E.contents err.old; new = E.contents err.new }) result }

@@ -16,10 +16,10 @@ popped id (Some leaf) n rest result count whole last =
     last [] (omega arith) ∙ ap (λ k. Some (slice_index_or (shown id leaf ∷ []) (k - 1) [])) one
 
 pub returns-in-Ok-clause-row : goal.returns-in-Ok-clause-row
-returns-in-Ok-clause-row g c clean leaves place holds is =
-    let read = c.in-Ok.ensures.rows clean leaves place holds is in
-    let count : c.in-Ok.rows.len ≡ length (row_at c.args.id (slice_get leaves place)) = omega (arith, c.in-Ok.rows.ok, ap length read.1) in (
+returns-in-Ok-clause-row g c clean leaves index holds is =
+    let read = c.in-Ok.ensures.rows clean leaves index holds is in
+    let count : c.in-Ok.rows.len ≡ length (row_at c.args.id (slice_get leaves index)) = omega (arith, c.in-Ok.rows.ok, ap length read.1) in (
       read.0,
-      popped c.args.id (slice_get leaves place) c.in-Ok.rows.len c.pop.new.self.items c.pop.result count
+      popped c.args.id (slice_get leaves index) c.in-Ok.rows.len c.pop.new.self.items c.pop.result count
           (rw read.1 at c.pop.ensures.items) (rw read.1 at c.pop.ensures.value),
     )

@@ -11,8 +11,8 @@ returns-clause-rests g c =
     c.query_all.result c.query_all.ensures.ok c.query_all.ensures.err
 
 pub returns-clause-rows : goal.returns-clause-rows
-returns-clause-rows g c clean leaves place holds is =
-    IfOk-weaker c.query_all.result _ _ (λ rows. one_answers (state g.S.Store c.args.conn.now) (state g.S.Store c.query_all.new.self) leaves holds c.args.id place is rows.items)
+returns-clause-rows g c clean leaves index holds is =
+    IfOk-weaker c.query_all.result _ _ (λ rows. one_answers (state g.S.Store c.args.conn.now) (state g.S.Store c.query_all.new.self) leaves holds c.args.id index is rows.items)
     (rw c.params-to_sql.ensures at (c.query_all.ensures.ok clean))
 
 pub returns-clause-cause : goal.returns-clause-cause
