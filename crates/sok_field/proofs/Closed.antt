@@ -7,14 +7,14 @@ use Rattle.std.proofs.lemmas.Nat.{and_le_l, and_le_r}
 use Rattle.std.proofs.lemmas.Simd.{length-zip2, length-chunk, get_or-chunk, get_or-zip2}
 use Rattle.sok_field.specs.Rounds.{spread_row}
 
-or-zero : (a b : ℕ) → bit_or a b ≡ 0 → (a ≡ 0) × (b ≡ 0)
+pub or-zero : (a b : ℕ) → bit_or a b ≡ 0 → (a ≡ 0) × (b ≡ 0)
 or-zero a b e =
     let all = or_add_and a b in
     let left = and_le_l a b in
     let right = and_le_r a b in
     (omega (arith, all, left, right, e), omega (arith, all, left, right, e))
 
-xor-zero : (a b : ℕ) → bit_xor a b ≡ 0 → a ≡ b
+pub xor-zero : (a b : ℕ) → bit_xor a b ≡ 0 → a ≡ b
 xor-zero a b e =
     let all = xor_add_and a b in
     let left = and_le_l a b in

@@ -1,11 +1,11 @@
 //! The squares that are joined to one over both halves of a set.
 
-ghost use Rattle.std.specs.Prelude.{◌≡◌, ◌<◌, ◌≤◌, ◌↔◌, IfNone, IfSome, IsTrue, false, length};
+ghost use Rattle.std.specs.Prelude.{ℕ, ◌≡◌, ◌<◌, ◌≤◌, ◌+◌, ◌↔◌, IfNone, IfSome, IsTrue, bit_and, bit_or, false, length, slice_index};
 ghost use Rattle.sok_rules.specs.declared.cell.Spot.{Spot};
 ghost use Rattle.sok_field.specs.Crossings.{AreClosed, IsCrossed};
 ghost use Rattle.sok_field.specs.Fields.{has};
 ghost use Rattle.sok_field.specs.Halves.{halves};
-ghost use Rattle.sok_field.specs.Rounds.{IsClosed};
+ghost use Rattle.sok_field.specs.Rounds.{IsClosed, from_high, from_low};
 ghost use Rattle.sok_field.specs.Ways.{Joined};
 
 use crate::field::ROWS;
@@ -13,6 +13,17 @@ use crate::flood::flood_rows;
 use crate::half::COLUMNS;
 use crate::{bits, field};
 use sok_rules::cell::Spot;
+
+/// Squares that are new in two halves of a set.
+#[derive(Clone, Copy)]
+struct News {
+    /// The first row with one, and the last.
+    first: usize,
+    last: usize,
+    /// The columns of each half with one, as bits.
+    low: u64,
+    high: u64,
+}
 
 /// Makes two halves of a set, which have no square, the squares that are joined to one over free
 /// squares, itself among them. Each half is flooded by itself, and then a round over both comes
@@ -39,27 +50,26 @@ pub(crate) fn flood_halves(
     } else {
         bits::put(high, field::within(from));
     }
-    let mut first = from.row as usize;
-    let mut last = first;
+    let row = from.row as usize;
+    let mut news = News {
+        first: row,
+        last: row,
+        low: u64::MAX,
+        high: u64::MAX,
+    };
     loop {
-        flood_rows(free_low, low, first, last);
-        flood_rows(free_high, high, first, last);
-        let Some((top, bottom)) = cross(free_low, free_high, low, high) else {
+        flood_rows(free_low, low, news.first, news.last, news.low);
+        flood_rows(free_high, high, news.first, news.last, news.high);
+        let Some(more) = cross(free_low, free_high, low, high) else {
             return;
         };
-        first = top;
-        last = bottom;
+        news = more;
     }
 }
 
 /// Makes a round over both halves in place, where a round over each changes nothing: so only what
-/// comes across the seam is added. Tells the first and the last row with more, if there is one.
-fn cross(
-    free_low: &[u64],
-    free_high: &[u64],
-    low: &mut [u64],
-    high: &mut [u64],
-) -> Option<(usize, usize)>
+/// comes across the seam is added. Tells where there is more, if there is.
+fn cross(free_low: &[u64], free_high: &[u64], low: &mut [u64], high: &mut [u64]) -> Option<News>
     requires free { length free_high.now ≡ length free_low.now }
     requires low { length low.old ≡ length free_low.now }
     requires high { length high.old ≡ length free_low.now }
@@ -68,13 +78,19 @@ fn cross(
     ensures crossed { IsCrossed free_low.now free_high.now low.old high.old low.new high.new }
     ensures more { IfSome result (λ _.
         AreClosed free_low.now free_high.now low.old high.old → ⊥) }
-    ensures first { IfSome result (λ rows. rows.0 < length low.old) }
-    ensures last { IfSome result (λ rows. rows.1 < length low.old) }
+    ensures first { IfSome result (λ news. news.first < length low.old) }
+    ensures last { IfSome result (λ news. news.last < length low.old) }
+    ensures same_low { IfSome result (λ news. news.low ≡ 0 → low.new ≡ low.old) }
+    ensures same_high { IfSome result (λ news. news.high ≡ 0 → high.new ≡ high.old) }
     ensures closed { IfNone result (AreClosed free_low.now free_high.now low.new high.new) }
 {
+    let mut news = News {
+        first: low.len(),
+        last: 0,
+        low: 0,
+        high: 0,
+    };
     let mut changed = false;
-    let mut first = low.len();
-    let mut last = 0;
     for r in 0..low.len() {
         let (left, right) = (low[r], high[r]);
         let more_left = left | (free_low[r] & right << 63);
@@ -83,9 +99,13 @@ fn cross(
             low[r] = more_left;
             high[r] = more_right;
             changed = true;
-            first = first.min(r);
-            last = r;
+            news = News {
+                first: news.first.min(r),
+                last: r,
+                low: news.low | (more_left ^ left),
+                high: news.high | (more_right ^ right),
+            };
         }
     }
-    if changed { Some((first, last)) } else { None }
+    if changed { Some(news) } else { None }
 }

@@ -55,8 +55,9 @@ fn meet_row(free: &[u64], seen: &mut [u64], r: usize, beside: u64) -> (u64, bool
     (word, true)
 }
 
-/// Has some rows meet what is joined within each to its squares.
-pub(crate) fn step_rows(free: &[u64], seen: &mut [u64], first: usize, last: usize)
+/// Has some rows, those that have a square in some columns, meet what is joined within each to its
+/// squares.
+pub(crate) fn step_rows(free: &[u64], seen: &mut [u64], first: usize, last: usize, columns: u64)
     requires last { last < length seen.old }
     requires whole { length free.now ≡ length seen.old }
     requires inside { (s : Spot) → has seen.old s ≡ true → has free.now s ≡ true }
@@ -64,7 +65,9 @@ pub(crate) fn step_rows(free: &[u64], seen: &mut [u64], first: usize, last: usiz
         → GoesOn free.now start seen.old seen.new false }
 {
     for r in first..last + 1 {
-        step_row(free, seen, r);
+        if seen[r] & columns != 0 {
+            step_row(free, seen, r);
+        }
     }
 }
 

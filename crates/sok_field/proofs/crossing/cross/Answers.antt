@@ -1,6 +1,9 @@
-use Rattle.std.proofs.Common.{◌∙◌, ◌≡◌, ◌<◌, ◌+◌, length, refl, subst, sym, true≢false, arith, get_or, set, bit_and, bit_or, ℕ, List}
+use Rattle.std.proofs.Common.{ap, ◌∙◌, ◌≡◌, ◌<◌, ◌+◌, length, refl, subst, sym, true≢false, arith, get_or, set, bit_and, bit_or, ℕ, List}
+use Rattle.std.proofs.lemmas.List.{set-get_or}
+use Rattle.sok_field.specs.declared.crossing.News.{News}
 use Rattle.sok_field.specs.Crossings.{IsCrossed}
 use Rattle.sok_field.specs.Rounds.{from_high, from_low}
+use Rattle.sok_field.proofs.Closed.{or-zero, xor-zero}
 use Rattle.sok_field.proofs.Seams.{AreAcross, AreAcross-more, AreAcross-stays, every-across, none-across}
 use Rattle.sok_field.proofs.crossing.cross.Goals as goal
 use Rattle.sok_field.proofs.crossing.cross.Goals.{After-loop-r, then-more_left-left, then-more_left-left-via-then-more_left-left, then-more_left-left-via-else-more_left-left+then-more_right-right, else-more_left-left+else-more_right-right}
@@ -14,6 +17,7 @@ loop-r-init c = record {
   last = λ e. cc;
   same_low = λ _. refl;
   same_high = λ _. refl;
+  same = λ _. (refl, refl);
 }
 
 -- the rows from here on are as they were
@@ -43,10 +47,15 @@ loop-r-preserved c =
           | then-more_left-left-via-else-more_left-left+then-more_right-right w' ↦ w'.if-more_right-right.true
               (subst (λ n. into_high n ≡ get_or high r 0) left (none-across so_far.high (c.requires.closed_high r) (closed.round_high r)))
         ];
-        first = λ _. omega (arith, w.first-is, w.min-first.ensures);
-        last = λ _. omega (arith, w.last-is);
-        same_low = λ e. absurd (true≢false (sym w.changed-is ∙ e));
-        same_high = λ e. absurd (true≢false (sym w.changed-is ∙ e));
+        first = λ _. let is = ap (λ (n : News). n.first) w.news-is in omega (arith, is, w.min.ensures);
+        last = λ _. let is = ap (λ (n : News). n.last) w.news-is in omega (arith, is);
+        same_low = λ e.
+            let (before, none) = or-zero _ _ (sym (ap (λ (n : News). n.low) w.news-is) ∙ e) in
+            w.low-is ∙ ap (set low r) (xor-zero _ _ none) ∙ set-get_or low r 0 ∙ so_far.same_low before;
+        same_high = λ e.
+            let (before, none) = or-zero _ _ (sym (ap (λ (n : News). n.high) w.news-is) ∙ e) in
+            w.high-is ∙ ap (set high r) (xor-zero _ _ none) ∙ set-get_or high r 0 ∙ so_far.same_high before;
+        same = λ e. absurd (true≢false (sym w.changed-is ∙ e));
       }
       | else-more_left-left+else-more_right-right w ↦ record {
         low = subst lower (sym w.low-is)
@@ -54,10 +63,11 @@ loop-r-preserved c =
         high = subst upper (sym w.high-is)
             (AreAcross-stays so_far.high (subst (λ n. into_high n ≡ get_or high r 0) (sym left) w.if-more_right-right.false));
         more = λ e. so_far.more (sym w.changed-is ∙ e);
-        first = λ e. subst (λ n. n < length first) (sym w.first-is) (so_far.first (sym w.changed-is ∙ e));
-        last = λ e. subst (λ n. n < length first) (sym w.last-is) (so_far.last (sym w.changed-is ∙ e));
-        same_low = λ e. w.low-is ∙ so_far.same_low (sym w.changed-is ∙ e);
-        same_high = λ e. w.high-is ∙ so_far.same_high (sym w.changed-is ∙ e);
+        first = λ e. subst (λ (n : News). n.first < length first) (sym w.news-is) (so_far.first (sym w.changed-is ∙ e));
+        last = λ e. subst (λ (n : News). n.last < length first) (sym w.news-is) (so_far.last (sym w.changed-is ∙ e));
+        same_low = λ e. w.low-is ∙ so_far.same_low (sym (ap (λ (n : News). n.low) w.news-is) ∙ e);
+        same_high = λ e. w.high-is ∙ so_far.same_high (sym (ap (λ (n : News). n.high) w.news-is) ∙ e);
+        same = λ e. (w.low-is ∙ (so_far.same (sym w.changed-is ∙ e)).0, w.high-is ∙ (so_far.same (sym w.changed-is ∙ e)).1);
       }
     ]
 
@@ -77,8 +87,7 @@ returns-else-changed-clause-crossed c = crossed (goal.at.returns-else-changed-cl
 
 pub returns-else-changed-clause-closed : goal.returns-else-changed-clause-closed
 returns-else-changed-clause-closed c =
-    let same_low = c.loop-r.invariant.same_low c.if-changed.false in
-    let same_high = c.loop-r.invariant.same_high c.if-changed.false in
+    let (same_low, same_high) = c.loop-r.invariant.same c.if-changed.false in
     subst (λ (T : Type 0). T)
     (λ i. IsCrossed c.args.free_low.now c.args.free_high.now (sym same_low i) (sym same_high i) c.loop-r.low c.loop-r.high)
     (crossed (goal.at.returns-else-changed-clause-closed c).After-loop-r)

@@ -9,8 +9,9 @@ invariant-loop-r l = record {
   low : AreAcross (λ k. from_high (get_or l.initial.high k 0)) l.initial.low l.free_low l.low l.r;
   high : AreAcross (λ k. from_low (get_or l.initial.low k 0)) l.initial.high l.free_high l.high l.r;
   more : l.changed ≡ true → AreClosed l.free_low l.free_high l.initial.low l.initial.high → ⊥;
-  first : l.changed ≡ true → l.first < length l.initial.low;
-  last : l.changed ≡ true → l.last < length l.initial.low;
-  same_low : l.changed ≡ false → l.low ≡ l.initial.low;
-  same_high : l.changed ≡ false → l.high ≡ l.initial.high;
+  first : l.changed ≡ true → l.news.first < length l.initial.low;
+  last : l.changed ≡ true → l.news.last < length l.initial.low;
+  same_low : l.news.low ≡ 0 → l.low ≡ l.initial.low;
+  same_high : l.news.high ≡ 0 → l.high ≡ l.initial.high;
+  same : l.changed ≡ false → (l.low ≡ l.initial.low) × (l.high ≡ l.initial.high);
 }

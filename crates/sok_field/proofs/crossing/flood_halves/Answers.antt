@@ -1,9 +1,10 @@
-use Rattle.std.proofs.Common.{ℕ, ◌≡◌, ◌<◌, ◌∙◌, inl, inr, List, true, length, ap, arith, subst, sym, true≢false}
+use Rattle.std.proofs.Common.{ℕ, ◌≡◌, ◌<◌, ◌∙◌, inl, inr, List, true, length, ap, arith, subst, sym}
 use Rattle.std.proofs.lemmas.Bool.{cases_lt}
 use Rattle.sok_rules.specs.declared.cell.Spot.{Spot}
 use Rattle.sok_field.specs.Crossings.{IsWide}
 use Rattle.sok_field.specs.Fields.{has}
 use Rattle.sok_field.specs.Halves.{halves, within}
+use Rattle.sok_field.specs.Rounds.{IsClosed}
 use Rattle.sok_field.proofs.Across.{AreFree, put-high, put-low, sum-flooded, sum-wide, wide-crossed, wide-exact, wide-high, wide-low, wide-more}
 use Rattle.sok_field.proofs.Halves.{has-lower, has-upper}
 use Rattle.sok_field.proofs.OneSquare.{has-within}
@@ -41,8 +42,8 @@ put-requires-else-from-lt-COLUMNS-clause-col c =
     let col = ap (λ (s : Spot). s.col) c.within.ensures in
     omega (arith, inside, col)
 
-pub loop-top-init : goal.loop-top-init
-loop-top-init c =
+pub loop-more-init : goal.loop-more-init
+loop-more-init c =
     let free_low = c.args.free_low.now in
     let free_high = c.args.free_high.now in
     let free : AreFree free_low free_high = record {
@@ -63,34 +64,38 @@ loop-top-init c =
       ];
       first = row-within free_low free_high c.args.from c.requires.free c.requires.from;
       last = row-within free_low free_high c.args.from c.requires.free c.requires.from;
+      closed_low = λ e. absurd (omega (arith, e));
+      closed_high = λ e. absurd (omega (arith, e));
     }
 
 -- each half is flooded
-both : (c : After-cross) → IsWide c.args.free_low.now c.args.free_high.now c.args.from c.flood_rows.new.seen c.flood_rows-in-loop-top.new.seen
+both : (c : After-cross) → IsWide c.args.free_low.now c.args.free_high.now c.args.from c.flood_rows.new.seen c.flood_rows-in-loop-more.new.seen
 both c =
-    let free = c.loop-top.invariant.free in
-    let low = wide-low free c.loop-top.invariant.wide c.flood_rows.new.seen (omega arith) c.flood_rows.ensures.reaches in
-    wide-high free low c.flood_rows-in-loop-top.new.seen (omega arith) c.flood_rows-in-loop-top.ensures.reaches
+    let free = c.loop-more.invariant.free in
+    let low = wide-low free c.loop-more.invariant.wide c.flood_rows.new.seen (omega arith) c.flood_rows.ensures.reaches in
+    wide-high free low c.flood_rows-in-loop-more.new.seen (omega arith) c.flood_rows-in-loop-more.ensures.reaches
 
-pub loop-top-preserved : goal.loop-top-preserved
-loop-top-preserved c = record {
-  free = c.loop-top.invariant.free;
-  wide = wide-crossed c.loop-top.invariant.free (both ((goal.at.loop-top-preserved c).After-cross)) c.cross.ensures.crossed;
+pub loop-more-preserved : goal.loop-more-preserved
+loop-more-preserved c = record {
+  free = c.loop-more.invariant.free;
+  wide = wide-crossed c.loop-more.invariant.free (both ((goal.at.loop-more-preserved c).After-cross)) c.cross.ensures.crossed;
   first = omega (arith, c.in-Some.ensures.first);
   last = omega (arith, c.in-Some.ensures.last);
+  closed_low = λ e. subst (λ rows. IsClosed rows c.args.free_low.now) (sym (c.in-Some.ensures.same_low e)) c.flood_rows.ensures.closed;
+  closed_high = λ e. subst (λ rows. IsClosed rows c.args.free_high.now) (sym (c.in-Some.ensures.same_high e)) c.flood_rows-in-loop-more.ensures.closed;
 }
 
 pub returns-in_default : goal.returns-in_default
 returns-in_default c =
-    let free = c.loop-top.invariant.free in
+    let free = c.loop-more.invariant.free in
     wide-exact free (wide-crossed free (both ((goal.at.returns-in_default c).After-cross)) c.cross.ensures.crossed) c.in_default.ensures.closed
 
-pub loop-top-smaller : goal.loop-top-smaller
-loop-top-smaller c =
-    let free = c.loop-top.invariant.free in
-    let flooded = both ((goal.at.loop-top-smaller c).After-cross) in
-    let rises = sum-flooded c.args.free_low.now c.loop-top.low c.flood_rows.new.seen (omega arith) c.flood_rows.ensures.reaches in
-    let rises_too = sum-flooded c.args.free_high.now c.loop-top.high c.flood_rows-in-loop-top.new.seen (omega arith) c.flood_rows-in-loop-top.ensures.reaches in
+pub loop-more-smaller : goal.loop-more-smaller
+loop-more-smaller c =
+    let free = c.loop-more.invariant.free in
+    let flooded = both ((goal.at.loop-more-smaller c).After-cross) in
+    let rises = sum-flooded c.args.free_low.now c.loop-more.low c.flood_rows.new.seen (omega arith) c.flood_rows.ensures.reaches in
+    let rises_too = sum-flooded c.args.free_high.now c.loop-more.high c.flood_rows-in-loop-more.new.seen (omega arith) c.flood_rows-in-loop-more.ensures.reaches in
     let more = wide-more free flooded c.cross.ensures.crossed c.in-Some.ensures.more in
     let inside = sum-wide free (wide-crossed free flooded c.cross.ensures.crossed) in
     omega (arith, rises, rises_too, more, inside)

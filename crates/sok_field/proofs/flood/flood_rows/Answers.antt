@@ -24,12 +24,9 @@ returns-clause-reaches c =
     let flood = (c.step_rows.ensures (has start) (IsSpreading-begun free start c.requires.whole c.requires.inside)).flooding in
     reaches-on free (has start) c.step_rows.new.seen c.sweep.new.seen flood c.sweep.ensures.reaches
 
-pub returns-then-is_closed-clause-closed : goal.returns-then-is_closed-clause-closed
-returns-then-is_closed-clause-closed c = c.is_closed.ensures.0 c.if-is_closed.true
-
-pub returns-then-is_closed-clause-reaches : goal.returns-then-is_closed-clause-reaches
-returns-then-is_closed-clause-reaches c =
+pub returns-then-columns-eq0-clause-reaches : goal.returns-then-columns-eq0-clause-reaches
+returns-then-columns-eq0-clause-reaches c =
     let free = c.args.free.now in
     let start = c.args.seen.now in
-    flood-exact free start (has start) (λ r. (c.type_inv.free r).fits) (c.is_closed.ensures.0 c.if-is_closed.true)
+    flood-exact free start (has start) (λ r. (c.type_inv.free r).fits) (c.requires.closed c.if-columns-eq0.true)
     (IsSpreading-begun free start c.requires.whole c.requires.inside)
