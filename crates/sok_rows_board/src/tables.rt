@@ -193,10 +193,11 @@ fn assert_table(
 }
 
 /// Boards of as many squares as words have bits, and of one more: boxes on the first and the last
-/// square of words, one of which is pushed to another word where there is one.
+/// square of words, one of which is pushed to another word where there is one. On the widest, as many
+/// boxes as a list has at most, one more, and one more behind what a table takes for a push.
 #[test]
 fn tables_of_each_width(rt: HostRuntime) -> Result<(), Fail> {
-    let cases: [(usize, &[Sq], (Sq, Sq), &[Sq]); 9] = [
+    let cases: [(usize, &[Sq], (Sq, Sq), &[Sq]); 12] = [
         (64, &[0, 31, 63], (63, 62), &[0, 31, 62]),
         (65, &[0, 63], (63, 64), &[0, 64]),
         (128, &[0, 63, 64, 127], (0, 126), &[63, 64, 126, 127]),
@@ -215,6 +216,26 @@ fn tables_of_each_width(rt: HostRuntime) -> Result<(), Fail> {
             &[0, 1_024, 4_095],
             (4_095, 4_032),
             &[0, 1_024, 4_032],
+        ),
+        (
+            4_096,
+            &[0, 1, 2, 3, 4, 5, 6, 7, 8, 9, 10, 11, 12, 13, 14, 4_095],
+            (4_095, 63),
+            &[0, 1, 2, 3, 4, 5, 6, 7, 8, 9, 10, 11, 12, 13, 14, 63],
+        ),
+        (
+            4_096,
+            &[0, 1, 2, 3, 4, 5, 6, 7, 8, 9, 10, 11, 12, 13, 14, 15, 4_095],
+            (0, 4_032),
+            &[
+                1, 2, 3, 4, 5, 6, 7, 8, 9, 10, 11, 12, 13, 14, 15, 4_032, 4_095,
+            ],
+        ),
+        (
+            4_096,
+            &[0, 1, 2, 3, 4, 5, 6, 7, 8, 9, 10, 11, 12, 13, 14, 4_095],
+            (64, 63),
+            &[0, 1, 2, 3, 4, 5, 6, 7, 8, 9, 10, 11, 12, 13, 14, 63, 4_095],
         ),
     ];
     for (squares, boxes, push, boxes_after) in cases {

@@ -1,5 +1,5 @@
 -- Which pushes are legal from some position of a state, and where they lead.
-use Rattle.std.proofs.Common.{ℕ, ◌≡◌, ◌<◌, refl, sym, ap, ◌∙◌, subst, List, true, false, true≢false, Some, Contains, Result, Ok, Err, IfOk, length}
+use Rattle.std.proofs.Common.{ℕ, ◌≡◌, ◌<◌, refl, sym, ap, ◌∙◌, subst, List, true, false, true≢false, Some, Contains, length}
 use Rattle.std.specs.List.Sorted.{IsStrictlyIncreasing}
 use Rattle.std.proofs.lemmas.Option.{same_Some, option_and_then_some}
 use Rattle.std.proofs.lemmas.List.Elements.{All-contains}
@@ -21,9 +21,9 @@ use Rattle.sok_board.specs.BoxSets.{IsMoved}
 use Rattle.sok_region.specs.Regions.{IsPlaced}
 use Rattle.sok_state.specs.declared.key.Key.{Key}
 use Rattle.sok_state.specs.declared.push.Push.{Push}
-use Rattle.sok_state.specs.Keys.{IsKey, IsKeyOf, key_position}
+use Rattle.sok_state.specs.Keys.{IsKeyOf, key_position}
 use Rattle.sok_state.specs.Listing.{IsClear}
-use Rattle.sok_state.specs.Pushes.{IsKeyAfter, IsLegal, LeadsTo}
+use Rattle.sok_state.specs.Pushes.{IsLegal, LeadsTo}
 use Rattle.sok_state.proofs.Moves.{boxes_moved, IsPlaced-moved}
 
 -- the square beside a numbered one

@@ -1,6 +1,8 @@
+pub mod Copied
 pub mod Drawn
 pub mod LegalPushes
 pub mod Listed
+pub mod ListKeys
 pub mod Moves
 pub mod Order
 pub mod PackedTables

@@ -7,4 +7,5 @@ pub mod Tables
 pub mod Around
 pub mod Listing
 pub mod PackedKeys
+pub mod PackedLaws
 pub mod Stores

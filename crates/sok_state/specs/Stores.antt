@@ -1,12 +1,34 @@
 -- A store of packed keys, seen as a table.
-use Rattle.sok_state.specs.declared.table.Store.{Store}
-use Rattle.sok_state.specs.declared.table.Store.TheVariants.{One, Two, Four, Sixteen, SixtyFour}
-use Rattle.sok_state.specs.Tables.{Tabled}
+use Rattle.std.specs.Prelude.{ℕ, ◌≤◌, ⊤}
+use Rattle.sok_state.specs.declared.key.Key.{Key}
+use Rattle.sok_state.specs.declared.store.Store.{Store}
+use Rattle.sok_state.specs.declared.store.Store.TheVariants.{One, Two, Four, Sixteen, SixtyFour, Listed}
+use Rattle.sok_state.specs.PackedKeys.{list_limit, TakesListMove}
+use Rattle.sok_state.specs.Tables.{IsAt, Tabled}
 
--- what it holds, and a bit for each square below 64 for each word
+-- what it holds, and a bit for each square below 64 for each word; lists have each square, but to spare for a key of few boxes alone
 abbrev pub seen : Store → Tabled
 seen (One table) = record { entries = table.entries; room = 64; spare = table.spare }
 seen (Two table) = record { entries = table.entries; room = 128; spare = table.spare }
 seen (Four table) = record { entries = table.entries; room = 256; spare = table.spare }
 seen (Sixteen table) = record { entries = table.entries; room = 1024; spare = table.spare }
 seen (SixtyFour table) = record { entries = table.entries; room = 4096; spare = table.spare }
+seen (Listed alloc table) = record { entries = table.entries; room = 4096; spare = 0 }
+
+-- it has a form for a key of so many boxes
+abbrev pub TakesCount : Store → ℕ → Type 0
+TakesCount (One table) boxes = ⊤
+TakesCount (Two table) boxes = ⊤
+TakesCount (Four table) boxes = ⊤
+TakesCount (Sixteen table) boxes = ⊤
+TakesCount (SixtyFour table) boxes = ⊤
+TakesCount (Listed alloc table) boxes = boxes ≤ list_limit
+
+-- it has a form for the key that comes next to the one at an index
+abbrev pub TakesMove : Store → ℕ → ℕ → ℕ → Type 0
+TakesMove (One table) index from to = ⊤
+TakesMove (Two table) index from to = ⊤
+TakesMove (Four table) index from to = ⊤
+TakesMove (Sixteen table) index from to = ⊤
+TakesMove (SixtyFour table) index from to = ⊤
+TakesMove (Listed alloc table) index from to = (key : Key) → IsAt table.entries key index → TakesListMove key from to

@@ -1,68 +1,54 @@
-//! The key of a state in bits, for searches over many states.
+//! What a table asks of the keys that it keeps.
 
-ghost use Rattle.std.specs.Prelude.{ℕ, ◌≡◌, ◌<◌, ◌≤◌, ◌*◌, OnOk, All};
-ghost use Rattle.sok_board.specs.BoxSets.{IsMoved};
-ghost use Rattle.sok_region.specs.Regions.{squares_of};
+ghost use Rattle.std.specs.Prelude.{ℕ, ◌≡◌, ◌↔◌, OnOk, IsTrue};
+ghost use Rattle.std.specs.List.Sorted.{IsStrictlyIncreasing};
+ghost use Rattle.sok_state.specs.declared.key.Key.{Key};
+ghost use Rattle.sok_state.specs.Tables.{IsNext};
 
 use crate::key::Key;
 use sok_board::area::Sq;
-use sok_field::numbers;
 use sok_rules::fault::Memory;
+use std::hash::Hash;
 
-/// A state as its `Key` tells it: the squares of its boxes as bits by their numbers, and the least
-/// square that the player can walk to. `N` words have a bit for each square of the board.
-#[derive(Clone, Copy, Debug, PartialEq, Eq, Hash)]
-pub(crate) struct PackedKey<const N: usize> {
-    pub(crate) boxes: [u64; N],
-    pub(crate) least: Sq,
-}
+/// A key in a form of a fixed size, which takes no memory of its own.
+pub(crate) trait Packed: Hash + Drop {
+    /// The key for which it stands.
+    ghost state_of: { Self → Key };
 
-impl<const N: usize> PackedKey<N> {
-    /// The state of a key.
-    pub(crate) fn of(key: &Key) -> PackedKey<N>
-        requires small { N ≤ 64 }
-        requires room { All (λ square. square < 64 * N) key.now.boxes }
-        ensures boxes { squares_of result.boxes ≡ key.now.boxes }
-        ensures least { result.least ≡ key.now.least }
-    {
-        let mut boxes = [0; N];
-        for square in key.boxes.list() {
-            numbers::put(&mut boxes, *square);
-        }
-        PackedKey {
-            boxes,
-            least: key.least,
-        }
-    }
+    /// What is so of each that is made.
+    ghost fits: { Self → Type 0 };
 
-    /// Makes a list the squares of the boxes, rising. It refuses only for want of memory: it asks
-    /// first for room for each bit.
-    pub(crate) fn list(&self, squares: &mut Vec<Sq>) -> Result<(), Memory>
-        requires { N ≤ 64 }
-        ensures { OnOk result (squares.new.items ≡ squares_of self.now.boxes) }
-    {
-        squares.reserve(64 * N)?;
-        squares.clear();
-        let mut left = self.boxes;
-        while let Some(square) = numbers::first(&left) {
-            squares.push(square).unwrap();
-            numbers::take(&mut left, square);
-        }
-        Ok(())
-    }
+    /// Which keys have this form.
+    ghost takes: { Key → Type 0 };
 
-    /// The state after a push: a box has left one square and come to another, and the player can
-    /// walk to another least square.
-    pub(crate) fn moved(&self, from: Sq, to: Sq, least: Sq) -> PackedKey<N>
-        requires small { N ≤ 64 }
-        requires from { from < 64 * N }
-        requires to { to < 64 * N }
-        ensures boxes { IsMoved (squares_of self.now.boxes) from to (squares_of result.boxes) }
-        ensures least { result.least ≡ least }
-    {
-        let mut boxes = self.boxes;
-        numbers::take(&mut boxes, from);
-        numbers::put(&mut boxes, to);
-        PackedKey { boxes, least }
-    }
+    /// Of which keys the one after a box was moved from a square to another has it.
+    ghost takes_move: { Key → ℕ → ℕ → Type 0 };
+
+    /// The form of a key.
+    fn of(key: &Key) -> Self
+        requires { takes key.now }
+        ensures state { state_of result ≡ key.now }
+        ensures fits { fits result };
+
+    /// The least square that the player can walk to.
+    fn least(&self) -> Sq
+        ensures { result ≡ (state_of self.now).least };
+
+    /// Makes a list the squares of the boxes, rising. It refuses only for want of memory.
+    fn list(&self, squares: &mut Vec<Sq>) -> Result<(), Memory>
+        requires { fits self.now }
+        ensures list { OnOk result (squares.new.items ≡ (state_of self.now).boxes) }
+        ensures rising { IsStrictlyIncreasing (state_of self.now).boxes };
+
+    /// The key after a push: a box has left one square and come to another, and the player can walk
+    /// to another least square.
+    fn moved(&self, from: Sq, to: Sq, least: Sq) -> Self
+        requires fits { fits self.now }
+        requires takes { takes_move (state_of self.now) from to }
+        ensures next { IsNext (state_of self.now) from to least (state_of result) }
+        ensures fits { fits result };
+
+    /// What is equal stands for one key.
+    ghost tells: { (a b : Self) → fits a → fits b
+        → IsTrue (Self.eq a b) ↔ (state_of a ≡ state_of b) };
 }

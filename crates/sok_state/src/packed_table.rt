@@ -1,14 +1,14 @@
-//! Packed keys of one width in the order of their insertion, with depths.
+//! Packed keys of one form in the order of their insertion, with depths.
 
-ghost use Rattle.std.specs.Prelude.{ℕ, ◌≡◌, ◌<◌, ◌≤◌, ◌+◌, ◌*◌, ◌^◌, [], Some, All, Contains, IfOk};
-ghost use Rattle.std.specs.Prelude.{IsOk, OnErr, MatchOption, length, slice_get, slice_index};
+ghost use Rattle.std.specs.Prelude.{◌≡◌, ◌<◌, ◌≤◌, ◌+◌, [], Some, Contains, IfOk, IsOk, OnErr};
+ghost use Rattle.std.specs.Prelude.{MatchOption, length, slice_get};
 ghost use Rattle.std.specs.Map.{keys_of, values_of};
-ghost use Rattle.sok_state.specs.PackedKeys.{state_of};
+ghost use Rattle.sok_state.specs.declared.key.Key.{Key};
 ghost use Rattle.sok_state.specs.Tables.{Enters, EntersNext, HasDistinctKeys, HasFewBoxes, HasNext};
 ghost use Rattle.sok_state.specs.Tables.{IsAt, LacksNext, Lowers};
 
 use crate::key::Key;
-use crate::packed::PackedKey;
+use crate::packed::Packed;
 use indexmap::IndexSet;
 use sok_board::area::Sq;
 use sok_board::box_set::BoxSet;
@@ -16,16 +16,16 @@ use sok_rules::fault::Memory;
 use std::alloc::Global;
 use std::marker::Model;
 
-/// What a `Table` holds, in packed keys of `N` words. It is seen as the list of the keys that its
-/// packed keys stand for, with their depths, and what it has to spare: the lesser of what its two
-/// parts have. Its methods are those of a `Table`.
+/// What a `Table` holds, in packed keys. It is seen as the list of the keys that they stand for,
+/// with their depths, and what it has to spare: the lesser of what its two parts have. Its methods
+/// are those of a `Table`.
 #[derive(Drop)]
-pub(crate) struct PackedTable<const N: usize> {
-    keys: IndexSet<PackedKey<N>>,
+pub(crate) struct PackedTable<K: Packed> {
+    keys: IndexSet<K>,
     depths: Vec<u32>,
 }
 
-impl<const N: usize> Model for PackedTable<N> {
+impl<K: Packed> Model for PackedTable<K> {
     ghost use Rattle.std.specs.Prelude.{◌-◌, min, vec_capacity, vec_len};
     ghost use Rattle.indexmap.specs.IndexSet.{spare};
     ghost use Rattle.sok_state.specs.PackedKeys.{ArePacked, Stored, entries_of};
@@ -33,17 +33,16 @@ impl<const N: usize> Model for PackedTable<N> {
     ghost Value = { Stored };
 
     ghost view = { λ table. record {
-      entries = entries_of table.keys.keys table.depths.items;
+      entries = entries_of K.state_of table.keys.keys table.depths.items;
       spare = min (spare table.keys) (vec_capacity table.depths - vec_len table.depths);
     } };
 
-    ghost invariant = { λ table. ArePacked N table.keys.keys table.depths.items };
+    ghost invariant = { λ table. ArePacked K.fits table.keys.keys table.depths.items };
 }
 
-impl<const N: usize> PackedTable<N> {
+impl<K: Packed> PackedTable<K> {
     /// A table without a key.
-    pub(crate) fn new(alloc: Global) -> PackedTable<N>
-        requires { N ≤ 64 }
+    pub(crate) fn new(alloc: Global) -> PackedTable<K>
         ensures { result.entries ≡ [] }
     {
         PackedTable {
@@ -54,17 +53,23 @@ impl<const N: usize> PackedTable<N> {
 
     /// How many keys the table has.
     pub(crate) fn len(&self) -> usize
-        requires { N ≤ 64 }
         ensures count { result ≡ length self.now.entries }
         ensures distinct { HasDistinctKeys self.now.entries }
     {
         self.keys.len()
     }
 
+    /// Each key has a form. It does nothing.
+    pub(crate) fn forms(&self)
+        ensures { (key : Key) → Contains (keys_of self.now.entries) key
+            → (form : K) × K.fits form × (K.state_of form ≡ key) }
+    {
+        let _keys = &self.keys;
+    }
+
     /// Inserts a key.
     pub(crate) fn insert(&mut self, key: &Key, depth: u32) -> Result<(usize, bool), Memory>
-        requires small { N ≤ 64 }
-        requires room { All (λ square. square < 64 * N) key.now.boxes }
+        requires { K.takes key.now }
         ensures inserted { IfOk result (λ told.
             Enters self.old.entries key.now depth told.0 told.1 self.new.entries) }
         ensures refused { OnErr result (self.new.entries ≡ self.old.entries) }
@@ -72,7 +77,7 @@ impl<const N: usize> PackedTable<N> {
         ensures succeeds { 0 < self.old.spare → IsOk result }
         ensures spare { self.old.spare ≤ self.new.spare + 1 }
     {
-        self.enter(PackedKey::of(key), depth)
+        self.enter(K::of(key), depth)
     }
 
     /// Inserts the key after a push from the one at an index.
@@ -84,10 +89,9 @@ impl<const N: usize> PackedTable<N> {
         least: Sq,
         depth: u32,
     ) -> Result<(usize, bool), Memory>
-        requires small { N ≤ 64 }
         requires exists { index < length self.old.entries }
-        requires from { from < 64 * N }
-        requires to { to < 64 * N }
+        requires takes { (key : Key) → IsAt self.old.entries key index
+            → K.takes_move key from to }
         ensures inserted { IfOk result (λ told. EntersNext
             self.old.entries index from to least depth told.0 told.1 self.new.entries) }
         ensures refused { OnErr result (self.new.entries ≡ self.old.entries) }
@@ -95,22 +99,21 @@ impl<const N: usize> PackedTable<N> {
         ensures succeeds { 0 < self.old.spare → IsOk result }
         ensures spare { self.old.spare ≤ self.new.spare + 1 }
     {
-        let packed = self.packed(index);
-        self.enter(packed.moved(from, to, least), depth)
+        let next = self.packed(index).moved(from, to, least);
+        self.enter(next, depth)
     }
 
     /// Inserts a packed key.
-    fn enter(&mut self, key: PackedKey<N>, depth: u32) -> Result<(usize, bool), Memory>
-        requires { N ≤ 64 }
+    fn enter(&mut self, key: K, depth: u32) -> Result<(usize, bool), Memory>
+        requires { K.fits key }
         ensures inserted { IfOk result (λ told. Enters
-            self.old.entries (state_of key.entry) depth told.0 told.1 self.new.entries) }
+            self.old.entries (K.state_of key) depth told.0 told.1 self.new.entries) }
         ensures refused { OnErr result (self.new.entries ≡ self.old.entries) }
         ensures refused_new { OnErr result
-            (Contains (keys_of self.old.entries) (state_of key.entry) → ⊥) }
+            (Contains (keys_of self.old.entries) (K.state_of key) → ⊥) }
         ensures succeeds { 0 < self.old.spare → IsOk result }
         ensures spare { self.old.spare ≤ self.new.spare + 1 }
     {
-        fit(&key.boxes);
         if self.depths.reserve(1).is_err() {
             // A key that is present needs no room.
             let Some(index) = self.keys.get_index_of(&key) else {
@@ -127,36 +130,33 @@ impl<const N: usize> PackedTable<N> {
 
     /// The index of a key.
     pub(crate) fn get(&self, key: &Key) -> Option<usize>
-        requires small { N ≤ 64 }
-        requires room { All (λ square. square < 64 * N) key.now.boxes }
+        requires { K.takes key.now }
         ensures { MatchOption result
             (Contains (keys_of self.now.entries) key.now → ⊥) (IsAt self.now.entries key.now) }
     {
-        self.find(PackedKey::of(key))
+        self.find(&K::of(key))
     }
 
     /// The index of the key after a push from the one at an index.
     pub(crate) fn get_next(&self, index: usize, from: Sq, to: Sq, least: Sq) -> Option<usize>
-        requires small { N ≤ 64 }
         requires exists { index < length self.now.entries }
-        requires from { from < 64 * N }
-        requires to { to < 64 * N }
+        requires takes { (key : Key) → IsAt self.now.entries key index
+            → K.takes_move key from to }
         ensures { MatchOption result (LacksNext self.now.entries index from to least)
             (HasNext self.now.entries index from to least) }
     {
-        let packed = self.packed(index);
-        self.find(packed.moved(from, to, least))
+        let next = self.packed(index).moved(from, to, least);
+        self.find(&next)
     }
 
     /// The index of a packed key.
-    fn find(&self, key: PackedKey<N>) -> Option<usize>
-        requires { N ≤ 64 }
+    fn find(&self, key: &K) -> Option<usize>
+        requires { K.fits key.now }
         ensures { MatchOption result
-            (Contains (keys_of self.now.entries) (state_of key.entry) → ⊥)
-            (IsAt self.now.entries (state_of key.entry)) }
+            (Contains (keys_of self.now.entries) (K.state_of key.now) → ⊥)
+            (IsAt self.now.entries (K.state_of key.now)) }
     {
-        fit(&key.boxes);
-        self.keys.get_index_of(&key)
+        self.keys.get_index_of(key)
     }
 
     /// The key at an index. Its boxes are listed in a place for squares first.
@@ -166,7 +166,6 @@ impl<const N: usize> PackedTable<N> {
         squares: &mut Vec<Sq>,
         index: usize,
     ) -> Result<Key, Memory>
-        requires small { N ≤ 64 }
         requires exists { index < length self.now.entries }
         requires few { HasFewBoxes self.now.entries index }
         ensures { IfOk result (λ key. IsAt self.now.entries key index) }
@@ -175,22 +174,21 @@ impl<const N: usize> PackedTable<N> {
         packed.list(squares)?;
         Ok(Key {
             boxes: BoxSet::of(alloc, squares)?,
-            least: packed.least,
+            least: packed.least(),
         })
     }
 
     /// The packed key at an index.
-    fn packed(&self, index: usize) -> PackedKey<N>
-        requires small { N ≤ 64 }
+    pub(crate) fn packed(&self, index: usize) -> &K
         requires exists { index < length self.now.entries }
-        ensures { IsAt self.now.entries (state_of result) index }
+        ensures there { IsAt self.now.entries (K.state_of result.now) index }
+        ensures fits { K.fits result.now }
     {
-        *self.keys.get_index(index).unwrap()
+        self.keys.get_index(index).unwrap()
     }
 
     /// The depth of the key at an index.
     pub(crate) fn depth(&self, index: usize) -> u32
-        requires small { N ≤ 64 }
         requires exists { index < length self.now.entries }
         ensures { slice_get (values_of self.now.entries) index ≡ Some result }
     {
@@ -199,7 +197,6 @@ impl<const N: usize> PackedTable<N> {
 
     /// Lowers the depth of the key at an index.
     pub(crate) fn lower_depth(&mut self, index: usize, depth: u32) -> bool
-        requires small { N ≤ 64 }
         requires exists { index < length self.old.entries }
         ensures lowered { Lowers self.old.entries index depth result self.new.entries }
         ensures spare { self.new.spare ≡ self.old.spare }
@@ -210,11 +207,4 @@ impl<const N: usize> PackedTable<N> {
         }
         false
     }
-}
-
-/// Each word has 64 bits, so packed keys with the same squares are the same.
-fn fit(words: &[u64])
-    ensures { (r : ℕ) → slice_index words.now r < 2 ^ 64 }
-{
-    let _words = words;
 }

@@ -9,30 +9,13 @@ ghost use Rattle.sok_state.specs.Tables.{IsAt, LacksNext, Lowers};
 
 use crate::key::Key;
 use crate::packed_table::PackedTable;
+use crate::store::{Store, takes_count, takes_next, widen};
 use sok_board::area::Sq;
 use sok_rules::fault::Memory;
 use std::alloc::Global;
 use std::marker::Model;
 
-/// The states that are known, each with a depth, in the order of their insertion. A table is seen
-/// as the list of its keys with their depths, its room (the squares below that have a bit), and
-/// what it has to spare: how many more keys fit before it asks for memory.
-#[derive(Drop)]
-pub struct Table {
-    store: Store,
-}
-
-/// Keys that are as narrow as the squares of a board allow.
-#[derive(Drop)]
-enum Store {
-    One(PackedTable<1>),
-    Two(PackedTable<2>),
-    Four(PackedTable<4>),
-    Sixteen(PackedTable<16>),
-    SixtyFour(PackedTable<64>),
-}
-
-/// What a table of packed keys answers, whatever their width.
+/// What a table of packed keys answers, whatever their form.
 macro_rules! packed {
     ($store:expr, $table:ident => $answer:expr) => {
         match $store {
@@ -41,8 +24,17 @@ macro_rules! packed {
             Store::Four($table) => $answer,
             Store::Sixteen($table) => $answer,
             Store::SixtyFour($table) => $answer,
+            Store::Listed(_, $table) => $answer,
         }
     };
+}
+
+/// The states that are known, each with a depth, in the order of their insertion. A table is seen
+/// as the list of its keys with their depths, its room (the squares below it have a place), and
+/// what it has to spare: how many more keys fit before it asks for memory.
+#[derive(Drop)]
+pub struct Table {
+    store: Store,
 }
 
 impl Model for Table {
@@ -78,7 +70,7 @@ impl Table {
             let store = Store::Sixteen(PackedTable::new(alloc));
             return Table { store };
         }
-        let store = Store::SixtyFour(PackedTable::new(alloc));
+        let store = Store::Listed(alloc, PackedTable::new(alloc));
         Table { store }
     }
 
@@ -103,6 +95,9 @@ impl Table {
         ensures succeeds { 0 < self.old.spare → IsOk result }
         ensures spare { self.old.spare ≤ self.new.spare + 1 }
     {
+        if !takes_count(&self.store, key.boxes.list().len()) {
+            widen(&mut self.store)?;
+        }
         packed!(&mut self.store, table => table.insert(key, depth))
     }
 
@@ -127,6 +122,9 @@ impl Table {
         ensures succeeds { 0 < self.old.spare → IsOk result }
         ensures spare { self.old.spare ≤ self.new.spare + 1 }
     {
+        if !takes_next(&self.store, index, from, to) {
+            widen(&mut self.store)?;
+        }
         packed!(&mut self.store, table => table.insert_next(index, from, to, least, depth))
     }
 
@@ -136,6 +134,9 @@ impl Table {
         ensures { MatchOption result
             (Contains (keys_of self.now.entries) key.now → ⊥) (IsAt self.now.entries key.now) }
     {
+        if !takes_count(&self.store, key.boxes.list().len()) {
+            return None;
+        }
         packed!(&self.store, table => table.get(key))
     }
 
@@ -148,6 +149,9 @@ impl Table {
         ensures { MatchOption result (LacksNext self.now.entries index from to least)
             (HasNext self.now.entries index from to least) }
     {
+        if !takes_next(&self.store, index, from, to) {
+            return None;
+        }
         packed!(&self.store, table => table.get_next(index, from, to, least))
     }
 

@@ -2,23 +2,16 @@ use Rattle.std.proofs.Common.{subst}
 use Rattle.std.proofs.lemmas.Result.{IfOk-weaker, on_err_weaker}
 use Rattle.std.specs.Map.{keys_of}
 use Rattle.std.specs.Prelude.{Contains}
-use Rattle.sok_region.proofs.Regions.{squares_of-rising}
 use Rattle.sok_state.specs.declared.key.Key.{Key}
-use Rattle.sok_state.specs.PackedKeys.{state_of}
-use Rattle.sok_state.specs.Tables.{Enters, IsNext}
+use Rattle.sok_state.specs.Tables.{Enters}
 use Rattle.sok_state.proofs.Moves.{next-at}
 use Rattle.sok_state.proofs.packed_table.PackedTable.insert_next.Goals as goal
-use Rattle.sok_state.proofs.packed_table.PackedTable.insert_next.Goals.{After-enter}
-
--- the packed key stands for the one that comes next
-made : (g : _) (c : After-enter g) → IsNext (state_of c.packed-packed.result) c.args.from c.args.to c.args.least (state_of c.moved.result)
-made g c = record { moved = c.moved.ensures.boxes; rising = squares_of-rising c.moved.result.boxes; least_is = c.moved.ensures.least }
 
 pub returns-clause-inserted : goal.returns-clause-inserted
 returns-clause-inserted g c = IfOk-weaker c.enter.result _ _ (λ told entered. record {
   enters = λ key next there is.
       let args = c.args in
-      let equal = next-at args.self.now.entries args.index args.from args.to args.least _ key _ next c.packed-packed.ensures (made g c) there is in
+      let equal = next-at args.self.now.entries args.index args.from args.to args.least _ key _ next c.packed.ensures.there c.moved-next.ensures.next there is in
       subst (λ (k : Key). Enters args.self.now.entries k args.depth told.0 told.1 c.enter.new.self.entries) equal entered;
 })
     c.enter.ensures.inserted
@@ -27,7 +20,7 @@ pub returns-clause-refused_new : goal.returns-clause-refused_new
 returns-clause-refused_new g c = on_err_weaker c.enter.result (λ absent. record {
   absent = λ key next there is.
       let args = c.args in
-      let equal = next-at args.self.now.entries args.index args.from args.to args.least _ key _ next c.packed-packed.ensures (made g c) there is in
+      let equal = next-at args.self.now.entries args.index args.from args.to args.least _ key _ next c.packed.ensures.there c.moved-next.ensures.next there is in
       subst (λ (k : Key). Contains (keys_of args.self.now.entries) k → ⊥) equal absent;
 })
     c.enter.ensures.refused_new

@@ -1,6 +1,4 @@
 use Rattle.std.proofs.Common.{refl}
-use Rattle.sok_state.proofs.LegalPushes.{clear-legal}
-use Rattle.sok_state.proofs.Stepped.{clear-after}
 use Rattle.sok_state.proofs.scene.Scene.after.Goals as goal
 
 pub returns-clause-after : goal.returns-clause-after

@@ -1,4 +1,4 @@
-use Rattle.sok_state.proofs.packed_table.fit.Goals as goal
+use Rattle.sok_state.proofs.bit_key.fit.Goals as goal
 
 pub returns : goal.returns
 returns c = λ r. (c.type_inv.words r).fits

@@ -1,7 +1,7 @@
 use Rattle.std.proofs.Common.{◌-◌, ◌*◌, ◌≤◌, length}
 use Rattle.std.specs.Prelude.{vec_capacity}
 use Rattle.sok_state.proofs.Unpacking.{IsUnpacked}
-use Rattle.sok_state.proofs.packed.PackedKey.list.Given as goal
+use Rattle.sok_state.proofs.bit_key.BitKeyPacked.list.Given as goal
 
 abbrev pub invariant-loop-square : goal.invariant-loop-square
 invariant-loop-square g l = record { unpacked : IsUnpacked l.self.boxes l.left l.squares.items; room : 64 * length l.self.boxes ≤ vec_capacity l.squares }

@@ -2,8 +2,9 @@ use Rattle.std.proofs.Common.{ℕ, ◌≡◌, sym, subst, List, arith, length}
 use Rattle.std.proofs.lemmas.List.{length_push}
 use Rattle.sok_field.specs.Numbers.{bit_of_number}
 use Rattle.sok_field.proofs.OneSquare.{has-within}
+use Rattle.sok_region.proofs.Regions.{squares_of-rising}
 use Rattle.sok_state.proofs.Unpacking.{IsUnpacked, IsUnpacked-more, IsUnpacked-fewer, IsUnpacked-all}
-use Rattle.sok_state.proofs.packed.PackedKey.list.Goals as goal
+use Rattle.sok_state.proofs.bit_key.BitKeyPacked.list.Goals as goal
 
 pub unwrap-requires : goal.unwrap-requires
 unwrap-requires g c =
@@ -35,6 +36,11 @@ loop-square-smaller g c =
     let pushed = rw c.unwrap.ensures at c.push.ensures.items in
     rw pushed (let longer = length_push c.loop-square.squares.items c.in-Some.square in omega (arith, fewer, longer))
 
+pub returns-in_err-reserve-clause-rising : goal.returns-in_err-reserve-clause-rising
+returns-in_err-reserve-clause-rising g c = squares_of-rising c.args.self.now.boxes
+
 pub returns : goal.returns
-returns g c = IsUnpacked-all c.args.self.now.boxes c.loop-square.left c.loop-square.squares.items c.loop-square.invariant.unpacked
-    c.in_default.ensures
+returns g c = record {
+  list = IsUnpacked-all c.args.self.now.boxes c.loop-square.left c.loop-square.squares.items c.loop-square.invariant.unpacked c.in_default.ensures;
+  rising = squares_of-rising c.args.self.now.boxes;
+}

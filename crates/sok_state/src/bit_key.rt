@@ -1,0 +1,75 @@
+//! Keys in bits.
+
+ghost use Rattle.std.specs.Prelude.{ℕ, ◌<◌, ◌^◌, slice_index};
+ghost use Rattle.sok_state.specs.PackedKeys.{IsOfWords, TakesBits, TakesBitsMove, bit_state};
+
+use crate::key::Key;
+use crate::packed::Packed;
+use sok_board::area::Sq;
+use sok_field::numbers;
+use sok_rules::fault::Memory;
+
+/// A state as its `Key` tells it: the squares of its boxes as bits by their numbers, and the least
+/// square that the player can walk to. `N` words have a bit for each square of the board.
+#[derive(Clone, Copy, Debug, PartialEq, Eq, Hash)]
+pub(crate) struct BitKey<const N: usize> {
+    boxes: [u64; N],
+    least: Sq,
+}
+
+impl<const N: usize> Packed for BitKey<N> {
+    ghost use Rattle.sok_state.specs.PackedLaws.{same_bits};
+
+    ghost state_of = { bit_state };
+
+    ghost fits = { λ key. IsOfWords N key };
+
+    ghost takes = { TakesBits N };
+
+    ghost takes_move = { λ _. TakesBitsMove N };
+
+    ghost tells = { same_bits N };
+
+    fn of(key: &Key) -> BitKey<N> {
+        let mut boxes = [0; N];
+        for square in key.boxes.list() {
+            numbers::put(&mut boxes, *square);
+        }
+        fit(&boxes);
+        BitKey {
+            boxes,
+            least: key.least,
+        }
+    }
+
+    fn least(&self) -> Sq {
+        self.least
+    }
+
+    /// It asks first for room for each bit.
+    fn list(&self, squares: &mut Vec<Sq>) -> Result<(), Memory> {
+        squares.reserve(64 * N)?;
+        squares.clear();
+        let mut left = self.boxes;
+        while let Some(square) = numbers::first(&left) {
+            squares.push(square).unwrap();
+            numbers::take(&mut left, square);
+        }
+        Ok(())
+    }
+
+    fn moved(&self, from: Sq, to: Sq, least: Sq) -> BitKey<N> {
+        let mut boxes = self.boxes;
+        numbers::take(&mut boxes, from);
+        numbers::put(&mut boxes, to);
+        fit(&boxes);
+        BitKey { boxes, least }
+    }
+}
+
+/// Each word has 64 bits, so keys with the same squares are the same.
+fn fit(words: &[u64])
+    ensures { (r : ℕ) → slice_index words.now r < 2 ^ 64 }
+{
+    let _words = words;
+}
