@@ -1,5 +1,5 @@
 -- What a finished search shows of the position from which it starts.
-use Rattle.std.proofs.Common.{ℕ, ◌≡◌, ◌≤◌, inl, inr, refl, ap, sym, subst, List, [], Option, None, Some, Ok, Err, Result, IfNone, IfOk, length}
+use Rattle.std.proofs.Common.{ℕ, ◌≡◌, ◌≤◌, inl, inr, refl, ap, sym, subst, List, [], Option, None, Some, Ok, Err, Result, IfNone, IfOk, All, length}
 use Rattle.std.proofs.lemmas.List.{length-map}
 use Rattle.std.proofs.lemmas.List.Elements.{All-weaker}
 use Rattle.sok_rules.specs.declared.fault.Memory.{Memory}
@@ -7,6 +7,7 @@ use Rattle.sok_rules.specs.Squares.{Rows}
 use Rattle.sok_rules.specs.Play.{Position}
 use Rattle.sok_rules.specs.States.{MoreStatesFrom, ReachedFrom, Same}
 use Rattle.sok_rules.proofs.Reaching.{reached-on, reached-solves}
+use Rattle.sok_rules.proofs.Walking.{Same-trans}
 use Rattle.sok_board.specs.Area.{Numbered, IsAccepted, position_of}
 use Rattle.sok_board.specs.Limits.{box_limit}
 use Rattle.sok_region.specs.Regions.{IsPlaced}
@@ -15,7 +16,7 @@ use Rattle.sok_state.specs.Keys.{IsKeyOf, key_position}
 use Rattle.sok_state.specs.Tables.{Tabled}
 use Rattle.sok_state.proofs.Placed.{IsStanding-placed}
 use Rattle.sok_closed.specs.Lookup.{AreFollowed}
-use Rattle.sok_closed.specs.Rolls.{IsClosed}
+use Rattle.sok_closed.specs.Rolls.{IsClosed, IsPosition}
 use Rattle.sok_closed.proofs.Fine.{IsLooking-fine, missed-closed}
 use Rattle.sok_closed.proofs.Starting.{one-starts}
 use Rattle.sok_entry.specs.Text.{FitsInner}
@@ -25,7 +26,7 @@ use Rattle.sok_alone.specs.declared.known.Known.{Known}
 use Rattle.sok_alone.specs.declared.meeting.Met.{Met}
 use Rattle.sok_alone.specs.declared.meeting.Met.TheVariants.{On, Ended}
 use Rattle.sok_alone.specs.Known.{IsCome, roll_of}
-use Rattle.sok_alone.specs.Meeting.{IsFinished, TellsAlone, TellsRun}
+use Rattle.sok_alone.specs.Meeting.{AreClosedWithin, IsFinished, TellsAlone, TellsRun}
 use Rattle.sok_alone.specs.GivenUp.{IsGivenUp}
 use Rattle.sok_alone.proofs.Knowing.{zero-at}
 
@@ -38,16 +39,44 @@ more-walked rows x y limit walk more = record {
   apart = more.apart;
 }
 
-given-up-walked : (rows : Rows) (x y : Position) (limit : ℕ) → Same rows x y → IsGivenUp rows y limit → IsGivenUp rows x limit
+pub given-up-walked : (rows : Rows) (x y : Position) (limit : ℕ) → Same rows x y → IsGivenUp rows y limit → IsGivenUp rows x limit
 given-up-walked rows x y limit walk (inl (w, solves)) = inl (reached-solves rows x y (walk.0, walk.1) w solves)
 given-up-walked rows x y limit walk (inr more) = inr (more-walked rows x y limit walk more)
 
 -- what ends a search that stops at no state
-pub none-ended : (r : Result (Option (List Inner)) Memory) (P : Type 0) (lives : Tabled) → lives.entries ≡ []
-    → IfOk r (λ found. IfNone found (lives.entries ≡ [] → P)) → IfOk r (λ found. IfNone found P)
-none-ended (Ok None) P lives none told = told none
-none-ended (Ok (Some inner)) P lives none told = told
-none-ended (Err fault) P lives none told = told
+pub none-ended : (r : Result (Option (List Inner)) Memory) (P : Type 0) {Q : Type 0} (lives : Tabled) → lives.entries ≡ [] → (Q → P)
+    → IfOk r (λ found. IfNone found (lives.entries ≡ [] → Q)) → IfOk r (λ found. IfNone found P)
+none-ended (Ok None) P lives none on told = on (told none)
+none-ended (Ok (Some inner)) P lives none on told = told
+none-ended (Err fault) P lives none on told = told
+
+-- a list that is closed from a state is so from each position of it
+pub closed-walked : (b : Numbered) (player : ℕ) (boxes : List ℕ) (key : Key) (limit : ℕ) → key.boxes ≡ boxes → IsKeyOf b (position_of b player boxes) key
+    → (inner : List Inner) → AreClosedWithin b key.least key.boxes limit inner → AreClosedWithin b player boxes limit inner
+closed-walked b player boxes key limit are is inner within =
+    let rolled = within.closed.rolled in
+    let (e, first) = rolled.starter in
+    record {
+      closed = record {
+        rolled = record {
+          positions = subst (λ (list : List ℕ). All (λ one. IsPosition b (length list) (inner_node one)) inner) are rolled.positions;
+          apart = rolled.apart;
+          unsolved = rolled.unsolved;
+          starter = (
+            e,
+            record {
+              listed = first.listed;
+              first = first.first;
+              same = Same-trans b.rows (position_of b player boxes) (key_position b key) _ is.same first.same;
+            },
+          );
+          followed = rolled.followed;
+        };
+        barred = within.closed.barred;
+      };
+      few = within.few;
+      fit = within.fit;
+    }
 
 -- the known states are a closed list
 closed-finished : (b : Numbered) → IsAccepted b → (player : ℕ) (boxes : List ℕ) (key : Key) (limit : ℕ) (known : Known) → IsPlaced b boxes player

@@ -3,6 +3,7 @@
 ghost use Rattle.std.specs.Prelude.{◌≡◌, ◌≤◌, [], IfOk, IfNone, IfSome, OnOk, length};
 ghost use Rattle.sok_board.specs.Area.{position_of};
 ghost use Rattle.sok_region.specs.Regions.{IsPlaced};
+ghost use Rattle.sok_state.specs.Keys.{IsKey, key_position};
 ghost use Rattle.sok_alone.specs.GivenUp.{HasEnded, IsGivenUp};
 ghost use Rattle.sok_alone.specs.Meeting.{AreClosedWithin, TellsAlone};
 ghost use Rattle.sok_alone.specs.Workspace.{IsWorkspace};
@@ -17,6 +18,7 @@ use sok_board::box_set::BoxSet;
 use sok_entry::inners::Inners;
 use sok_push::tables::Tables;
 use sok_rules::fault::Memory;
+use sok_state::key::Key;
 use sok_state::table::Table;
 use std::alloc::Global;
 
@@ -39,45 +41,37 @@ pub fn close_alone(
     ensures none { IfOk result (λ found. IfNone found
         (IsGivenUp board.now.rows (position_of board.now player boxes.now) limit)) }
 {
+    let own = boxes.copy(alloc)?;
     let lives = Table::new(alloc, board.squares());
     let mut workspace = Workspace::new(alloc, board);
-    close_unless(
-        alloc,
-        board,
-        tables,
-        &lives,
-        &mut workspace,
-        boxes,
-        player,
-        limit,
-    )
+    let first = workspace.normalizer.key(board, own, player);
+    close_unless(alloc, board, tables, &lives, &mut workspace, &first, limit)
 }
 
-/// The same, but for states that are noted in a table at depth 0: where one is come to, there may be
-/// no answer either.
+/// The same from a state, but for states that are noted in a table at depth 0: where one is come to,
+/// there may be no answer either.
 pub(crate) fn close_unless(
     alloc: Global,
     board: &Board,
     tables: &Tables,
     lives: &Table,
     workspace: &mut Workspace,
-    boxes: &BoxSet,
-    player: Sq,
+    first: &Key,
     limit: u32,
 ) -> Result<Option<Inners>, Memory>
     requires tables { tables.now.board ≡ board.now }
     requires room { length board.now.area ≤ lives.now.room }
     requires workspace { IsWorkspace board.now workspace.old }
-    requires placed { IsPlaced board.now boxes.now player }
+    requires state { IsKey board.now first.now }
     ensures workspace { OnOk result (IsWorkspace board.now workspace.new) }
     ensures closed { IfOk result (λ found. IfSome found
-        (AreClosedWithin board.now player boxes.now limit)) }
+        (AreClosedWithin board.now first.now.least first.now.boxes limit)) }
     ensures none { IfOk result (λ found. IfNone found
-        (HasEnded lives.now board.now.rows (position_of board.now player boxes.now) limit)) }
+        (HasEnded lives.now board.now.rows (key_position board.now first.now) limit)) }
 {
     let mut known = Known::new(alloc, board.squares());
     let met = run_from(
-        alloc, board, tables, lives, workspace, boxes, player, limit, &mut known,
+        alloc, board, tables, lives, workspace, first, limit, &mut known,
     );
     // The table is let go here once, and not at each exit.
     let inner = {
@@ -93,33 +87,29 @@ pub(crate) fn close_unless(
     }
 }
 
-/// Runs a search from where the player stands, with no states known before. It has the key for
-/// itself, and leaves the known states to its caller, so that each is let go at one exit alone.
+/// Runs a search from a state, with no states known before.
 fn run_from(
     alloc: Global,
     board: &Board,
     tables: &Tables,
     lives: &Table,
     workspace: &mut Workspace,
-    boxes: &BoxSet,
-    player: Sq,
+    first: &Key,
     limit: u32,
     known: &mut Known,
 ) -> Result<Met, Memory>
     requires tables { tables.now.board ≡ board.now }
     requires room { length board.now.area ≤ lives.now.room }
     requires workspace { IsWorkspace board.now workspace.old }
-    requires placed { IsPlaced board.now boxes.now player }
+    requires state { IsKey board.now first.now }
     requires none { known.old.table.entries ≡ [] }
     requires no_inner { known.old.inner.items ≡ [] }
     requires wide { length board.now.area ≤ known.old.table.room }
     ensures workspace { OnOk result (IsWorkspace board.now workspace.new) }
-    ensures tells { IfOk result (TellsAlone board.now lives.now player boxes.now limit
-        known.new.inner.items) }
+    ensures tells { IfOk result (TellsAlone board.now lives.now first.now.least first.now.boxes
+        limit known.new.inner.items) }
 {
     // A set of boxes tells with its list that they are few.
-    let _squares = boxes.list();
-    let own = boxes.copy(alloc)?;
-    let key = workspace.normalizer.key(board, own, player);
-    run(alloc, board, tables, lives, limit, known, workspace, &key)
+    let _squares = first.boxes.list();
+    run(alloc, board, tables, lives, limit, known, workspace, first)
 }

@@ -178,8 +178,7 @@ impl Losses {
             tables,
             &self.asked,
             &mut self.workspace,
-            &key.boxes,
-            key.least,
+            key,
             STATES,
         )?;
         let Some(inner) = found else {
