@@ -2,7 +2,6 @@
 use Rattle.std.specs.Prelude.{ℕ, ◌≡◌, ◌≤◌, All, length, map}
 use Rattle.sok_board.specs.Area.{Numbered, IsAccepted}
 use Rattle.sok_board.specs.Limits.{box_limit}
-use Rattle.sok_push.specs.Distances.{Distances}
 use Rattle.sok_rules.specs.States.{ReachedFrom}
 use Rattle.sok_state.specs.declared.key.Key.{Key}
 use Rattle.sok_state.specs.Keys.{IsKey, key_position}
@@ -16,10 +15,9 @@ use Rattle.sok_entry.specs.Text.{FitsInner}
 use Rattle.sok_bar.specs.Patterns.{IsBarredAlone, inner_node, is_expanded}
 use Rattle.sok_alone.specs.declared.known.Known.{Known}
 
--- an accepted board with its tables, a table of states at which a search stops, with room for them, and a state of few boxes from which it starts
-pub record IsAsked (b : Numbered) (t : Distances) (lives : Tabled) (start : Key) : Type 0 where
+-- an accepted board, a table of states at which a search stops, with room for them, and a state of few boxes from which it starts
+pub record IsAsked (b : Numbered) (lives : Tabled) (start : Key) : Type 0 where
   pub accepted : IsAccepted b
-  pub tables : t.board ≡ b
   pub room : length b.area ≤ lives.room
   pub few_boxes : length start.boxes ≤ box_limit
 

@@ -1,6 +1,6 @@
 //! Which boxes of a position are asked for a loss, and when.
 
-ghost use Rattle.std.specs.Prelude.{◌≡◌, ◌<◌, All, Contains, IfOk, IsTrue, length};
+ghost use Rattle.std.specs.Prelude.{◌<◌, All, Contains, IfOk, IsTrue, length};
 ghost use Rattle.sok_board.specs.BoxSets.{put_in_order};
 ghost use Rattle.sok_region.specs.Regions.{IsPlaced};
 ghost use Rattle.sok_alone.specs.Asking.{MayAsk, TellsAsked};
@@ -12,6 +12,7 @@ use crate::losses::Losses;
 use sok_board::area::Sq;
 use sok_board::board::Board;
 use sok_board::box_set::BoxSet;
+use sok_push::setting::Setting;
 use sok_push::tables::Tables;
 use sok_rules::cell::Dir;
 use sok_rules::fault::Memory;
@@ -78,24 +79,23 @@ impl Losses {
     pub fn loss_after(
         &mut self,
         alloc: Global,
-        board: &Board,
-        tables: &Tables,
+        setting: &Setting<'_>,
         known: usize,
         boxes: &BoxSet,
         from: Sq,
         dir: Dir,
         to: Sq,
     ) -> Result<Option<u32>, Memory>
-        requires tables { tables.now.board ≡ board.now }
-        requires pushed { ArePushed board.now boxes.now from to }
-        requires losses { KeepsLosses board.now self.old }
+        requires pushed { ArePushed setting.now.board.now boxes.now from to }
+        requires losses { KeepsLosses setting.now.board.now self.old }
         ensures { IfOk result
-            (TellsLoss board.now from (put_in_order from to boxes.now) self.old self.new) }
+            (TellsLoss setting.now.board.now from
+            (put_in_order from to boxes.now) self.old self.new) }
     {
         let asking = Asking {
             alloc,
-            board,
-            tables,
+            board: setting.board,
+            tables: setting.tables,
             known,
             boxes,
             from,
@@ -207,8 +207,10 @@ impl Losses {
         let after = before.moved(asking.alloc, asking.from, asking.to)?;
         self.loss_of(
             asking.alloc,
-            asking.board,
-            asking.tables,
+            &Setting {
+                board: asking.board,
+                tables: asking.tables,
+            },
             after,
             asking.from,
         )
@@ -219,15 +221,13 @@ impl Losses {
     pub fn loss_among(
         &mut self,
         alloc: Global,
-        board: &Board,
-        tables: &Tables,
+        setting: &Setting<'_>,
         boxes: &BoxSet,
         player: Sq,
     ) -> Result<Option<u32>, Memory>
-        requires tables { tables.now.board ≡ board.now }
-        requires placed { IsPlaced board.now boxes.now player }
-        requires losses { KeepsLosses board.now self.old }
-        ensures { IfOk result (TellsLoss board.now player boxes.now self.old self.new) }
+        requires placed { IsPlaced setting.now.board.now boxes.now player }
+        requires losses { KeepsLosses setting.now.board.now self.old }
+        ensures { IfOk result (TellsLoss setting.now.board.now player boxes.now self.old self.new) }
     {
         for one in boxes.list() {
             for other in boxes.list() {
@@ -235,7 +235,7 @@ impl Losses {
                     continue;
                 }
                 let pair = chosen(alloc, boxes, &[*one, *other])?;
-                let found = self.loss_of(alloc, board, tables, pair, player)?;
+                let found = self.loss_of(alloc, setting, pair, player)?;
                 if found.is_some() {
                     return Ok(found);
                 }

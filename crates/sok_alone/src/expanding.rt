@@ -1,6 +1,6 @@
 //! The pushes of a state are followed.
 
-ghost use Rattle.std.specs.Prelude.{◌≡◌, ◌<◌, ◌≤◌, All, IfOk, OnOk, length};
+ghost use Rattle.std.specs.Prelude.{◌<◌, All, IfOk, OnOk, length};
 ghost use Rattle.sok_closed.specs.Lookup.{AreFollowed};
 ghost use Rattle.sok_state.specs.Pushes.{IsLegal, IsOpened};
 ghost use Rattle.sok_alone.specs.Known.{IsAsked, IsKnown, IsReached, roll_of};
@@ -12,8 +12,7 @@ use crate::known::Known;
 use crate::meeting::{Met, meet};
 use crate::workspace::Workspace;
 use sok_bar::inners::is_expanded;
-use sok_board::board::Board;
-use sok_push::tables::Tables;
+use sok_push::setting::Setting;
 use sok_rules::fault::Memory;
 use sok_state::key::Key;
 use sok_state::push::Push;
@@ -24,8 +23,7 @@ use std::alloc::Global;
 /// Follows some legal pushes of a known state.
 fn follow_all(
     alloc: Global,
-    board: &Board,
-    tables: &Tables,
+    setting: &Setting<'_>,
     lives: &Table,
     limit: u32,
     known: &mut Known,
@@ -34,18 +32,19 @@ fn follow_all(
     pushes: &[Push],
 ) -> Result<Met, Memory>
     ghost start: { Key }
-    requires asked { IsAsked board.now tables.now lives.now start }
-    requires known { IsKnown board.now start limit known.old }
-    requires reached { IsReached board.now start key.now }
-    requires legal { All (IsLegal board.now key.now) pushes.now }
-    requires opened { IsOpened board.now key.now scene.old }
+    requires asked { IsAsked setting.now.board.now lives.now start }
+    requires known { IsKnown setting.now.board.now start limit known.old }
+    requires reached { IsReached setting.now.board.now start key.now }
+    requires legal { All (IsLegal setting.now.board.now key.now) pushes.now }
+    requires opened { IsOpened setting.now.board.now key.now scene.old }
     ensures tells { IfOk result
-        (TellsFollowed board.now lives.now start limit known.old key.now pushes.now known.new) }
-    ensures opened { OnOk result (IsOpened board.now key.now scene.new) }
+        (TellsFollowed setting.now.board.now lives.now start limit known.old key.now pushes.now
+        known.new) }
+    ensures opened { OnOk result (IsOpened setting.now.board.now key.now scene.new) }
 {
     for push in pushes {
-        let next = scene.after(alloc, board, key, *push)?;
-        match meet(alloc, board, tables, lives, limit, known, &next)? {
+        let next = scene.after(alloc, setting.board, key, *push)?;
+        match meet(alloc, setting, lives, limit, known, &next)? {
             Met::On => {}
             Met::Ended => return Ok(Met::Ended),
         }
@@ -56,8 +55,7 @@ fn follow_all(
 /// Follows each legal push of a known state, if it is to be expanded.
 fn expand(
     alloc: Global,
-    board: &Board,
-    tables: &Tables,
+    setting: &Setting<'_>,
     lives: &Table,
     limit: u32,
     known: &mut Known,
@@ -65,47 +63,45 @@ fn expand(
     index: usize,
 ) -> Result<Met, Memory>
     ghost start: { Key }
-    requires asked { IsAsked board.now tables.now lives.now start }
-    requires known { IsKnown board.now start limit known.old }
+    requires asked { IsAsked setting.now.board.now lives.now start }
+    requires known { IsKnown setting.now.board.now start limit known.old }
     requires exists { index < length known.old.inner.items }
-    requires followed { AreFollowed board.now (roll_of known.old) index }
-    requires workspace { IsWorkspace board.now workspace.old }
-    ensures workspace { OnOk result (IsWorkspace board.now workspace.new) }
+    requires followed { AreFollowed setting.now.board.now (roll_of known.old) index }
+    requires workspace { IsWorkspace setting.now.board.now workspace.old }
+    ensures workspace { OnOk result (IsWorkspace setting.now.board.now workspace.new) }
     ensures tells { IfOk result
-        (TellsExpanded board.now lives.now start limit known.old index known.new) }
+        (TellsExpanded setting.now.board.now lives.now start limit known.old index known.new) }
 {
     if !is_expanded(&known.inner[index].reason) {
         return Ok(Met::On);
     }
     let key = known.table.key(alloc, &mut workspace.squares, index)?;
-    workspace.expansion.open(board, &key)?;
+    workspace.expansion.open(setting.board, &key)?;
     let scene = &mut workspace.expansion.scene;
     let pushes = &workspace.expansion.pushes;
-    follow_all(
-        alloc, board, tables, lives, limit, known, scene, &key, pushes,
-    )
+    follow_all(alloc, setting, lives, limit, known, scene, &key, pushes)
 }
 
 /// Expands one known state after another, until none is left or the search has ended.
 fn expand_all(
     alloc: Global,
-    board: &Board,
-    tables: &Tables,
+    setting: &Setting<'_>,
     lives: &Table,
     limit: u32,
     known: &mut Known,
     workspace: &mut Workspace,
 ) -> Result<Met, Memory>
     ghost start: { Key }
-    requires asked { IsAsked board.now tables.now lives.now start }
-    requires known { IsKnown board.now start limit known.old }
-    requires workspace { IsWorkspace board.now workspace.old }
-    ensures workspace { OnOk result (IsWorkspace board.now workspace.new) }
-    ensures tells { IfOk result (TellsAll board.now lives.now start limit known.old known.new) }
+    requires asked { IsAsked setting.now.board.now lives.now start }
+    requires known { IsKnown setting.now.board.now start limit known.old }
+    requires workspace { IsWorkspace setting.now.board.now workspace.old }
+    ensures workspace { OnOk result (IsWorkspace setting.now.board.now workspace.new) }
+    ensures tells { IfOk result
+        (TellsAll setting.now.board.now lives.now start limit known.old known.new) }
 {
     let mut index = 0;
     while index < known.inner.len() {
-        match expand(alloc, board, tables, lives, limit, known, workspace, index)? {
+        match expand(alloc, setting, lives, limit, known, workspace, index)? {
             Met::On => {}
             Met::Ended => return Ok(Met::Ended),
         }
@@ -118,8 +114,7 @@ fn expand_all(
 /// search has ended.
 pub(crate) fn run(
     alloc: Global,
-    board: &Board,
-    tables: &Tables,
+    setting: &Setting<'_>,
     lives: &Table,
     limit: u32,
     known: &mut Known,
@@ -127,15 +122,16 @@ pub(crate) fn run(
     first: &Key,
 ) -> Result<Met, Memory>
     ghost start: { Key }
-    requires asked { IsAsked board.now tables.now lives.now start }
-    requires known { IsKnown board.now start limit known.old }
-    requires reached { IsReached board.now start first.now }
-    requires workspace { IsWorkspace board.now workspace.old }
-    ensures workspace { OnOk result (IsWorkspace board.now workspace.new) }
-    ensures tells { IfOk result (TellsRun board.now lives.now start limit first.now known.new) }
+    requires asked { IsAsked setting.now.board.now lives.now start }
+    requires known { IsKnown setting.now.board.now start limit known.old }
+    requires reached { IsReached setting.now.board.now start first.now }
+    requires workspace { IsWorkspace setting.now.board.now workspace.old }
+    ensures workspace { OnOk result (IsWorkspace setting.now.board.now workspace.new) }
+    ensures tells { IfOk result
+        (TellsRun setting.now.board.now lives.now start limit first.now known.new) }
 {
-    match meet(alloc, board, tables, lives, limit, known, first)? {
-        Met::On => expand_all(alloc, board, tables, lives, limit, known, workspace),
+    match meet(alloc, setting, lives, limit, known, first)? {
+        Met::On => expand_all(alloc, setting, lives, limit, known, workspace),
         Met::Ended => Ok(Met::Ended),
     }
 }

@@ -12,10 +12,9 @@ ghost use Rattle.sok_alone.specs.GivenUp.{IsGivenUp};
 use crate::closing::close_alone;
 use crate::found::FoundPattern;
 use sok_board::area::Sq;
-use sok_board::board::Board;
 use sok_board::box_set::BoxSet;
 use sok_entry::entry::Numbers;
-use sok_push::tables::Tables;
+use sok_push::setting::Setting;
 use sok_rules::fault::Memory;
 use std::alloc::Global;
 
@@ -25,34 +24,33 @@ use std::alloc::Global;
 /// come to. It refuses only for want of memory.
 pub fn find_pattern(
     alloc: Global,
-    board: &Board,
-    tables: &Tables,
+    setting: &Setting<'_>,
     boxes: &BoxSet,
     player: Sq,
     first: Sq,
     second: Sq,
     limit: u32,
 ) -> Result<Option<FoundPattern>, Memory>
-    requires tables { tables.now.board ≡ board.now }
-    requires boxes_exist { All (λ square. square < length board.now.area) boxes.now }
-    requires player_exists { player < length board.now.area }
+    requires boxes_exist { All (λ square. square < length setting.now.board.now.area) boxes.now }
+    requires player_exists { player < length setting.now.board.now.area }
     requires player_free { Contains boxes.now player → ⊥ }
     requires ordered { first < second }
     requires first_box { Contains boxes.now first }
     requires second_box { Contains boxes.now second }
     requires positive { 0 < limit }
     ensures holds { IfOk result (λ found. IfSome found
-        (λ pattern. IsPattern board.now player boxes.now pattern.members pattern.inner)) }
+        (λ pattern. IsPattern setting.now.board.now player boxes.now pattern.members
+        pattern.inner)) }
     ensures members { IfOk result (λ found. IfSome found
         (λ pattern. AreMembersAt boxes.now (first ∷ second ∷ []) pattern.members)) }
     ensures few { IfOk result (λ found. IfSome found
         (λ pattern. length pattern.inner ≤ limit)) }
     ensures fit { IfOk result (λ found. IfSome found (λ pattern. All FitsInner pattern.inner)) }
-    ensures none { IfOk result (λ found. IfNone found (IsGivenUp board.now.rows
-        (position_of board.now player (first ∷ second ∷ [])) limit)) }
+    ensures none { IfOk result (λ found. IfNone found (IsGivenUp setting.now.board.now.rows
+        (position_of setting.now.board.now player (first ∷ second ∷ [])) limit)) }
 {
     let pair = BoxSet::of(alloc, &[first, second])?;
-    let Some(inner) = close_alone(alloc, board, tables, &pair, player, limit)? else {
+    let Some(inner) = close_alone(alloc, setting, &pair, player, limit)? else {
         return Ok(None);
     };
     let members = members_of(alloc, boxes.list(), pair.list())?;

@@ -1,8 +1,7 @@
 //! How a new state of some boxes alone stands.
 
-ghost use Rattle.std.specs.Prelude.{ℕ, ◌≡◌, ◌<◌, ◌≤◌, ◌↔◌, IsTrue, IfOk, IfSome, length};
+ghost use Rattle.std.specs.Prelude.{◌<◌, ◌↔◌, IsTrue, IfOk, IfSome};
 ghost use Rattle.sok_board.specs.Area.{IsAccepted};
-ghost use Rattle.sok_board.specs.Limits.{box_limit};
 ghost use Rattle.sok_price.specs.Prices.{IsCrowd};
 ghost use Rattle.sok_region.specs.Regions.{IsPlaced};
 ghost use Rattle.sok_alone.specs.Judging.{IsBarring, TellsJudged};
@@ -12,11 +11,10 @@ use sok_bar::crowd::Crowd;
 use sok_bar::frozen::find_jam;
 use sok_bar::rest::Rest;
 use sok_board::area::Sq;
-use sok_board::board::Board;
 use sok_board::box_set::BoxSet;
 use sok_closed::solved::is_solved;
 use sok_entry::entry::{InnerReason, Numbers};
-use sok_push::tables::Tables;
+use sok_push::setting::Setting;
 use sok_rules::fault::Memory;
 use sok_state::key::Key;
 use std::alloc::Global;
@@ -33,21 +31,15 @@ pub(crate) enum Judged {
 
 /// How a state of some boxes alone stands: solved, barred by a jam or a crowd, or to be expanded. It
 /// refuses only for want of memory.
-pub(crate) fn judge(
-    alloc: Global,
-    board: &Board,
-    tables: &Tables,
-    key: &Key,
-) -> Result<Judged, Memory>
-    requires accepted { IsAccepted board.now }
-    requires tables { tables.now.board ≡ board.now }
-    requires placed { IsPlaced board.now key.now.boxes key.now.least }
-    ensures { IfOk result (TellsJudged board.now key.now) }
+pub(crate) fn judge(alloc: Global, setting: &Setting<'_>, key: &Key) -> Result<Judged, Memory>
+    requires accepted { IsAccepted setting.now.board.now }
+    requires placed { IsPlaced setting.now.board.now key.now.boxes key.now.least }
+    ensures { IfOk result (TellsJudged setting.now.board.now key.now) }
 {
-    if is_solved(board, &key.boxes) {
+    if is_solved(setting.board, &key.boxes) {
         return Ok(Judged::Solved);
     }
-    match barring(alloc, board, tables, &key.boxes, key.least)? {
+    match barring(alloc, setting, &key.boxes, key.least)? {
         Some(reason) => Ok(Judged::Stands(reason)),
         None => Ok(Judged::Stands(InnerReason::Expanded)),
     }
@@ -57,21 +49,19 @@ pub(crate) fn judge(
 /// missed.
 fn barring(
     alloc: Global,
-    board: &Board,
-    tables: &Tables,
+    setting: &Setting<'_>,
     boxes: &BoxSet,
     player: Sq,
 ) -> Result<Option<InnerReason>, Memory>
-    requires accepted { IsAccepted board.now }
-    requires tables { tables.now.board ≡ board.now }
-    requires placed { IsPlaced board.now boxes.now player }
-    ensures { IfOk result (λ found. IfSome found (IsBarring board.now boxes.now)) }
+    requires accepted { IsAccepted setting.now.board.now }
+    requires placed { IsPlaced setting.now.board.now boxes.now player }
+    ensures { IfOk result (λ found. IfSome found (IsBarring setting.now.board.now boxes.now)) }
 {
-    if let Some(jam) = find_jam(alloc, board, tables, boxes)? {
+    if let Some(jam) = find_jam(alloc, setting, boxes)? {
         let members = Numbers::from(jam);
         return Ok(Some(InnerReason::Frozen { members }));
     }
-    match find_crowd(alloc, board, tables, boxes, player)? {
+    match find_crowd(alloc, setting, boxes, player)? {
         Some(members) => Ok(Some(InnerReason::Crowd { members })),
         None => Ok(None),
     }
@@ -80,24 +70,22 @@ fn barring(
 /// A crowd of one box, or else of all boxes.
 fn find_crowd(
     alloc: Global,
-    board: &Board,
-    tables: &Tables,
+    setting: &Setting<'_>,
     boxes: &BoxSet,
     player: Sq,
 ) -> Result<Option<Numbers>, Memory>
-    requires tables { tables.now.board ≡ board.now }
-    requires placed { IsPlaced board.now boxes.now player }
-    ensures { IfOk result (λ found. IfSome found (IsCrowd board.now boxes.now)) }
+    requires placed { IsPlaced setting.now.board.now boxes.now player }
+    ensures { IfOk result (λ found. IfSome found (IsCrowd setting.now.board.now boxes.now)) }
 {
     let mut all = Vec::new(alloc);
     for index in 0..boxes.list().len() {
         let one = [index as u32];
-        if is_crowd(alloc, board, tables, boxes, player, &one)? {
+        if is_crowd(alloc, setting, boxes, player, &one)? {
             return Ok(Some(Numbers::copied(alloc, &one)?));
         }
         all.push(index as u32)?;
     }
-    if is_crowd(alloc, board, tables, boxes, player, &all)? {
+    if is_crowd(alloc, setting, boxes, player, &all)? {
         return Ok(Some(Numbers::from(all)));
     }
     Ok(None)
@@ -106,15 +94,14 @@ fn find_crowd(
 /// Whether members share too few goals.
 fn is_crowd(
     alloc: Global,
-    board: &Board,
-    tables: &Tables,
+    setting: &Setting<'_>,
     boxes: &BoxSet,
     player: Sq,
     members: &[u32],
 ) -> Result<bool, Memory>
-    requires tables { tables.now.board ≡ board.now }
-    requires placed { IsPlaced board.now boxes.now player }
-    ensures { IfOk result (λ holds. IsTrue holds ↔ IsCrowd board.now boxes.now members.now) }
+    requires placed { IsPlaced setting.now.board.now boxes.now player }
+    ensures { IfOk result
+        (λ holds. IsTrue holds ↔ IsCrowd setting.now.board.now boxes.now members.now) }
 {
-    Crowd { members }.holds(alloc, board, tables, boxes, player, Rest::Never)
+    Crowd { members }.holds(alloc, setting, boxes, player, Rest::Never)
 }

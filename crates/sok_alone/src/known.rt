@@ -1,6 +1,6 @@
 //! The states of some boxes alone that are known.
 
-ghost use Rattle.std.specs.Prelude.{ℕ, ◌≡◌, ◌<◌, ◌≤◌, ◌++◌, ◌∷◌, [], All, Contains, IfOk, OnOk, length};
+ghost use Rattle.std.specs.Prelude.{◌≡◌, ◌<◌, ◌≤◌, ◌++◌, ◌∷◌, [], All, Contains, OnOk};
 ghost use Rattle.std.specs.Map.{keys_of};
 ghost use Rattle.sok_board.specs.Limits.{square_limit};
 ghost use Rattle.sok_alone.specs.Known.{inner_at};

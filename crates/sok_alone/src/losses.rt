@@ -19,7 +19,7 @@ use sok_board::area::Sq;
 use sok_board::board::Board;
 use sok_board::box_set::BoxSet;
 use sok_entry::inners::Inners;
-use sok_push::tables::Tables;
+use sok_push::setting::Setting;
 use sok_region::region::Region;
 use sok_rules::fault::Memory;
 use sok_state::key::Key;
@@ -113,18 +113,16 @@ impl Losses {
     pub(crate) fn loss_of(
         &mut self,
         alloc: Global,
-        board: &Board,
-        tables: &Tables,
+        setting: &Setting<'_>,
         boxes: BoxSet,
         player: Sq,
     ) -> Result<Option<u32>, Memory>
-        requires tables { tables.now.board ≡ board.now }
-        requires placed { IsPlaced board.now boxes player }
-        requires losses { KeepsLosses board.now self.old }
-        ensures { IfOk result (TellsLoss board.now player boxes self.old self.new) }
+        requires placed { IsPlaced setting.now.board.now boxes player }
+        requires losses { KeepsLosses setting.now.board.now self.old }
+        ensures { IfOk result (TellsLoss setting.now.board.now player boxes self.old self.new) }
     {
-        let key = self.workspace.normalizer.key(board, boxes, player);
-        self.recall(alloc, board, tables, &key)
+        let key = self.workspace.normalizer.key(setting.board, boxes, player);
+        self.recall(alloc, setting, &key)
     }
 
     /// The place of a loss of a state of boxes alone. They are searched if they were not asked yet,
@@ -132,14 +130,12 @@ impl Losses {
     fn recall(
         &mut self,
         alloc: Global,
-        board: &Board,
-        tables: &Tables,
+        setting: &Setting<'_>,
         key: &Key,
     ) -> Result<Option<u32>, Memory>
-        requires tables { tables.now.board ≡ board.now }
-        requires state { IsKey board.now key.now }
-        requires losses { KeepsLosses board.now self.old }
-        ensures more { OnOk result (AddsLosses board.now self.old self.new) }
+        requires state { IsKey setting.now.board.now key.now }
+        requires losses { KeepsLosses setting.now.board.now self.old }
+        ensures more { OnOk result (AddsLosses setting.now.board.now self.old self.new) }
         ensures there { IfOk result (λ found. IfSome found
             (λ place. HasKeyAt (losses_of self.new) place key.now)) }
     {
@@ -147,7 +143,7 @@ impl Losses {
             let number = self.asked.depth(index);
             return Ok(place_of(&self.losses, number, key));
         }
-        let number = self.find(alloc, board, tables, key)?;
+        let number = self.find(alloc, setting, key)?;
         let (_index, _is_new) = self.asked.insert(key, number)?;
         Ok(place_of(&self.losses, number, key))
     }
@@ -155,27 +151,19 @@ impl Losses {
     /// Searches a state of boxes alone, unless they are soon solved, and up to a state of which no loss
     /// is known though it was asked. Its loss goes last, if one is found, and its number, from 1 on, is
     /// told, else 0.
-    fn find(
-        &mut self,
-        alloc: Global,
-        board: &Board,
-        tables: &Tables,
-        key: &Key,
-    ) -> Result<u32, Memory>
-        requires tables { tables.now.board ≡ board.now }
-        requires state { IsKey board.now key.now }
-        requires losses { KeepsLosses board.now self.old }
-        ensures more { OnOk result (AddsLosses board.now self.old self.new) }
+    fn find(&mut self, alloc: Global, setting: &Setting<'_>, key: &Key) -> Result<u32, Memory>
+        requires state { IsKey setting.now.board.now key.now }
+        requires losses { KeepsLosses setting.now.board.now self.old }
+        ensures more { OnOk result (AddsLosses setting.now.board.now self.old self.new) }
         ensures asked { self.new.asked ≡ self.old.asked }
     {
         let workspace = &mut self.workspace;
-        if self.losses.len() >= LOSSES || are_soon_solved(alloc, board, tables, workspace, key)? {
+        if self.losses.len() >= LOSSES || are_soon_solved(alloc, setting, workspace, key)? {
             return Ok(0);
         }
         let found = close_unless(
             alloc,
-            board,
-            tables,
+            setting,
             &self.asked,
             &mut self.workspace,
             key,
@@ -184,7 +172,7 @@ impl Losses {
         let Some(inner) = found else {
             return Ok(0);
         };
-        let region = Region::of(alloc, board, &key.boxes, key.least)?;
+        let region = Region::of(alloc, setting.board, &key.boxes, key.least)?;
         let key = key.copy(alloc)?;
         self.losses.push(Loss { key, region, inner })?;
         Ok(self.losses.len() as u32)

@@ -7,8 +7,7 @@ ghost use Rattle.sok_alone.specs.Meeting.{TellsMet};
 
 use crate::judging::{Judged, judge};
 use crate::known::{Known, add};
-use sok_board::board::Board;
-use sok_push::tables::Tables;
+use sok_push::setting::Setting;
 use sok_rules::fault::Memory;
 use sok_state::key::Key;
 use sok_state::table::Table;
@@ -37,18 +36,18 @@ fn is_live(lives: &Table, key: &Key) -> bool
 /// in a table at depth 0.
 pub(crate) fn meet(
     alloc: Global,
-    board: &Board,
-    tables: &Tables,
+    setting: &Setting<'_>,
     lives: &Table,
     limit: u32,
     known: &mut Known,
     key: &Key,
 ) -> Result<Met, Memory>
     ghost start: { Key }
-    requires asked { IsAsked board.now tables.now lives.now start }
-    requires known { IsKnown board.now start limit known.old }
-    requires reached { IsReached board.now start key.now }
-    ensures { IfOk result (TellsMet board.now lives.now start limit known.old key.now known.new) }
+    requires asked { IsAsked setting.now.board.now lives.now start }
+    requires known { IsKnown setting.now.board.now start limit known.old }
+    requires reached { IsReached setting.now.board.now start key.now }
+    ensures { IfOk result
+        (TellsMet setting.now.board.now lives.now start limit known.old key.now known.new) }
 {
     if known.table.get(key).is_some() {
         return Ok(Met::On);
@@ -59,7 +58,7 @@ pub(crate) fn meet(
     if known.inner.len() >= limit as usize {
         return Ok(Met::Ended);
     }
-    match judge(alloc, board, tables, key)? {
+    match judge(alloc, setting, key)? {
         Judged::Solved => Ok(Met::Ended),
         Judged::Stands(reason) => {
             add(alloc, known, key, reason)?;

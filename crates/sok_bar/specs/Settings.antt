@@ -1,16 +1,15 @@
--- What a test of boxes is given: a board with its tables, and boxes on squares of it.
-use Rattle.std.specs.Prelude.{ℕ, ◌≡◌, ◌<◌, ◌≤◌, List, IsTrue, All, Contains, length}
+-- What a test of boxes is given: boxes on squares of a board, and those of them that may hold others.
+use Rattle.std.specs.Prelude.{ℕ, ◌<◌, ◌≤◌, List, IsTrue, All, Contains, length}
 use Rattle.std.specs.List.Sorted.{IsStrictlyIncreasing}
 use Rattle.sok_board.specs.Area.{Numbered, spot_of}
 use Rattle.sok_board.specs.Limits.{box_limit}
 use Rattle.sok_field.specs.Fields.{has}
-use Rattle.sok_push.specs.Distances.{Distances}
 use Rattle.sok_price.specs.Prices.{AreMembers, IsMember}
 use Rattle.sok_bar.specs.declared.held.Holders.{Holders}
 use Rattle.sok_bar.specs.declared.held.Holders.TheVariants.{Every, Members, Drawn}
 
-pub record IsSetting (b : Numbered) (t : Distances) (boxes : List ℕ) : Type 0 where
-  pub tables : t.board ≡ b
+-- boxes on squares of a board
+pub record AreBoxesOn (b : Numbered) (boxes : List ℕ) : Type 0 where
   pub exist : All (λ square. square < length b.area) boxes
   pub rising : IsStrictlyIncreasing boxes
   pub few : length boxes ≤ box_limit

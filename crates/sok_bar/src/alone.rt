@@ -1,6 +1,6 @@
 //! Positions of some boxes alone, judged: whether they are closed under pushes.
 
-ghost use Rattle.std.specs.Prelude.{ℕ, List, [], ◌∷◌, ◌++◌, ◌≡◌, ◌≤◌, ◌↔◌, IsTrue, IfOk, IsOkAnd, MatchBool, length};
+ghost use Rattle.std.specs.Prelude.{List, [], ◌∷◌, ◌++◌, ◌≡◌, ◌≤◌, ◌↔◌, IsTrue, IfOk, IsOkAnd, MatchBool, length};
 ghost use Rattle.sok_board.specs.Area.{IsAccepted};
 ghost use Rattle.sok_board.specs.Limits.{box_limit};
 ghost use Rattle.sok_closed.specs.Fine.{AreEntered, AreFine, IsFine, IsOfBoard, IsReasoned};
@@ -23,7 +23,7 @@ use sok_closed::roll::Roll;
 use sok_closed::solved::is_solved;
 use sok_entry::entry::{Inner, InnerReason};
 use sok_entry::inners::Inners;
-use sok_push::tables::Tables;
+use sok_push::setting::Setting;
 use sok_rules::fault::Memory;
 use sok_state::key::Key;
 use sok_state::normalizer::Normalizer;
@@ -33,25 +33,23 @@ use std::alloc::Global;
 /// depth 0. It refuses only for want of memory.
 pub(crate) fn are_closed_alone(
     alloc: Global,
-    board: &Board,
-    tables: &Tables,
+    setting: &Setting<'_>,
     boxes: &BoxSet,
     player: Sq,
     inner: &Inners,
 ) -> Result<bool, Memory>
-    requires accepted { IsAccepted board.now }
-    requires tables { tables.now.board ≡ board.now }
-    requires placed { IsPlaced board.now boxes.now player }
+    requires accepted { IsAccepted setting.now.board.now }
+    requires placed { IsPlaced setting.now.board.now boxes.now player }
     ensures { IfOk result
-        (λ closed. IsTrue closed ↔ AreClosedAlone board.now player boxes.now inner.now) }
+        (λ closed. IsTrue closed
+        ↔ AreClosedAlone setting.now.board.now player boxes.now inner.now) }
 {
-    let mut roll = Roll::new(alloc, board.squares());
-    let mut normalizer = Normalizer::new(board);
+    let mut roll = Roll::new(alloc, setting.board.squares());
+    let mut normalizer = Normalizer::new(setting.board);
     let inner = inner.as_slice();
     are_closed_by(
         alloc,
-        board,
-        tables,
+        setting,
         boxes,
         player,
         inner,
@@ -64,29 +62,28 @@ pub(crate) fn are_closed_alone(
 /// borrowed, since a proof lays out the drop of an owned one at each way out.
 fn are_closed_by(
     alloc: Global,
-    board: &Board,
-    tables: &Tables,
+    setting: &Setting<'_>,
     boxes: &BoxSet,
     player: Sq,
     inner: &[Inner],
     roll: &mut Roll,
     normalizer: &mut Normalizer,
 ) -> Result<bool, Memory>
-    requires accepted { IsAccepted board.now }
-    requires tables { tables.now.board ≡ board.now }
-    requires placed { IsPlaced board.now boxes.now player }
+    requires accepted { IsAccepted setting.now.board.now }
+    requires placed { IsPlaced setting.now.board.now boxes.now player }
     requires none { roll.old.entries ≡ [] }
     requires unmarked { roll.old.marks ≡ [] }
-    requires wide { length board.now.area ≤ roll.old.room }
-    requires normalizes { Normalizes board.now normalizer.old }
+    requires wide { length setting.now.board.now.area ≤ roll.old.room }
+    requires normalizes { Normalizes setting.now.board.now normalizer.old }
     ensures { IfOk result
-        (λ closed. IsTrue closed ↔ AreClosedAlone board.now player boxes.now inner.now) }
+        (λ closed. IsTrue closed
+        ↔ AreClosedAlone setting.now.board.now player boxes.now inner.now) }
 {
     let count = boxes.list().len();
-    if !enter_all(alloc, board, tables, count, inner, roll, normalizer)? {
+    if !enter_all(alloc, setting, count, inner, roll, normalizer)? {
         return Ok(false);
     }
-    leads_on(alloc, board, boxes, player, roll)
+    leads_on(alloc, setting.board, boxes, player, roll)
 }
 
 /// Enters the positions' states into an empty roll, in order, with their depths and with marks
@@ -94,28 +91,28 @@ fn are_closed_by(
 /// has. It refuses only for want of memory.
 fn enter_all(
     alloc: Global,
-    board: &Board,
-    tables: &Tables,
+    setting: &Setting<'_>,
     count: usize,
     inner: &[Inner],
     roll: &mut Roll,
     normalizer: &mut Normalizer,
 ) -> Result<bool, Memory>
-    requires accepted { IsAccepted board.now }
-    requires tables { tables.now.board ≡ board.now }
+    requires accepted { IsAccepted setting.now.board.now }
     requires few { count ≤ box_limit }
     requires none { roll.old.entries ≡ [] }
     requires unmarked { roll.old.marks ≡ [] }
-    requires wide { length board.now.area ≤ roll.old.room }
-    requires normalizes { Normalizes board.now normalizer.old }
+    requires wide { length setting.now.board.now.area ≤ roll.old.room }
+    requires normalizes { Normalizes setting.now.board.now normalizer.old }
     ensures entered { IfOk result (λ fine. MatchBool fine
-        (AreEntered inner_node board.now count (IsBarredAlone board.now) inner.now roll.new)
-        (AreFine inner_node board.now count (IsBarredAlone board.now) inner.now
+        (AreEntered inner_node setting.now.board.now count
+        (IsBarredAlone setting.now.board.now) inner.now roll.new)
+        (AreFine inner_node setting.now.board.now count
+        (IsBarredAlone setting.now.board.now) inner.now
         (length inner.now) → ⊥)) }
-    ensures of_board { IsOfBoard board.now roll.new }
+    ensures of_board { IsOfBoard setting.now.board.now roll.new }
 {
     for one in inner {
-        if !enter_alone(alloc, board, tables, count, one, roll, normalizer)? {
+        if !enter_alone(alloc, setting, count, one, roll, normalizer)? {
             return Ok(false);
         }
     }
@@ -126,37 +123,37 @@ fn enter_all(
 /// fault of its own: if it has one, the roll is of no more use. It refuses only for want of memory.
 fn enter_alone(
     alloc: Global,
-    board: &Board,
-    tables: &Tables,
+    setting: &Setting<'_>,
     count: usize,
     one: &Inner,
     roll: &mut Roll,
     normalizer: &mut Normalizer,
 ) -> Result<bool, Memory>
-    requires accepted { IsAccepted board.now }
-    requires tables { tables.now.board ≡ board.now }
+    requires accepted { IsAccepted setting.now.board.now }
     requires few { count ≤ box_limit }
-    requires of_board { IsOfBoard board.now roll.old }
-    requires normalizes { Normalizes board.now normalizer.old }
+    requires of_board { IsOfBoard setting.now.board.now roll.old }
+    requires normalizes { Normalizes setting.now.board.now normalizer.old }
     ensures tells { (before : List Inner)
-        → AreEntered inner_node board.now count (IsBarredAlone board.now) before roll.old
+        → AreEntered inner_node setting.now.board.now count
+        (IsBarredAlone setting.now.board.now) before roll.old
         → IfOk result (λ fine. MatchBool fine
-        (AreEntered inner_node board.now count (IsBarredAlone board.now)
+        (AreEntered inner_node setting.now.board.now count (IsBarredAlone setting.now.board.now)
         (before ++ one.now ∷ []) roll.new)
-        (IsFine inner_node board.now count (IsBarredAlone board.now) before (length before)
+        (IsFine inner_node setting.now.board.now count (IsBarredAlone setting.now.board.now) before
+        (length before)
         one.now → ⊥)) }
-    ensures of_board { IsOfBoard board.now roll.new }
-    ensures normalizes { Normalizes board.now normalizer.new }
+    ensures of_board { IsOfBoard setting.now.board.now roll.new }
+    ensures normalizes { Normalizes setting.now.board.now normalizer.new }
 {
     match locate(
         alloc,
-        board,
+        setting.board,
         normalizer,
         count,
         one.player,
         one.boxes.as_slice(),
     )? {
-        Some(located) => enter_located(alloc, board, tables, one, &located, roll),
+        Some(located) => enter_located(alloc, setting, one, &located, roll),
         None => Ok(false),
     }
 }
@@ -164,59 +161,60 @@ fn enter_alone(
 /// The same of a position that was located: it is borrowed too, since there are several ways out.
 fn enter_located(
     alloc: Global,
-    board: &Board,
-    tables: &Tables,
+    setting: &Setting<'_>,
     one: &Inner,
     located: &Located,
     roll: &mut Roll,
 ) -> Result<bool, Memory>
-    requires accepted { IsAccepted board.now }
-    requires tables { tables.now.board ≡ board.now }
-    requires located { IsLocated board.now (length one.now.boxes) (inner_node one.now) located.now }
+    requires accepted { IsAccepted setting.now.board.now }
+    requires located { IsLocated setting.now.board.now (length one.now.boxes)
+        (inner_node one.now) located.now }
     requires few { length one.now.boxes ≤ box_limit }
-    requires of_board { IsOfBoard board.now roll.old }
+    requires of_board { IsOfBoard setting.now.board.now roll.old }
     ensures tells { (before : List Inner)
-        → AreEntered inner_node board.now (length one.now.boxes) (IsBarredAlone board.now) before
+        → AreEntered inner_node setting.now.board.now (length one.now.boxes)
+        (IsBarredAlone setting.now.board.now) before
         roll.old → IfOk result (λ fine. MatchBool fine
-        (AreEntered inner_node board.now (length one.now.boxes) (IsBarredAlone board.now)
+        (AreEntered inner_node setting.now.board.now (length one.now.boxes)
+        (IsBarredAlone setting.now.board.now)
         (before ++ one.now ∷ []) roll.new)
-        (IsFine inner_node board.now (length one.now.boxes) (IsBarredAlone board.now) before
+        (IsFine inner_node setting.now.board.now (length one.now.boxes)
+        (IsBarredAlone setting.now.board.now) before
         (length before) one.now → ⊥)) }
-    ensures of_board { IsOfBoard board.now roll.new }
+    ensures of_board { IsOfBoard setting.now.board.now roll.new }
 {
     let Located { boxes, key } = located;
     if !roll.enter(key, one.depth, is_expanded(&one.reason))? {
         return Ok(false);
     }
-    may_stand(alloc, board, tables, one, boxes)
+    may_stand(alloc, setting, one, boxes)
 }
 
 /// Whether a position may stand in a pattern, given with its boxes: it is expanded, with a box off
 /// a goal, or its reason bars. It takes no memory.
 fn may_stand(
     alloc: Global,
-    board: &Board,
-    tables: &Tables,
+    setting: &Setting<'_>,
     one: &Inner,
     boxes: &BoxSet,
 ) -> Result<bool, Memory>
-    requires accepted { IsAccepted board.now }
-    requires tables { tables.now.board ≡ board.now }
-    requires placed { IsPlaced board.now one.now.boxes one.now.player }
+    requires accepted { IsAccepted setting.now.board.now }
+    requires placed { IsPlaced setting.now.board.now one.now.boxes one.now.player }
     requires boxes { boxes.now ≡ one.now.boxes }
     ensures { IsOkAnd result (λ stands. IsTrue stands
-        ↔ IsReasoned inner_node board.now (IsBarredAlone board.now) one.now) }
+        ↔ IsReasoned inner_node setting.now.board.now
+        (IsBarredAlone setting.now.board.now) one.now) }
 {
     let player = one.player as Sq;
     match &one.reason {
-        InnerReason::Expanded => Ok(!is_solved(board, boxes)),
+        InnerReason::Expanded => Ok(!is_solved(setting.board, boxes)),
         InnerReason::Crowd { members } => {
             let members = members.as_slice();
-            Crowd { members }.holds(alloc, board, tables, boxes, player, Rest::Never)
+            Crowd { members }.holds(alloc, setting, boxes, player, Rest::Never)
         }
         InnerReason::Frozen { members } => {
             let members = members.as_slice();
-            Frozen { members }.holds(alloc, board, tables, boxes, player, Rest::Never)
+            Frozen { members }.holds(alloc, setting, boxes, player, Rest::Never)
         }
     }
 }
@@ -235,7 +233,8 @@ fn leads_on(
     requires few { length boxes.now ≤ box_limit }
     requires of_board { IsOfBoard board.now roll.now }
     ensures { (inner : List Inner)
-        → AreEntered inner_node board.now (length boxes.now) (IsBarredAlone board.now) inner roll.now
+        → AreEntered inner_node board.now (length boxes.now)
+        (IsBarredAlone board.now) inner roll.now
         → IfOk result
         (λ closed. IsTrue closed ↔ AreClosedAlone board.now player boxes.now inner) }
 {

@@ -1,15 +1,14 @@
 //! What a reason for barring a position promises.
 
-ghost use Rattle.std.specs.Prelude.{◌≡◌, IfOk, IsTrue};
+ghost use Rattle.std.specs.Prelude.{IfOk, IsTrue};
 ghost use Rattle.sok_region.specs.Regions.{IsPlaced};
 ghost use Rattle.sok_bar.specs.Bars.{Barring, IsJudged};
 ghost use Rattle.sok_bar.specs.Rests.{IsBarred};
 
 use crate::rest::Rest;
 use sok_board::area::Sq;
-use sok_board::board::Board;
 use sok_board::box_set::BoxSet;
-use sok_push::tables::Tables;
+use sok_push::setting::Setting;
 use sok_rules::fault::Memory;
 use std::alloc::Global;
 
@@ -24,15 +23,14 @@ pub trait Bar {
     fn holds(
         &self,
         alloc: Global,
-        board: &Board,
-        tables: &Tables,
+        setting: &Setting<'_>,
         boxes: &BoxSet,
         player: Sq,
         rest: Rest,
     ) -> Result<bool, Memory>
-        requires tables { tables.now.board ≡ board.now }
-        requires placed { IsPlaced board.now boxes.now player }
+        requires placed { IsPlaced setting.now.board.now boxes.now player }
         ensures law { IfOk result
-            (λ holds. IsTrue holds → IsBarred board.now player boxes.now rest) }
-        ensures exact { IsJudged board.now player boxes.now (says self.now) rest result };
+            (λ holds. IsTrue holds → IsBarred setting.now.board.now player boxes.now rest) }
+        ensures exact { IsJudged setting.now.board.now player boxes.now
+            (says self.now) rest result };
 }

@@ -8,8 +8,8 @@ ghost use Rattle.sok_bar.specs.Fair.{IsAffordable, IsFair, AreFair};
 use crate::bar::Bar;
 use crate::rest::Rest;
 use sok_board::area::Sq;
-use sok_board::board::Board;
 use sok_board::box_set::BoxSet;
+use sok_push::setting::Setting;
 use sok_push::tables::Tables;
 use sok_rules::fault::Memory;
 use std::alloc::Global;
@@ -31,8 +31,7 @@ impl Bar for Bound<'_> {
     fn holds(
         &self,
         _alloc: Global,
-        board: &Board,
-        tables: &Tables,
+        setting: &Setting<'_>,
         boxes: &BoxSet,
         player: Sq,
         rest: Rest,
@@ -44,10 +43,10 @@ impl Bar for Bound<'_> {
         if self.u.len() != boxes.len() {
             return Ok(false);
         }
-        if self.v.len() != tables.goals() {
+        if self.v.len() != setting.tables.goals() {
             return Ok(false);
         }
-        if !are_fair(tables, boxes, self.u, self.v) {
+        if !are_fair(setting.tables, boxes, self.u, self.v) {
             return Ok(false);
         }
         match total(self.u).checked_sub(total(self.v)) {

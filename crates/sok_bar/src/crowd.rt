@@ -10,8 +10,8 @@ use crate::bar::Bar;
 use crate::members::are_members;
 use crate::rest::Rest;
 use sok_board::area::Sq;
-use sok_board::board::Board;
 use sok_board::box_set::BoxSet;
+use sok_push::setting::Setting;
 use sok_push::tables::Tables;
 use sok_rules::fault::Memory;
 use std::alloc::Global;
@@ -31,8 +31,7 @@ impl Bar for Crowd<'_> {
     fn holds(
         &self,
         _alloc: Global,
-        board: &Board,
-        tables: &Tables,
+        setting: &Setting<'_>,
         boxes: &BoxSet,
         player: Sq,
         rest: Rest,
@@ -41,7 +40,7 @@ impl Bar for Crowd<'_> {
         if !are_members(boxes, self.members) {
             return Ok(false);
         }
-        Ok(reached_goals(tables, boxes, self.members) < self.members.len())
+        Ok(reached_goals(setting.tables, boxes, self.members) < self.members.len())
     }
 }
 

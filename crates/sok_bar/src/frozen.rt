@@ -8,7 +8,7 @@ ghost use Rattle.sok_price.specs.Prices.{AreMembers, IsMember};
 ghost use Rattle.sok_bar.specs.Bars.{Barring};
 ghost use Rattle.sok_bar.specs.Jam.{AreHeld, HasJams, HasOneOffGoal, IsJam};
 ghost use Rattle.sok_bar.specs.Narrowed.{drawn_members};
-ghost use Rattle.sok_bar.specs.Settings.{IsSetting};
+ghost use Rattle.sok_bar.specs.Settings.{AreBoxesOn};
 
 use crate::bar::Bar;
 use crate::held::{Holders, are_held, is_drawn, is_held};
@@ -19,7 +19,7 @@ use sok_board::area::{SQUARE_LIMIT, Sq};
 use sok_board::board::Board;
 use sok_board::box_set::BoxSet;
 use sok_field::field::Field;
-use sok_push::tables::Tables;
+use sok_push::setting::Setting;
 use sok_region::layout::put_boxes;
 use sok_rules::fault::Memory;
 use std::alloc::Global;
@@ -39,8 +39,7 @@ impl Bar for Frozen<'_> {
     fn holds(
         &self,
         _alloc: Global,
-        board: &Board,
-        tables: &Tables,
+        setting: &Setting<'_>,
         boxes: &BoxSet,
         player: Sq,
         rest: Rest,
@@ -49,12 +48,12 @@ impl Bar for Frozen<'_> {
         if !are_members(boxes, self.members) {
             return Ok(false);
         }
-        if !has_one_off_goal(board, boxes, self.members) {
+        if !has_one_off_goal(setting.board, boxes, self.members) {
             return Ok(false);
         }
         // A board is of an accepted level, of which the law speaks.
-        prove!(board.squares() <= SQUARE_LIMIT);
-        Ok(are_held(board, tables, boxes, self.members))
+        prove!(setting.board.squares() <= SQUARE_LIMIT);
+        Ok(are_held(setting, boxes, self.members))
     }
 }
 
@@ -63,22 +62,20 @@ impl Bar for Frozen<'_> {
 /// none (Sokoban Wiki, "Deadlocks", freeze deadlocks). It refuses only for want of memory.
 pub fn find_jam(
     alloc: Global,
-    board: &Board,
-    tables: &Tables,
+    setting: &Setting<'_>,
     boxes: &BoxSet,
 ) -> Result<Option<Vec<u32>>, Memory>
-    requires tables { tables.now.board ≡ board.now }
-    requires boxes_exist { All (λ square. square < length board.now.area) boxes.now }
+    requires boxes_exist { All (λ square. square < length setting.now.board.now.area) boxes.now }
     ensures jam { IfOk result (λ found. IfSome found
-        (λ members. IsJam board.now boxes.now members.items)) }
+        (λ members. IsJam setting.now.board.now boxes.now members.items)) }
     ensures most { IfOk result (λ found. IfSome found
-        (λ members. HasJams board.now boxes.now members.items)) }
+        (λ members. HasJams setting.now.board.now boxes.now members.items)) }
     ensures none { IfOk result (λ found. IfNone found ((members : List ℕ)
-        → IsJam board.now boxes.now members → ⊥)) }
+        → IsJam setting.now.board.now boxes.now members → ⊥)) }
 {
     let boxes = boxes.list();
-    let members = held_members(alloc, board, tables, boxes)?;
-    if has_one_off_goal(board, boxes, &members) {
+    let members = held_members(alloc, setting, boxes)?;
+    if has_one_off_goal(setting.board, boxes, &members) {
         return Ok(Some(members));
     }
     Ok(None)
@@ -88,26 +85,24 @@ pub fn find_jam(
 /// finds, if that box is among them.
 pub fn find_frozen(
     alloc: Global,
-    board: &Board,
-    tables: &Tables,
+    setting: &Setting<'_>,
     boxes: &BoxSet,
     square: Sq,
 ) -> Result<Option<Vec<u32>>, Memory>
-    requires tables { tables.now.board ≡ board.now }
-    requires boxes_exist { All (λ square. square < length board.now.area) boxes.now }
+    requires boxes_exist { All (λ square. square < length setting.now.board.now.area) boxes.now }
     requires boxed { Contains boxes.now square }
     ensures jam { IfOk result (λ found. IfSome found
-        (λ members. IsJam board.now boxes.now members.items)) }
+        (λ members. IsJam setting.now.board.now boxes.now members.items)) }
     ensures with_box { IfOk result (λ found. IfSome found
         (λ members. IsMember boxes.now members.items square)) }
     ensures none { IfOk result (λ found. IfNone found ((members : List ℕ)
-        → IsJam board.now boxes.now members → IsMember boxes.now members square → ⊥)) }
+        → IsJam setting.now.board.now boxes.now members → IsMember boxes.now members square → ⊥)) }
 {
     // Most boxes are free where they stand, and need no list.
-    if !is_held(board, tables, boxes.list(), Holders::Every, square) {
+    if !is_held(setting, boxes.list(), Holders::Every, square) {
         return Ok(None);
     }
-    let Some(members) = find_jam(alloc, board, tables, boxes)? else {
+    let Some(members) = find_jam(alloc, setting, boxes)? else {
         return Ok(None);
     };
     if !is_member(boxes.list(), &members, square) {
@@ -132,23 +127,18 @@ fn has_one_off_goal(board: &Board, boxes: &[Sq], members: &[u32]) -> bool
 
 /// The most boxes of which each is held by the others: what is left of all boxes when those that
 /// are not held are taken away, until there is none.
-fn held_members(
-    alloc: Global,
-    board: &Board,
-    tables: &Tables,
-    boxes: &[Sq],
-) -> Result<Vec<u32>, Memory>
-    requires setting { IsSetting board.now tables.now boxes.now }
-    ensures jams { IfOk result (λ members. HasJams board.now boxes.now members.items) }
-    ensures held { IfOk result (λ members. AreHeld board.now boxes.now members.items) }
+fn held_members(alloc: Global, setting: &Setting<'_>, boxes: &[Sq]) -> Result<Vec<u32>, Memory>
+    requires boxes { AreBoxesOn setting.now.board.now boxes.now }
+    ensures jams { IfOk result (λ members. HasJams setting.now.board.now boxes.now members.items) }
+    ensures held { IfOk result (λ members. AreHeld setting.now.board.now boxes.now members.items) }
 {
     // A board is of an accepted level.
-    let _squares = board.squares();
+    let _squares = setting.board.squares();
     let mut held = Field::new();
-    put_boxes(&mut held, board, boxes);
+    put_boxes(&mut held, setting.board, boxes);
     'passes: loop {
-        if !take_loose(board, tables, boxes, &mut held) {
-            return drawn_members(alloc, board, boxes, &held);
+        if !take_loose(setting, boxes, &mut held) {
+            return drawn_members(alloc, setting.board, boxes, &held);
         }
     }
 }

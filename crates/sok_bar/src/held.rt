@@ -1,19 +1,19 @@
 //! Which boxes are held along both axes.
 
 ghost use Rattle.std.specs.List.Sorted.{IsStrictlyIncreasing};
-ghost use Rattle.std.specs.Prelude.{◌≡◌, ◌<◌, ◌≤◌, ◌↔◌, Contains, IsTrue, length};
+ghost use Rattle.std.specs.Prelude.{◌<◌, ◌≤◌, ◌↔◌, IsTrue, length};
 ghost use Rattle.sok_board.specs.Area.{IsAccepted};
 ghost use Rattle.sok_board.specs.Limits.{box_limit};
 ghost use Rattle.sok_push.specs.Pushing.{IsStuck};
 ghost use Rattle.sok_price.specs.Prices.{AreMembers};
 ghost use Rattle.sok_bar.specs.Jam.{AreHeld, Held, IsBetween, IsHeld};
-ghost use Rattle.sok_bar.specs.Settings.{AreHolders, IsDrawn, IsHolder, IsSetting};
+ghost use Rattle.sok_bar.specs.Settings.{AreHolders, IsDrawn, IsHolder, AreBoxesOn};
 
 use crate::members::is_member;
 use sok_board::area::Sq;
 use sok_board::board::Board;
 use sok_field::field::Field;
-use sok_push::tables::Tables;
+use sok_push::setting::Setting;
 use sok_rules::cell::Dir;
 
 /// Which boxes may hold another: all of some, members of their list, or those in bit rows.
@@ -25,14 +25,14 @@ pub(crate) enum Holders<'a> {
 }
 
 /// Whether each member is held by walls, by members or between stuck squares.
-pub(crate) fn are_held(board: &Board, tables: &Tables, boxes: &[Sq], members: &[u32]) -> bool
-    requires setting { IsSetting board.now tables.now boxes.now }
+pub(crate) fn are_held(setting: &Setting<'_>, boxes: &[Sq], members: &[u32]) -> bool
+    requires boxes { AreBoxesOn setting.now.board.now boxes.now }
     requires listed { AreMembers boxes.now members.now }
-    ensures { IsTrue result ↔ AreHeld board.now boxes.now members.now }
+    ensures { IsTrue result ↔ AreHeld setting.now.board.now boxes.now members.now }
 {
     for member in members {
         let square = boxes[*member as usize];
-        if !is_held(board, tables, boxes, Holders::Members(members), square) {
+        if !is_held(setting, boxes, Holders::Members(members), square) {
             return false;
         }
     }
@@ -40,40 +40,35 @@ pub(crate) fn are_held(board: &Board, tables: &Tables, boxes: &[Sq], members: &[
 }
 
 /// Whether a box on a square is held along both axes.
-pub(crate) fn is_held(
-    board: &Board,
-    tables: &Tables,
-    boxes: &[Sq],
-    holders: Holders<'_>,
-    square: Sq,
-) -> bool
-    requires setting { IsSetting board.now tables.now boxes.now }
+pub(crate) fn is_held(setting: &Setting<'_>, boxes: &[Sq], holders: Holders<'_>, square: Sq) -> bool
+    requires boxes { AreBoxesOn setting.now.board.now boxes.now }
     requires listed { AreHolders boxes.now holders }
-    requires exists { square < length board.now.area }
-    ensures { IsTrue result ↔ IsHeld board.now (IsHolder board.now boxes.now holders.entry) square }
+    requires exists { square < length setting.now.board.now.area }
+    ensures { IsTrue result ↔ IsHeld setting.now.board.now
+        (IsHolder setting.now.board.now boxes.now holders.entry) square }
 {
-    is_held_along(board, tables, boxes, holders, square, Dir::Left)
-        && is_held_along(board, tables, boxes, holders, square, Dir::Up)
+    is_held_along(setting, boxes, holders, square, Dir::Left)
+        && is_held_along(setting, boxes, holders, square, Dir::Up)
 }
 
 /// Whether a box on a square is held along the axis of a direction.
 fn is_held_along(
-    board: &Board,
-    tables: &Tables,
+    setting: &Setting<'_>,
     boxes: &[Sq],
     holders: Holders<'_>,
     square: Sq,
     dir: Dir,
 ) -> bool
-    requires setting { IsSetting board.now tables.now boxes.now }
+    requires boxes { AreBoxesOn setting.now.board.now boxes.now }
     requires listed { AreHolders boxes.now holders }
-    requires exists { square < length board.now.area }
+    requires exists { square < length setting.now.board.now.area }
     ensures { IsTrue result
-        ↔ Held board.now (IsHolder board.now boxes.now holders.entry) square dir }
+        ↔ Held setting.now.board.now
+        (IsHolder setting.now.board.now boxes.now holders.entry) square dir }
 {
-    match board.neighbour(square, dir) {
-        Some(ahead) => match board.neighbour(square, dir.opposite()) {
-            Some(behind) => is_between(board, tables, boxes, holders, ahead, behind),
+    match setting.board.neighbour(square, dir) {
+        Some(ahead) => match setting.board.neighbour(square, dir.opposite()) {
+            Some(behind) => is_between(setting, boxes, holders, ahead, behind),
             None => true,
         },
         None => true,
@@ -83,24 +78,24 @@ fn is_held_along(
 /// Whether a box between two squares of the area stays: a holder stands on one of them, or both are
 /// stuck.
 fn is_between(
-    board: &Board,
-    tables: &Tables,
+    setting: &Setting<'_>,
     boxes: &[Sq],
     holders: Holders<'_>,
     ahead: Sq,
     behind: Sq,
 ) -> bool
-    requires accepted { IsAccepted board.now }
-    requires setting { IsSetting board.now tables.now boxes.now }
+    requires accepted { IsAccepted setting.now.board.now }
+    requires boxes { AreBoxesOn setting.now.board.now boxes.now }
     requires listed { AreHolders boxes.now holders }
-    requires ahead { ahead < length board.now.area }
-    requires behind { behind < length board.now.area }
+    requires ahead { ahead < length setting.now.board.now.area }
+    requires behind { behind < length setting.now.board.now.area }
     ensures { IsTrue result
-        ↔ IsBetween board.now (IsHolder board.now boxes.now holders.entry) ahead behind }
+        ↔ IsBetween setting.now.board.now
+        (IsHolder setting.now.board.now boxes.now holders.entry) ahead behind }
 {
-    is_holder(board, boxes, holders, ahead)
-        || is_holder(board, boxes, holders, behind)
-        || are_stuck(board, tables, ahead, behind)
+    is_holder(setting.board, boxes, holders, ahead)
+        || is_holder(setting.board, boxes, holders, behind)
+        || are_stuck(setting, ahead, behind)
 }
 
 /// Whether a holder stands on a square.
@@ -129,11 +124,11 @@ pub(crate) fn is_drawn(board: &Board, squares: &Field, square: Sq) -> bool
 }
 
 /// Whether two squares are both stuck.
-fn are_stuck(board: &Board, tables: &Tables, first: Sq, second: Sq) -> bool
-    requires tables { tables.now.board ≡ board.now }
-    requires first { first < length board.now.area }
-    requires second { second < length board.now.area }
-    ensures { IsTrue result ↔ (IsStuck board.now first × IsStuck board.now second) }
+fn are_stuck(setting: &Setting<'_>, first: Sq, second: Sq) -> bool
+    requires first { first < length setting.now.board.now.area }
+    requires second { second < length setting.now.board.now.area }
+    ensures { IsTrue result ↔ (IsStuck setting.now.board.now first
+        × IsStuck setting.now.board.now second) }
 {
-    tables.stuck(first) && tables.stuck(second)
+    setting.tables.stuck(first) && setting.tables.stuck(second)
 }

@@ -1,6 +1,6 @@
 //! Whether the boxes of a layout have a jam.
 
-ghost use Rattle.std.specs.Prelude.{ℕ, List, ◌≡◌, ◌<◌, ◌↔◌, IsTrue, All, length};
+ghost use Rattle.std.specs.Prelude.{ℕ, List, ◌<◌, ◌↔◌, IsTrue, All, length};
 ghost use Rattle.sok_board.specs.Area.{IsAccepted};
 ghost use Rattle.sok_region.specs.Layouts.{IsLaidOut};
 ghost use Rattle.sok_bar.specs.Jam.{HasJamWith};
@@ -10,57 +10,54 @@ use crate::held::{Holders, is_drawn, is_held};
 use sok_board::area::Sq;
 use sok_board::board::Board;
 use sok_field::field::Field;
-use sok_push::tables::Tables;
+use sok_push::setting::Setting;
 use sok_region::layout::Layout;
 
 /// Whether the boxes of a layout have a jam with the box on a square: exactly where `find_frozen`
 /// finds one. Most boxes are free where they stand; only else boxes are taken away that are not
 /// held, until there is none. It takes no memory.
-pub fn has_jam(board: &Board, tables: &Tables, layout: &Layout, square: Sq) -> bool
-    requires accepted { IsAccepted board.now }
-    requires tables { tables.now.board ≡ board.now }
-    requires exists { square < length board.now.area }
-    requires laid { (boxes : List ℕ) × IsLaidOut board.now boxes layout.now }
-    ensures { (boxes : List ℕ) → IsLaidOut board.now boxes layout.now
-        → IsTrue result ↔ HasJamWith board.now boxes square }
+pub fn has_jam(setting: &Setting<'_>, layout: &Layout, square: Sq) -> bool
+    requires accepted { IsAccepted setting.now.board.now }
+    requires exists { square < length setting.now.board.now.area }
+    requires laid { (boxes : List ℕ) × IsLaidOut setting.now.board.now boxes layout.now }
+    ensures { (boxes : List ℕ) → IsLaidOut setting.now.board.now boxes layout.now
+        → IsTrue result ↔ HasJamWith setting.now.board.now boxes square }
 {
-    if !is_held(board, tables, &[], Holders::Drawn(layout.boxed()), square) {
+    if !is_held(setting, &[], Holders::Drawn(layout.boxed()), square) {
         return false;
     }
-    has_held_jam(board, tables, layout, square)
+    has_held_jam(setting, layout, square)
 }
 
 /// The same, where the box is held as all boxes stand. It stands apart, so that nothing has a set of
 /// squares to clear where the box is free.
 #[cold]
-fn has_held_jam(board: &Board, tables: &Tables, layout: &Layout, square: Sq) -> bool
-    requires accepted { IsAccepted board.now }
-    requires tables { tables.now.board ≡ board.now }
-    requires exists { square < length board.now.area }
-    requires laid { (boxes : List ℕ) × IsLaidOut board.now boxes layout.now }
-    ensures { (boxes : List ℕ) → IsLaidOut board.now boxes layout.now
-        → IsTrue result ↔ HasJamWith board.now boxes square }
+fn has_held_jam(setting: &Setting<'_>, layout: &Layout, square: Sq) -> bool
+    requires accepted { IsAccepted setting.now.board.now }
+    requires exists { square < length setting.now.board.now.area }
+    requires laid { (boxes : List ℕ) × IsLaidOut setting.now.board.now boxes layout.now }
+    ensures { (boxes : List ℕ) → IsLaidOut setting.now.board.now boxes layout.now
+        → IsTrue result ↔ HasJamWith setting.now.board.now boxes square }
 {
     let mut held = Field::new();
     held.copy_from(layout.boxed());
-    narrow(board, tables, layout.boxes(), square, &mut held)
-        && has_off_goal(board, layout.boxes(), &held)
+    narrow(setting, layout.boxes(), square, &mut held)
+        && has_off_goal(setting.board, layout.boxes(), &held)
 }
 
 /// Takes boxes away that are not held by those that are left, until there is none, or until the one
 /// on a square is taken. Tells whether that one stays.
-fn narrow(board: &Board, tables: &Tables, boxes: &[Sq], square: Sq, held: &mut Field) -> bool
-    requires accepted { IsAccepted board.now }
-    requires tables { tables.now.board ≡ board.now }
-    requires exist { All (λ square. square < length board.now.area) boxes.now }
-    requires exists { square < length board.now.area }
-    ensures { IsNarrowed board.now boxes.now square held.old held.new result }
+fn narrow(setting: &Setting<'_>, boxes: &[Sq], square: Sq, held: &mut Field) -> bool
+    requires accepted { IsAccepted setting.now.board.now }
+    requires exist { All (λ square. square < length setting.now.board.now.area) boxes.now }
+    requires exists { square < length setting.now.board.now.area }
+    ensures { IsNarrowed setting.now.board.now boxes.now square held.old held.new result }
 {
     'passes: loop {
-        if !is_drawn(board, held, square) {
+        if !is_drawn(setting.board, held, square) {
             return false;
         }
-        if !take_loose(board, tables, boxes, held) {
+        if !take_loose(setting, boxes, held) {
             return true;
         }
     }
@@ -68,33 +65,32 @@ fn narrow(board: &Board, tables: &Tables, boxes: &[Sq], square: Sq, held: &mut F
 
 /// Takes each of some boxes away that is not held by those that are left. Tells whether there was
 /// one.
-pub(crate) fn take_loose(board: &Board, tables: &Tables, boxes: &[Sq], held: &mut Field) -> bool
-    requires accepted { IsAccepted board.now }
-    requires tables { tables.now.board ≡ board.now }
-    requires exist { All (λ square. square < length board.now.area) boxes.now }
-    ensures { TellsPass board.now boxes.now (length boxes.now) held.old held.new result }
+pub(crate) fn take_loose(setting: &Setting<'_>, boxes: &[Sq], held: &mut Field) -> bool
+    requires accepted { IsAccepted setting.now.board.now }
+    requires exist { All (λ square. square < length setting.now.board.now.area) boxes.now }
+    ensures { TellsPass setting.now.board.now boxes.now
+        (length boxes.now) held.old held.new result }
 {
     let mut taken = false;
     for square in boxes {
-        taken |= take_if_loose(board, tables, *square, held);
+        taken |= take_if_loose(setting, *square, held);
     }
     taken
 }
 
 /// Takes a box away, if it is not held by those that are left. Tells whether it was.
-fn take_if_loose(board: &Board, tables: &Tables, square: Sq, held: &mut Field) -> bool
-    requires accepted { IsAccepted board.now }
-    requires tables { tables.now.board ≡ board.now }
-    requires exists { square < length board.now.area }
-    ensures { TellsTaken board.now square held.old held.new result }
+fn take_if_loose(setting: &Setting<'_>, square: Sq, held: &mut Field) -> bool
+    requires accepted { IsAccepted setting.now.board.now }
+    requires exists { square < length setting.now.board.now.area }
+    ensures { TellsTaken setting.now.board.now square held.old held.new result }
 {
-    if !is_drawn(board, held, square) {
+    if !is_drawn(setting.board, held, square) {
         return false;
     }
-    if is_held(board, tables, &[], Holders::Drawn(held), square) {
+    if is_held(setting, &[], Holders::Drawn(held), square) {
         return false;
     }
-    held.take(board.spot(square));
+    held.take(setting.board.spot(square));
     true
 }
 

@@ -9,10 +9,9 @@ ghost use Rattle.sok_bar.specs.Patterns.{AreClosedAlone};
 use crate::alone::are_closed_alone;
 use crate::inners::are_same;
 use sok_board::area::Sq;
-use sok_board::board::Board;
 use sok_board::box_set::BoxSet;
 use sok_entry::inners::Inners;
-use sok_push::tables::Tables;
+use sok_push::setting::Setting;
 use sok_rules::fault::Memory;
 use sok_state::key::Key;
 use std::alloc::Global;
@@ -65,25 +64,24 @@ impl Memo {
     pub(crate) fn are_closed_alone(
         &mut self,
         alloc: Global,
-        board: &Board,
-        tables: &Tables,
+        setting: &Setting<'_>,
         boxes: &BoxSet,
         player: Sq,
         inner: &Inners,
     ) -> Result<bool, Memory>
-        requires accepted { IsAccepted board.now }
-        requires tables { tables.now.board ≡ board.now }
-        requires placed { IsPlaced board.now boxes.now player }
-        requires memo { KeepsClosed board.now self.old }
+        requires accepted { IsAccepted setting.now.board.now }
+        requires placed { IsPlaced setting.now.board.now boxes.now player }
+        requires memo { KeepsClosed setting.now.board.now self.old }
         ensures exact { IfOk result
-            (λ closed. IsTrue closed ↔ AreClosedAlone board.now player boxes.now inner.now) }
-        ensures memo { KeepsClosed board.now self.new }
+            (λ closed. IsTrue closed
+            ↔ AreClosedAlone setting.now.board.now player boxes.now inner.now) }
+        ensures memo { KeepsClosed setting.now.board.now self.new }
     {
-        let key = Key::of(alloc, board, boxes, player)?;
+        let key = Key::of(alloc, setting.board, boxes, player)?;
         if self.has(&key, inner) {
             return Ok(true);
         }
-        if !are_closed_alone(alloc, board, tables, boxes, player, inner)? {
+        if !are_closed_alone(alloc, setting, boxes, player, inner)? {
             return Ok(false);
         }
         self.keep(key, inner)?;

@@ -14,10 +14,9 @@ use crate::members::are_members;
 use crate::memo::Memo;
 use crate::rest::Rest;
 use sok_board::area::Sq;
-use sok_board::board::Board;
 use sok_board::box_set::BoxSet;
 use sok_entry::inners::Inners;
-use sok_push::tables::Tables;
+use sok_push::setting::Setting;
 use sok_rules::fault::Memory;
 use std::alloc::Global;
 
@@ -39,16 +38,15 @@ impl Bar for Pattern<'_> {
     fn holds(
         &self,
         alloc: Global,
-        board: &Board,
-        tables: &Tables,
+        setting: &Setting<'_>,
         boxes: &BoxSet,
         player: Sq,
         rest: Rest,
     ) -> Result<bool, Memory> {
         // A board is of an accepted level, of which the law speaks.
-        let _squares = board.squares();
+        let _squares = setting.board.squares();
         let mut memo = Memo::new(alloc);
-        self.holds_by(alloc, board, tables, boxes, player, &mut memo)
+        self.holds_by(alloc, setting, boxes, player, &mut memo)
     }
 }
 
@@ -58,27 +56,26 @@ impl Pattern<'_> {
     pub(crate) fn holds_by(
         &self,
         alloc: Global,
-        board: &Board,
-        tables: &Tables,
+        setting: &Setting<'_>,
         boxes: &BoxSet,
         player: Sq,
         memo: &mut Memo,
     ) -> Result<bool, Memory>
-        requires tables { tables.now.board ≡ board.now }
-        requires placed { IsPlaced board.now boxes.now player }
-        requires memo { KeepsClosed board.now memo.old }
+        requires placed { IsPlaced setting.now.board.now boxes.now player }
+        requires memo { KeepsClosed setting.now.board.now memo.old }
         ensures exact { IfOk result (λ holds. IsTrue holds
-            ↔ IsPattern board.now player boxes.now self.now.members.now self.now.inner.now) }
-        ensures memo { KeepsClosed board.now memo.new }
+            ↔ IsPattern setting.now.board.now player boxes.now self.now.members.now
+            self.now.inner.now) }
+        ensures memo { KeepsClosed setting.now.board.now memo.new }
     {
         // A board is of an accepted level.
-        let _squares = board.squares();
+        let _squares = setting.board.squares();
         let boxes = boxes.list();
         if !are_members(boxes, self.members) {
             return Ok(false);
         }
         let alone = members_alone(alloc, boxes, self.members)?;
-        memo.are_closed_alone(alloc, board, tables, &alone, player, self.inner)
+        memo.are_closed_alone(alloc, setting, &alone, player, self.inner)
     }
 }
 

@@ -1,6 +1,6 @@
 //! Whether the reason of an entry holds.
 
-ghost use Rattle.std.specs.Prelude.{◌≡◌, ◌↔◌, IsTrue, IfOk, IsSomeAnd, OnErr};
+ghost use Rattle.std.specs.Prelude.{◌↔◌, IsTrue, IfOk, IsSomeAnd, OnErr};
 ghost use Rattle.sok_region.specs.Regions.{IsPlaced};
 ghost use Rattle.sok_entry.specs.Text.{is_pattern};
 ghost use Rattle.sok_bar.specs.Bars.{Bars, barring};
@@ -15,10 +15,9 @@ use crate::pattern::Pattern;
 use crate::rest::Rest;
 use crate::spent::Spent;
 use sok_board::area::Sq;
-use sok_board::board::Board;
 use sok_board::box_set::BoxSet;
 use sok_entry::entry::Reason;
-use sok_push::tables::Tables;
+use sok_push::setting::Setting;
 use sok_rules::fault::Memory;
 use std::alloc::Global;
 
@@ -28,40 +27,39 @@ use std::alloc::Global;
 pub fn reason_holds(
     alloc: Global,
     reason: &Reason,
-    board: &Board,
-    tables: &Tables,
+    setting: &Setting<'_>,
     boxes: &BoxSet,
     player: Sq,
     rest: Rest,
     memo: &mut Memo,
 ) -> Result<bool, Memory>
-    requires tables { tables.now.board ≡ board.now }
-    requires placed { IsPlaced board.now boxes.now player }
-    requires memo { KeepsClosed board.now memo.old }
+    requires placed { IsPlaced setting.now.board.now boxes.now player }
+    requires memo { KeepsClosed setting.now.board.now memo.old }
     ensures exact { IfOk result (λ holds. IsTrue holds
-        ↔ IsSomeAnd (barring reason.now) (λ one. Bars board.now player boxes.now one rest)) }
+        ↔ IsSomeAnd (barring reason.now)
+        (λ one. Bars setting.now.board.now player boxes.now one rest)) }
     ensures refused { OnErr result (IsTrue (is_pattern reason.now)) }
-    ensures memo { KeepsClosed board.now memo.new }
+    ensures memo { KeepsClosed setting.now.board.now memo.new }
 {
     match reason {
         Reason::Expanded => Ok(false),
-        Reason::Spent => Spent.holds(alloc, board, tables, boxes, player, rest),
+        Reason::Spent => Spent.holds(alloc, setting, boxes, player, rest),
         Reason::Bound { u, v } => {
             let u = u.as_slice();
             let v = v.as_slice();
-            Bound { u, v }.holds(alloc, board, tables, boxes, player, rest)
+            Bound { u, v }.holds(alloc, setting, boxes, player, rest)
         }
         Reason::Crowd { members } => {
             let members = members.as_slice();
-            Crowd { members }.holds(alloc, board, tables, boxes, player, rest)
+            Crowd { members }.holds(alloc, setting, boxes, player, rest)
         }
         Reason::Frozen { members } => {
             let members = members.as_slice();
-            Frozen { members }.holds(alloc, board, tables, boxes, player, rest)
+            Frozen { members }.holds(alloc, setting, boxes, player, rest)
         }
         Reason::Pattern { members, inner } => {
             let members = members.as_slice();
-            Pattern { members, inner }.holds_by(alloc, board, tables, boxes, player, memo)
+            Pattern { members, inner }.holds_by(alloc, setting, boxes, player, memo)
         }
     }
 }

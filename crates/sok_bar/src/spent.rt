@@ -7,9 +7,8 @@ ghost use Rattle.sok_bar.specs.Rests.{IsBarred};
 use crate::bar::Bar;
 use crate::rest::Rest;
 use sok_board::area::Sq;
-use sok_board::board::Board;
 use sok_board::box_set::BoxSet;
-use sok_push::tables::Tables;
+use sok_push::setting::Setting;
 use sok_rules::fault::Memory;
 use std::alloc::Global;
 
@@ -24,15 +23,14 @@ impl Bar for Spent {
     fn holds(
         &self,
         _alloc: Global,
-        board: &Board,
-        _tables: &Tables,
+        setting: &Setting<'_>,
         boxes: &BoxSet,
         player: Sq,
         rest: Rest,
     ) -> Result<bool, Memory>
         ensures law { IfOk result
-            (λ holds. IsTrue holds → IsBarred board.now player boxes.now rest) }
-        ensures exact { IsJudged board.now player boxes.now Barring.spent rest result }
+            (λ holds. IsTrue holds → IsBarred setting.now.board.now player boxes.now rest) }
+        ensures exact { IsJudged setting.now.board.now player boxes.now Barring.spent rest result }
     {
         Ok(matches!(rest, Rest::AtLeast(0)))
     }

@@ -3,6 +3,7 @@ use Rattle.std.proofs.Common.{◌≡◌, ◌≢◌, ◌<◌, ◌≤◌, ◌⊎�
 use Rattle.std.proofs.lemmas.Bool.{cases_eq, cases_lt}
 use Rattle.sok_rules.specs.declared.cell.Spot.{Spot}
 use Rattle.sok_rules.specs.Squares.{Rows}
+use Rattle.sok_rules.proofs.Refusing.{Names, Names-one, OrLater, OrLater-one}
 use Rattle.sok_board.specs.Area.{Numbered, Before, IsArea, IsEnclosed, IsStray, IsAccepted, boxes_of}
 use Rattle.sok_board.specs.Limits.{square_limit, box_limit}
 use Rattle.sok_board.specs.Refusals.{IsLeak, IsFirst, OfArea, IsRefused, IsAcceptable}
@@ -34,6 +35,13 @@ IsFirst-one P s t (here, first) (there, also) = elim (before-total s t) [
   | inr (inr later) ↦ absurd (first t there later)
 ]
 
+-- the fault of a cause at its first square
+abbrev AtFirst : (Spot → BoardFault) → (Spot → Type 0) → BoardFault → Type 0
+AtFirst fault_at P f = (s : Spot) × (f ≡ fault_at s) × IsFirst P s
+
+AtFirst-one : (fault_at : Spot → BoardFault) (P : Spot → Type 0) (f g : BoardFault) → AtFirst fault_at P f → AtFirst fault_at P g → f ≡ g
+AtFirst-one fault_at P f g (s, is, first) (t, also, other) = is ∙ ap fault_at (IsFirst-one P s t first other) ∙ sym also
+
 -- facts of a level and its area are of one area
 OfArea-both : (P Q : Numbered → Type 0) (rows : Rows) → ((b : Numbered) → P b → Q b → ⊥) → OfArea P rows → OfArea Q rows → ⊥
 OfArea-both P Q rows apart (area, is, p) (other, also, q) =
@@ -52,18 +60,18 @@ ManyBoxes b = box_limit < length (boxes_of b)
 abbrev FewBoxes : Numbered → Type 0
 FewBoxes b = length (boxes_of b) ≤ box_limit
 
--- the causes in the order of refusal: each of them, or none of it and a later one
+-- the causes in the order of refusal
 abbrev ByBoxes : Rows → BoardFault → Type 0
-ByBoxes rows f = ((f ≡ fault.TooManyBoxes) × OfArea ManyBoxes rows) ⊎ ((f ≡ fault.TooFewGoals) × OfArea FewBoxes rows)
+ByBoxes rows = OrLater (Names fault.TooManyBoxes (OfArea ManyBoxes rows)) (OfArea FewBoxes rows) (λ f. f ≡ fault.TooFewGoals)
 
 abbrev ByStrays : Rows → BoardFault → Type 0
-ByStrays rows f = ((s : Spot) × (f ≡ fault.BoxOutside s) × IsFirst (IsStray rows) s) ⊎ (((s : Spot) → IsStray rows s → ⊥) × ByBoxes rows f)
+ByStrays rows = OrLater (AtFirst fault.BoxOutside (IsStray rows)) ((s : Spot) → IsStray rows s → ⊥) (ByBoxes rows)
 
 abbrev BySize : Rows → BoardFault → Type 0
-BySize rows f = ((f ≡ fault.TooLarge) × OfArea Large rows) ⊎ (OfArea Small rows × ByStrays rows f)
+BySize rows = OrLater (Names fault.TooLarge (OfArea Large rows)) (OfArea Small rows) (ByStrays rows)
 
 abbrev ByLeaks : Rows → BoardFault → Type 0
-ByLeaks rows f = ((s : Spot) × (f ≡ fault.NotEnclosed s) × IsFirst (IsLeak rows) s) ⊎ (IsEnclosed rows × BySize rows f)
+ByLeaks rows = OrLater (AtFirst fault.NotEnclosed (IsLeak rows)) (IsEnclosed rows) (BySize rows)
 
 by_order : (rows : Rows) (f : BoardFault) → f ≢ fault.Memory → IsRefused rows f → ByLeaks rows f
 by_order rows (fault.NotEnclosed s) ample first = inl (s, refl, first)
@@ -72,41 +80,29 @@ by_order rows (fault.BoxOutside s) ample (enclosed, small, first) = inr (enclose
 by_order rows fault.TooManyBoxes ample (area, is, (tidy, many)) =
     inr (tidy.enclosed, inr ((area, is, tidy.few_squares), inr (tidy.no_stray, inl (refl, (area, is, many)))))
 by_order rows fault.TooFewGoals ample (area, is, (tidy, few, _)) =
-    inr (tidy.enclosed, inr ((area, is, tidy.few_squares), inr (tidy.no_stray, inr (refl, (area, is, few)))))
+    inr (tidy.enclosed, inr ((area, is, tidy.few_squares), inr (tidy.no_stray, inr ((area, is, few), refl))))
 by_order rows fault.Memory ample refused = absurd (ample refl)
 
-many-few : (rows : Rows) → OfArea ManyBoxes rows → OfArea FewBoxes rows → ⊥
-many-few rows = OfArea-both ManyBoxes FewBoxes rows (λ b many few. omega (arith, many, few))
+ByBoxes-one : (rows : Rows) (f g : BoardFault) → ByBoxes rows f → ByBoxes rows g → f ≡ g
+ByBoxes-one rows f g = OrLater-one (Names fault.TooManyBoxes (OfArea ManyBoxes rows)) (OfArea FewBoxes rows) (λ h. h ≡ fault.TooFewGoals) f g
+    (λ h (_, many) few. OfArea-both ManyBoxes FewBoxes rows (λ b more less. omega (arith, more, less)) many few)
+    (Names-one fault.TooManyBoxes (OfArea ManyBoxes rows) f g) (λ is also. is ∙ sym also)
 
-large-small : (rows : Rows) → OfArea Large rows → OfArea Small rows → ⊥
-large-small rows = OfArea-both Large Small rows (λ b large small. omega (arith, large, small))
+ByStrays-one : (rows : Rows) (f g : BoardFault) → ByStrays rows f → ByStrays rows g → f ≡ g
+ByStrays-one rows f g = OrLater-one (AtFirst fault.BoxOutside (IsStray rows)) ((s : Spot) → IsStray rows s → ⊥) (ByBoxes rows) f g
+    (λ h (s, _, first) none. none s first.0) (AtFirst-one fault.BoxOutside (IsStray rows) f g) (ByBoxes-one rows f g)
+
+BySize-one : (rows : Rows) (f g : BoardFault) → BySize rows f → BySize rows g → f ≡ g
+BySize-one rows f g = OrLater-one (Names fault.TooLarge (OfArea Large rows)) (OfArea Small rows) (ByStrays rows) f g
+    (λ h (_, large) small. OfArea-both Large Small rows (λ b more less. omega (arith, more, less)) large small)
+    (Names-one fault.TooLarge (OfArea Large rows) f g) (ByStrays-one rows f g)
 
 leak-enclosed : (rows : Rows) (s : Spot) → IsLeak rows s → IsEnclosed rows → ⊥
 leak-enclosed rows s (inside, gap) enclosed = true≢false (sym gap ∙ has_gap-enclosed rows s (λ d. enclosed s d inside))
 
-ByBoxes-one : (rows : Rows) (f g : BoardFault) → ByBoxes rows f → ByBoxes rows g → f ≡ g
-ByBoxes-one rows f g (inl (is, _)) (inl (also, _)) = is ∙ sym also
-ByBoxes-one rows f g (inl (_, many)) (inr (_, few)) = absurd (many-few rows many few)
-ByBoxes-one rows f g (inr (_, few)) (inl (_, many)) = absurd (many-few rows many few)
-ByBoxes-one rows f g (inr (is, _)) (inr (also, _)) = is ∙ sym also
-
-ByStrays-one : (rows : Rows) (f g : BoardFault) → ByStrays rows f → ByStrays rows g → f ≡ g
-ByStrays-one rows f g (inl (s, is, first)) (inl (t, also, other)) = is ∙ ap fault.BoxOutside (IsFirst-one (IsStray rows) s t first other) ∙ sym also
-ByStrays-one rows f g (inl (s, _, first)) (inr (none, _)) = absurd (none s first.0)
-ByStrays-one rows f g (inr (none, _)) (inl (t, _, first)) = absurd (none t first.0)
-ByStrays-one rows f g (inr (_, later)) (inr (_, other)) = ByBoxes-one rows f g later other
-
-BySize-one : (rows : Rows) (f g : BoardFault) → BySize rows f → BySize rows g → f ≡ g
-BySize-one rows f g (inl (is, _)) (inl (also, _)) = is ∙ sym also
-BySize-one rows f g (inl (_, large)) (inr (small, _)) = absurd (large-small rows large small)
-BySize-one rows f g (inr (small, _)) (inl (_, large)) = absurd (large-small rows large small)
-BySize-one rows f g (inr (_, later)) (inr (_, other)) = ByStrays-one rows f g later other
-
 ByLeaks-one : (rows : Rows) (f g : BoardFault) → ByLeaks rows f → ByLeaks rows g → f ≡ g
-ByLeaks-one rows f g (inl (s, is, first)) (inl (t, also, other)) = is ∙ ap fault.NotEnclosed (IsFirst-one (IsLeak rows) s t first other) ∙ sym also
-ByLeaks-one rows f g (inl (s, _, first)) (inr (enclosed, _)) = absurd (leak-enclosed rows s first.0 enclosed)
-ByLeaks-one rows f g (inr (enclosed, _)) (inl (t, _, first)) = absurd (leak-enclosed rows t first.0 enclosed)
-ByLeaks-one rows f g (inr (_, later)) (inr (_, other)) = BySize-one rows f g later other
+ByLeaks-one rows f g = OrLater-one (AtFirst fault.NotEnclosed (IsLeak rows)) (IsEnclosed rows) (BySize rows) f g
+    (λ h (s, _, first) enclosed. leak-enclosed rows s first.0 enclosed) (AtFirst-one fault.NotEnclosed (IsLeak rows) f g) (BySize-one rows f g)
 
 -- where memory suffices, a level is refused for one cause
 pub IsRefused-one : (rows : Rows) (f g : BoardFault) → f ≢ fault.Memory → g ≢ fault.Memory → IsRefused rows f → IsRefused rows g → f ≡ g

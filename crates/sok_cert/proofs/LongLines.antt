@@ -7,7 +7,7 @@ use Rattle.std.proofs.lemmas.List.Elements.{All-append, All-cons, All-nil}
 use Rattle.std.specs.Prelude.{codes, decimal}
 use Rattle.std.specs.Str.Lines.{lines, strip_carriage_return}
 use Rattle.sok_text.specs.Lines.{IsUnended, is_newline}
-use Rattle.sok_text.proofs.Lines.{lines-last, lines-newline}
+use Rattle.sok_text.proofs.Lines.{length-strip_most, lines-last, lines-newline}
 use Rattle.sok_entry.specs.declared.claim.Claim.{Claim}
 use Rattle.sok_entry.specs.declared.claim.Claim.TheVariants.{Pushes, Unsolvable}
 use Rattle.sok_entry.specs.declared.entry.Entry.{Entry}
@@ -19,13 +19,6 @@ use Rattle.sok_entry.specs.declared.stage.Stage.TheVariants.{AtClaim, AtHeader}
 use Rattle.sok_entry.specs.Reading.{GoesWrong, at_header}
 use Rattle.sok_entry.specs.Stages.{IsSplit, IsStage}
 use Rattle.sok_entry.specs.Text.{FitsClaim, claim_line, header}
-
--- an end takes one byte of a line at most
-strip-longer : (line : List ℕ) → length line ≤ length (strip_carriage_return line) + 1
-strip-longer line = elim (cases_Bool (slice_index line (length line - 1) == 13)) [
-  | inl return ↦ omega (arith, ap (λ b. length (if b then take (length line - 1) line else line)) return, length-take (length line - 1) line)
-  | inr plain ↦ omega (arith, ap (λ b. length (if b then take (length line - 1) line else line)) plain)
-]
 
 -- the first of these lines has all of a front, or all but one byte
 record BeginsWith (front : List ℕ) (ls : List (List ℕ)) : Type 0 where
@@ -46,7 +39,7 @@ begins front (byte ∷ more) unended some = elim (cases_Bool (is_newline byte)) 
     first = strip_carriage_return front;
     others = lines more;
     has = ap (λ b. lines (front ++ b ∷ more)) (eqb-true byte 10 newline) ∙ lines-newline front more unended;
-    long = strip-longer front;
+    long = length-strip_most front;
   }
   | inr plain ↦
       let longer = front ++ byte ∷ [] in

@@ -2,6 +2,7 @@
 use Rattle.std.proofs.Common.{ℕ, ◌≡◌, ◌≢◌, ◌<◌, ◌⊎◌, inl, inr, refl, sym, ap, ◌∙◌, subst, List, true, false, true≢false, arith, length, slice_get}
 use Rattle.std.proofs.lemmas.Bool.{cases_eq, cases_lt}
 use Rattle.std.proofs.lemmas.Option.{same_Some, slice_get_within}
+use Rattle.sok_rules.proofs.Refusing.{Names, Names-one, OrLater, OrLater-one}
 use Rattle.sok_board.specs.Area.{Numbered}
 use Rattle.sok_state.specs.declared.push.Push.{Push}
 use Rattle.sok_state.proofs.Order.{Precedes-total}
@@ -13,32 +14,25 @@ use Rattle.sok_cert.specs.Closed.{IsClosed, IsPosition, IsStarter}
 use Rattle.sok_cert.specs.Refusals.{AreFine, IsFaulty, IsFine, IsFirstOpen, IsNew, IsOpen, IsRefused, IsRepeated, IsSolved, IsUnreasoned}
 use Rattle.sok_cert.proofs.Closing.{closed-refused, reason-is}
 
--- the fault of a cause, or where that does not hold one of a later cause
-abbrev OrLater : CertFault → Type 0 → Type 0 → (CertFault → Type 0) → CertFault → Type 0
-OrLater first Cause Not Later f = ((f ≡ first) × Cause) ⊎ (Not × Later f)
-
--- so there is one, where the later causes have one
-OrLater-one : (first : CertFault) (Cause Not : Type 0) (Later : CertFault → Type 0) (f g : CertFault) → (Cause → Not → ⊥) → (Later f → Later g → f ≡ g)
-    → OrLater first Cause Not Later f → OrLater first Cause Not Later g → f ≡ g
-OrLater-one first Cause Not Later f g apart one (inl (is, _)) (inl (also, _)) = is ∙ sym also
-OrLater-one first Cause Not Later f g apart one (inl (_, cause)) (inr (other, _)) = absurd (apart cause other)
-OrLater-one first Cause Not Later f g apart one (inr (other, _)) (inl (_, cause)) = absurd (apart cause other)
-OrLater-one first Cause Not Later f g apart one (inr (_, later)) (inr (_, more)) = one later more
-
 -- what is wrong with an entry, and the fault that names it
 abbrev ByReason : Numbered → Claim → List Entry → ℕ → Entry → CertFault → Type 0
-ByReason b claim entries i e = OrLater (fault.SolvedEntry i) (IsSolved b entries i e) (IsUnreasoned b claim entries i e) (λ f. f ≡ fault.BadReason i)
+ByReason b claim entries i e =
+    OrLater (Names (fault.SolvedEntry i) (IsSolved b entries i e)) (IsUnreasoned b claim entries i e) (λ f. f ≡ fault.BadReason i)
 
 abbrev ByState : Numbered → Claim → List Entry → ℕ → Entry → CertFault → Type 0
-ByState b claim entries i e = OrLater (fault.Duplicate i) (IsRepeated b entries i e) (IsNew b entries i e) (ByReason b claim entries i e)
+ByState b claim entries i e = OrLater (Names (fault.Duplicate i) (IsRepeated b entries i e)) (IsNew b entries i e) (ByReason b claim entries i e)
 
 abbrev ByEntry : Numbered → Claim → List Entry → ℕ → Entry → CertFault → Type 0
-ByEntry b claim entries i e = OrLater (fault.BadEntry i) (IsPosition b e → ⊥) (IsPosition b e) (ByState b claim entries i e)
+ByEntry b claim entries i e = OrLater (Names (fault.BadEntry i) (IsPosition b e → ⊥)) (IsPosition b e) (ByState b claim entries i e)
+
+-- the fault of the first open push
+abbrev AtFirstOpen : Numbered → List Entry → CertFault → Type 0
+AtFirstOpen b entries f = (i : ℕ) × (push : Push) × (f ≡ fault.OpenPush i push.from push.dir) × IsFirstOpen b entries i push
 
 -- what is wrong with entries that are fine, each by itself
 abbrev ByAll : Numbered → List Entry → CertFault → Type 0
-ByAll b entries = OrLater fault.Start ((e : Entry) → IsStarter b entries e → ⊥) ((e : Entry) × IsStarter b entries e)
-    (λ f. (i : ℕ) × (push : Push) × (f ≡ fault.OpenPush i push.from push.dir) × IsFirstOpen b entries i push)
+ByAll b entries =
+    OrLater (Names fault.Start ((e : Entry) → IsStarter b entries e → ⊥)) ((e : Entry) × IsStarter b entries e) (AtFirstOpen b entries)
 
 abbrev ByOrder : Numbered → Claim → List Entry → CertFault → Type 0
 ByOrder b claim entries f =
@@ -57,22 +51,8 @@ by_order b claim entries (fault.SolvedEntry i) ample faulty =
 by_order b claim entries (fault.BadReason i) ample faulty =
     inl (i, faulty-as b claim entries i (λ e fails. inr (fails.position, inr (fails.new, inr (fails, refl)))) faulty)
 by_order b claim entries fault.Start ample (fine, none) = inr (fine, inl (refl, none))
-by_order b claim entries (fault.OpenPush i square d) ample (fine, starter, first) = inr (
-  fine,
-  inr (
-    starter,
-    (
-      i,
-      record {
-        from = square;
-        dir =
-            d;
-      },
-      refl,
-      first,
-    ),
-  ),
-)
+by_order b claim entries (fault.OpenPush i square d) ample (fine, starter, first) =
+    let push : Push = record { from = square; dir = d } in inr (fine, inr (starter, (i, push, refl, first)))
 by_order b claim entries fault.Header ample none = absurd none
 by_order b claim entries (fault.Line n) ample none = absurd none
 by_order b claim entries fault.Truncated ample none = absurd none
@@ -83,19 +63,23 @@ repeated-new b entries i e repeated new = new repeated.place repeated.earlier re
 
 ByReason-one : (b : Numbered) (claim : Claim) (entries : List Entry) (i : ℕ) (e : Entry) (f g : CertFault) → ByReason b claim entries i e f
     → ByReason b claim entries i e g → f ≡ g
-ByReason-one b claim entries i e f g = OrLater-one (fault.SolvedEntry i) (IsSolved b entries i e) (IsUnreasoned b claim entries i e)
-    (λ h. h ≡ fault.BadReason i) f g
-    (λ solved fails. true≢false (sym solved.expanded ∙ fails.barring)) (λ is also. is ∙ sym also)
+ByReason-one b claim entries i e f g =
+    OrLater-one (Names (fault.SolvedEntry i) (IsSolved b entries i e)) (IsUnreasoned b claim entries i e) (λ h. h ≡ fault.BadReason i) f g
+    (λ h (_, solved) fails. true≢false (sym solved.expanded ∙ fails.barring)) (Names-one (fault.SolvedEntry i) (IsSolved b entries i e) f g)
+    (λ is also. is ∙ sym also)
 
 ByState-one : (b : Numbered) (claim : Claim) (entries : List Entry) (i : ℕ) (e : Entry) (f g : CertFault) → ByState b claim entries i e f
     → ByState b claim entries i e g → f ≡ g
-ByState-one b claim entries i e f g = OrLater-one (fault.Duplicate i) (IsRepeated b entries i e) (IsNew b entries i e) (ByReason b claim entries i e) f g
-    (repeated-new b entries i e) (ByReason-one b claim entries i e f g)
+ByState-one b claim entries i e f g =
+    OrLater-one (Names (fault.Duplicate i) (IsRepeated b entries i e)) (IsNew b entries i e) (ByReason b claim entries i e) f g
+    (λ h (_, repeated). repeated-new b entries i e repeated) (Names-one (fault.Duplicate i) (IsRepeated b entries i e) f g)
+    (ByReason-one b claim entries i e f g)
 
 ByEntry-one : (b : Numbered) (claim : Claim) (entries : List Entry) (i : ℕ) (e : Entry) (f g : CertFault) → ByEntry b claim entries i e f
     → ByEntry b claim entries i e g → f ≡ g
-ByEntry-one b claim entries i e f g = OrLater-one (fault.BadEntry i) (IsPosition b e → ⊥) (IsPosition b e) (ByState b claim entries i e) f g
-    (λ misplaced position. misplaced position) (ByState-one b claim entries i e f g)
+ByEntry-one b claim entries i e f g =
+    OrLater-one (Names (fault.BadEntry i) (IsPosition b e → ⊥)) (IsPosition b e) (ByState b claim entries i e) f g
+    (λ h (_, misplaced) position. misplaced position) (Names-one (fault.BadEntry i) (IsPosition b e → ⊥) f g) (ByState-one b claim entries i e f g)
 
 -- an entry with a fault is not fine
 ByEntry-fine : (b : Numbered) (claim : Claim) (entries : List Entry) (i : ℕ) (e : Entry) (f : CertFault) → ByEntry b claim entries i e f
@@ -142,9 +126,9 @@ first_open-one b entries i j p q first second = elim (cases_eq i j) [
 
 ByAll-one : (b : Numbered) (entries : List Entry) (f g : CertFault) → ByAll b entries f → ByAll b entries g → f ≡ g
 ByAll-one b entries f g =
-    OrLater-one fault.Start ((e : Entry) → IsStarter b entries e → ⊥) ((e : Entry) × IsStarter b entries e)
-    (λ h. (i : ℕ) × (push : Push) × (h ≡ fault.OpenPush i push.from push.dir) × IsFirstOpen b entries i push) f g
-    (λ none (e, starter). none e starter) (λ (i, p, is, first) (j, q, also, second). is ∙ first_open-one b entries i j p q first second ∙ sym also)
+    OrLater-one (Names fault.Start ((e : Entry) → IsStarter b entries e → ⊥)) ((e : Entry) × IsStarter b entries e) (AtFirstOpen b entries) f g
+    (λ h (_, none) (e, starter). none e starter) (Names-one fault.Start ((e : Entry) → IsStarter b entries e → ⊥) f g)
+    (λ (i, p, is, first) (j, q, also, second). is ∙ first_open-one b entries i j p q first second ∙ sym also)
 
 -- no entry is faulty where all are fine
 faulty-all : (b : Numbered) (claim : Claim) (entries : List Entry) (i : ℕ) (f : CertFault) → IsFaulty b claim entries i (λ e. ByEntry b claim entries i e f)

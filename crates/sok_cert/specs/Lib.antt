@@ -11,7 +11,7 @@ pub use Rattle.sok_entry.specs.Reading
 pub use Rattle.sok_entry.specs.Stages
 pub use Rattle.sok_entry.specs.Text
 pub use Rattle.sok_entry.specs.declared.claim.Claim
-pub use Rattle.sok_entry.specs.declared.entry.Cert
+pub use Rattle.sok_entry.specs.declared.entry.Certificate
 pub use Rattle.sok_entry.specs.declared.entry.Entry
 pub use Rattle.sok_entry.specs.declared.entry.Reason
 pub use Rattle.sok_entry.specs.declared.fault.CertFault

@@ -12,8 +12,9 @@ use crate::accepted::Accepted;
 use crate::roster::Roster;
 use sok_board::board::Board;
 use sok_entry::claim::Claim;
-use sok_entry::entry::{Cert, Entry};
+use sok_entry::entry::{Certificate, Entry};
 use sok_entry::fault::CertFault;
+use sok_push::setting::Setting;
 use sok_push::tables::Tables;
 use std::alloc::Global;
 
@@ -22,32 +23,35 @@ use std::alloc::Global;
 /// one that is no position of the board, that is the state of an earlier one, that is expanded with
 /// all boxes on goals, or whose reason does not hold; then no entry of depth 0 that is the start;
 /// last the first push from an expanded entry that leads to no entry at most one deeper.
-pub fn check(
-    alloc: Global,
-    board: &Board,
-    claim: &Claim,
-    cert: &Cert,
-) -> Result<Accepted, CertFault>
-    ensures claim { IfOk result (λ accepted. accepted.claim ≡ claim.now) }
+pub fn check(alloc: Global, board: &Board, certificate: &Certificate) -> Result<Accepted, CertFault>
+    ensures claim { IfOk result (λ accepted. accepted.claim ≡ certificate.now.claim) }
     ensures level { IfOk result (λ accepted. accepted.rows ≡ board.now.rows) }
-    ensures refused { IfErr result (IsRefused board.now claim.now cert.now.entries.items) }
-    ensures exact { (result ≡ Err fault.Memory → ⊥)
-        → (IsOk result ↔ IsClosed board.now claim.now cert.now.entries.items) }
+    ensures refused { IfErr result
+        (IsRefused board.now certificate.now.claim certificate.now.entries.items) }
+    ensures exact { (result ≡ Err fault.Memory → ⊥) → (IsOk result
+        ↔ IsClosed board.now certificate.now.claim certificate.now.entries.items) }
 {
-    judged(alloc, board, *claim, cert)
+    judged(alloc, board, certificate)
 }
 
 /// The same, but for what is said of all answers.
-fn judged(alloc: Global, board: &Board, claim: Claim, cert: &Cert) -> Result<Accepted, CertFault>
-    ensures claim { IfOk result (λ accepted. accepted.claim ≡ claim) }
+fn judged(alloc: Global, board: &Board, certificate: &Certificate) -> Result<Accepted, CertFault>
+    ensures claim { IfOk result (λ accepted. accepted.claim ≡ certificate.now.claim) }
     ensures level { IfOk result (λ accepted. accepted.rows ≡ board.now.rows) }
-    ensures closed { IfOk result (λ _. IsClosed board.now claim cert.now.entries.items) }
-    ensures refused { IfErr result (IsRefused board.now claim cert.now.entries.items) }
+    ensures closed { IfOk result
+        (λ _. IsClosed board.now certificate.now.claim certificate.now.entries.items) }
+    ensures refused { IfErr result
+        (IsRefused board.now certificate.now.claim certificate.now.entries.items) }
 {
     // Its clauses tell that the level is accepted.
     let _level = board.level();
-    let judged = judge_entries(alloc, board, claim, cert.entries.as_slice());
-    Accepted::of(alloc, board, claim, judged)
+    let judged = judge_entries(
+        alloc,
+        board,
+        certificate.claim,
+        certificate.entries.as_slice(),
+    );
+    Accepted::of(alloc, board, certificate.claim, judged)
 }
 
 /// Judges the entries of a list.
@@ -62,27 +66,34 @@ fn judge_entries(
 {
     let tables = Tables::new(alloc, board)?;
     let mut roster = Roster::new(alloc, board);
-    enter_all(alloc, board, &tables, claim, entries, &mut roster)
+    enter_all(
+        alloc,
+        &Setting {
+            board,
+            tables: &tables,
+        },
+        claim,
+        entries,
+        &mut roster,
+    )
 }
 
 /// Judges each entry by itself, on a roster without entries, and then all of them.
 fn enter_all(
     alloc: Global,
-    board: &Board,
-    tables: &Tables,
+    setting: &Setting<'_>,
     claim: Claim,
     entries: &[Entry],
     roster: &mut Roster,
 ) -> Result<(), CertFault>
-    requires accepted { IsAccepted board.now }
-    requires tables { tables.now.board ≡ board.now }
-    requires none { TellsEntries board.now claim [] roster.old.roll roster.old.fault }
-    requires of_board { IsRosterOf board.now roster.old }
-    ensures { MatchResult result (λ _. IsClosed board.now claim entries.now)
-        (IsRefused board.now claim entries.now) }
+    requires accepted { IsAccepted setting.now.board.now }
+    requires none { TellsEntries setting.now.board.now claim [] roster.old.roll roster.old.fault }
+    requires of_board { IsRosterOf setting.now.board.now roster.old }
+    ensures { MatchResult result (λ _. IsClosed setting.now.board.now claim entries.now)
+        (IsRefused setting.now.board.now claim entries.now) }
 {
     for entry in entries {
-        roster.enter(alloc, board, tables, claim, entry)?;
+        roster.enter(alloc, setting, claim, entry)?;
     }
-    roster.close(alloc, board)
+    roster.close(alloc, setting.board)
 }

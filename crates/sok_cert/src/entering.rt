@@ -1,6 +1,6 @@
 //! The state of an entry, entered into the roll of those before it.
 
-ghost use Rattle.std.specs.Prelude.{◌≡◌, ◌++◌, ◌∷◌, [], IfOk, List, MatchOption, length};
+ghost use Rattle.std.specs.Prelude.{◌≡◌, ◌++◌, ◌∷◌, [], IfOk, List, MatchOption};
 ghost use Rattle.sok_board.specs.Area.{IsAccepted};
 ghost use Rattle.sok_bar.specs.Memos.{KeepsClosed};
 ghost use Rattle.sok_state.specs.Normalizers.{Normalizes};
@@ -18,7 +18,7 @@ use sok_closed::roll::Roll;
 use sok_entry::claim::Claim;
 use sok_entry::entry::Entry;
 use sok_entry::fault::CertFault;
-use sok_push::tables::Tables;
+use sok_push::setting::Setting;
 use sok_rules::fault::Memory;
 use sok_state::normalizer::Normalizer;
 use std::alloc::Global;
@@ -28,33 +28,32 @@ use std::alloc::Global;
 /// memo keeps the positions of patterns.
 pub(crate) fn enter(
     alloc: Global,
-    board: &Board,
-    tables: &Tables,
+    setting: &Setting<'_>,
     claim: Claim,
     entry: &Entry,
     normalizer: &mut Normalizer,
     roll: &mut Roll,
     memo: &mut Memo,
 ) -> Result<Option<CertFault>, Memory>
-    requires accepted { IsAccepted board.now }
-    requires tables { tables.now.board ≡ board.now }
-    requires normalizes { Normalizes board.now normalizer.old }
-    requires of_board { IsOfBoard board.now roll.old }
-    requires memo { KeepsClosed board.now memo.old }
-    ensures tells { (entries : List Entry) → AreEntered board.now claim entries roll.old
-        → IfOk result (TellsEntries board.now claim (entries ++ entry.now ∷ []) roll.new) }
-    ensures normalizes { Normalizes board.now normalizer.new }
-    ensures of_board { IsOfBoard board.now roll.new }
-    ensures memo { KeepsClosed board.now memo.new }
+    requires accepted { IsAccepted setting.now.board.now }
+    requires normalizes { Normalizes setting.now.board.now normalizer.old }
+    requires of_board { IsOfBoard setting.now.board.now roll.old }
+    requires memo { KeepsClosed setting.now.board.now memo.old }
+    ensures tells { (entries : List Entry) → AreEntered setting.now.board.now claim entries roll.old
+        → IfOk result (TellsEntries setting.now.board.now claim
+        (entries ++ entry.now ∷ []) roll.new) }
+    ensures normalizes { Normalizes setting.now.board.now normalizer.new }
+    ensures of_board { IsOfBoard setting.now.board.now roll.new }
+    ensures memo { KeepsClosed setting.now.board.now memo.new }
 {
     let index = roll.len();
-    let Some(Located { boxes, key }) = locate_entry(alloc, board, entry, normalizer)? else {
+    let Some(Located { boxes, key }) = locate_entry(alloc, setting.board, entry, normalizer)? else {
         return Ok(Some(CertFault::BadEntry(index)));
     };
     if !roll.enter(&key, entry.depth, is_expanded(&entry.reason))? {
         return Ok(Some(CertFault::Duplicate(index)));
     }
-    let found = judge(alloc, board, tables, claim, entry, &boxes, memo)?;
+    let found = judge(alloc, setting, claim, entry, &boxes, memo)?;
     Ok(fault_of(found, index))
 }
 

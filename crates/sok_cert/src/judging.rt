@@ -10,12 +10,11 @@ use crate::reason::{is_expanded, rest_of};
 use sok_bar::memo::Memo;
 use sok_bar::reason::reason_holds;
 use sok_board::area::Sq;
-use sok_board::board::Board;
 use sok_board::box_set::BoxSet;
 use sok_closed::solved::is_solved;
 use sok_entry::claim::Claim;
 use sok_entry::entry::Entry;
-use sok_push::tables::Tables;
+use sok_push::setting::Setting;
 use sok_rules::fault::Memory;
 use std::alloc::Global;
 
@@ -33,23 +32,21 @@ pub(crate) enum Finding {
 /// Whether an entry may stand, given with its boxes. It refuses only for want of memory.
 pub(crate) fn judge(
     alloc: Global,
-    board: &Board,
-    tables: &Tables,
+    setting: &Setting<'_>,
     claim: Claim,
     entry: &Entry,
     boxes: &BoxSet,
     memo: &mut Memo,
 ) -> Result<Finding, Memory>
-    requires accepted { IsAccepted board.now }
-    requires tables { tables.now.board ≡ board.now }
-    requires position { IsPosition board.now entry.now }
+    requires accepted { IsAccepted setting.now.board.now }
+    requires position { IsPosition setting.now.board.now entry.now }
     requires boxes { boxes.now ≡ entry.now.boxes }
-    requires memo { KeepsClosed board.now memo.old }
-    ensures found { IfOk result (IsFinding board.now claim entry.now) }
-    ensures memo { KeepsClosed board.now memo.new }
+    requires memo { KeepsClosed setting.now.board.now memo.old }
+    ensures found { IfOk result (IsFinding setting.now.board.now claim entry.now) }
+    ensures memo { KeepsClosed setting.now.board.now memo.new }
 {
     if is_expanded(&entry.reason) {
-        if is_solved(board, boxes) {
+        if is_solved(setting.board, boxes) {
             return Ok(Finding::Solved);
         }
         return Ok(Finding::Fine);
@@ -57,7 +54,7 @@ pub(crate) fn judge(
     let reason = &entry.reason;
     let player = entry.player as Sq;
     let rest = rest_of(claim, entry.depth);
-    if reason_holds(alloc, reason, board, tables, boxes, player, rest, memo)? {
+    if reason_holds(alloc, reason, setting, boxes, player, rest, memo)? {
         return Ok(Finding::Fine);
     }
     Ok(Finding::Unreasoned)

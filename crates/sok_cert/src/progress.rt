@@ -21,7 +21,7 @@ use sok_entry::entry::Reason;
 use sok_entry::fault::CertFault;
 use sok_entry::known::Known;
 use sok_entry::stage::{LineRead, Stage};
-use sok_push::tables::Tables;
+use sok_push::setting::Setting;
 use sok_rules::fault::Memory;
 use sok_text::line::{cut_at_end, without_return};
 use std::alloc::{AllocError, Global};
@@ -65,22 +65,21 @@ impl Progress {
     pub(crate) fn take(
         &mut self,
         alloc: Global,
-        board: &Board,
-        tables: &Tables,
+        setting: &Setting<'_>,
         piece: &[u8],
     ) -> Result<(), Memory>
-        requires accepted { IsAccepted board.now }
-        requires tables { tables.now.board ≡ board.now }
-        requires of_board { IsRosterOf board.now self.old.roster }
-        ensures stands { (text : List ℕ) → StandsFor board.now text (progressed_of self.old)
+        requires accepted { IsAccepted setting.now.board.now }
+        requires of_board { IsRosterOf setting.now.board.now self.old.roster }
+        ensures stands { (text : List ℕ) → StandsFor setting.now.board.now text
+            (progressed_of self.old)
             → OnOk result
-            (StandsFor board.now (text ++ piece.now) (progressed_of self.new)) }
-        ensures of_board { IsRosterOf board.now self.new.roster }
+            (StandsFor setting.now.board.now (text ++ piece.now) (progressed_of self.new)) }
+        ensures of_board { IsRosterOf setting.now.board.now self.new.roster }
     {
         let mut rest = piece;
         while let Some((part, behind)) = cut_at_end(rest) {
-            self.end_line(alloc, board, tables, part)?;
-            rest = self.pass_known(alloc, board, tables, behind)?;
+            self.end_line(alloc, setting, part)?;
+            rest = self.pass_known(alloc, setting, behind)?;
         }
         self.keep(rest)
     }
@@ -98,21 +97,16 @@ impl Progress {
     }
 
     /// Reads the bytes of a line up to its end.
-    fn end_line(
-        &mut self,
-        alloc: Global,
-        board: &Board,
-        tables: &Tables,
-        part: &[u8],
-    ) -> Result<(), Memory>
-        requires accepted { IsAccepted board.now }
-        requires tables { tables.now.board ≡ board.now }
-        requires of_board { IsRosterOf board.now self.old.roster }
+    fn end_line(&mut self, alloc: Global, setting: &Setting<'_>, part: &[u8]) -> Result<(), Memory>
+        requires accepted { IsAccepted setting.now.board.now }
+        requires of_board { IsRosterOf setting.now.board.now self.old.roster }
         requires unended { IsUnended part.now }
-        ensures stands { (text : List ℕ) → StandsFor board.now text (progressed_of self.old)
+        ensures stands { (text : List ℕ) → StandsFor setting.now.board.now text
+            (progressed_of self.old)
             → OnOk result
-            (StandsFor board.now (text ++ part.now ++ 10 ∷ []) (progressed_of self.new)) }
-        ensures of_board { IsRosterOf board.now self.new.roster }
+            (StandsFor setting.now.board.now (text ++ part.now ++ 10 ∷ [])
+            (progressed_of self.new)) }
+        ensures of_board { IsRosterOf setting.now.board.now self.new.roster }
     {
         if self.wrong.is_some() {
             return Ok(());
@@ -123,8 +117,7 @@ impl Progress {
         let line = without_return(self.line.as_slice());
         self.wrong = judge_line(
             alloc,
-            board,
-            tables,
+            setting,
             &mut self.numbers,
             &mut self.known,
             &mut self.stage,
@@ -141,16 +134,15 @@ impl Progress {
     fn pass_known<'p>(
         &mut self,
         alloc: Global,
-        board: &Board,
-        tables: &Tables,
+        setting: &Setting<'_>,
         rest: &'p [u8],
     ) -> Result<&'p [u8], Memory>
-        requires accepted { IsAccepted board.now }
-        requires tables { tables.now.board ≡ board.now }
-        requires of_board { IsRosterOf board.now self.old.roster }
-        ensures takes { IfOk result (λ behind. IsTaken board.now (progressed_of self.old)
+        requires accepted { IsAccepted setting.now.board.now }
+        requires of_board { IsRosterOf setting.now.board.now self.old.roster }
+        ensures takes { IfOk result (λ behind. IsTaken setting.now.board.now
+            (progressed_of self.old)
             (progressed_of self.new) rest.now behind.now) }
-        ensures of_board { IsRosterOf board.now self.new.roster }
+        ensures of_board { IsRosterOf setting.now.board.now self.new.roster }
     {
         if self.wrong.is_some() || !self.line.is_empty() {
             return Ok(rest);
@@ -165,14 +157,7 @@ impl Progress {
         self.ended.resize(lines, ())?;
         let now = mem::replace(&mut self.stage, Stage::AtHeader);
         let read = now.pass(inner)?;
-        self.wrong = judge_read(
-            alloc,
-            board,
-            tables,
-            read,
-            &mut self.stage,
-            &mut self.roster,
-        )?;
+        self.wrong = judge_read(alloc, setting, read, &mut self.stage, &mut self.roster)?;
         Ok(behind)
     }
 
@@ -220,8 +205,7 @@ fn is_too_long(stage: &Stage, line: &[u8]) -> bool
 /// the inner positions of a pattern are known from then on.
 fn judge_line(
     alloc: Global,
-    board: &Board,
-    tables: &Tables,
+    setting: &Setting<'_>,
     numbers: &mut Vec<u32>,
     known: &mut Known,
     stage: &mut Stage,
@@ -230,20 +214,20 @@ fn judge_line(
     line: &[u8],
 ) -> Result<Option<CertFault>, Memory>
     requires few { lines < 2 ^ 63 }
-    requires accepted { IsAccepted board.now }
-    requires tables { tables.now.board ≡ board.now }
-    requires of_board { IsRosterOf board.now roster.old }
+    requires accepted { IsAccepted setting.now.board.now }
+    requires of_board { IsRosterOf setting.now.board.now roster.old }
     ensures judged { (ls : List (List ℕ)) (entries : List Entry) → length ls ≡ lines
-        → AreJudged board.now stage.old (rostered_of roster.old) ls entries
+        → AreJudged setting.now.board.now stage.old (rostered_of roster.old) ls entries
         → IfOk result (λ wrong. MatchOption wrong ((es : List Entry)
-        × AreJudged board.now stage.new (rostered_of roster.new) (ls ++ line.now ∷ []) es)
+        × AreJudged setting.now.board.now stage.new (rostered_of roster.new)
+        (ls ++ line.now ∷ []) es)
         (AreWrong (ls ++ line.now ∷ []))) }
-    ensures of_board { IsRosterOf board.now roster.new }
+    ensures of_board { IsRosterOf setting.now.board.now roster.new }
 {
     let now = mem::replace(stage, Stage::AtHeader);
     let read = now.line(alloc, numbers, line, lines)?;
     keep(alloc, known, &read)?;
-    judge_read(alloc, board, tables, read, stage, roster)
+    judge_read(alloc, setting, read, stage, roster)
 }
 
 /// Keeps the inner positions of a pattern whose last line was read.
@@ -260,26 +244,24 @@ fn keep(alloc: Global, known: &mut Known, read: &LineRead) -> Result<(), AllocEr
 /// goes wrong, that fault is told.
 fn judge_read(
     alloc: Global,
-    board: &Board,
-    tables: &Tables,
+    setting: &Setting<'_>,
     read: LineRead,
     stage: &mut Stage,
     roster: &mut Roster,
 ) -> Result<Option<CertFault>, Memory>
-    requires accepted { IsAccepted board.now }
-    requires tables { tables.now.board ≡ board.now }
-    requires of_board { IsRosterOf board.now roster.old }
+    requires accepted { IsAccepted setting.now.board.now }
+    requires of_board { IsRosterOf setting.now.board.now roster.old }
     ensures judged { (now : Stage) (ls : List (List ℕ)) (entries : List Entry)
         → ((claim : Claim) → MayClaim now claim
-        → TellsEntries board.now claim entries roster.old.roll roster.old.fault)
+        → TellsEntries setting.now.board.now claim entries roster.old.roll roster.old.fault)
         → IsRead ls entries now read
         → IfOk result (λ wrong. MatchOption wrong ((es : List Entry)
-        × AreJudged board.now stage.new (rostered_of roster.new) ls es) (AreWrong ls)) }
-    ensures of_board { IsRosterOf board.now roster.new }
+        × AreJudged setting.now.board.now stage.new (rostered_of roster.new) ls es) (AreWrong ls)) }
+    ensures of_board { IsRosterOf setting.now.board.now roster.new }
 {
     match read {
         LineRead::Listed(claim, entry, next) => {
-            roster.enter(alloc, board, tables, claim, &entry)?;
+            roster.enter(alloc, setting, claim, &entry)?;
             *stage = next;
             Ok(None)
         }

@@ -1,10 +1,10 @@
 //! The entries of a certificate, judged one by one.
 
-ghost use Rattle.std.specs.Prelude.{◌≡◌, ◌+◌, ◌++◌, ◌∷◌, [], List, MatchResult, OnOk};
+ghost use Rattle.std.specs.Prelude.{◌+◌, ◌++◌, ◌∷◌, [], List, MatchResult, OnOk};
 ghost use Rattle.sok_board.specs.Area.{IsAccepted};
 ghost use Rattle.sok_cert.specs.Closed.{IsClosed};
 ghost use Rattle.sok_cert.specs.Refusals.{IsRefused};
-ghost use Rattle.sok_cert.specs.Parts.{IsRosterOf, rostered_of};
+ghost use Rattle.sok_cert.specs.Parts.{IsRosterOf};
 ghost use Rattle.sok_cert.specs.Rosters.{IsOfBoard, TellsEntries};
 ghost use Rattle.sok_entry.specs.declared.claim.Claim.{Claim};
 ghost use Rattle.sok_entry.specs.declared.entry.Entry.{Entry};
@@ -17,7 +17,7 @@ use sok_closed::roll::Roll;
 use sok_entry::claim::Claim;
 use sok_entry::entry::Entry;
 use sok_entry::fault::CertFault;
-use sok_push::tables::Tables;
+use sok_push::setting::Setting;
 use sok_rules::fault::Memory;
 use sok_state::normalizer::Normalizer;
 use std::alloc::Global;
@@ -52,27 +52,24 @@ impl Roster {
     pub(crate) fn enter(
         &mut self,
         alloc: Global,
-        board: &Board,
-        tables: &Tables,
+        setting: &Setting<'_>,
         claim: Claim,
         entry: &Entry,
     ) -> Result<(), Memory>
-        requires accepted { IsAccepted board.now }
-        requires tables { tables.now.board ≡ board.now }
-        requires of_board { IsRosterOf board.now self.old }
+        requires accepted { IsAccepted setting.now.board.now }
+        requires of_board { IsRosterOf setting.now.board.now self.old }
         ensures tells { (entries : List Entry)
-            → TellsEntries board.now claim entries self.old.roll self.old.fault
-            → OnOk result (TellsEntries board.now claim (entries ++ entry.now ∷ [])
+            → TellsEntries setting.now.board.now claim entries self.old.roll self.old.fault
+            → OnOk result (TellsEntries setting.now.board.now claim (entries ++ entry.now ∷ [])
             self.new.roll self.new.fault) }
-        ensures of_board { IsRosterOf board.now self.new }
+        ensures of_board { IsRosterOf setting.now.board.now self.new }
     {
         if self.fault.is_some() {
             return Ok(());
         }
         self.fault = enter(
             alloc,
-            board,
-            tables,
+            setting,
             claim,
             entry,
             &mut self.normalizer,

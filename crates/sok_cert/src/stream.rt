@@ -1,6 +1,6 @@
 //! Certificates that are judged as they are read.
 
-ghost use Rattle.std.specs.Prelude.{ℕ, ◌≡◌, ◌≢◌, ◌⊎◌, ◌++◌, [], List, Err, IfErr, IfOk, MatchResult};
+ghost use Rattle.std.specs.Prelude.{ℕ, ◌≡◌, ◌⊎◌, ◌++◌, [], List, Err, IfErr, IfOk, MatchResult};
 ghost use Rattle.std.specs.Prelude.{Ok};
 ghost use Rattle.std.specs.List.{flat_map};
 ghost use Rattle.sok_board.specs.Area.{IsAccepted};
@@ -18,6 +18,7 @@ use crate::roster::Roster;
 use sok_board::board::Board;
 use sok_entry::claim::Claim;
 use sok_entry::fault::CertFault;
+use sok_push::setting::Setting;
 use sok_push::tables::Tables;
 use sok_rules::fault::Memory;
 use std::alloc::Global;
@@ -116,7 +117,14 @@ impl<'a> Stream<'a> {
             tables,
             mut progress,
         } = self;
-        progress.take(alloc, board, &tables, piece)?;
+        progress.take(
+            alloc,
+            &Setting {
+                board,
+                tables: &tables,
+            },
+            piece,
+        )?;
         Ok(Stream {
             alloc,
             board,

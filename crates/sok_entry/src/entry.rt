@@ -1,14 +1,16 @@
-//! The positions of a certificate, each with the reason why it may stand.
+//! A certificate: its claim, and its positions, each with the reason why it may stand.
 
 ghost use Rattle.std.specs.Prelude.{◌≡◌, IfOk};
 
+use crate::claim::Claim;
 use crate::inners::Inners;
 use std::alloc::{AllocError, Global};
 use std::marker::Model;
 
-/// Positions with what shows that the claim holds from each of them.
+/// A claim, and positions with what shows that it holds from each of them.
 #[derive(Debug, Drop)]
-pub struct Cert {
+pub struct Certificate {
+    pub claim: Claim,
     pub entries: Vec<Entry>,
 }
 

@@ -5,17 +5,17 @@ ghost use Rattle.sok_entry.specs.Text.{IsSmall, FitsClaim, FitsEntry, FitsInner,
 ghost use Rattle.sok_entry.specs.Text.{numbers_of_reason, reason_alike};
 
 use crate::claim::Claim;
-use crate::entry::{Cert, Entry, Inner, InnerReason, Reason};
+use crate::entry::{Certificate, Entry, Inner, InnerReason, Reason};
 
 /// The greatest number of a certificate.
 pub const LIMIT: u32 = 1_000_000;
 
 /// Whether a certificate has a text: each number and the length of each list is at most 1,000,000,
 /// those of patterns too, and each bound has as many prices of boxes as its entry has boxes.
-pub fn fits(claim: &Claim, cert: &Cert) -> bool
-    ensures { IsTrue result ↔ Fits claim.now cert.now.entries.items }
+pub fn fits(certificate: &Certificate) -> bool
+    ensures { IsTrue result ↔ Fits certificate.now.claim certificate.now.entries.items }
 {
-    claim_fits(claim) && cert.entries.iter().all(|entry| entry_fits(entry))
+    claim_fits(&certificate.claim) && certificate.entries.iter().all(|entry| entry_fits(entry))
 }
 
 fn claim_fits(claim: &Claim) -> bool

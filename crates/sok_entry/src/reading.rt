@@ -8,8 +8,7 @@ ghost use Rattle.sok_entry.specs.declared.claim.Claim.{Claim};
 ghost use Rattle.sok_entry.specs.declared.entry.Entry.{Entry};
 ghost use Rattle.sok_entry.specs.declared.fault.CertFault.TheVariants as cert;
 
-use crate::claim::Claim;
-use crate::entry::{Cert, Entry};
+use crate::entry::{Certificate, Entry};
 use crate::fault::CertFault;
 use crate::stage::{LineRead, Stage};
 use sok_text::line::{cut_at_end, without_return};
@@ -21,21 +20,21 @@ use std::alloc::Global;
 /// before `end`, or a line that is not `end` has no end; `Line` where a line that has its end is
 /// neither an entry nor `end`, or stands behind `end`. Where an inner position of a pattern belongs,
 /// any other line that has its end is a `Line`, and `end` without one is `Truncated` too.
-pub fn read(alloc: Global, text: &[u8]) -> Result<(Claim, Cert), CertFault>
+pub fn read(alloc: Global, text: &[u8]) -> Result<Certificate, CertFault>
     // What is read is spelled so.
-    ensures found { IfOk result (λ found. Spells text.now found.0 found.1.entries.items) }
+    ensures found { IfOk result (λ found. Spells text.now found.claim found.entries.items) }
     // What is spelled so is read, unless memory runs out.
     ensures only { (claim : Claim) (entries : List Entry) → Spells text.now claim entries
-        → MatchResult result (λ found. (found.0 ≡ claim) × (found.1.entries.items ≡ entries))
+        → MatchResult result (λ found. (found.claim ≡ claim) × (found.entries.items ≡ entries))
         (λ fault. fault ≡ cert.Memory) }
     ensures fault { IfErr result (λ fault. (fault ≡ cert.Memory) ⊎ GoesWrong text.now fault) }
 {
     certificate_of(alloc, text)
 }
 
-/// The claim and the entries of a text.
-fn certificate_of(alloc: Global, text: &[u8]) -> Result<(Claim, Cert), CertFault>
-    ensures { MatchResult result (λ found. Spells text.now found.0 found.1.entries.items)
+/// The certificate of a text.
+fn certificate_of(alloc: Global, text: &[u8]) -> Result<Certificate, CertFault>
+    ensures { MatchResult result (λ found. Spells text.now found.claim found.entries.items)
         (λ fault. (fault ≡ cert.Memory) ⊎ GoesWrong text.now fault) }
 {
     let mut stage = Stage::AtHeader;
@@ -50,7 +49,7 @@ fn certificate_of(alloc: Global, text: &[u8]) -> Result<(Claim, Cert), CertFault
         rest = behind;
     }
     let claim = stage.ended(rest, lines)?;
-    Ok((claim, Cert { entries }))
+    Ok(Certificate { claim, entries })
 }
 
 /// Reads one more line, behind so many. An entry that it ends goes to the entries. The list of

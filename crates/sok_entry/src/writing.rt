@@ -10,7 +10,7 @@ ghost use Rattle.sok_entry.specs.Text.{inner_line, inner_of, inner_text, is_patt
 ghost use Rattle.sok_entry.specs.Text.{text_of, version_of, Fits, Grows, Spells};
 
 use crate::claim::Claim;
-use crate::entry::{Cert, Entry, Inner, InnerReason, Reason};
+use crate::entry::{Certificate, Entry, Inner, InnerReason, Reason};
 use crate::inners::Inners;
 use crate::version::Version;
 use itoa::Buffer;
@@ -19,14 +19,20 @@ use std::alloc::{AllocError, Global};
 
 /// The text of a certificate: the header, the claim, the lines of each entry, and `end`. Each line
 /// ends with LF. The version is 1 where no entry is a pattern, else 2.
-pub fn write(alloc: Global, claim: &Claim, cert: &Cert) -> Result<Vec<u8>, Memory>
-    requires { Fits claim.now cert.now.entries.items }
-    ensures exact { IfOk result (λ text. text.items ≡ text_of claim.now cert.now.entries.items) }
-    ensures spells { IfOk result (λ text. Spells text.items claim.now cert.now.entries.items) }
+pub fn write(alloc: Global, certificate: &Certificate) -> Result<Vec<u8>, Memory>
+    requires { Fits certificate.now.claim certificate.now.entries.items }
+    ensures exact { IfOk result (λ text. text.items
+        ≡ text_of certificate.now.claim certificate.now.entries.items) }
+    ensures spells { IfOk result (λ text.
+        Spells text.items certificate.now.claim certificate.now.entries.items) }
 {
     let mut text = Vec::new(alloc);
-    push_front(&mut text, version_of(&cert.entries), claim)?;
-    for entry in &cert.entries {
+    push_front(
+        &mut text,
+        version_of(&certificate.entries),
+        &certificate.claim,
+    )?;
+    for entry in &certificate.entries {
         push_entry(
             &mut text,
             entry.depth,

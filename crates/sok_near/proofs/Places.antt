@@ -10,6 +10,7 @@ use Rattle.sok_text.specs.Characters.{code}
 use Rattle.sok_text.specs.Kinds.{kind_of}
 use Rattle.sok_text.specs.declared.kind.Kind.{Kind}
 use Rattle.sok_text.specs.declared.kind.Kind.TheVariants.{Row, Packed, Note}
+use Rattle.sok_text.proofs.Lines.{length-strip_most}
 use Rattle.sok_near.specs.NearLines.{near_limit, has_one_odd, is_odd, near_by, near_place, near_at, near_from}
 
 near_by-long : (kind : Kind) (line : List ℕ) → near_limit < length line → near_by kind line ≡ None
@@ -29,13 +30,6 @@ pub near_place-nil : near_place [] ≡ None
 unfolding near_place
 near_place-nil = refl
 
--- without its carriage return a line is shorter by one byte at most
-length-strip : (line : List ℕ) → length line ≤ length (strip_carriage_return line) + 1
-length-strip line = elim (cases_Bool (slice_index line (length line - 1) == 13)) [
-  | inl return ↦ omega (arith, ap (λ b. length (if b then take (length line - 1) line else line)) return, length-take (length line - 1) line)
-  | inr plain ↦ omega (arith, ap (λ b. length (if b then take (length line - 1) line else line)) plain)
-]
-
 pub near_place-take : (line : List ℕ) → near_place (take 1002 line) ≡ near_place line
 near_place-take line = elim (cases_lt 1002 (length line)) [
   | inl long ↦ near_place-long (take 1002 line) (omega (arith, length-take 1002 line)) ∙ sym (near_place-long line (omega arith))
@@ -45,8 +39,8 @@ near_place-take line = elim (cases_lt 1002 (length line)) [
 pub near_place-strip : (line : List ℕ) → near_place (strip_carriage_return (take 1002 line)) ≡ near_place (strip_carriage_return line)
 near_place-strip line = elim (cases_lt 1002 (length line)) [
   | inl long ↦
-      near_place-long (strip_carriage_return (take 1002 line)) (omega (arith, length-take 1002 line, length-strip (take 1002 line)))
-      ∙ sym (near_place-long (strip_carriage_return line) (omega (arith, length-strip line)))
+      near_place-long (strip_carriage_return (take 1002 line)) (omega (arith, length-take 1002 line, length-strip_most (take 1002 line)))
+      ∙ sym (near_place-long (strip_carriage_return line) (omega (arith, length-strip_most line)))
   | inr short ↦ ap (λ kept. near_place (strip_carriage_return kept)) (take_all 1002 line short)
 ]
 

@@ -22,7 +22,6 @@ ghost use Rattle.sok_board.specs.Area.{Numbered};
 ghost use Rattle.sok_board.specs.BoxSets.{IsMoved};
 ghost use Rattle.sok_board.specs.Limits.{box_limit};
 ghost use Rattle.sok_price.specs.Kept.{IsBounded};
-ghost use Rattle.sok_price.specs.Searches.{growth_of};
 ghost use Rattle.sok_price.specs.Matches.{IsMatch};
 ghost use Rattle.sok_price.specs.Matched.{
   CanMove,
@@ -40,9 +39,8 @@ use crate::reading::{read, row_of};
 use crate::search::{Search, worth};
 use crate::settle::match_boxes;
 use sok_board::area::Sq;
-use sok_board::board::Board;
 use sok_board::box_set::BoxSet;
-use sok_push::tables::Tables;
+use sok_push::setting::Setting;
 use sok_rules::fault::Memory;
 use std::alloc::Global;
 use std::marker::Model;
@@ -80,17 +78,15 @@ impl Model for Matching {
 }
 
 impl Matching {
-    /// A matching for a board of which some tables were made, with no boxes matched yet. It refuses
-    /// only for want of memory.
-    pub fn new(alloc: Global, board: &Board, tables: &Tables) -> Result<Matching, Memory>
-        requires tables { tables.now.board ≡ board.now }
-        ensures serves { IfOk result (Serves board.now) }
+    /// A matching for a board, with no boxes matched yet. It refuses only for want of memory.
+    pub fn new(alloc: Global, setting: &Setting<'_>) -> Result<Matching, Memory>
+        ensures serves { IfOk result (Serves setting.now.board.now) }
     {
-        let goals = tables.goals();
-        let squares = board.squares();
+        let goals = setting.tables.goals();
+        let squares = setting.board.squares();
         Ok(Matching {
             squares,
-            costs: Costs::tabled(alloc, tables, goals, squares)?,
+            costs: Costs::tabled(alloc, setting.tables, goals, squares)?,
             rows: spare_rows(alloc, goals, squares)?,
             search: Search::new(alloc, goals, goals)?,
             matched: false,

@@ -5,9 +5,11 @@
 //! |---|---|
 //! | `law` | a push by the rules is a push of a box without others |
 //! | `search` | the search outwards from a goal |
+//! | `setting` | a board with its tables |
 //! | `tables` | the distances of a board's squares to its goals |
 #![tactic(auto)]
 
 pub mod law;
 mod search;
+pub mod setting;
 pub mod tables;

@@ -45,9 +45,9 @@ fn outcome_told(alloc: Global, level: &Level, outcome: &Outcome, pushes: Option<
         Outcome::Solved {
             dirs,
             pushes: least,
-            cert: _,
+            certificate: _,
         } if pushes == Some(*least) => letters_told(alloc, level, dirs, *least),
-        Outcome::Unsolvable { cert: _ } if pushes.is_none() => Told::Same,
+        Outcome::Unsolvable { certificate: _ } if pushes.is_none() => Told::Same,
         _ => Told::Other(0),
     }
 }

@@ -1,14 +1,11 @@
 //! Frozen boxes as a reason, and which are found.
 
-ghost use Rattle.std.specs.Prelude.{◌≡◌};
-
 use crate::positions::{IN_THE_ROOM, ON_THE_GOAL, Position, TWO_IN_A_ROW, boxes_on, holds};
-use crate::setting::{board, tables};
+use crate::setting::{board, setting, tables};
 use sok_bar::frozen::{Frozen, find_frozen};
 use sok_bar::rest::Rest;
 use sok_board::area::Sq;
-use sok_board::board::Board;
-use sok_push::tables::Tables;
+use sok_push::setting::Setting;
 use sok_sketch::sketch;
 use std::alloc::Global;
 use std::process::Abort;
@@ -73,22 +70,20 @@ fn found(
 ) -> Result<Option<Vec<u32>>, Fail> {
     let board = board(alloc, level)?;
     let tables = tables(alloc, &board)?;
-    found_on(rt, alloc, &board, &tables, squares, square)
+    let setting = setting(&board, &tables);
+    found_on(rt, alloc, &setting, squares, square)
 }
 
 fn found_on(
     rt: &impl Abort,
     alloc: Global,
-    board: &Board,
-    tables: &Tables,
+    setting: &Setting<'_>,
     squares: &[Sq],
     square: Sq,
-) -> Result<Option<Vec<u32>>, Fail>
-    requires { tables.now.board ≡ board.now }
-{
-    let boxes = boxes_on(rt, alloc, board, squares)?;
+) -> Result<Option<Vec<u32>>, Fail> {
+    let boxes = boxes_on(rt, alloc, setting.board, squares)?;
     assert!(rt; boxes.has(square));
-    Ok(find_frozen(alloc, board, tables, &boxes, square)?)
+    Ok(find_frozen(alloc, setting, &boxes, square)?)
 }
 
 /// A level, the squares of boxes on it, one of them, and the members of a jam with it.

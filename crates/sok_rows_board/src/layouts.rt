@@ -1,13 +1,11 @@
 //! A layout after pushes and back, and jams over it.
 
-ghost use Rattle.std.specs.Prelude.{◌≡◌};
-
-use crate::setting::{are_below, board, tables};
+use crate::setting::{are_below, board, setting, tables};
 use sok_bar::layout_jam::has_jam;
 use sok_board::area::Sq;
 use sok_board::board::Board;
 use sok_field::field::COLUMNS;
-use sok_push::tables::Tables;
+use sok_push::setting::Setting;
 use sok_region::layout::Layout;
 use sok_rules::cell::Spot;
 use sok_sketch::sketch;
@@ -25,24 +23,22 @@ fn jam(
 ) -> Result<bool, Fail> {
     let board = board(alloc, level)?;
     let tables = tables(alloc, &board)?;
-    jam_on(rt, alloc, &board, &tables, boxes, square)
+    let setting = setting(&board, &tables);
+    jam_on(rt, alloc, &setting, boxes, square)
 }
 
 fn jam_on(
     rt: &impl Abort,
     alloc: Global,
-    board: &Board,
-    tables: &Tables,
+    setting: &Setting<'_>,
     boxes: &[Sq],
     square: Sq,
-) -> Result<bool, Fail>
-    requires { tables.now.board ≡ board.now }
-{
-    let squares = board.squares();
+) -> Result<bool, Fail> {
+    let squares = setting.board.squares();
     assert!(rt; are_below(boxes, squares) && (square as usize) < squares);
-    let mut layout = Layout::new(alloc, board);
-    layout.lay(board, boxes)?;
-    Ok(has_jam(board, tables, &layout, square))
+    let mut layout = Layout::new(alloc, setting.board);
+    layout.lay(setting.board, boxes)?;
+    Ok(has_jam(setting, &layout, square))
 }
 
 #[test]

@@ -4,7 +4,7 @@ ghost use Rattle.std.specs.Prelude.{OnOk};
 ghost use Rattle.sok_price.specs.Matched.{Serves};
 
 use crate::positions::boxes_on;
-use crate::setting::{board, tables};
+use crate::setting::{board, setting, tables};
 use sok_board::area::Sq;
 use sok_board::board::Board;
 use sok_price::matching::Matching;
@@ -69,6 +69,7 @@ fn totals_of_one_set_after_another(rt: HostRuntime) -> Result<(), Fail> {
     let text = sketch::TWO_BOXES_AND_THREE_GOALS;
     let board = board(rt.alloc(), text)?;
     let tables = tables(rt.alloc(), &board)?;
-    let mut matching = Matching::new(rt.alloc(), &board, &tables)?;
-    set_in_turn(&rt, rt.alloc(), &board, &mut matching)
+    let setting = setting(&board, &tables);
+    let mut matching = Matching::new(rt.alloc(), &setting)?;
+    set_in_turn(&rt, rt.alloc(), setting.board, &mut matching)
 }

@@ -1,14 +1,13 @@
 //! Two or three boxes that are never solved, taken alone.
 
-ghost use Rattle.std.specs.Prelude.{◌≡◌, OnOk};
+ghost use Rattle.std.specs.Prelude.{OnOk};
 ghost use Rattle.sok_alone.specs.Losses.{KeepsLosses};
 
-use crate::setting::{board, placed, tables};
+use crate::setting::{board, placed, setting, tables};
 use sok_alone::finding::find_pattern;
 use sok_alone::losses::Losses;
 use sok_board::area::Sq;
-use sok_board::board::Board;
-use sok_push::tables::Tables;
+use sok_push::setting::Setting;
 use sok_rules::cell::Dir;
 use sok_sketch::sketch::{PAIR_THAT_IS_LOST, THREE_THAT_ARE_LOST};
 use std::alloc::Global;
@@ -32,29 +31,24 @@ const CASES: [Case; 5] = [
 fn positions(
     rt: &impl Abort,
     alloc: Global,
-    board: &Board,
-    tables: &Tables,
+    setting: &Setting<'_>,
     first: Sq,
     second: Sq,
     limit: u32,
-) -> Result<Option<usize>, Fail>
-    requires { tables.now.board ≡ board.now }
-{
-    let boxes = placed(rt, alloc, board, &[7, 10, 12], 9)?;
+) -> Result<Option<usize>, Fail> {
+    let boxes = placed(rt, alloc, setting.board, &[7, 10, 12], 9)?;
     assert!(rt; first < second && limit > 0);
     assert!(rt; boxes.has(first) && boxes.has(second));
-    match find_pattern(alloc, board, tables, &boxes, 9, first, second, limit)? {
+    match find_pattern(alloc, setting, &boxes, 9, first, second, limit)? {
         Some(pattern) => Ok(Some(pattern.inner.as_slice().len())),
         None => Ok(None),
     }
 }
 
 /// Asserts of each two boxes how many positions of them alone are listed.
-fn ask_each(rt: &impl Abort, alloc: Global, board: &Board, tables: &Tables) -> Result<(), Fail>
-    requires { tables.now.board ≡ board.now }
-{
+fn ask_each(rt: &impl Abort, alloc: Global, setting: &Setting<'_>) -> Result<(), Fail> {
     for (first, second, limit, answer) in CASES {
-        let found = positions(rt, alloc, board, tables, first, second, limit)?;
+        let found = positions(rt, alloc, setting, first, second, limit)?;
         assert_eq!(rt; found, answer, "{first} and {second} within {limit}");
     }
     Ok(())
@@ -65,7 +59,8 @@ fn two_boxes_alone(rt: HostRuntime) -> Result<(), Fail> {
     let alloc = rt.alloc();
     let board = board(alloc, PAIR_THAT_IS_LOST)?;
     let tables = tables(alloc, &board)?;
-    ask_each(&rt, alloc, &board, &tables)
+    let setting = setting(&board, &tables);
+    ask_each(&rt, alloc, &setting)
 }
 
 /// Boxes, one of them, a direction in which it is pushed, the square to which it comes, and whether
@@ -97,21 +92,19 @@ const PUSHES_OF_THREE: [PushCase; 4] = [
 fn is_lost(
     rt: &impl Abort,
     alloc: Global,
-    board: &Board,
-    tables: &Tables,
+    setting: &Setting<'_>,
     losses: &mut Losses,
     player: Sq,
     case: &PushCase,
 ) -> Result<bool, Fail>
-    requires tables { tables.now.board ≡ board.now }
-    requires losses { KeepsLosses board.now losses.old }
-    ensures { OnOk result (KeepsLosses board.now losses.new) }
+    requires { KeepsLosses setting.now.board.now losses.old }
+    ensures { OnOk result (KeepsLosses setting.now.board.now losses.new) }
 {
     let (squares, from, dir, to, _lost) = case;
-    let boxes = placed(rt, alloc, board, squares, player)?;
+    let boxes = placed(rt, alloc, setting.board, squares, player)?;
     assert!(rt; boxes.has(*from) && !boxes.has(*to));
-    assert!(rt; (*to as usize) < board.squares());
-    let place = losses.loss_after(alloc, board, tables, 1_000, &boxes, *from, *dir, *to)?;
+    assert!(rt; (*to as usize) < setting.board.squares());
+    let place = losses.loss_after(alloc, setting, 1_000, &boxes, *from, *dir, *to)?;
     Ok(place.is_some())
 }
 
@@ -119,17 +112,14 @@ fn is_lost(
 fn ask_twice(
     rt: &impl Abort,
     alloc: Global,
-    board: &Board,
-    tables: &Tables,
+    setting: &Setting<'_>,
     player: Sq,
     cases: &[PushCase],
-) -> Result<(), Fail>
-    requires tables { tables.now.board ≡ board.now }
-{
-    let mut losses = Losses::new(alloc, board)?;
+) -> Result<(), Fail> {
+    let mut losses = Losses::new(alloc, setting.board)?;
     for _round in 0..2 {
         for case in cases {
-            let lost = is_lost(rt, alloc, board, tables, &mut losses, player, case)?;
+            let lost = is_lost(rt, alloc, setting, &mut losses, player, case)?;
             assert_eq!(rt; lost, case.4, "{} to {}", case.1, case.3);
         }
     }
@@ -141,7 +131,8 @@ fn a_pair_is_lost_however_often_it_is_asked(rt: HostRuntime) -> Result<(), Fail>
     let alloc = rt.alloc();
     let board = board(alloc, PAIR_THAT_IS_LOST)?;
     let tables = tables(alloc, &board)?;
-    ask_twice(&rt, alloc, &board, &tables, 15, &PUSHES_OF_TWO)
+    let setting = setting(&board, &tables);
+    ask_twice(&rt, alloc, &setting, 15, &PUSHES_OF_TWO)
 }
 
 #[test]
@@ -149,5 +140,6 @@ fn three_boxes_are_lost_though_no_two_are(rt: HostRuntime) -> Result<(), Fail> {
     let alloc = rt.alloc();
     let board = board(alloc, THREE_THAT_ARE_LOST)?;
     let tables = tables(alloc, &board)?;
-    ask_twice(&rt, alloc, &board, &tables, 12, &PUSHES_OF_THREE)
+    let setting = setting(&board, &tables);
+    ask_twice(&rt, alloc, &setting, 12, &PUSHES_OF_THREE)
 }

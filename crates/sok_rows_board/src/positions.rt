@@ -1,14 +1,14 @@
 //! The positions, and whether a reason holds of one.
 
-ghost use Rattle.std.specs.Prelude.{◌≡◌, ◌<◌, All, IfOk, length};
+ghost use Rattle.std.specs.Prelude.{◌<◌, All, IfOk, length};
 
-use crate::setting::{are_below, board, placed, tables};
+use crate::setting::{are_below, board, placed, setting, tables};
 use sok_bar::bar::Bar;
 use sok_bar::rest::Rest;
 use sok_board::area::Sq;
 use sok_board::board::Board;
 use sok_board::box_set::BoxSet;
-use sok_push::tables::Tables;
+use sok_push::setting::Setting;
 use sok_sketch::sets::box_set;
 use sok_sketch::sketch;
 use std::alloc::Global;
@@ -60,21 +60,19 @@ pub(crate) fn holds<B: Bar>(
     let (level, boxes, player) = position;
     let board = board(alloc, level)?;
     let tables = tables(alloc, &board)?;
-    holds_on(rt, alloc, reason, &board, &tables, boxes, player, rest)
+    let setting = setting(&board, &tables);
+    holds_on(rt, alloc, reason, &setting, boxes, player, rest)
 }
 
 fn holds_on<B: Bar>(
     rt: &impl Abort,
     alloc: Global,
     reason: &B,
-    board: &Board,
-    tables: &Tables,
+    setting: &Setting<'_>,
     boxes: &[Sq],
     player: Sq,
     rest: Rest,
-) -> Result<bool, Fail>
-    requires { tables.now.board ≡ board.now }
-{
-    let boxes = placed(rt, alloc, board, boxes, player)?;
-    Ok(reason.holds(alloc, board, tables, &boxes, player, rest)?)
+) -> Result<bool, Fail> {
+    let boxes = placed(rt, alloc, setting.board, boxes, player)?;
+    Ok(reason.holds(alloc, setting, &boxes, player, rest)?)
 }

@@ -6,6 +6,7 @@ ghost use Rattle.sok_region.specs.Regions.{IsPlaced};
 use sok_board::area::Sq;
 use sok_board::board::Board;
 use sok_board::box_set::BoxSet;
+use sok_push::setting::Setting;
 use sok_push::tables::Tables;
 use sok_sketch::sets::{self, box_set};
 use std::alloc::Global;
@@ -23,6 +24,13 @@ pub(crate) fn tables(alloc: Global, board: &Board) -> Result<Box<Tables>, Fail>
     ensures { IfOk result (λ tables. tables.value.board ≡ board.now) }
 {
     Ok(Box::new(alloc, Tables::new(alloc, board)?)?)
+}
+
+/// A board and its tables together.
+pub(crate) fn setting<'a>(board: &'a Board, tables: &'a Tables) -> Setting<'a>
+    requires { tables.now.board ≡ board.now }
+{
+    Setting { board, tables }
 }
 
 /// Whether squares have numbers below the end.

@@ -42,8 +42,8 @@ fn is_found(alloc: Global, board: &str, limit: u32, reply: &Reply) -> Result<boo
 
 /// How many entries a certificate has. The lines of a pattern are none by themselves.
 fn entries_of(alloc: Global, text: &[u8]) -> Result<usize, Fail> {
-    let (_claim, cert) = read(alloc, text)?;
-    Ok(cert.entries.len())
+    let certificate = read(alloc, text)?;
+    Ok(certificate.entries.len())
 }
 
 /// Whether a certificate has at most so many entries, and is accepted.

@@ -1,7 +1,7 @@
 //! Which certificates have a text.
 
 use sok_cert::claim::Claim;
-use sok_cert::entry::{Cert, Entry, Numbers, Reason};
+use sok_cert::entry::{Certificate, Entry, Numbers, Reason};
 use sok_cert::limits::fits;
 use std::alloc::{AllocError, Global};
 use std::process::Abort;
@@ -50,7 +50,8 @@ fn is_fit(alloc: Global, case: Case<'_>) -> Result<bool, AllocError> {
         boxes: Numbers::copied(alloc, boxes)?,
         reason: reason(alloc, given)?,
     })?;
-    Ok(fits(&Claim::Pushes(pushes), &Cert { entries }))
+    let claim = Claim::Pushes(pushes);
+    Ok(fits(&Certificate { claim, entries }))
 }
 
 const MOST: u32 = 1_000_000;

@@ -4,7 +4,7 @@ use sok_board::board::Board;
 use sok_board::fault::BoardFault;
 use sok_cert::check::check;
 use sok_cert::claim::Claim;
-use sok_cert::entry::{Cert, Entry, Reason};
+use sok_cert::entry::{Certificate, Entry, Reason};
 use sok_cert::limits::fits;
 use sok_rules::cell::{Dir, Spot};
 use sok_rules::level::Level;
@@ -19,19 +19,20 @@ use std::alloc::Global;
 use std::process::Abort;
 use std::test::Fail;
 
-/// Asserts that a certificate fits, has at most so many entries, and is accepted.
+/// Asserts that a certificate makes a claim, fits, has at most so many entries, and is accepted.
 fn assert_certified(
     rt: &impl Abort,
     alloc: Global,
     level: &Level,
     limit: u32,
-    claim: &Claim,
-    cert: &Cert,
+    claim: Claim,
+    certificate: &Certificate,
 ) -> Result<(), Fail> {
-    assert!(rt; fits(claim, cert));
-    assert!(rt; cert.entries.len() <= limit as usize);
+    assert_eq!(rt; certificate.claim, claim);
+    assert!(rt; fits(certificate));
+    assert!(rt; certificate.entries.len() <= limit as usize);
     let board = Board::new(alloc, level)?;
-    let _accepted = check(alloc, &board, claim, cert)?;
+    let _accepted = check(alloc, &board, certificate)?;
     Ok(())
 }
 
@@ -51,13 +52,17 @@ fn pushes_in(
     outcome: &Outcome,
 ) -> Result<Option<u32>, Fail> {
     match outcome {
-        Outcome::Solved { dirs, pushes, cert } => {
+        Outcome::Solved {
+            dirs,
+            pushes,
+            certificate,
+        } => {
             assert!(rt; solves(alloc, level, dirs, *pushes)?);
-            assert_certified(rt, alloc, level, limit, &Claim::Pushes(*pushes), cert)?;
+            assert_certified(rt, alloc, level, limit, Claim::Pushes(*pushes), certificate)?;
             Ok(Some(*pushes))
         }
-        Outcome::Unsolvable { cert } => {
-            assert_certified(rt, alloc, level, limit, &Claim::Unsolvable, cert)?;
+        Outcome::Unsolvable { certificate } => {
+            assert_certified(rt, alloc, level, limit, Claim::Unsolvable, certificate)?;
             Ok(None)
         }
         Outcome::Limit { .. } => {
@@ -96,7 +101,11 @@ fn found_pushes(
 fn meets(alloc: Global, board: &str, limit: u32) -> Result<bool, Fail> {
     let level = level(alloc, board)?;
     match solve(alloc, &level, limit)? {
-        Outcome::Limit { states, cert, .. } => Ok(states == limit && cert.is_none()),
+        Outcome::Limit {
+            states,
+            certificate,
+            ..
+        } => Ok(states == limit && certificate.is_none()),
         _ => Ok(false),
     }
 }
@@ -219,11 +228,12 @@ fn bound_of(rt: &impl Abort, alloc: Global, board: &str, limit: u32) -> Result<O
     if let Outcome::Limit {
         states,
         at_least,
-        cert: Some(cert),
+        certificate: Some(certificate),
     } = &outcome
     {
         assert_eq!(rt; *states, limit);
-        assert_certified(rt, alloc, &level, limit, &Claim::Pushes(*at_least), cert)?;
+        let claim = Claim::Pushes(*at_least);
+        assert_certified(rt, alloc, &level, limit, claim, certificate)?;
         return Ok(Some(*at_least));
     }
     pushes_in(rt, alloc, &level, limit, &outcome)
@@ -282,11 +292,11 @@ fn has_pattern_of(entries: &[Entry], count: usize) -> bool {
 #[test]
 fn a_lost_pair_is_one_entry(rt: HostRuntime) -> Result<(), Fail> {
     let level = sketch::level(rt.alloc(), sketch::PAIR_THAT_IS_LOST)?;
-    let Outcome::Unsolvable { cert } = solve(rt.alloc(), &level, 1)? else {
+    let Outcome::Unsolvable { certificate } = solve(rt.alloc(), &level, 1)? else {
         panic!(rt; "a lost pair is unsolvable");
     };
-    assert!(rt; has_pattern_of(&cert.entries, 2));
-    assert_eq!(rt; cert.entries.len(), 1);
+    assert!(rt; has_pattern_of(&certificate.entries, 2));
+    assert_eq!(rt; certificate.entries.len(), 1);
     Ok(())
 }
 
@@ -294,11 +304,16 @@ fn a_lost_pair_is_one_entry(rt: HostRuntime) -> Result<(), Fail> {
 #[test]
 fn three_lost_boxes_are_a_pattern(rt: HostRuntime) -> Result<(), Fail> {
     let level = sketch::level(rt.alloc(), sketch::THREE_THAT_ARE_LOST)?;
-    let Outcome::Solved { pushes, cert, .. } = solve(rt.alloc(), &level, 100)? else {
+    let Outcome::Solved {
+        pushes,
+        certificate,
+        ..
+    } = solve(rt.alloc(), &level, 100)?
+    else {
         panic!(rt; "the box comes to the third goal");
     };
     assert_eq!(rt; pushes, 3);
-    assert!(rt; has_pattern_of(&cert.entries, 3));
+    assert!(rt; has_pattern_of(&certificate.entries, 3));
     Ok(())
 }
 

@@ -60,8 +60,8 @@ fn assert_entries(rt: &impl Abort, entries: &[Entry], told: &[Told<'_>]) {
 
 #[test]
 fn each_form_of_entry(rt: HostRuntime) -> Result<(), Fail> {
-    let (claim, cert) = read(rt.alloc(), ALL_FORMS.as_bytes())?;
-    assert_eq!(rt; claim, Claim::Unsolvable);
+    let certificate = read(rt.alloc(), ALL_FORMS.as_bytes())?;
+    assert_eq!(rt; certificate.claim, Claim::Unsolvable);
     let entries: [Told<'_>; 6] = [
         (0, 12, &[1, 3], ('x', &[], &[])),
         (7, 0, &[], ('s', &[], &[])),
@@ -70,7 +70,7 @@ fn each_form_of_entry(rt: HostRuntime) -> Result<(), Fail> {
         (0, 12, &[1, 3], ('c', &[0, 1], &[])),
         (1_000_000, 0, &[0, 4, 1_000_000], ('f', &[], &[])),
     ];
-    assert_entries(&rt, &cert.entries, &entries);
+    assert_entries(&rt, &certificate.entries, &entries);
     Ok(())
 }
 
@@ -135,23 +135,23 @@ fn assert_pattern(
 
 #[test]
 fn patterns_are_read(rt: HostRuntime) -> Result<(), Fail> {
-    let (claim, cert) = read(rt.alloc(), PATTERNS.as_bytes())?;
-    assert_eq!(rt; claim, Claim::Pushes(9));
-    assert_eq!(rt; cert.entries.len(), 3);
+    let certificate = read(rt.alloc(), PATTERNS.as_bytes())?;
+    assert_eq!(rt; certificate.claim, Claim::Pushes(9));
+    assert_eq!(rt; certificate.entries.len(), 3);
     let inside: [ToldInside<'_>; 3] = [
         (0, 9, &[10, 12], ('x', &[])),
         (1, 10, &[11, 12], ('f', &[0, 1])),
         (0, 9, &[10, 12], ('c', &[1])),
     ];
-    assert_pattern(&rt, &cert.entries[0], &[1, 2], &inside)?;
-    assert_pattern(&rt, &cert.entries[1], &[0], &[])
+    assert_pattern(&rt, &certificate.entries[0], &[1, 2], &inside)?;
+    assert_pattern(&rt, &certificate.entries[1], &[0], &[])
 }
 
 /// The bytes that are written of a certificate that is read.
 fn written(rt: &impl Abort, alloc: Global, text: &[u8]) -> Result<Vec<u8>, Fail> {
-    let (claim, cert) = read(alloc, text)?;
-    assert!(rt; fits(&claim, &cert));
-    Ok(write(alloc, &claim, &cert)?)
+    let certificate = read(alloc, text)?;
+    assert!(rt; fits(&certificate));
+    Ok(write(alloc, &certificate)?)
 }
 
 /// What is read is written with LF alone, and else with the same bytes.

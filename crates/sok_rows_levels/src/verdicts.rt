@@ -214,8 +214,8 @@ const ONE_PUSH_DOWN: [Case; 1] = [(
 
 /// The claim that a text shows of a board, or its first fault.
 pub(crate) fn judged(alloc: Global, board: &Board, text: &[u8]) -> Result<Claim, CertFault> {
-    let (claim, cert) = read(alloc, text)?;
-    Ok(check(alloc, board, &claim, &cert)?.claim())
+    let certificate = read(alloc, text)?;
+    Ok(check(alloc, board, &certificate)?.claim())
 }
 
 /// The same of a text that comes in pieces of so many bytes.

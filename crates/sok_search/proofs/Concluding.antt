@@ -8,7 +8,7 @@ use Rattle.sok_board.specs.Area.{Numbered, IsAccepted}
 use Rattle.sok_board.proofs.OneRefusal.{IsAccepted-one}
 use Rattle.sok_cert.specs.Claim.{Claim}
 use Rattle.sok_cert.specs.Claim.TheVariants as claim
-use Rattle.sok_cert.specs.Cert.{Cert}
+use Rattle.sok_cert.specs.Certificate.{Certificate}
 use Rattle.sok_cert.specs.Entry.{Entry}
 use Rattle.sok_cert.specs.Text.{FitsClaim, FitsEntry}
 use Rattle.sok_state.specs.declared.push.Push.{Push}
@@ -16,7 +16,7 @@ use Rattle.sok_cert.specs.Closed.{IsClosed, IsTrueOf}
 use Rattle.sok_search.specs.Finished.{AreFirstEntries, claim_of}
 use Rattle.sok_search.specs.Halted.{IsLeastOpen}
 use Rattle.sok_search.specs.Limits.{state_limit}
-use Rattle.sok_search.specs.Outcomes.{Certifies, HasSearched, IsCutShort, IsLeastSolution, IsShownSolved, IsShownUnsolvable, ShowsLeast}
+use Rattle.sok_search.specs.Outcomes.{Certifies, OfClaim, HasSearched, IsCutShort, IsLeastSolution, IsShownSolved, IsShownUnsolvable, ShowsLeast}
 use Rattle.sok_search.specs.Searches.{Progress, IsSearch}
 use Rattle.sok_search.specs.Trails.{IsSolvedAt, IsSolvedWith, IsSolvedWithin, IsSolvingTrace, TracesBack}
 use Rattle.sok_search.proofs.Certified.{done-finished, done-least}
@@ -132,24 +132,20 @@ pub wanted-not : (P Q : Type 0) (wanted : Bool) → wanted ≡ false → Q → M
 wanted-not P Q true is there = absurd (true≢false is)
 wanted-not P Q false is there = there
 
--- the entries that were taken are those of a certificate, which shows as much
-abbrev IsKept : Cert → List Entry → Type 0
-IsKept cert entries = cert.entries.items ≡ entries
+-- the entries that were taken show as much as those that were kept
+pub kept-shown : (Shows : List Entry → Type 0) (kept : List Entry) → (entries : List Entry) × (kept ≡ entries) × Shows entries → Shows kept
+kept-shown Shows kept (entries, same, shown) = subst Shows (sym same) shown
 
-module _ (rows : Rows) (limit : ℕ) (cert : Cert) where
-  pub kept-solved : (w : List Dir) (n : ℕ) → (entries : List Entry) × IsKept cert entries × IsShownSolved rows limit w n entries
-      → IsShownSolved rows limit w n cert.entries.items
-  kept-solved w n (entries, same, shown) = subst (IsShownSolved rows limit w n) (sym same) shown
+pub kept-least : (rows : Rows) (limit : ℕ) (kept : List Entry) (wanted : Bool) (least : ℕ) → wanted ≡ true
+    → MatchBool wanted ((entries : List Entry) × (kept ≡ entries) × Certifies rows limit (claim.Pushes least) entries) (kept ≡ [])
+    → Certifies rows limit (claim.Pushes least) kept
+kept-least rows limit kept true least is shown = kept-shown (Certifies rows limit (claim.Pushes least)) kept shown
+kept-least rows limit kept false least is none = absurd (true≢false (sym is))
 
-  pub kept-unsolvable : (entries : List Entry) × IsKept cert entries × IsShownUnsolvable rows limit entries
-      → IsShownUnsolvable rows limit cert.entries.items
-  kept-unsolvable (entries, same, shown) = subst (IsShownUnsolvable rows limit) (sym same) shown
-
-  pub kept-least : (wanted : Bool) (least : ℕ) → wanted ≡ true
-      → MatchBool wanted ((entries : List Entry) × IsKept cert entries × Certifies rows limit (claim.Pushes least) entries) (IsKept cert [])
-      → ShowsLeast rows limit wanted least (Some cert)
-  kept-least true least is (entries, same, certified) = subst (Certifies rows limit (claim.Pushes least)) (sym same) certified
-  kept-least false least is none = absurd (true≢false (sym is))
+pub some-kept : (rows : Rows) (limit : ℕ) (wanted : Bool) (least : ℕ) (certificate : Certificate) → wanted ≡ true
+    → OfClaim (claim.Pushes least) (Certifies rows limit (claim.Pushes least)) certificate → ShowsLeast rows limit wanted least (Some certificate)
+some-kept rows limit true least certificate is shown = shown
+some-kept rows limit false least certificate is shown = absurd (true≢false (sym is))
 
 pub none-kept : (rows : Rows) (limit : ℕ) (wanted : Bool) (least : ℕ) → wanted ≡ false → ShowsLeast rows limit wanted least None
 none-kept rows limit true least is = absurd (true≢false is)

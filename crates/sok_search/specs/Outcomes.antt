@@ -7,7 +7,7 @@ use Rattle.sok_rules.specs.States.{MoreStatesThan}
 use Rattle.sok_board.specs.Area.{Numbered, IsAccepted}
 use Rattle.sok_cert.specs.Claim.{Claim}
 use Rattle.sok_cert.specs.Claim.TheVariants as claim
-use Rattle.sok_cert.specs.Cert.{Cert}
+use Rattle.sok_cert.specs.Certificate.{Certificate}
 use Rattle.sok_cert.specs.Entry.{Entry}
 use Rattle.sok_cert.specs.Text.{Fits}
 use Rattle.sok_cert.specs.Closed.{IsClosed}
@@ -89,10 +89,14 @@ IsFound rows limit (found.Solved dirs pushes) = IsLeastSolution rows dirs.items 
 IsFound rows limit found.Unsolvable = IsUnsolvable rows × HasSearched rows limit None
 IsFound rows limit (found.Limit states at_least) = IsCutShort rows limit states at_least
 
+-- a certificate of a claim, whose entries are so
+abbrev pub OfClaim : Claim → (List Entry → Type 0) → Certificate → Type 0
+OfClaim claimed Shows certificate = (certificate.claim ≡ claimed) × Shows certificate.entries.items
+
 -- a certificate shows the least, where one is wanted
-abbrev pub ShowsLeast : Rows → ℕ → Bool → ℕ → Option Cert → Type 0
-ShowsLeast rows limit wanted least cert =
-    MatchBool wanted (IsSomeAnd cert (λ c. Certifies rows limit (claim.Pushes least) c.entries.items)) (cert ≡ None)
+abbrev pub ShowsLeast : Rows → ℕ → Bool → ℕ → Option Certificate → Type 0
+ShowsLeast rows limit wanted least certificate =
+    MatchBool wanted (IsSomeAnd certificate (OfClaim (claim.Pushes least) (Certifies rows limit (claim.Pushes least)))) (certificate ≡ None)
 
 -- What is found of a level within a limit, and which entries were taken: those of a certificate that shows it; where it is a limit, only if that is wanted,
 -- and else none.
@@ -105,9 +109,10 @@ IsShown Took rows limit wanted (found.Limit states least) =
 
 -- what is answered of a level within a limit, where a certificate is wanted of what a search shows that was cut off, or not
 abbrev pub IsOutcome : Rows → ℕ → Bool → Outcome → Type 0
-IsOutcome rows limit wanted (Solved dirs pushes cert) = IsShownSolved rows limit dirs.items pushes cert.entries.items
-IsOutcome rows limit wanted (Unsolvable cert) = IsShownUnsolvable rows limit cert.entries.items
-IsOutcome rows limit wanted (Limit states at_least cert) = IsCutShort rows limit states at_least × ShowsLeast rows limit wanted at_least cert
+IsOutcome rows limit wanted (Solved dirs pushes certificate) = OfClaim (claim.Pushes pushes) (IsShownSolved rows limit dirs.items pushes) certificate
+IsOutcome rows limit wanted (Unsolvable certificate) = OfClaim claim.Unsolvable (IsShownUnsolvable rows limit) certificate
+IsOutcome rows limit wanted (Limit states at_least certificate) =
+    IsCutShort rows limit states at_least × ShowsLeast rows limit wanted at_least certificate
 
 -- the same where it is not, and where it is
 abbrev pub IsAnswer : Rows → ℕ → Outcome → Type 0

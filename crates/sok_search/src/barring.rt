@@ -1,6 +1,6 @@
 //! The reasons of a certificate, found again from the boxes of a state.
 
-ghost use Rattle.std.specs.Prelude.{ℕ, ◌≡◌, ◌<◌, ◌↔◌, IfOk, IfSome, IsTrue, All, length};
+ghost use Rattle.std.specs.Prelude.{ℕ, ◌<◌, ◌↔◌, IfOk, IfSome, IsTrue, All, length};
 ghost use Rattle.sok_alone.specs.Losses.{IsLostBy, losses_of};
 ghost use Rattle.sok_board.specs.Area.{Numbered};
 ghost use Rattle.sok_price.specs.Matched.{Serves};
@@ -21,6 +21,7 @@ use sok_cert::claim::Claim;
 use sok_cert::entry::{Numbers, Reason};
 use sok_price::assign::Match;
 use sok_price::matching::Matching;
+use sok_push::setting::Setting;
 use sok_push::tables::Tables;
 use sok_rules::fault::Memory;
 use std::alloc::Global;
@@ -28,8 +29,7 @@ use std::alloc::Global;
 /// The reason why a state of a finished search may stand in a certificate.
 pub(crate) fn reason_of(
     alloc: Global,
-    board: &Board,
-    tables: &Tables,
+    setting: &Setting<'_>,
     matching: &mut Matching,
     claim: Claim,
     losses: &Losses,
@@ -38,20 +38,20 @@ pub(crate) fn reason_of(
     depth: u32,
     standing: Standing,
 ) -> Result<Reason, Memory>
-    requires tables { tables.now.board ≡ board.now }
-    requires serves { Serves board.now matching.old }
-    requires exist { All (λ square. square < length board.now.area) boxes.now }
-    requires finished { IsDone board.now claim (losses_of losses.now) player boxes.now depth
+    requires serves { Serves setting.now.board.now matching.old }
+    requires exist { All (λ square. square < length setting.now.board.now.area) boxes.now }
+    requires finished { IsDone setting.now.board.now claim
+        (losses_of losses.now) player boxes.now depth
         standing }
-    ensures serves { Serves board.now matching.new }
+    ensures serves { Serves setting.now.board.now matching.new }
     ensures reason { IfOk result
-        (IsReasonOf board.now claim player boxes.now depth standing) }
+        (IsReasonOf setting.now.board.now claim player boxes.now depth standing) }
     ensures fits { IfOk result (HasText boxes.now) }
 {
     match standing {
-        Standing::Open(_) => open_reason(alloc, board, matching, claim, boxes, depth),
+        Standing::Open(_) => open_reason(alloc, setting.board, matching, claim, boxes, depth),
         Standing::Expanded(_) => Ok(Reason::Expanded),
-        Standing::Dead => dead_reason(alloc, board, tables, matching, boxes),
+        Standing::Dead => dead_reason(alloc, setting, matching, boxes),
         Standing::Lost(place) => lost_reason(alloc, losses, boxes, place),
     }
 }
@@ -94,30 +94,28 @@ fn is_spent(claim: Claim, depth: u32) -> bool
 /// itself, or else a jam, or else a crowd.
 fn dead_reason(
     alloc: Global,
-    board: &Board,
-    tables: &Tables,
+    setting: &Setting<'_>,
     matching: &mut Matching,
     boxes: &BoxSet,
 ) -> Result<Reason, Memory>
-    requires tables { tables.now.board ≡ board.now }
-    requires serves { Serves board.now matching.old }
-    requires exist { All (λ square. square < length board.now.area) boxes.now }
-    requires dead { IsDead board.now boxes.now }
-    ensures serves { Serves board.now matching.new }
+    requires serves { Serves setting.now.board.now matching.old }
+    requires exist { All (λ square. square < length setting.now.board.now.area) boxes.now }
+    requires dead { IsDead setting.now.board.now boxes.now }
+    ensures serves { Serves setting.now.board.now matching.new }
     ensures bars { IfOk result (λ why. (player : ℕ) (rest : Rest)
-        → ReasonBars board.now player boxes.now why rest) }
+        → ReasonBars setting.now.board.now player boxes.now why rest) }
     ensures fits { IfOk result (HasText boxes.now) }
 {
     // The list tells as well that there are few boxes, so that their indices have a text.
-    if let Some(place) = stuck_place(tables, boxes.list()) {
+    if let Some(place) = stuck_place(setting.tables, boxes.list()) {
         return stuck_reason(alloc, place as u32);
     }
-    match find_jam(alloc, board, tables, boxes)? {
+    match find_jam(alloc, setting, boxes)? {
         Some(members) => {
             let members = Numbers::from(members);
             Ok(Reason::Frozen { members })
         }
-        None => assigned_reason(alloc, board, matching, boxes),
+        None => assigned_reason(alloc, setting.board, matching, boxes),
     }
 }
 

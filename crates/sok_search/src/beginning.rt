@@ -10,7 +10,7 @@ use crate::queue::Queue;
 use crate::search::{Search, add};
 use sok_alone::losses::Losses;
 use sok_board::board::Board;
-use sok_push::tables::Tables;
+use sok_push::setting::Setting;
 use sok_rules::fault::Memory;
 use sok_state::key::Key;
 use sok_state::table::Table;
@@ -34,18 +34,16 @@ pub(crate) fn empty(alloc: Global, board: &Board, whole: bool) -> Result<Search,
 /// Enters the start into a search that knows nothing.
 pub(crate) fn enter_start(
     alloc: Global,
-    board: &Board,
-    tables: &Tables,
+    setting: &Setting<'_>,
     search: &mut Search,
 ) -> Result<(), Memory>
-    requires tables { tables.now.board ≡ board.now }
-    requires empty { IsEmpty board.now search.old }
+    requires empty { IsEmpty setting.now.board.now search.old }
     ensures search { (limit : ℕ) → 0 < limit
-        → OnOk result (IsSearch board.now limit (progress_of search.new)) }
+        → OnOk result (IsSearch setting.now.board.now limit (progress_of search.new)) }
     ensures whole { OnOk result (search.new.whole ≡ search.old.whole) }
 {
-    let key = Key::start(alloc, board)?;
-    let standing = judge(alloc, board, tables, &mut search.losses, &key)?;
+    let key = Key::start(alloc, setting.board)?;
+    let standing = judge(alloc, setting, &mut search.losses, &key)?;
     let (index, _is_new) = search.table.insert(&key, 0)?;
     let origin = None;
     add(search, index, 0, Note { origin, standing })

@@ -12,10 +12,9 @@ use crate::collecting::Entries;
 use crate::note::Note;
 use crate::search::Search;
 use sok_board::area::Sq;
-use sok_board::board::Board;
 use sok_cert::claim::Claim;
 use sok_price::matching::Matching;
-use sok_push::tables::Tables;
+use sok_push::setting::Setting;
 use sok_rules::fault::Memory;
 use sok_state::key::Key;
 use std::alloc::Global;
@@ -23,28 +22,25 @@ use std::alloc::Global;
 /// Has the entries of the certificate taken: one of each state, in order.
 pub(crate) fn certify<C: Entries>(
     alloc: Global,
-    board: &Board,
-    tables: &Tables,
+    setting: &Setting<'_>,
     claim: Claim,
     search: &Search,
     entries: &mut C,
 ) -> Result<(), Memory>
-    requires accepted { IsAccepted board.now }
-    requires tables { tables.now.board ≡ board.now }
-    requires search { IsSmallSearch board.now (progress_of search.now) }
-    requires done { AreDone board.now claim (progress_of search.now) }
+    requires accepted { IsAccepted setting.now.board.now }
+    requires search { IsSmallSearch setting.now.board.now (progress_of search.now) }
+    requires done { AreDone setting.now.board.now claim (progress_of search.now) }
     requires none { C.took [] entries.old }
-    ensures { OnOk result (AreTaken (λ taken. C.took taken entries.new) board.now claim
+    ensures { OnOk result (AreTaken (λ taken. C.took taken entries.new) setting.now.board.now claim
         (progress_of search.now) (length search.now.table.entries)) }
 {
-    let mut matching = Matching::new(alloc, board, tables)?;
+    let mut matching = Matching::new(alloc, setting)?;
     let mut squares = Vec::new(alloc);
     let mut boxes = Vec::new(alloc);
     for index in 0..search.table.len() {
         take_entry(
             alloc,
-            board,
-            tables,
+            setting,
             &mut matching,
             &mut squares,
             &mut boxes,
@@ -60,8 +56,7 @@ pub(crate) fn certify<C: Entries>(
 /// Has the entry of the state at an index taken. The two lists are places for its boxes.
 fn take_entry<C: Entries>(
     alloc: Global,
-    board: &Board,
-    tables: &Tables,
+    setting: &Setting<'_>,
     matching: &mut Matching,
     squares: &mut Vec<Sq>,
     boxes: &mut Vec<u32>,
@@ -70,21 +65,20 @@ fn take_entry<C: Entries>(
     index: usize,
     entries: &mut C,
 ) -> Result<(), Memory>
-    requires accepted { IsAccepted board.now }
-    requires tables { tables.now.board ≡ board.now }
-    requires serves { Serves board.now matching.old }
-    requires search { IsSmallSearch board.now (progress_of search.now) }
-    requires done { AreDone board.now claim (progress_of search.now) }
+    requires accepted { IsAccepted setting.now.board.now }
+    requires serves { Serves setting.now.board.now matching.old }
+    requires search { IsSmallSearch setting.now.board.now (progress_of search.now) }
+    requires done { AreDone setting.now.board.now claim (progress_of search.now) }
     requires within { index < length search.now.table.entries }
-    ensures serves { OnOk result (Serves board.now matching.new) }
+    ensures serves { OnOk result (Serves setting.now.board.now matching.new) }
     ensures takes { OnOk result (TakesEntry (λ taken. C.took taken entries.old)
-        (λ taken. C.took taken entries.new) board.now claim (progress_of search.now) index) }
+        (λ taken. C.took taken entries.new) setting.now.board.now claim
+        (progress_of search.now) index) }
 {
     let (key, depth, note) = state_at(alloc, search, squares, index)?;
     let reason = reason_of(
         alloc,
-        board,
-        tables,
+        setting,
         matching,
         claim,
         &search.losses,

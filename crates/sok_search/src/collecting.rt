@@ -4,7 +4,7 @@ ghost use Rattle.std.specs.Prelude.{List, ◌≡◌, ◌∷◌, ◌++◌, [], On
 ghost use Rattle.sok_cert.specs.Entry.{Entry};
 ghost use Rattle.sok_cert.specs.Text.{entry_of};
 
-use sok_cert::entry::{Cert, Entry, Numbers, Reason};
+use sok_cert::entry::{Entry, Numbers, Reason};
 use std::alloc::{AllocError, Global};
 
 /// What takes the entries of a certificate, one after another, and keeps them or what is made of
@@ -27,8 +27,8 @@ pub trait Entries {
 }
 
 /// They are kept as they are.
-impl Entries for Cert {
-    ghost took = { λ entries cert. cert.entries.items ≡ entries };
+impl Entries for Vec<Entry> {
+    ghost took = { λ entries list. list.items ≡ entries };
 
     fn take(
         &mut self,
@@ -39,7 +39,7 @@ impl Entries for Cert {
         reason: Reason,
     ) -> Result<(), AllocError> {
         let boxes = Numbers::copied(alloc, boxes)?;
-        self.entries.push(Entry {
+        self.push(Entry {
             depth,
             player,
             boxes,

@@ -17,7 +17,7 @@ use crate::trial::Trial;
 use sok_board::area::Sq;
 use sok_board::board::Board;
 use sok_price::matching::Matching;
-use sok_push::tables::Tables;
+use sok_push::setting::Setting;
 use sok_rules::fault::Memory;
 use sok_state::key::Key;
 use sok_state::legal::list_pushes;
@@ -38,13 +38,12 @@ pub(crate) struct Scratch {
 
 impl Scratch {
     /// Room for the states of a board.
-    pub(crate) fn new(alloc: Global, board: &Board, tables: &Tables) -> Result<Scratch, Memory>
-        requires { tables.now.board ≡ board.now }
-        ensures { IfOk result (IsReady board.now) }
+    pub(crate) fn new(alloc: Global, setting: &Setting<'_>) -> Result<Scratch, Memory>
+        ensures { IfOk result (IsReady setting.now.board.now) }
     {
         let trial = Trial {
-            scene: Scene::new(alloc, board),
-            matching: Matching::new(alloc, board, tables)?,
+            scene: Scene::new(alloc, setting.board),
+            matching: Matching::new(alloc, setting)?,
             matched: false,
         };
         Ok(Scratch {
@@ -133,8 +132,7 @@ fn is_listed(pushes: &[Push], push: Push) -> bool
 /// Follows some legal pushes from a state that was taken.
 fn follow(
     alloc: Global,
-    board: &Board,
-    tables: &Tables,
+    setting: &Setting<'_>,
     limit: u32,
     search: &mut Search,
     trial: &mut Trial,
@@ -143,19 +141,21 @@ fn follow(
     depth: u32,
     pushes: &[Push],
 ) -> Result<Reached, Memory>
-    requires state { HoldsState board.now tables.now limit index key.now depth search.old }
-    requires trial { IsTrial board.now key.now.boxes trial.old.matching trial.old.matched }
-    requires opened { IsOpened board.now key.now trial.old.scene }
-    requires legal { All (IsLegal board.now key.now) pushes.now }
+    requires state { HoldsState setting.now.board.now limit index key.now depth search.old }
+    requires trial { IsTrial setting.now.board.now key.now.boxes trial.old.matching
+        trial.old.matched }
+    requires opened { IsOpened setting.now.board.now key.now trial.old.scene }
+    requires legal { All (IsLegal setting.now.board.now key.now) pushes.now }
     ensures trial { OnOk result
-        (IsTrial board.now key.now.boxes trial.new.matching trial.new.matched) }
-    ensures opened { OnOk result (IsOpened board.now key.now trial.new.scene) }
-    ensures tells { IfOk result (TellsFollowed board.now limit (progress_of search.old) index
+        (IsTrial setting.now.board.now key.now.boxes trial.new.matching trial.new.matched) }
+    ensures opened { OnOk result (IsOpened setting.now.board.now key.now trial.new.scene) }
+    ensures tells { IfOk result (TellsFollowed setting.now.board.now limit
+        (progress_of search.old) index
         key.now depth pushes.now (progress_of search.new)) }
 {
     for push in pushes {
         match reach(
-            alloc, board, tables, limit, search, trial, index, key, depth, *push,
+            alloc, setting, limit, search, trial, index, key, depth, *push,
         )? {
             Reached::On => {}
             Reached::Full => return Ok(Reached::Full),
@@ -167,8 +167,7 @@ fn follow(
 /// Follows each legal push from a state that was taken.
 pub(crate) fn expand(
     alloc: Global,
-    board: &Board,
-    tables: &Tables,
+    setting: &Setting<'_>,
     limit: u32,
     search: &mut Search,
     scratch: &mut Scratch,
@@ -177,18 +176,18 @@ pub(crate) fn expand(
     depth: u32,
     origin: Option<Origin>,
 ) -> Result<Reached, Memory>
-    requires state { HoldsState board.now tables.now limit index key.now depth search.old }
-    requires ready { IsReady board.now scratch.old }
-    ensures ready { OnOk result (IsReady board.now scratch.new) }
-    ensures tells { IfOk result (TellsExpanded board.now limit (progress_of search.old) index
+    requires state { HoldsState setting.now.board.now limit index key.now depth search.old }
+    requires ready { IsReady setting.now.board.now scratch.old }
+    ensures ready { OnOk result (IsReady setting.now.board.now scratch.new) }
+    ensures tells { IfOk result (TellsExpanded setting.now.board.now limit
+        (progress_of search.old) index
         key.now depth (progress_of search.new)) }
 {
     scratch.trial.matched = false;
-    scratch.open(alloc, board, index as u32, key, origin)?;
+    scratch.open(alloc, setting.board, index as u32, key, origin)?;
     follow(
         alloc,
-        board,
-        tables,
+        setting,
         limit,
         search,
         &mut scratch.trial,

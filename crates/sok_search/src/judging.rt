@@ -1,6 +1,6 @@
 //! How a new state stands.
 
-ghost use Rattle.std.specs.Prelude.{◌≡◌, IfOk, OnOk};
+ghost use Rattle.std.specs.Prelude.{IfOk, OnOk};
 ghost use Rattle.sok_alone.specs.Losses.{KeepsLosses, losses_of};
 ghost use Rattle.sok_region.specs.Regions.{IsPlaced};
 ghost use Rattle.sok_search.specs.Steps.{IsJudged};
@@ -8,9 +8,8 @@ ghost use Rattle.sok_search.specs.Steps.{IsJudged};
 use crate::note::Standing;
 use sok_alone::losses::Losses;
 use sok_bar::frozen::find_jam;
-use sok_board::board::Board;
 use sok_price::assign::{Match, assign};
-use sok_push::tables::Tables;
+use sok_push::setting::Setting;
 use sok_rules::fault::Memory;
 use sok_state::key::Key;
 use std::alloc::Global;
@@ -19,26 +18,24 @@ use std::alloc::Global;
 /// a total. What is found of its boxes by two is kept.
 pub(crate) fn judge(
     alloc: Global,
-    board: &Board,
-    tables: &Tables,
+    setting: &Setting<'_>,
     losses: &mut Losses,
     key: &Key,
 ) -> Result<Standing, Memory>
-    requires tables { tables.now.board ≡ board.now }
-    requires placed { IsPlaced board.now key.now.boxes key.now.least }
-    requires losses { KeepsLosses board.now losses.old }
-    ensures losses { OnOk result (KeepsLosses board.now losses.new) }
+    requires placed { IsPlaced setting.now.board.now key.now.boxes key.now.least }
+    requires losses { KeepsLosses setting.now.board.now losses.old }
+    ensures losses { OnOk result (KeepsLosses setting.now.board.now losses.new) }
     ensures judged { IfOk result
-        (IsJudged board.now (losses_of losses.new) key.now.least key.now.boxes) }
+        (IsJudged setting.now.board.now (losses_of losses.new) key.now.least key.now.boxes) }
 {
-    if let Some(_jam) = find_jam(alloc, board, tables, &key.boxes)? {
+    if let Some(_jam) = find_jam(alloc, setting, &key.boxes)? {
         return Ok(Standing::Dead);
     }
-    let total = match assign(alloc, tables, &key.boxes)? {
+    let total = match assign(alloc, setting.tables, &key.boxes)? {
         Match::Prices { total, .. } => total,
         Match::Crowd { .. } => return Ok(Standing::Dead),
     };
-    match losses.loss_among(alloc, board, tables, &key.boxes, key.least)? {
+    match losses.loss_among(alloc, setting, &key.boxes, key.least)? {
         Some(place) => Ok(Standing::Lost(place)),
         None => Ok(Standing::Open(total)),
     }

@@ -1,6 +1,6 @@
 //! What is answered of a level.
 
-use sok_cert::entry::Cert;
+use sok_cert::entry::Certificate;
 use sok_rules::cell::Dir;
 
 /// What is answered of a level.
@@ -11,11 +11,11 @@ pub enum Outcome {
     Solved {
         dirs: Vec<Dir>,
         pushes: u32,
-        cert: Cert,
+        certificate: Certificate,
     },
     /// No letters solve the level, and a certificate shows it.
     Unsolvable {
-        cert: Cert,
+        certificate: Certificate,
     },
     /// More states can be reached than the limit, which is told, and they were too few to answer. No
     /// letters solve the level with fewer pushes than `at_least`, which is at most 1,000,000; where
@@ -23,6 +23,6 @@ pub enum Outcome {
     Limit {
         states: u32,
         at_least: u32,
-        cert: Option<Cert>,
+        certificate: Option<Certificate>,
     },
 }

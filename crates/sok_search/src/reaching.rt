@@ -4,7 +4,6 @@ ghost use Rattle.std.specs.Prelude.{◌≡◌, ◌<◌, ◌≤◌, ◌^◌, IfOk
 ghost use Rattle.sok_alone.specs.Losses.{IsLostBy, KeepsLosses, KeepsPlaces, losses_of};
 ghost use Rattle.sok_board.specs.Area.{IsAccepted, beside};
 ghost use Rattle.sok_board.specs.BoxSets.{put_in_order};
-ghost use Rattle.sok_push.specs.Distances.{Distances};
 ghost use Rattle.sok_state.specs.Keys.{IsKey};
 ghost use Rattle.sok_state.specs.Pushes.{IsLegal, IsOpened};
 ghost use Rattle.sok_search.specs.Steps.{Nears, reopened};
@@ -17,7 +16,7 @@ use crate::trial::{Trial, judge_after};
 use sok_alone::losses::Losses;
 use sok_board::area::Sq;
 use sok_board::board::Board;
-use sok_push::tables::Tables;
+use sok_push::setting::Setting;
 use sok_rules::fault::Memory;
 use sok_state::key::Key;
 use sok_state::push::Push;
@@ -69,31 +68,27 @@ fn approach(
 /// box reaches no goal from there, which shows it as well.
 fn ask(
     alloc: Global,
-    board: &Board,
-    tables: &Tables,
+    setting: &Setting<'_>,
     losses: &mut Losses,
     known: usize,
     key: &Key,
     push: Push,
     to: Sq,
 ) -> Result<Option<u32>, Memory>
-    requires accepted { IsAccepted board.now }
-    requires tables { tables.now.board ≡ board.now }
-    requires state { IsKey board.now key.now }
-    requires legal { IsLegal board.now key.now push }
-    requires ahead { beside board.now push.from push.dir ≡ Some to }
-    requires losses { KeepsLosses board.now losses.old }
-    ensures losses { OnOk result (KeepsLosses board.now losses.new) }
+    requires accepted { IsAccepted setting.now.board.now }
+    requires state { IsKey setting.now.board.now key.now }
+    requires legal { IsLegal setting.now.board.now key.now push }
+    requires ahead { beside setting.now.board.now push.from push.dir ≡ Some to }
+    requires losses { KeepsLosses setting.now.board.now losses.old }
+    ensures losses { OnOk result (KeepsLosses setting.now.board.now losses.new) }
     ensures kept { OnOk result (KeepsPlaces (losses_of losses.old) (losses_of losses.new)) }
-    ensures lost { IfOk result (λ found. IfSome found (IsLostBy board.now push.from
+    ensures lost { IfOk result (λ found. IfSome found (IsLostBy setting.now.board.now push.from
         (put_in_order push.from to key.now.boxes) (losses_of losses.new))) }
 {
-    if tables.stuck(to) {
+    if setting.tables.stuck(to) {
         return Ok(None);
     }
-    losses.loss_after(
-        alloc, board, tables, known, &key.boxes, push.from, push.dir, to,
-    )
+    losses.loss_after(alloc, setting, known, &key.boxes, push.from, push.dir, to)
 }
 
 /// Follows a push from a state that was taken: the next state is added, comes nearer, or stays. Or
@@ -101,8 +96,7 @@ fn ask(
 /// never solved, were they alone on the board.
 pub(crate) fn reach(
     alloc: Global,
-    board: &Board,
-    tables: &Tables,
+    setting: &Setting<'_>,
     limit: u32,
     search: &mut Search,
     trial: &mut Trial,
@@ -111,28 +105,30 @@ pub(crate) fn reach(
     depth: u32,
     push: Push,
 ) -> Result<Reached, Memory>
-    requires state { HoldsState board.now tables.now limit index key.now depth search.old }
-    requires trial { IsTrial board.now key.now.boxes trial.old.matching trial.old.matched }
-    requires opened { IsOpened board.now key.now trial.old.scene }
-    requires legal { IsLegal board.now key.now push }
+    requires state { HoldsState setting.now.board.now limit index key.now depth search.old }
+    requires trial { IsTrial setting.now.board.now key.now.boxes trial.old.matching
+        trial.old.matched }
+    requires opened { IsOpened setting.now.board.now key.now trial.old.scene }
+    requires legal { IsLegal setting.now.board.now key.now push }
     ensures trial { OnOk result
-        (IsTrial board.now key.now.boxes trial.new.matching trial.new.matched) }
-    ensures opened { OnOk result (IsOpened board.now key.now trial.new.scene) }
-    ensures tells { IfOk result (TellsReached board.now limit (progress_of search.old) index
+        (IsTrial setting.now.board.now key.now.boxes trial.new.matching trial.new.matched) }
+    ensures opened { OnOk result (IsOpened setting.now.board.now key.now trial.new.scene) }
+    ensures tells { IfOk result (TellsReached setting.now.board.now limit
+        (progress_of search.old) index
         key.now depth push (progress_of search.new)) }
 {
-    let to = square_ahead(board, push);
-    if !search.whole && tables.stuck(to) {
+    let to = square_ahead(setting.board, push);
+    if !search.whole && setting.tables.stuck(to) {
         return Ok(Reached::On);
     }
     let known = search.table.len();
     let losses = &mut search.losses;
-    let lost = ask(alloc, board, tables, losses, known, key, push, to)?;
+    let lost = ask(alloc, setting, losses, known, key, push, to)?;
     if !search.whole && lost.is_some() {
         return Ok(Reached::On);
     }
     arrive(
-        alloc, board, tables, limit, search, trial, index, key, depth, push, to, lost,
+        alloc, setting, limit, search, trial, index, key, depth, push, to, lost,
     )
 }
 
@@ -149,8 +145,7 @@ fn arrive_full(
     depth: u32,
     push: Push,
 ) -> Result<Reached, Memory>
-    requires state { (t : Distances)
-        × HoldsState board.now t limit index key.now depth search.old }
+    requires state { HoldsState board.now limit index key.now depth search.old }
     requires full { limit ≤ length search.old.table.entries }
     requires opened { IsOpened board.now key.now scene.old }
     requires legal { IsLegal board.now key.now push }
@@ -176,8 +171,7 @@ fn arrive_full(
 /// be lost by a loss that is known.
 fn arrive(
     alloc: Global,
-    board: &Board,
-    tables: &Tables,
+    setting: &Setting<'_>,
     limit: u32,
     search: &mut Search,
     trial: &mut Trial,
@@ -188,25 +182,37 @@ fn arrive(
     to: Sq,
     lost: Option<u32>,
 ) -> Result<Reached, Memory>
-    requires state { HoldsState board.now tables.now limit index key.now depth search.old }
-    requires trial { IsTrial board.now key.now.boxes trial.old.matching trial.old.matched }
-    requires opened { IsOpened board.now key.now trial.old.scene }
-    requires legal { IsLegal board.now key.now push }
-    requires ahead { beside board.now push.from push.dir ≡ Some to }
-    requires lost { IfSome lost (IsLostBy board.now push.from
+    requires state { HoldsState setting.now.board.now limit index key.now depth search.old }
+    requires trial { IsTrial setting.now.board.now key.now.boxes trial.old.matching
+        trial.old.matched }
+    requires opened { IsOpened setting.now.board.now key.now trial.old.scene }
+    requires legal { IsLegal setting.now.board.now key.now push }
+    requires ahead { beside setting.now.board.now push.from push.dir ≡ Some to }
+    requires lost { IfSome lost (IsLostBy setting.now.board.now push.from
         (put_in_order push.from to key.now.boxes) (losses_of search.old.losses)) }
     ensures trial { OnOk result
-        (IsTrial board.now key.now.boxes trial.new.matching trial.new.matched) }
-    ensures opened { OnOk result (IsOpened board.now key.now trial.new.scene) }
-    ensures tells { IfOk result (TellsReached board.now limit (progress_of search.old) index
+        (IsTrial setting.now.board.now key.now.boxes trial.new.matching trial.new.matched) }
+    ensures opened { OnOk result (IsOpened setting.now.board.now key.now trial.new.scene) }
+    ensures tells { IfOk result (TellsReached setting.now.board.now limit
+        (progress_of search.old) index
         key.now depth push (progress_of search.new)) }
 {
     if search.table.len() >= limit as usize {
         let scene = &mut trial.scene;
-        return arrive_full(alloc, board, limit, search, scene, index, key, depth, push);
+        return arrive_full(
+            alloc,
+            setting.board,
+            limit,
+            search,
+            scene,
+            index,
+            key,
+            depth,
+            push,
+        );
     }
     let from = push.from;
-    let least = trial.scene.step(board, key, push, to);
+    let least = trial.scene.step(setting.board, key, push, to);
     let origin = Some(Origin {
         parent: index as u32,
         push,
@@ -217,7 +223,7 @@ fn arrive(
         approach(search, at, deeper, origin)?;
         return Ok(Reached::On);
     }
-    let standing = judge_after(alloc, board, tables, trial, &key.boxes, from, to, lost)?;
+    let standing = judge_after(alloc, setting, trial, &key.boxes, from, to, lost)?;
     add(search, at, deeper, Note { origin, standing })?;
     Ok(Reached::On)
 }

@@ -12,9 +12,8 @@ use crate::expanding::{Scratch, expand};
 use crate::note::{Note, Standing};
 use crate::reaching::Reached;
 use crate::search::{Search, wait};
-use sok_board::board::Board;
 use sok_closed::solved::is_solved;
-use sok_push::tables::Tables;
+use sok_push::setting::Setting;
 use sok_rules::fault::Memory;
 use std::alloc::Global;
 
@@ -40,8 +39,7 @@ fn mark(search: &mut Search, index: usize, note: Note)
 /// Visits an open state that was taken: it is let go, is solved, or is expanded.
 fn visit(
     alloc: Global,
-    board: &Board,
-    tables: &Tables,
+    setting: &Setting<'_>,
     limit: u32,
     search: &mut Search,
     scratch: &mut Scratch,
@@ -49,12 +47,12 @@ fn visit(
     note: Note,
     bound: u32,
 ) -> Result<Reached, Memory>
-    requires held { IsRunning board.now tables.now limit (holding index (progress_of search.old)) }
-    requires ready { IsReady board.now scratch.old }
+    requires held { IsRunning setting.now.board.now limit (holding index (progress_of search.old)) }
+    requires ready { IsReady setting.now.board.now scratch.old }
     requires noted { slice_get search.old.notes.items index ≡ Some note }
     requires is_open { note.standing ≡ Open bound }
-    ensures ready { OnOk result (IsReady board.now scratch.new) }
-    ensures tells { IfOk result (TellsTurned board.now limit
+    ensures ready { OnOk result (IsReady setting.now.board.now scratch.new) }
+    ensures tells { IfOk result (TellsTurned setting.now.board.now limit
         (holding index (progress_of search.old)) (progress_of search.new)) }
 {
     let depth = search.table.depth(index);
@@ -62,14 +60,13 @@ fn visit(
         return Ok(Reached::On);
     }
     let key = search.table.key(alloc, &mut scratch.squares, index)?;
-    if is_solved(board, &key.boxes) {
+    if is_solved(setting.board, &key.boxes) {
         search.best = Some(depth);
         return Ok(Reached::On);
     }
     match expand(
         alloc,
-        board,
-        tables,
+        setting,
         limit,
         search,
         scratch,
@@ -95,24 +92,21 @@ fn visit(
 /// One turn: a state that was taken is let go unless it is open.
 fn turn(
     alloc: Global,
-    board: &Board,
-    tables: &Tables,
+    setting: &Setting<'_>,
     limit: u32,
     search: &mut Search,
     scratch: &mut Scratch,
     index: usize,
 ) -> Result<Reached, Memory>
-    requires held { IsRunning board.now tables.now limit (holding index (progress_of search.old)) }
-    requires ready { IsReady board.now scratch.old }
-    ensures ready { OnOk result (IsReady board.now scratch.new) }
-    ensures tells { IfOk result (TellsTurned board.now limit
+    requires held { IsRunning setting.now.board.now limit (holding index (progress_of search.old)) }
+    requires ready { IsReady setting.now.board.now scratch.old }
+    ensures ready { OnOk result (IsReady setting.now.board.now scratch.new) }
+    ensures tells { IfOk result (TellsTurned setting.now.board.now limit
         (holding index (progress_of search.old)) (progress_of search.new)) }
 {
     let note = search.notes[index];
     match note.standing {
-        Standing::Open(bound) => visit(
-            alloc, board, tables, limit, search, scratch, index, note, bound,
-        ),
+        Standing::Open(bound) => visit(alloc, setting, limit, search, scratch, index, note, bound),
         Standing::Expanded(_) => Ok(Reached::On),
         Standing::Dead => Ok(Reached::On),
         Standing::Lost(_) => Ok(Reached::On),
@@ -122,19 +116,19 @@ fn turn(
 /// Takes one index after another, until none waits or a new state has no place in the table.
 pub(crate) fn run(
     alloc: Global,
-    board: &Board,
-    tables: &Tables,
+    setting: &Setting<'_>,
     limit: u32,
     search: &mut Search,
     scratch: &mut Scratch,
 ) -> Result<Reached, Memory>
-    requires running { IsRunning board.now tables.now limit (progress_of search.old) }
-    requires ready { IsReady board.now scratch.old }
+    requires running { IsRunning setting.now.board.now limit (progress_of search.old) }
+    requires ready { IsReady setting.now.board.now scratch.old }
     ensures { IfOk result
-        (TellsFinished board.now limit (progress_of search.old) (progress_of search.new)) }
+        (TellsFinished setting.now.board.now limit (progress_of search.old)
+        (progress_of search.new)) }
 {
     while let Some(index) = search.queue.pop() {
-        match turn(alloc, board, tables, limit, search, scratch, index as usize)? {
+        match turn(alloc, setting, limit, search, scratch, index as usize)? {
             Reached::On => {}
             Reached::Full => return Ok(Reached::Full),
         }

@@ -26,7 +26,8 @@ use crate::tracing::{find_solved, trace};
 use crate::trail::letters;
 use sok_board::board::Board;
 use sok_cert::claim::Claim;
-use sok_cert::entry::Cert;
+use sok_cert::entry::{Certificate, Entry};
+use sok_push::setting::Setting;
 use sok_push::tables::Tables;
 use sok_rules::cell::Dir;
 use sok_rules::fault::Memory;
@@ -95,37 +96,47 @@ fn outcome(alloc: Global, level: &Level, limit: u32, wanted: bool) -> Result<Out
     ensures answer { IfOk result (IsOutcome level.now limit wanted) }
     ensures tells { TellsFault level.now limit result }
 {
-    let mut cert = Cert {
-        entries: Vec::new(alloc),
-    };
-    match solve_into(alloc, level, limit, wanted, &mut cert) {
-        Ok(found) => Ok(certified(found, wanted, cert)),
+    let mut entries = Vec::new(alloc);
+    match solve_into(alloc, level, limit, wanted, &mut entries) {
+        Ok(found) => Ok(certified(found, wanted, entries)),
         Err(fault) => Err(fault),
     }
 }
 
-/// What was found, with its certificate.
-fn certified(found: Found, wanted: bool, cert: Cert) -> Outcome
+/// What was found, with the certificate that has these entries.
+fn certified(found: Found, wanted: bool, entries: Vec<Entry>) -> Outcome
     ensures { (rows : Rows) (limit : ℕ)
-        → IsShown (λ entries. cert.entries.items ≡ entries) rows limit wanted found
+        → IsShown (λ taken. entries.items ≡ taken) rows limit wanted found
         → IsOutcome rows limit wanted result }
 {
     match found {
-        Found::Solved { dirs, pushes } => Outcome::Solved { dirs, pushes, cert },
-        Found::Unsolvable => Outcome::Unsolvable { cert },
+        Found::Solved { dirs, pushes } => {
+            let claim = Claim::Pushes(pushes);
+            Outcome::Solved {
+                dirs,
+                pushes,
+                certificate: Certificate { claim, entries },
+            }
+        }
+        Found::Unsolvable => {
+            let claim = Claim::Unsolvable;
+            Outcome::Unsolvable {
+                certificate: Certificate { claim, entries },
+            }
+        }
         Found::Limit { states, at_least } => {
             if wanted {
-                let cert = Some(cert);
+                let claim = Claim::Pushes(at_least);
                 return Outcome::Limit {
                     states,
                     at_least,
-                    cert,
+                    certificate: Some(Certificate { claim, entries }),
                 };
             }
             Outcome::Limit {
                 states,
                 at_least,
-                cert: None,
+                certificate: None,
             }
         }
     }
@@ -191,9 +202,13 @@ fn answer_by<C: Entries>(
         (IsShown (λ taken. C.took taken entries.new) board.now.rows limit wanted) }
 {
     let tables = Tables::new(alloc, board)?;
-    match search_all(alloc, board, &tables, limit, search)? {
-        Reached::On => conclude(alloc, board, &tables, search, entries),
-        Reached::Full => halt(alloc, board, &tables, limit, wanted, search, entries),
+    let setting = Setting {
+        board,
+        tables: &tables,
+    };
+    match search_all(alloc, &setting, limit, search)? {
+        Reached::On => conclude(alloc, &setting, search, entries),
+        Reached::Full => halt(alloc, &setting, limit, wanted, search, entries),
     }
 }
 
@@ -218,7 +233,11 @@ fn find_by(alloc: Global, board: &Board, limit: u32, search: &mut Search) -> Res
     ensures { IfOk result (IsFound board.now.rows limit) }
 {
     let tables = Tables::new(alloc, board)?;
-    match search_all(alloc, board, &tables, limit, search)? {
+    let setting = Setting {
+        board,
+        tables: &tables,
+    };
+    match search_all(alloc, &setting, limit, search)? {
         Reached::On => find_in(alloc, board, search),
         Reached::Full => Ok(Found::Limit {
             states: limit,
@@ -230,25 +249,23 @@ fn find_by(alloc: Global, board: &Board, limit: u32, search: &mut Search) -> Res
 /// The answer of a search that was cut off, with a certificate of what it shows where one is wanted.
 fn halt<C: Entries>(
     alloc: Global,
-    board: &Board,
-    tables: &Tables,
+    setting: &Setting<'_>,
     limit: u32,
     wanted: bool,
     search: &Search,
     entries: &mut C,
 ) -> Result<Found, Memory>
-    requires accepted { IsAccepted board.now }
-    requires tables { tables.now.board ≡ board.now }
+    requires accepted { IsAccepted setting.now.board.now }
     requires small { limit ≤ state_limit }
-    requires cut { IsCutOff board.now limit true (progress_of search.now) }
+    requires cut { IsCutOff setting.now.board.now limit true (progress_of search.now) }
     requires none { C.took [] entries.old }
     ensures { IfOk result
-        (IsShown (λ taken. C.took taken entries.new) board.now.rows limit wanted) }
+        (IsShown (λ taken. C.took taken entries.new) setting.now.board.now.rows limit wanted) }
 {
     let at_least = least_open(search);
     if wanted {
         let claim = Claim::Pushes(at_least);
-        certify(alloc, board, tables, claim, search, entries)?;
+        certify(alloc, setting, claim, search, entries)?;
     }
     Ok(Found::Limit {
         states: limit,
@@ -259,36 +276,34 @@ fn halt<C: Entries>(
 /// Searches from the start until no state waits, or the table is full before.
 fn search_all(
     alloc: Global,
-    board: &Board,
-    tables: &Tables,
+    setting: &Setting<'_>,
     limit: u32,
     search: &mut Search,
 ) -> Result<Reached, Memory>
-    requires accepted { IsAccepted board.now }
-    requires tables { tables.now.board ≡ board.now }
+    requires accepted { IsAccepted setting.now.board.now }
     requires positive { 0 < limit }
-    requires empty { IsEmpty board.now search.old }
+    requires empty { IsEmpty setting.now.board.now search.old }
     ensures { IfOk result
-        (TellsSearched board.now limit search.old.whole (progress_of search.new)) }
+        (TellsSearched setting.now.board.now limit search.old.whole (progress_of search.new)) }
 {
-    enter_start(alloc, board, tables, search)?;
-    finish(alloc, board, tables, limit, search)
+    enter_start(alloc, setting, search)?;
+    finish(alloc, setting, limit, search)
 }
 
 /// Goes on with a search until no state waits, or its table is full.
 fn finish(
     alloc: Global,
-    board: &Board,
-    tables: &Tables,
+    setting: &Setting<'_>,
     limit: u32,
     search: &mut Search,
 ) -> Result<Reached, Memory>
-    requires { IsRunning board.now tables.now limit (progress_of search.old) }
+    requires { IsRunning setting.now.board.now limit (progress_of search.old) }
     ensures { IfOk result
-        (TellsFinished board.now limit (progress_of search.old) (progress_of search.new)) }
+        (TellsFinished setting.now.board.now limit (progress_of search.old)
+        (progress_of search.new)) }
 {
-    let mut scratch = Scratch::new(alloc, board, tables)?;
-    let reached = run(alloc, board, tables, limit, search, &mut scratch);
+    let mut scratch = Scratch::new(alloc, setting)?;
+    let reached = run(alloc, setting, limit, search, &mut scratch);
     // As one value: field by field takes five times as long to prove.
     drop(scratch);
     reached
@@ -314,29 +329,29 @@ fn find_in(alloc: Global, board: &Board, search: &Search) -> Result<Found, Memor
 /// The answer of a finished search.
 fn conclude<C: Entries>(
     alloc: Global,
-    board: &Board,
-    tables: &Tables,
+    setting: &Setting<'_>,
     search: &Search,
     entries: &mut C,
 ) -> Result<Found, Memory>
-    requires accepted { IsAccepted board.now }
-    requires tables { tables.now.board ≡ board.now }
-    requires search { IsSmallSearch board.now (progress_of search.now) }
+    requires accepted { IsAccepted setting.now.board.now }
+    requires search { IsSmallSearch setting.now.board.now (progress_of search.now) }
     requires whole { search.now.whole ≡ true }
     requires finished { search.now.queue ≡ [] }
     requires none { C.took [] entries.old }
-    ensures { (limit : ℕ) (wanted : Bool) → IsSearch board.now limit (progress_of search.now)
-        → IfOk result (IsShown (λ taken. C.took taken entries.new) board.now.rows limit wanted) }
+    ensures { (limit : ℕ) (wanted : Bool) → IsSearch setting.now.board.now limit
+        (progress_of search.now)
+        → IfOk result (IsShown
+        (λ taken. C.took taken entries.new) setting.now.board.now.rows limit wanted) }
 {
     match search.best {
         Some(pushes) => {
             let claim = Claim::Pushes(pushes);
-            certify(alloc, board, tables, claim, search, entries)?;
-            let dirs = solution(alloc, board, search, pushes)?;
+            certify(alloc, setting, claim, search, entries)?;
+            let dirs = solution(alloc, setting.board, search, pushes)?;
             Ok(Found::Solved { dirs, pushes })
         }
         None => {
-            certify(alloc, board, tables, Claim::Unsolvable, search, entries)?;
+            certify(alloc, setting, Claim::Unsolvable, search, entries)?;
             Ok(Found::Unsolvable)
         }
     }

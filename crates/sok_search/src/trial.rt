@@ -17,7 +17,7 @@ use sok_board::area::Sq;
 use sok_board::board::Board;
 use sok_board::box_set::BoxSet;
 use sok_price::matching::Matching;
-use sok_push::tables::Tables;
+use sok_push::setting::Setting;
 use sok_region::layout::Layout;
 use sok_rules::fault::Memory;
 use sok_state::scene::Scene;
@@ -75,19 +75,21 @@ fn bound_after(
 
 /// Whether the boxes after a push have a jam with the box that was pushed. The boxes that are laid
 /// out are shifted by the push and back.
-fn is_jammed(board: &Board, tables: &Tables, layout: &mut Layout, from: Sq, to: Sq) -> bool
-    requires accepted { IsAccepted board.now }
-    requires tables { tables.now.board ≡ board.now }
+fn is_jammed(setting: &Setting<'_>, layout: &mut Layout, from: Sq, to: Sq) -> bool
+    requires accepted { IsAccepted setting.now.board.now }
     requires laid { (boxes after : List ℕ)
-        × AreMoved board.now boxes from to after × IsLaidOut board.now boxes layout.old }
-    ensures laid { (boxes after : List ℕ) → AreMoved board.now boxes from to after
-        → IsLaidOut board.now boxes layout.old → IsLaidOut board.now boxes layout.new }
-    ensures jammed { (boxes after : List ℕ) → AreMoved board.now boxes from to after
-        → IsLaidOut board.now boxes layout.old → IsTrue result ↔ HasJamWith board.now after to }
+        × AreMoved setting.now.board.now boxes from to after
+        × IsLaidOut setting.now.board.now boxes layout.old }
+    ensures laid { (boxes after : List ℕ) → AreMoved setting.now.board.now boxes from to after
+        → IsLaidOut setting.now.board.now boxes layout.old
+        → IsLaidOut setting.now.board.now boxes layout.new }
+    ensures jammed { (boxes after : List ℕ) → AreMoved setting.now.board.now boxes from to after
+        → IsLaidOut setting.now.board.now boxes layout.old → IsTrue result
+        ↔ HasJamWith setting.now.board.now after to }
 {
-    layout.shift(board, from, to);
-    let jammed = has_jam(board, tables, layout, to);
-    layout.shift(board, to, from);
+    layout.shift(setting.board, from, to);
+    let jammed = has_jam(setting, layout, to);
+    layout.shift(setting.board, to, from);
     jammed
 }
 
@@ -96,37 +98,38 @@ fn is_jammed(board: &Board, tables: &Tables, layout: &mut Layout, from: Sq, to: 
 /// total.
 pub(crate) fn judge_after(
     alloc: Global,
-    board: &Board,
-    tables: &Tables,
+    setting: &Setting<'_>,
     trial: &mut Trial,
     before: &BoxSet,
     from: Sq,
     to: Sq,
     lost: Option<u32>,
 ) -> Result<Standing, Memory>
-    requires accepted { IsAccepted board.now }
-    requires tables { tables.now.board ≡ board.now }
-    requires trial { IsTrial board.now before.now trial.old.matching trial.old.matched }
-    requires laid { IsLaidOut board.now before.now trial.old.scene.layout }
-    requires moved { AreMoved board.now before.now from to (put_in_order from to before.now) }
+    requires accepted { IsAccepted setting.now.board.now }
+    requires trial { IsTrial setting.now.board.now before.now trial.old.matching trial.old.matched }
+    requires laid { IsLaidOut setting.now.board.now before.now trial.old.scene.layout }
+    requires moved { AreMoved setting.now.board.now before.now from to
+        (put_in_order from to before.now) }
     ensures trial { OnOk result
-        (IsTrial board.now before.now trial.new.matching trial.new.matched) }
-    ensures laid { OnOk result (IsLaidOut board.now before.now trial.new.scene.layout) }
+        (IsTrial setting.now.board.now before.now trial.new.matching trial.new.matched) }
+    ensures laid { OnOk result (IsLaidOut setting.now.board.now before.now trial.new.scene.layout) }
     ensures reached { trial.new.scene.reached ≡ trial.old.scene.reached }
     ensures judged { (losses : List Loss) (player : ℕ)
-        → IfSome lost (IsLostBy board.now player (put_in_order from to before.now) losses)
-        → IfOk result (IsJudged board.now losses player (put_in_order from to before.now)) }
+        → IfSome lost (IsLostBy setting.now.board.now player
+        (put_in_order from to before.now) losses)
+        → IfOk result (IsJudged setting.now.board.now losses player
+        (put_in_order from to before.now)) }
 {
-    if tables.stuck(to) {
+    if setting.tables.stuck(to) {
         return Ok(Standing::Dead);
     }
-    if is_jammed(board, tables, &mut trial.scene.layout, from, to) {
+    if is_jammed(setting, &mut trial.scene.layout, from, to) {
         return Ok(Standing::Dead);
     }
     if let Some(place) = lost {
         return Ok(Standing::Lost(place));
     }
-    match bound_after(alloc, board, trial, before, from, to)? {
+    match bound_after(alloc, setting.board, trial, before, from, to)? {
         Some(bound) => Ok(Standing::Open(bound)),
         None => Ok(Standing::Dead),
     }

@@ -8,13 +8,7 @@ use Rattle.std.specs.Char.{is_ascii_digit}
 use Rattle.std.specs.List.{AllPass}
 use Rattle.sok_text.specs.Counts.{starts_with_digit}
 use Rattle.sok_text.specs.Packed.{is_encoded, is_mark}
-
--- a text without its first byte, as code cuts it
-abbrev pub behind_first : List ℕ → List ℕ
-behind_first text = take (length text - 1) (drop 1 text)
-
-pub behind_first-cons : (c : ℕ) (left : List ℕ) → behind_first (c ∷ left) ≡ left
-behind_first-cons c left = ap (λ n. take n left) (omega arith) ∙ take_all (length left) left (omega arith)
+use Rattle.sok_text.proofs.Lines.{behind_first, behind_first-cons}
 
 is_encoded-digits : (more left digits : List ℕ) → AllPass is_ascii_digit more → is_encoded digits (more ++ left) ≡ is_encoded (digits ++ more) left
 is_encoded-digits [] left digits all = ap (λ ds. is_encoded ds left) (sym (append-nil digits))

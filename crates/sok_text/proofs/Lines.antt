@@ -12,6 +12,13 @@ use Rattle.std.specs.List.{position_or_len, before_first, slice_split}
 use Rattle.std.specs.Str.Lines.{lines, lines_of_parts, strip_carriage_return}
 use Rattle.sok_text.specs.Lines.{is_newline, first_line, after_line, IsCutAtEnd, IsLineEnd, IsUnended}
 
+-- a text without its first byte, as code cuts it
+abbrev pub behind_first : List ℕ → List ℕ
+behind_first text = take (length text - 1) (drop 1 text)
+
+pub behind_first-cons : (c : ℕ) (left : List ℕ) → behind_first (c ∷ left) ≡ left
+behind_first-cons c left = ap (λ n. take n left) (omega arith) ∙ take_all (length left) left (omega arith)
+
 -- where the first line ends
 abbrev pub end_of : List ℕ → ℕ
 end_of text = position_or_len is_newline text
@@ -144,6 +151,13 @@ IsLineEnd-head_of text some = elim (cases_Bool (nat_lt (end_of text) (length tex
 
 length-strip : (line : List ℕ) → length (strip_carriage_return line) ≤ length line
 length-strip line = elim (cases_Bool (slice_index line (length line - 1) == 13)) [
+  | inl return ↦ omega (arith, ap (λ b. length (if b then take (length line - 1) line else line)) return, length-take (length line - 1) line)
+  | inr plain ↦ omega (arith, ap (λ b. length (if b then take (length line - 1) line else line)) plain)
+]
+
+-- without its carriage return a line is shorter by one byte at most
+pub length-strip_most : (line : List ℕ) → length line ≤ length (strip_carriage_return line) + 1
+length-strip_most line = elim (cases_Bool (slice_index line (length line - 1) == 13)) [
   | inl return ↦ omega (arith, ap (λ b. length (if b then take (length line - 1) line else line)) return, length-take (length line - 1) line)
   | inr plain ↦ omega (arith, ap (λ b. length (if b then take (length line - 1) line else line)) plain)
 ]

@@ -10,6 +10,7 @@ use Rattle.sok_text.specs.declared.lurd.LurdFault.TheVariants.{BadLetter, TooLon
 use Rattle.sok_text.specs.Counts.{times, starts_with_digit}
 use Rattle.sok_text.specs.Lurd.{is_blank, Token, blank, letter, IsToken, token_text, token_letters, first_direction}
 use Rattle.sok_text.specs.Lurd.{Spells, GoesWrong, unknown, alone, never, many}
+use Rattle.sok_text.proofs.Lines.{behind_first, behind_first-cons}
 
 flat_map-push : {A : Type 0} (f : Token → List A) (ts : List Token) (t : Token) → flat_map f ts ++ f t ≡ flat_map f (ts ++ t ∷ [])
 flat_map-push f ts t = flat_map_more f [] ts t
@@ -49,13 +50,6 @@ left-le text left w read = omega (arith, ap length read.whole, length-append rea
 pub Spells-read : (text left : List ℕ) (w : List Dir) → IsReadTo text left w → length left ≡ 0 → Spells text w
 Spells-read text [] w read none = subst (λ bytes. Spells bytes w) (sym (read.whole ∙ append-nil read.front)) read.spelled
 Spells-read text (c ∷ left) w read none = absurd (omega arith)
-
--- a text without its first byte, as code cuts it
-abbrev pub behind_first : List ℕ → List ℕ
-behind_first text = take (length text - 1) (drop 1 text)
-
-behind_first-cons : (c : ℕ) (left : List ℕ) → behind_first (c ∷ left) ≡ left
-behind_first-cons c left = ap (λ n. take n left) (omega arith) ∙ take_all (length left) left (omega arith)
 
 pub IsReadTo-blank : (text left : List ℕ) (w : List Dir) → IsReadTo text left w → 0 < length left → is_blank (get_or left 0 0) ≡ true
     → IsReadTo text (behind_first left) w

@@ -15,7 +15,7 @@ use Rattle.sok_rules.proofs.Proper.{level_of-tall}
 use Rattle.sok_text.specs.Counts.{starts_with_digit, times}
 use Rattle.sok_text.specs.Like.{IsLike, AreLike}
 use Rattle.sok_text.specs.Packed.{cells_behind, first_cell, is_bar, onto_first, packed_rows, parts_between}
-use Rattle.sok_text.proofs.Encoded.{behind_first, behind_first-cons}
+use Rattle.sok_text.proofs.Lines.{behind_first, behind_first-cons}
 use Rattle.sok_text.proofs.Like.{AreLike-push, length-AreLike, level_of-like, trimmed-floors, trimmed-several}
 
 cells_behind-digits : (more left digits : List ℕ) → AllPass is_ascii_digit more → cells_behind digits (more ++ left) ≡ cells_behind (digits ++ more) left

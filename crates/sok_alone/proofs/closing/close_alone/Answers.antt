@@ -9,11 +9,11 @@ use Rattle.sok_alone.proofs.Finishing.{closed-walked, given-up-walked, none-ende
 use Rattle.sok_alone.proofs.closing.close_alone.Goals as goal
 
 pub key-first-requires-clause-placed : goal.key-first-requires-clause-placed
-key-first-requires-clause-placed c = subst (λ (boxes : List ℕ). IsPlaced c.args.board.now boxes c.args.player) (sym c.in_ok-own.ensures.same) c.requires.placed
+key-first-requires-clause-placed c = subst (λ (boxes : List ℕ). IsPlaced c.args.setting.now.board.now boxes c.args.player) (sym c.in_ok-own.ensures.same) c.requires.placed
 
 pub returns-clause-closed : goal.returns-clause-closed
 returns-clause-closed c =
-    let b = c.args.board.now in
+    let b = c.args.setting.now.board.now in
     let first = c.key-first.result in
     let boxes = c.args.boxes.now in
     let is : IsKeyOf b (position_of b c.args.player c.args.boxes.now) c.key-first.result =
@@ -24,7 +24,7 @@ returns-clause-closed c =
 
 pub returns-clause-none : goal.returns-clause-none
 returns-clause-none c =
-    let b = c.args.board.now in
+    let b = c.args.setting.now.board.now in
     let is : IsKeyOf b (position_of b c.args.player c.args.boxes.now) c.key-first.result =
     subst (λ (own : List ℕ). IsKeyOf b (position_of b c.args.player own) c.key-first.result) c.in_ok-own.ensures.same c.key-first.ensures.key in
     none-ended c.close_unless.result (IsGivenUp b.rows (position_of b c.args.player c.args.boxes.now) c.args.limit)

@@ -7,7 +7,7 @@ use Rattle.sok_alone.proofs.closing.run_from.Goals as goal
 
 pub returns-clause-tells : goal.returns-clause-tells
 returns-clause-tells c =
-    let b = c.args.board.now in
+    let b = c.args.setting.now.board.now in
     let accepted = c.requires.workspace.accepted in
     let lives = c.args.lives.now in
     let first = c.args.first.now in

@@ -15,7 +15,7 @@ returns-then-not-is_expanded-clause-tells g c =
     record {
       known = c.requires.1.0;
       grows = Grows-refl known;
-      followed = followed-unmarked c.args.board.now (roll_of known) c.args.index
+      followed = followed-unmarked c.args.setting.now.board.now (roll_of known) c.args.index
           (marked-at known c.args.index c.index.result.now c.requires.1.1.0 c.index.ensures ∙ ap Some (sym c.is_expanded.ensures ∙ c.if-not-is_expanded.true))
           c.requires.1.1.1.0;
     }
@@ -28,7 +28,7 @@ open-requires-clause-key g c = (c.requires.1.0.of_board.keys c.args.index c.in_o
 
 pub follow_all-requires : goal.follow_all-requires
 follow_all-requires g c =
-    let b = c.args.board.now in
+    let b = c.args.setting.now.board.now in
     let key = c.in_ok-key.key in (
       c.requires.0,
       (
@@ -45,7 +45,7 @@ follow_all-requires g c =
 
 pub returns-clause-tells : goal.returns-clause-tells
 returns-clause-tells g c =
-    let b = c.args.board.now in
+    let b = c.args.setting.now.board.now in
     let key = c.in_ok-key.key in
     let pushes = c.open.new.self.pushes.items in
     tells-expanded b g.start c.args.limit c.args.known.now c.requires.1.0 c.args.index key c.in_ok-key.ensures c.requires.1.1.1.0 pushes

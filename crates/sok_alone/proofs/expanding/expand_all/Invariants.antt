@@ -10,11 +10,11 @@ ghost-expand g a = g.start
 
 abbrev pub invariant-loop-index : goal.invariant-loop-index
 invariant-loop-index g l = record {
-  known : IsKnown l.board g.start l.limit l.known;
+  known : IsKnown l.setting.board.now g.start l.limit l.known;
   grows : Grows l.initial.known l.known;
-  followed : AreFollowed l.board (roll_of l.known) l.index;
+  followed : AreFollowed l.setting.board.now (roll_of l.known) l.index;
   within : l.index ≤ length l.known.inner.items;
-  workspace : IsWorkspace l.board l.workspace;
+  workspace : IsWorkspace l.setting.board.now l.workspace;
 }
 
 abbrev pub decreases-loop-index : goal.decreases-loop-index

@@ -31,7 +31,7 @@ after-requires-clause-pushable g c =
 
 pub meet-requires : goal.meet-requires
 meet-requires g c =
-    let b = c.args.board.now in
+    let b = c.args.setting.now.board.now in
     let key = c.args.key.now in
     let after = c.in_ok-next.ensures.after in
     let i = c.loop-push.push-index in (
@@ -45,7 +45,7 @@ meet-requires g c =
 
 pub loop-push-preserved : goal.loop-push-preserved
 loop-push-preserved g c =
-    let b = c.args.board.now in
+    let b = c.args.setting.now.board.now in
     let key = c.args.key.now in
     let pushes = c.args.pushes.now in
     let i = c.loop-push.push-index in
@@ -67,6 +67,6 @@ pub returns-clause-tells : goal.returns-clause-tells
 returns-clause-tells g c = record {
   known = c.loop-push.invariant.known;
   grows = c.loop-push.invariant.grows;
-  found = found-listed c.args.pushes.now (IsFound c.args.board.now c.loop-push.known.table.entries c.args.key.now 0) c.loop-push.push-index
+  found = found-listed c.args.pushes.now (IsFound c.args.setting.now.board.now c.loop-push.known.table.entries c.args.key.now 0) c.loop-push.push-index
       c.loop-push-test.false c.loop-push.invariant.found;
 }

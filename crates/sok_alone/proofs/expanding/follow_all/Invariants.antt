@@ -11,8 +11,8 @@ ghost-meet g a = g.start
 
 abbrev pub invariant-loop-push : goal.invariant-loop-push
 invariant-loop-push g l = record {
-  known : IsKnown l.board g.start l.limit l.known;
+  known : IsKnown l.setting.board.now g.start l.limit l.known;
   grows : Grows l.initial.known l.known;
-  opened : IsOpened l.board l.key l.scene;
-  found : (i : ℕ) (push : Push) → i < l.push-index → slice_get l.pushes i ≡ Some push → IsFound l.board l.known.table.entries l.key 0 push;
+  opened : IsOpened l.setting.board.now l.key l.scene;
+  found : (i : ℕ) (push : Push) → i < l.push-index → slice_get l.pushes i ≡ Some push → IsFound l.setting.board.now l.known.table.entries l.key 0 push;
 }

@@ -9,7 +9,7 @@ use Rattle.sok_alone.proofs.finding.find_pattern.Goals as goal
 
 pub returns-in_default-clause-none : goal.returns-in_default-clause-none
 returns-in_default-clause-none c =
-    let b = c.args.board.now in
+    let b = c.args.setting.now.board.now in
     let limit = c.args.limit in
     subst (λ (pair : List ℕ). IsGivenUp b.rows (position_of b c.args.player pair) limit) c.in_ok-pair.ensures.list
     (subst (λ o. IfNone o (IsGivenUp b.rows (position_of b c.args.player c.in_ok-pair.pair) limit)) c.in_default.is c.in_ok-inner.ensures.none)
@@ -28,7 +28,7 @@ returns-clause-members c = members-as c.args.boxes.now c.list.result.now c.list-
 
 pub returns-clause-holds : goal.returns-clause-holds
 returns-clause-holds c =
-    let b = c.args.board.now in
+    let b = c.args.setting.now.board.now in
     let player = c.args.player in
     let inner = c.in-Some.inner in
     let within : AreClosedWithin b player c.in_ok-pair.pair c.args.limit inner =

@@ -24,12 +24,12 @@ returns-then-len-limit g c =
     let told = found-or-not (Contains (keys_of entries) key → ⊥) (IsAt entries key) c.get.result c.is_some.result c.get.ensures c.is_some.ensures in
     let full = c.if-len-limit.true in
     let count = c.len.ensures in
-    λ _. inr (full-more c.args.board.now c.requires.0.accepted g.start c.args.limit c.args.known.now c.requires.1.0 (omega (arith, full, count)) key
+    λ _. inr (full-more c.args.setting.now.board.now c.requires.0.accepted g.start c.args.limit c.args.known.now c.requires.1.0 (omega (arith, full, count)) key
     c.requires.1.1 (missing _ _ c.is_some.result told c.if-is_some.false))
 
 pub returns-in_ok-add-in-Stands : goal.returns-in_ok-add-in-Stands
 returns-in_ok-add-in-Stands g c =
-    let b = c.args.board.now in
+    let b = c.args.setting.now.board.now in
     let entries = c.args.known.now.table.entries in
     let key = c.args.key.now in
     let told = found-or-not (Contains (keys_of entries) key → ⊥) (IsAt entries key) c.get.result c.is_some.result c.get.ensures c.is_some.ensures in

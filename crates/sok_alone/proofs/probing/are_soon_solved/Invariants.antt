@@ -7,9 +7,9 @@ use Rattle.sok_alone.proofs.probing.are_soon_solved.Given as goal
 
 abbrev pub invariant-loop : goal.invariant-loop
 invariant-loop l = record {
-  state : IsKey l.board l.key;
+  state : IsKey l.setting.board.now l.key;
   few : length l.key.boxes ≤ box_limit;
-  opened : IsOpened l.board l.key l.workspace.expansion.scene;
-  legal : All (IsLegal l.board l.key) l.workspace.expansion.pushes.items;
-  workspace : IsWorkspace l.board l.workspace;
+  opened : IsOpened l.setting.board.now l.key l.workspace.expansion.scene;
+  legal : All (IsLegal l.setting.board.now l.key) l.workspace.expansion.pushes.items;
+  workspace : IsWorkspace l.setting.board.now l.workspace;
 }

@@ -8,7 +8,7 @@ use Rattle.sok_bar.proofs.alone.are_closed_by.Goals as goal
 
 pub returns-then-not-branch : goal.returns-then-not-branch
 returns-then-not-branch c =
-    let b = c.args.board.now in
+    let b = c.args.setting.now.board.now in
     let boxes = c.args.boxes.now in
     let inner = c.args.inner.now in
     let none = subst (λ bs. AreFine inner_node b (length bs) (IsBarredAlone b) inner (length inner) → ⊥) c.list-count.ensures.list

@@ -9,7 +9,7 @@ use Rattle.sok_bar.proofs.alone.enter_all.Goals as goal
 
 pub returns-then-not-branch-clause-entered : goal.returns-then-not-branch-clause-entered
 returns-then-not-branch-clause-entered c = λ fine.
-    let b = c.args.board.now in
+    let b = c.args.setting.now.board.now in
     let inner = c.args.inner.now in
     let i = c.loop-one.one-index in
     let one = c.one-item.result in

@@ -6,7 +6,7 @@ use Rattle.sok_bar.proofs.alone.enter_all.Given as goal
 
 abbrev pub invariant-loop-one : goal.invariant-loop-one
 invariant-loop-one l = record {
-  entered : AreEntered inner_node l.board l.count (IsBarredAlone l.board) (take l.one-index l.inner) l.roll;
-  of_board : IsOfBoard l.board l.roll;
-  normalizes : Normalizes l.board l.normalizer;
+  entered : AreEntered inner_node l.setting.board.now l.count (IsBarredAlone l.setting.board.now) (take l.one-index l.inner) l.roll;
+  of_board : IsOfBoard l.setting.board.now l.roll;
+  normalizes : Normalizes l.setting.board.now l.normalizer;
 }

@@ -16,7 +16,7 @@ found-here b count one o told found is = subst (λ p. MatchOption p (IsPosition 
 
 pub returns-in-None-clause-tells : goal.returns-in-None-clause-tells
 returns-in-None-clause-tells c = λ before known fine.
-    let b = c.args.board.now in
+    let b = c.args.setting.now.board.now in
     let one = c.args.one.now in
     let none : IsPosition b c.args.count (inner_node one) → ⊥ =
     subst (λ o. MatchOption o (IsPosition b c.args.count (inner_node one) → ⊥) (IsLocated b c.args.count (inner_node one))) c.in-None.is
@@ -25,7 +25,7 @@ returns-in-None-clause-tells c = λ before known fine.
 
 pub enter_located-requires-clause-located : goal.enter_located-requires-clause-located
 enter_located-requires-clause-located c =
-    let b = c.args.board.now in
+    let b = c.args.setting.now.board.now in
     let one = c.args.one.now in
     let found = found-here b c.args.count one c.in_ok-located.field-0 (c.in_ok-located.ensures.found (inner_node one) refl (sym c.as_slice.ensures)) c.in-Some.located
     c.in-Some.is in
@@ -33,7 +33,7 @@ enter_located-requires-clause-located c =
 
 pub enter_located-requires-clause-few : goal.enter_located-requires-clause-few
 enter_located-requires-clause-few c =
-    let b = c.args.board.now in
+    let b = c.args.setting.now.board.now in
     let one = c.args.one.now in
     let found = found-here b c.args.count one c.in_ok-located.field-0 (c.in_ok-located.ensures.found (inner_node one) refl (sym c.as_slice.ensures)) c.in-Some.located
     c.in-Some.is in
@@ -41,7 +41,7 @@ enter_located-requires-clause-few c =
 
 pub returns-in-Some-clause-tells : goal.returns-in-Some-clause-tells
 returns-in-Some-clause-tells c = λ before known.
-    let b = c.args.board.now in
+    let b = c.args.setting.now.board.now in
     let one = c.args.one.now in
     let found = found-here b c.args.count one c.in_ok-located.field-0 (c.in_ok-located.ensures.found (inner_node one) refl (sym c.as_slice.ensures)) c.in-Some.located
     c.in-Some.is in

@@ -20,7 +20,7 @@ key-exists b count one found roll located of_board k d within =
 
 pub enter-requires : goal.enter-requires
 enter-requires c =
-    key-exists c.args.board.now (length c.args.one.now.boxes) c.args.one.now c.args.located.now c.args.roll.now c.requires.located c.requires.of_board
+    key-exists c.args.setting.now.board.now (length c.args.one.now.boxes) c.args.one.now c.args.located.now c.args.roll.now c.requires.located c.requires.of_board
 
 -- one that may stand is fine, and another is not
 stands-or-not : {A B P E : Type 0} (r : Result Bool E) → IsOkAnd r (λ stands. IsTrue stands ↔ P) → (P → A) → (B → P) → IfOk r (λ fine. MatchBool fine A (B → ⊥))
@@ -30,7 +30,7 @@ stands-or-not (Err e) told made back = tt
 
 pub returns-then-not-branch-clause-tells : goal.returns-then-not-branch-clause-tells
 returns-then-not-branch-clause-tells c = λ before known fine.
-    let b = c.args.board.now in
+    let b = c.args.setting.now.board.now in
     let one = c.args.one.now in
     let stays = missing _ _ c.in_ok-enter.field-0 c.in_ok-enter.ensures.entered c.if-not-branch.true in
     let seen = seen-behind inner_node b (length one.boxes) (IsBarredAlone b) before c.args.roll.now c.requires.accepted known one c.args.located.now
@@ -39,7 +39,7 @@ returns-then-not-branch-clause-tells c = λ before known fine.
 
 pub returns-clause-tells : goal.returns-clause-tells
 returns-clause-tells c = λ before known.
-    let b = c.args.board.now in
+    let b = c.args.setting.now.board.now in
     let one = c.args.one.now in
     let came = present _ _ c.in_ok-enter.field-0 c.in_ok-enter.ensures.entered c.if-not-branch.false in
     stands-or-not c.may_stand.result c.may_stand.ensures
@@ -49,7 +49,7 @@ returns-clause-tells c = λ before known.
 
 pub returns-clause-of_board : goal.returns-clause-of_board
 returns-clause-of_board c =
-    let b = c.args.board.now in
+    let b = c.args.setting.now.board.now in
     let one = c.args.one.now in
     let came = present _ _ c.in_ok-enter.field-0 c.in_ok-enter.ensures.entered c.if-not-branch.false in
     IsOfBoard-more b c.requires.accepted (length one.boxes) c.requires.few c.args.roll.now c.enter.new.self (inner_node one) c.args.located.now

@@ -19,7 +19,7 @@ not-so P false told = (λ _ p. true≢false (sym (told.1 p)), λ _. refl)
 
 pub returns-in-Expanded : goal.returns-in-Expanded
 returns-in-Expanded c =
-    let b = c.args.board.now in
+    let b = c.args.setting.now.board.now in
     let one = c.args.one.now in
     let solved = AllOnGoals b.rows (position_of b one.player c.args.boxes.now) in
     let told : Tells b one.player (Ok (not c.is_solved.result)) c.args.boxes.now Expanded = not-so solved c.is_solved.result (c.is_solved.ensures one.player) in
@@ -28,7 +28,7 @@ returns-in-Expanded c =
 
 pub returns-in-Crowd : goal.returns-in-Crowd
 returns-in-Crowd c =
-    let b = c.args.board.now in
+    let b = c.args.setting.now.board.now in
     let one = c.args.one.now in
     let result = c.holds.result in
     subst (λ bs. Tells b one.player result bs one.reason) c.requires.boxes
@@ -36,7 +36,7 @@ returns-in-Crowd c =
 
 pub returns-in-Frozen : goal.returns-in-Frozen
 returns-in-Frozen c =
-    let b = c.args.board.now in
+    let b = c.args.setting.now.board.now in
     let one = c.args.one.now in
     let result = c.holds-in-Frozen.result in
     subst (λ bs. Tells b one.player result bs one.reason) c.requires.boxes

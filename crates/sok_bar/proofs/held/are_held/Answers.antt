@@ -18,7 +18,7 @@ returns-then-not-is_held c = (
 pub returns : goal.returns
 returns c = (
   (λ _. let all = c.loop-member-test.false in
-      each_member (IsHeld c.args.board.now (IsMember c.args.boxes.now c.args.members.now)) c.args.boxes.now c.args.members.now
+      each_member (IsHeld c.args.setting.now.board.now (IsMember c.args.boxes.now c.args.members.now)) c.args.boxes.now c.args.members.now
       (λ k within. c.loop-member.invariant k (omega (arith, within, all)))),
   λ _. refl,
 )

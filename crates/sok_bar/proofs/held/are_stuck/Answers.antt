@@ -6,14 +6,14 @@ use Rattle.sok_bar.proofs.held.are_stuck.Goals as goal
 pub returns-then-stuck : goal.returns-then-stuck
 returns-then-stuck c = (
   (λ second. (
-    subst (λ (b : Numbered). IsStuck b c.args.first) c.requires.tables (c.stuck.ensures.0 c.if-stuck.true),
-    subst (λ (b : Numbered). IsStuck b c.args.second) c.requires.tables (c.stuck-then-stuck.ensures.0 second),
+    subst (λ (b : Numbered). IsStuck b c.args.first) c.args.setting.now.own (c.stuck.ensures.0 c.if-stuck.true),
+    subst (λ (b : Numbered). IsStuck b c.args.second) c.args.setting.now.own (c.stuck-then-stuck.ensures.0 second),
   )),
-  λ both. c.stuck-then-stuck.ensures.1 (subst (λ (b : Numbered). IsStuck b c.args.second) (sym c.requires.tables) both.1),
+  λ both. c.stuck-then-stuck.ensures.1 (subst (λ (b : Numbered). IsStuck b c.args.second) (sym c.args.setting.now.own) both.1),
 )
 
 pub returns-else-stuck : goal.returns-else-stuck
 returns-else-stuck c = (
   (λ first. absurd (true≢false (sym first ∙ c.if-stuck.false))),
-  λ both. c.stuck.ensures.1 (subst (λ (b : Numbered). IsStuck b c.args.first) (sym c.requires.tables) both.0),
+  λ both. c.stuck.ensures.1 (subst (λ (b : Numbered). IsStuck b c.args.first) (sym c.args.setting.now.own) both.0),
 )

@@ -5,7 +5,7 @@ use Rattle.sok_bar.proofs.layout_jam.has_held_jam.Goals as goal
 
 pub returns-then-narrow : goal.returns-then-narrow
 returns-then-narrow c = λ boxes laid.
-    let b = c.args.board.now in
+    let b = c.args.setting.now.board.now in
     let layout = c.args.layout.now in
     let narrowed = IsNarrowed-same _ _ _ _ _ _ _ _ c.boxes.ensures (c.copy_from.ensures ∙ c.boxed.ensures) c.narrow.ensures in (
       λ off. HasJamWith-narrowed b c.requires.accepted.numbered boxes layout laid c.narrow.new.held c.args.square c.narrow.result narrowed c.if-narrow.true
@@ -17,7 +17,7 @@ returns-then-narrow c = λ boxes laid.
 
 pub returns-else-narrow : goal.returns-else-narrow
 returns-else-narrow c = λ boxes laid.
-    let b = c.args.board.now in
+    let b = c.args.setting.now.board.now in
     let layout = c.args.layout.now in
     let narrowed = IsNarrowed-same _ _ _ _ _ _ _ _ c.boxes.ensures (c.copy_from.ensures ∙ c.boxed.ensures) c.narrow.ensures in (
       λ stayed. absurd (true≢false (sym stayed ∙ c.if-narrow.false)),

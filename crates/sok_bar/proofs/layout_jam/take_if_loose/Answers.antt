@@ -6,7 +6,7 @@ use Rattle.sok_bar.proofs.layout_jam.take_if_loose.Goals as goal
 
 pub take-requires : goal.take-requires
 take-requires c =
-    let (row, col) = in_field c.args.board.now c.requires.accepted c.args.square c.requires.exists _ c.spot.ensures.spot in
+    let (row, col) = in_field c.args.setting.now.board.now c.requires.accepted c.args.square c.requires.exists _ c.spot.ensures.spot in
     record { row = row; col = col }
 
 pub returns : goal.returns

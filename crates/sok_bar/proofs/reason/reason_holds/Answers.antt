@@ -27,36 +27,36 @@ ample b player boxes rest (Ok holds) reason tells = tt
 ample b player boxes rest (Err e) reason none = absurd none
 
 pub returns-in-Bound-clause-exact : goal.returns-in-Bound-clause-exact
-returns-in-Bound-clause-exact c = told c.args.board.now c.args.player c.args.boxes.now c.args.rest c.holds-in-Bound.result c.args.reason.now
-    (subst (Tells c.args.board.now c.args.player c.args.boxes.now c.args.rest c.holds-in-Bound.result) ((λ i. Bound (c.as_slice-u.ensures i) (c.as_slice-v.ensures i)) ∙ sym c.in-Bound.is)
+returns-in-Bound-clause-exact c = told c.args.setting.now.board.now c.args.player c.args.boxes.now c.args.rest c.holds-in-Bound.result c.args.reason.now
+    (subst (Tells c.args.setting.now.board.now c.args.player c.args.boxes.now c.args.rest c.holds-in-Bound.result) ((λ i. Bound (c.as_slice-u.ensures i) (c.as_slice-v.ensures i)) ∙ sym c.in-Bound.is)
     c.holds-in-Bound.ensures.exact)
 
 pub returns-in-Bound-clause-refused : goal.returns-in-Bound-clause-refused
-returns-in-Bound-clause-refused c = ample c.args.board.now c.args.player c.args.boxes.now c.args.rest c.holds-in-Bound.result c.args.reason.now
-    (subst (Tells c.args.board.now c.args.player c.args.boxes.now c.args.rest c.holds-in-Bound.result) ((λ i. Bound (c.as_slice-u.ensures i) (c.as_slice-v.ensures i)) ∙ sym c.in-Bound.is)
+returns-in-Bound-clause-refused c = ample c.args.setting.now.board.now c.args.player c.args.boxes.now c.args.rest c.holds-in-Bound.result c.args.reason.now
+    (subst (Tells c.args.setting.now.board.now c.args.player c.args.boxes.now c.args.rest c.holds-in-Bound.result) ((λ i. Bound (c.as_slice-u.ensures i) (c.as_slice-v.ensures i)) ∙ sym c.in-Bound.is)
     c.holds-in-Bound.ensures.exact)
 
 pub returns-in-Crowd-clause-exact : goal.returns-in-Crowd-clause-exact
-returns-in-Crowd-clause-exact c = told c.args.board.now c.args.player c.args.boxes.now c.args.rest c.holds-in-Crowd.result c.args.reason.now
-    (subst (Tells c.args.board.now c.args.player c.args.boxes.now c.args.rest c.holds-in-Crowd.result) (ap Crowd c.as_slice-members.ensures ∙ sym c.in-Crowd.is)
+returns-in-Crowd-clause-exact c = told c.args.setting.now.board.now c.args.player c.args.boxes.now c.args.rest c.holds-in-Crowd.result c.args.reason.now
+    (subst (Tells c.args.setting.now.board.now c.args.player c.args.boxes.now c.args.rest c.holds-in-Crowd.result) (ap Crowd c.as_slice-members.ensures ∙ sym c.in-Crowd.is)
     c.holds-in-Crowd.ensures.exact)
 
 pub returns-in-Crowd-clause-refused : goal.returns-in-Crowd-clause-refused
-returns-in-Crowd-clause-refused c = ample c.args.board.now c.args.player c.args.boxes.now c.args.rest c.holds-in-Crowd.result c.args.reason.now
-    (subst (Tells c.args.board.now c.args.player c.args.boxes.now c.args.rest c.holds-in-Crowd.result) (ap Crowd c.as_slice-members.ensures ∙ sym c.in-Crowd.is)
+returns-in-Crowd-clause-refused c = ample c.args.setting.now.board.now c.args.player c.args.boxes.now c.args.rest c.holds-in-Crowd.result c.args.reason.now
+    (subst (Tells c.args.setting.now.board.now c.args.player c.args.boxes.now c.args.rest c.holds-in-Crowd.result) (ap Crowd c.as_slice-members.ensures ∙ sym c.in-Crowd.is)
     c.holds-in-Crowd.ensures.exact)
 
 pub returns-in-Frozen-clause-exact : goal.returns-in-Frozen-clause-exact
-returns-in-Frozen-clause-exact c = told c.args.board.now c.args.player c.args.boxes.now c.args.rest c.holds-in-Frozen.result c.args.reason.now
-    (subst (Tells c.args.board.now c.args.player c.args.boxes.now c.args.rest c.holds-in-Frozen.result) (ap Frozen c.as_slice-members-in-Frozen.ensures ∙ sym c.in-Frozen.is)
+returns-in-Frozen-clause-exact c = told c.args.setting.now.board.now c.args.player c.args.boxes.now c.args.rest c.holds-in-Frozen.result c.args.reason.now
+    (subst (Tells c.args.setting.now.board.now c.args.player c.args.boxes.now c.args.rest c.holds-in-Frozen.result) (ap Frozen c.as_slice-members-in-Frozen.ensures ∙ sym c.in-Frozen.is)
     c.holds-in-Frozen.ensures.exact)
 
 pub returns-in-Frozen-clause-refused : goal.returns-in-Frozen-clause-refused
-returns-in-Frozen-clause-refused c = ample c.args.board.now c.args.player c.args.boxes.now c.args.rest c.holds-in-Frozen.result c.args.reason.now
-    (subst (Tells c.args.board.now c.args.player c.args.boxes.now c.args.rest c.holds-in-Frozen.result) (ap Frozen c.as_slice-members-in-Frozen.ensures ∙ sym c.in-Frozen.is)
+returns-in-Frozen-clause-refused c = ample c.args.setting.now.board.now c.args.player c.args.boxes.now c.args.rest c.holds-in-Frozen.result c.args.reason.now
+    (subst (Tells c.args.setting.now.board.now c.args.player c.args.boxes.now c.args.rest c.holds-in-Frozen.result) (ap Frozen c.as_slice-members-in-Frozen.ensures ∙ sym c.in-Frozen.is)
     c.holds-in-Frozen.ensures.exact)
 
 pub returns-in-Pattern-clause-exact : goal.returns-in-Pattern-clause-exact
 returns-in-Pattern-clause-exact c =
-    subst (MayTell c.args.board.now c.args.player c.args.boxes.now c.args.rest c.holds_by.result)
+    subst (MayTell c.args.setting.now.board.now c.args.player c.args.boxes.now c.args.rest c.holds_by.result)
     (ap (λ members. Pattern members c.in-Pattern.inner) c.as_slice-members-in-Pattern.ensures ∙ sym c.in-Pattern.is) c.holds_by.ensures.exact

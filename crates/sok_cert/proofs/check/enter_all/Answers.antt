@@ -12,7 +12,7 @@ loop-entry-preserved c =
     let longer : take (i + 1) entries ≡ take i entries ++ e ∷ [] =
     take_more entries i e c.loop-entry-test.true ∙ ap (λ one. take i entries ++ one ∷ []) (sym c.entry-item.is) in
     record {
-      tells = subst (λ es. TellsEntries c.args.board.now c.args.claim es new.roll new.fault) (sym longer)
+      tells = subst (λ es. TellsEntries c.args.setting.now.board.now c.args.claim es new.roll new.fault) (sym longer)
           (c.in_ok-enter.ensures.tells (take i entries) c.loop-entry.invariant.tells);
       of_board = c.in_ok-enter.ensures.of_board;
     }

@@ -7,13 +7,13 @@ use Rattle.sok_cert.proofs.judging.judge.Goals as goal
 pub returns-then-is_solved-clause-found : goal.returns-then-is_solved-clause-found
 returns-then-is_solved-clause-found c = (
   sym c.is_expanded.ensures ∙ c.if-is_expanded.true,
-  subst (λ (bs : List ℕ). AllOnGoals c.args.board.now.rows (position_of c.args.board.now c.args.entry.now.player bs)) c.requires.boxes
+  subst (λ (bs : List ℕ). AllOnGoals c.args.setting.now.board.now.rows (position_of c.args.setting.now.board.now c.args.entry.now.player bs)) c.requires.boxes
       ((c.is_solved.ensures c.args.entry.now.player).0 c.if-is_solved.true),
 )
 
 pub returns-then-is_expanded-clause-found : goal.returns-then-is_expanded-clause-found
 returns-then-is_expanded-clause-found c =
-    let b = c.args.board.now in
+    let b = c.args.setting.now.board.now in
     let e = c.args.entry.now in
     subst (λ p. MatchBool p (AllOnGoals b.rows (entry_position b e) → ⊥) (IsBarredBy b c.args.claim e))
     (sym (sym c.is_expanded.ensures ∙ c.if-is_expanded.true))

@@ -6,7 +6,7 @@ use Rattle.sok_cert.proofs.progress.judge_read.Goals as goal
 
 pub returns-in_ok-enter-in-Listed-clause-judged : goal.returns-in_ok-enter-in-Listed-clause-judged
 returns-in_ok-enter-in-Listed-clause-judged c = λ now ls entries tells read.
-    let b = c.args.board.now in
+    let b = c.args.setting.now.board.now in
     let claim = c.in-Listed.claim in
     let entry = c.in-Listed.entry in
     let is = subst (IsRead ls entries now) c.in-Listed.is read in

@@ -7,5 +7,5 @@ pub returns-clause-only : goal.returns-clause-only
 returns-clause-only c =
     let text = c.args.text.now in
     λ claim entries spells. MatchResult-weaker c.certificate_of.result c.certificate_of.ensures
-    (λ found spelled. Spells-one text found.0 claim found.1.entries.items entries spelled spells)
+    (λ found spelled. Spells-one text found.claim claim found.entries.items entries spelled spells)
     (λ fault wrong. elim wrong [ inl memory ↦ memory | inr goes ↦ absurd (Spells-GoesWrong text claim entries fault spells goes) ])

@@ -9,6 +9,6 @@ returns-clause-exact c = grind (arith, common_steps)
 
 pub returns-clause-spells : goal.returns-clause-spells
 returns-clause-spells c =
-    let claim = c.args.claim.now in
-    let entries = c.args.cert.now.entries.items in
+    let claim = c.args.certificate.now.claim in
+    let entries = c.args.certificate.now.entries.items in
     subst (λ text. Spells text claim entries) (sym (returns-clause-exact c)) (Spells-text_of claim entries c.requires)

@@ -11,7 +11,7 @@ use Rattle.sok_search.proofs.beginning.enter_start.Goals as goal
 
 pub returns-clause-search : goal.returns-clause-search
 returns-clause-search c = λ limit positive.
-    let b = c.args.board.now in
+    let b = c.args.setting.now.board.now in
     let old = c.args.search.now in
     let empty = c.requires.empty in
     let key = c.in_ok-key.key in

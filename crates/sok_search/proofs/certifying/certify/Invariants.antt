@@ -5,6 +5,6 @@ use Rattle.sok_search.proofs.certifying.certify.Given as goal
 
 abbrev pub invariant-loop-index : goal.invariant-loop-index
 invariant-loop-index g l = record {
-  taken : AreTaken (λ entries. g.C.Entries.took entries l.entries) l.board l.claim (progress_of l.search) l.index;
-  serves : Serves l.board l.matching;
+  taken : AreTaken (λ entries. g.C.Entries.took entries l.entries) l.setting.board.now l.claim (progress_of l.search) l.index;
+  serves : Serves l.setting.board.now l.matching;
 }

@@ -5,7 +5,7 @@ use Rattle.sok_search.proofs.Certified.{entry-at, entry-fits}
 use Rattle.sok_search.proofs.certifying.take_entry.Goals as goal
 
 pub state_at-requires-clause-search : goal.state_at-requires-clause-search
-state_at-requires-clause-search g c = (c.args.board.now, c.requires.accepted, (c.requires.search.0, c.requires.search.1))
+state_at-requires-clause-search g c = (c.args.setting.now.board.now, c.requires.accepted, (c.requires.search.0, c.requires.search.1))
 
 pub reason_of-requires-clause-exist : goal.reason_of-requires-clause-exist
 reason_of-requires-clause-exist g c =
@@ -16,7 +16,7 @@ reason_of-requires-clause-finished g c = c.requires.done c.args.index c.in_ok-ke
 
 pub returns-clause-takes : goal.returns-clause-takes
 returns-clause-takes g c =
-    let b = c.args.board.now in
+    let b = c.args.setting.now.board.now in
     let p = progress_of c.args.search.now in
     let key = c.in_ok-key.key in
     let depth = c.in_ok-key.depth in

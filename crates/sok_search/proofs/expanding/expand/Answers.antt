@@ -12,7 +12,7 @@ use Rattle.sok_search.proofs.Trailing.{both-ok, told-expanded}
 use Rattle.sok_search.proofs.expanding.expand.Goals as goal
 
 pub open-requires-clause-state : goal.open-requires-clause-state
-open-requires-clause-state c = taken-key c.args.board.now c.args.limit c.args.index
+open-requires-clause-state c = taken-key c.args.setting.now.board.now c.args.limit c.args.index
     (progress_of c.args.search.now) c.args.key.now c.args.depth c.requires.state.running.search c.requires.state.there c.requires.state.depth_is
 
 pub follow-requires-clause-trial : goal.follow-requires-clause-trial
@@ -23,16 +23,16 @@ follow-requires-clause-trial c = record {
 
 pub returns-clause-ready : goal.returns-clause-ready
 returns-clause-ready c =
-    let state = taken-key c.args.board.now c.args.limit c.args.index
+    let state = taken-key c.args.setting.now.board.now c.args.limit c.args.index
     (progress_of c.args.search.now) c.args.key.now c.args.depth c.requires.state.running.search c.requires.state.there c.requires.state.depth_is in
     both-ok c.follow.result (λ trial opened. record {
       serves = trial.serves;
       boxes = c.args.key.now.boxes;
       laid = opened.laid;
-      of_last = subst (λ (last : Option Key). IfSome last (IsLast c.args.board.now c.follow.new.trial.scene c.open.new.self.pushes.items))
+      of_last = subst (λ (last : Option Key). IfSome last (IsLast c.args.setting.now.board.now c.follow.new.trial.scene c.open.new.self.pushes.items))
           (sym c.in_ok-open.ensures.last) (record {
             state = state;
-            few = state-few c.args.board.now c.args.limit (holding c.args.index (progress_of c.args.search.now)) c.requires.state.running.search c.args.index
+            few = state-few c.args.setting.now.board.now c.args.limit (holding c.args.index (progress_of c.args.search.now)) c.requires.state.running.search c.args.index
                 c.requires.state.running.accepted c.args.key.now c.requires.state.there;
             opened = opened;
             legal = c.in_ok-open.ensures.legal;
@@ -41,7 +41,7 @@ returns-clause-ready c =
 
 pub returns-clause-tells : goal.returns-clause-tells
 returns-clause-tells c =
-    let b = c.args.board.now in
+    let b = c.args.setting.now.board.now in
     let pushes = c.deref.result.now in
     let whole = subst (λ (items : List Push). (push : Push) → IsLegal b c.args.key.now push → Contains items push)
     (sym c.deref.ensures.value) c.in_ok-open.ensures.whole in

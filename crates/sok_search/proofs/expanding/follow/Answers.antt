@@ -8,7 +8,7 @@ use Rattle.sok_search.proofs.expanding.follow.Goals as goal
 
 pub loop-push-init : goal.loop-push-init
 loop-push-init c = record {
-  followed = followed-none c.args.board.now c.args.limit
+  followed = followed-none c.args.setting.now.board.now c.args.limit
       (progress_of c.args.search.now) c.args.index c.args.key.now c.args.depth c.args.pushes.now c.requires.state.running.search;
   trial = c.requires.trial;
   opened = c.requires.opened;
@@ -18,17 +18,17 @@ pub reach-requires-clause-state : goal.reach-requires-clause-state
 reach-requires-clause-state c =
     let held = c.requires.state in
     let followed = c.loop-push.invariant.followed in
-    let (note, stays) = held-stays c.args.board.now c.args.limit (progress_of c.args.search.now) (progress_of c.loop-push.search) c.args.index c.args.key.now
+    let (note, stays) = held-stays c.args.setting.now.board.now c.args.limit (progress_of c.args.search.now) (progress_of c.loop-push.search) c.args.index c.args.key.now
     c.args.depth (Before c.args.pushes.now c.loop-push.push-index) held.running.search held.there held.depth_is followed in
     record {
-      running = record { accepted = held.running.accepted; tables = held.running.tables; search = followed.search };
+      running = record { accepted = held.running.accepted; search = followed.search };
       there = stays.there;
       depth_is = stays.depth_is;
     }
 
 pub loop-push-preserved : goal.loop-push-preserved
 loop-push-preserved c =
-    let b = c.args.board.now in
+    let b = c.args.setting.now.board.now in
     let n = c.loop-push.push-index in
     let pushes = c.args.pushes.now in
     let push = get_or pushes n no_push in
@@ -46,6 +46,6 @@ pub returns-clause-tells : goal.returns-clause-tells
 returns-clause-tells c =
     let pushes = c.args.pushes.now in
     let past = c.loop-push-test.false in
-    followed-along c.args.board.now c.args.limit (progress_of c.args.search.now) (progress_of c.loop-push.search) c.args.index c.args.key.now c.args.depth
+    followed-along c.args.setting.now.board.now c.args.limit (progress_of c.args.search.now) (progress_of c.loop-push.search) c.args.index c.args.key.now c.args.depth
     (Before pushes c.loop-push.push-index) (Contains pushes)
     (λ push (k, within, is). (k, omega (arith, within, past), slice_get-get_or pushes k push within ∙ ap Some is)) c.loop-push.invariant.followed

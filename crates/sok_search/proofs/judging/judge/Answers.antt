@@ -8,12 +8,12 @@ use Rattle.sok_search.proofs.judging.judge.Goals as goal
 
 pub returns-in-Some-clause-judged : goal.returns-in-Some-clause-judged
 returns-in-Some-clause-judged c =
-    let jam = subst (λ (found : Option (Vec _ Global)). IfSome found (λ members. IsJam c.args.board.now c.args.key.now.boxes members.items)) c.in-Some.is
+    let jam = subst (λ (found : Option (Vec _ Global)). IfSome found (λ members. IsJam c.args.setting.now.board.now c.args.key.now.boxes members.items)) c.in-Some.is
     c.in_ok-_jam.ensures.jam in
     (Barring.frozen c.in-Some._jam.items, tt, λ player rest. jam)
 
 pub returns-in-Crowd-clause-judged : goal.returns-in-Crowd-clause-judged
 returns-in-Crowd-clause-judged c =
-    let crowd : IsMatch c.args.board.now c.args.key.now.boxes (Crowd c.in-Crowd.members) =
-    subst (IsMatch c.args.board.now c.args.key.now.boxes) c.in-Crowd.is (subst (λ b. IsMatch b c.args.key.now.boxes c.in_ok-total.field-0) c.requires.tables c.in_ok-total.ensures) in
+    let crowd : IsMatch c.args.setting.now.board.now c.args.key.now.boxes (Crowd c.in-Crowd.members) =
+    subst (IsMatch c.args.setting.now.board.now c.args.key.now.boxes) c.in-Crowd.is (subst (λ b. IsMatch b c.args.key.now.boxes c.in_ok-total.field-0) c.args.setting.now.own c.in_ok-total.ensures) in
     (Barring.crowd c.in-Crowd.members.items, tt, λ player rest. crowd)

@@ -18,7 +18,7 @@ use Rattle.sok_search.proofs.reaching.arrive.Goals.{After-step-least, Then-not-i
 
 pub step-least-requires-clause-pushable : goal.step-least-requires-clause-pushable
 step-least-requires-clause-pushable c =
-    taken-pushable c.args.board.now c.requires.state.running.accepted c.args.limit c.args.index (progress_of c.args.search.now) c.args.key.now c.args.depth
+    taken-pushable c.args.setting.now.board.now c.requires.state.running.accepted c.args.limit c.args.index (progress_of c.args.search.now) c.args.key.now c.args.depth
     c.requires.state.running.search c.requires.state.there c.requires.state.depth_is c.args.push c.requires.legal c.args.trial.now.scene c.requires.opened
 
 pub insert_next-requires-clause-exists : goal.insert_next-requires-clause-exists
@@ -26,7 +26,7 @@ insert_next-requires-clause-exists c = at-within c.args.search.now.table.entries
 
 pub insert_next-requires-clause-to : goal.insert_next-requires-clause-to
 insert_next-requires-clause-to c =
-    let exists = beside-within c.args.board.now c.args.push.dir c.args.push.from c.args.to c.requires.ahead in
+    let exists = beside-within c.args.setting.now.board.now c.args.push.dir c.args.push.from c.args.to c.requires.ahead in
     let wide = c.requires.state.running.search.wide in
     omega (arith, exists, wide)
 
@@ -38,18 +38,18 @@ overflow_cast-origin c =
 
 pub overflow_add-deeper : goal.overflow_add-deeper
 overflow_add-deeper c =
-    let deep = taken-deep c.args.board.now c.args.limit c.args.index
+    let deep = taken-deep c.args.setting.now.board.now c.args.limit c.args.index
     (progress_of c.args.search.now) c.args.key.now c.args.depth c.requires.state.running.search c.requires.state.there c.requires.state.depth_is in
     omega (arith, deep, c.ranges.limit.fits)
 
 -- the push can be made
-can_in : (c : After-step-least) → IsPushable c.args.board.now c.args.push c.args.trial.now.scene c.args.key.now
-can_in c = taken-pushable c.args.board.now c.requires.state.running.accepted c.args.limit c.args.index (progress_of c.args.search.now) c.args.key.now c.args.depth
+can_in : (c : After-step-least) → IsPushable c.args.setting.now.board.now c.args.push c.args.trial.now.scene c.args.key.now
+can_in c = taken-pushable c.args.setting.now.board.now c.requires.state.running.accepted c.args.limit c.args.index (progress_of c.args.search.now) c.args.key.now c.args.depth
     c.requires.state.running.search c.requires.state.there c.requires.state.depth_is c.args.push c.requires.legal c.args.trial.now.scene c.requires.opened
 
 -- and leads to a state
-comes_in : (c : After-step-least) → ComesNext c.args.board.now c.args.key.now c.args.push c.args.to c.step-least.result
-comes_in c = comes-next c.args.board.now c.requires.state.running.accepted c.args.key.now c.args.push c.args.to c.step-least.result
+comes_in : (c : After-step-least) → ComesNext c.args.setting.now.board.now c.args.key.now c.args.push c.args.to c.step-least.result
+comes_in c = comes-next c.args.setting.now.board.now c.requires.state.running.accepted c.args.key.now c.args.push c.args.to c.step-least.result
     c.args.trial.now.scene (can_in c) c.requires.ahead c.step-least.ensures.next
 
 -- the frame of a search with another table
@@ -66,9 +66,9 @@ next_in c = next_of c.args.key.now c.args.push.from c.args.to c.step-least.resul
 stays_in : (c : Then-not-is_new) → Stays c.args.search.now.table.entries (next_in c) c.in_ok-at.at c.insert_next.new.self.entries
 unfolding next_in
 stays_in c =
-    let can = taken-pushable c.args.board.now c.requires.state.running.accepted c.args.limit c.args.index (progress_of c.args.search.now) c.args.key.now c.args.depth
+    let can = taken-pushable c.args.setting.now.board.now c.requires.state.running.accepted c.args.limit c.args.index (progress_of c.args.search.now) c.args.key.now c.args.depth
     c.requires.state.running.search c.requires.state.there c.requires.state.depth_is c.args.push c.requires.legal c.args.trial.now.scene c.requires.opened in
-    let comes = comes-next c.args.board.now c.requires.state.running.accepted c.args.key.now c.args.push c.args.to c.step-least.result
+    let comes = comes-next c.args.setting.now.board.now c.requires.state.running.accepted c.args.key.now c.args.push c.args.to c.step-least.result
     c.args.trial.now.scene can c.requires.ahead c.step-least.ensures.next in
     subst (λ t. Enters c.args.search.now.table.entries (next_in c) (c.args.depth + 1) c.in_ok-at.at t c.insert_next.new.self.entries)
     c.if-not-is_new.true (c.in_ok-at.ensures.inserted.enters c.args.key.now (next_in c) c.requires.state.there comes.is)
@@ -91,17 +91,17 @@ approach-requires-clause-small c =
 pub approach-requires-clause-noted : goal.approach-requires-clause-noted
 approach-requires-clause-noted c =
     let here = (goal.at.approach-requires-clause-noted c).Then-not-is_new in
-    note-within c.args.board.now c.args.limit c.args.index (progress_of c.args.search.now) c.requires.state.running.search c.in_ok-at.at (next_in here) (stays_in here).there
+    note-within c.args.setting.now.board.now c.args.limit c.args.index (progress_of c.args.search.now) c.requires.state.running.search c.in_ok-at.at (next_in here) (stays_in here).there
 
 pub returns-then-not-is_new-clause-tells : goal.returns-then-not-is_new-clause-tells
 unfolding next_in
 returns-then-not-is_new-clause-tells c =
     let p = progress_of c.args.search.now in
-    let one = taken c.args.board.now c.args.limit c.args.index p c.args.key.now c.args.depth c.requires.state.running.search c.requires.state.there c.requires.state.depth_is in
+    let one = taken c.args.setting.now.board.now c.args.limit c.args.index p c.args.key.now c.args.depth c.requires.state.running.search c.requires.state.there c.requires.state.depth_is in
     let comes = comes_in ((goal.at.returns-then-not-is_new-clause-tells c).After-step-least) in
     let next = next_of c.args.key.now c.args.push.from c.args.to c.step-least.result in
     let stays = stays_in ((goal.at.returns-then-not-is_new-clause-tells c).Then-not-is_new) in
-    pushed-known c.args.board.now c.args.limit c.args.index p c.requires.state.running.search c.args.key.now c.args.depth c.requires.state.there c.requires.state.depth_is
+    pushed-known c.args.setting.now.board.now c.args.limit c.args.index p c.requires.state.running.search c.args.key.now c.args.depth c.requires.state.there c.requires.state.depth_is
     one.note one.note_is c.args.push c.requires.legal next comes.came.exact comes.came.of_board comes.came.as_many
     c.in_ok-at.at (frame_in c.args.search.now c.insert_next.new.self) c.insert_next.new.self.entries
     (same_frame c.args.search.now c.insert_next.new.self c.in_ok-at.ensures.room) stays
@@ -128,7 +128,7 @@ judge_after-requires-clause-moved c =
     let here = (goal.at.judge_after-requires-clause-moved c).After-step-least in
     let can = can_in here in
     let comes = comes_in here in
-    moved-next c.args.board.now c.requires.state.running.accepted c.args.key.now _ c.args.push c.args.to can.state can.few comes.came.of_board c.requires.legal
+    moved-next c.args.setting.now.board.now c.requires.state.running.accepted c.args.key.now _ c.args.push c.args.to can.state can.few comes.came.of_board c.requires.legal
     comes.came.exact c.requires.ahead
 
 pub returns-clause-tells : goal.returns-clause-tells
@@ -136,7 +136,7 @@ returns-clause-tells c =
     let p = progress_of c.args.search.now in
     let q = progress_of c.add.new.search in
     let at = c.in_ok-at.at in
-    let one = taken c.args.board.now c.args.limit c.args.index p c.args.key.now c.args.depth c.requires.state.running.search c.requires.state.there c.requires.state.depth_is in
+    let one = taken c.args.setting.now.board.now c.args.limit c.args.index p c.args.key.now c.args.depth c.requires.state.running.search c.requires.state.there c.requires.state.depth_is in
     let comes = comes_in ((goal.at.returns-clause-tells c).After-step-least) in
     let next = next_of c.args.key.now c.args.push.from c.args.to c.step-least.result in
     let last : GoesLast p.table next (c.args.depth + 1) at c.insert_next.new.self.entries = subst
@@ -147,9 +147,9 @@ returns-clause-tells c =
     let here = (goal.at.returns-clause-tells c).After-step-least in
     let losses = losses_of c.args.search.now.losses in
     let judged = c.in_ok-standing.ensures.judged losses c.step-least.result
-    (lost-next c.args.board.now c.requires.state.running.accepted c.args.key.now c.args.push c.args.to c.args.trial.now.scene (can_in here)
+    (lost-next c.args.setting.now.board.now c.requires.state.running.accepted c.args.key.now c.args.push c.args.to c.args.trial.now.scene (can_in here)
     c.requires.ahead c.step-least.result comes losses c.args.lost c.requires.lost) in
-    pushed-added c.args.board.now c.args.limit c.args.index p c.requires.state.running.search c.args.key.now
+    pushed-added c.args.setting.now.board.now c.args.limit c.args.index p c.requires.state.running.search c.args.key.now
     c.args.depth c.requires.state.there c.requires.state.depth_is one.note one.note_is
     c.args.push c.requires.legal next comes.came.exact comes.came.of_board comes.came.as_many last.absent
     (omega (arith, room, length_is)) _ refl judged q
@@ -160,5 +160,5 @@ returns-clause-tells c =
 pub returns-clause-opened : goal.returns-clause-opened
 returns-clause-opened c = record {
   laid = c.in_ok-standing.ensures.laid;
-  reached = subst (Reaches c.args.board.now c.args.key.now) (sym c.judge_after.ensures.reached) c.step-least.ensures.opened.reached;
+  reached = subst (Reaches c.args.setting.now.board.now c.args.key.now) (sym c.judge_after.ensures.reached) c.step-least.ensures.opened.reached;
 }

@@ -9,20 +9,20 @@ use Rattle.sok_search.proofs.reaching.arrive_full.Goals as goal
 
 pub after-requires-clause-pushable : goal.after-requires-clause-pushable
 after-requires-clause-pushable c =
-    let held = c.requires.state.1 in
+    let held = c.requires.state in
     taken-pushable c.args.board.now held.running.accepted c.args.limit c.args.index (progress_of c.args.search.now) c.args.key.now c.args.depth
     held.running.search held.there held.depth_is c.args.push c.requires.legal c.args.scene.now c.requires.opened
 
 pub overflow_cast-origin : goal.overflow_cast-origin
 overflow_cast-origin c =
-    let held = c.requires.state.1 in
+    let held = c.requires.state in
     let within = at-within c.args.search.now.table.entries c.args.key.now c.args.index held.there in
     let few = held.running.search.few in
     omega (arith, within, few, c.ranges.limit.fits)
 
 pub overflow_add-depth : goal.overflow_add-depth
 overflow_add-depth c =
-    let held = c.requires.state.1 in
+    let held = c.requires.state in
     let deep = taken-deep c.args.board.now c.args.limit c.args.index
     (progress_of c.args.search.now) c.args.key.now c.args.depth held.running.search held.there held.depth_is in
     omega (arith, deep, c.ranges.limit.fits)
@@ -33,16 +33,16 @@ approach-requires-clause-exists c = at-within c.args.search.now.table.entries c.
 pub approach-requires-clause-small : goal.approach-requires-clause-small
 approach-requires-clause-small c =
     let within = at-within c.args.search.now.table.entries c.in_ok-next.next c.in-Some.at c.in-Some.ensures in
-    let few = c.requires.state.1.running.search.few in
+    let few = c.requires.state.running.search.few in
     omega (arith, within, few, c.ranges.limit.fits)
 
 pub approach-requires-clause-noted : goal.approach-requires-clause-noted
 approach-requires-clause-noted c = note-within c.args.board.now c.args.limit c.args.index (progress_of c.args.search.now)
-    c.requires.state.1.running.search c.in-Some.at c.in_ok-next.next c.in-Some.ensures
+    c.requires.state.running.search c.in-Some.at c.in_ok-next.next c.in-Some.ensures
 
 pub returns-in-Some-clause-tells : goal.returns-in-Some-clause-tells
 returns-in-Some-clause-tells c =
-    let held = c.requires.state.1 in
+    let held = c.requires.state in
     let p = progress_of c.args.search.now in
     let one = taken c.args.board.now c.args.limit c.args.index p c.args.key.now c.args.depth held.running.search held.there held.depth_is in
     let next = c.in_ok-next in
@@ -52,7 +52,7 @@ returns-in-Some-clause-tells c =
 
 pub returns-clause-tells : goal.returns-clause-tells
 returns-clause-tells c =
-    let held = c.requires.state.1 in
+    let held = c.requires.state in
     let next = c.in_ok-next in
     let legal = c.requires.legal in
     record {

@@ -4,7 +4,7 @@ use Rattle.sok_search.proofs.reaching.ask.Goals as goal
 
 pub loss_after-requires-clause-pushed : goal.loss_after-requires-clause-pushed
 loss_after-requires-clause-pushed c =
-    let b = c.args.board.now in
+    let b = c.args.setting.now.board.now in
     let key = c.args.key.now in
     let placed = c.requires.state.is.placed in
     let (there, clear) = clear-legal b c.requires.accepted.numbered key placed c.args.push c.requires.legal in

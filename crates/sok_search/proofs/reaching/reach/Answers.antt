@@ -17,37 +17,37 @@ use Rattle.sok_search.proofs.reaching.reach.Goals.{In_ok-lost}
 pub square_ahead-to-requires-clause-legal : goal.square_ahead-to-requires-clause-legal
 square_ahead-to-requires-clause-legal c = (
   c.args.key.now,
-  taken-key c.args.board.now c.args.limit c.args.index (progress_of c.args.search.now) c.args.key.now c.args.depth c.requires.state.running.search c.requires.state.there
+  taken-key c.args.setting.now.board.now c.args.limit c.args.index (progress_of c.args.search.now) c.args.key.now c.args.depth c.requires.state.running.search c.requires.state.there
       c.requires.state.depth_is,
   c.requires.legal,
 )
 
 pub ask-requires-clause-state : goal.ask-requires-clause-state
-ask-requires-clause-state c = taken-key c.args.board.now c.args.limit c.args.index (progress_of c.args.search.now) c.args.key.now c.args.depth
+ask-requires-clause-state c = taken-key c.args.setting.now.board.now c.args.limit c.args.index (progress_of c.args.search.now) c.args.key.now c.args.depth
     c.requires.state.running.search c.requires.state.there c.requires.state.depth_is
 
 pub returns-then-stuck-clause-tells : goal.returns-then-stuck-clause-tells
 returns-then-stuck-clause-tells c =
-    let b = c.args.board.now in
+    let b = c.args.setting.now.board.now in
     let p = progress_of c.args.search.now in
     let key = c.args.key.now in
     let to = c.square_ahead-to.result in
     let running = c.requires.state.running in
     let state = taken-key b c.args.limit c.args.index p key c.args.depth running.search c.requires.state.there c.requires.state.depth_is in
-    let stuck = subst (λ (board : Numbered). IsStuck board to) running.tables (c.stuck.ensures.0 c.if-stuck.true) in
+    let stuck = subst (λ (board : Numbered). IsStuck board to) c.args.setting.now.own (c.stuck.ensures.0 c.if-stuck.true) in
     pushed-left_out b c.args.limit c.args.index p running.search key c.args.depth c.args.push (record {
       part = c.if-not-search.true;
       nowhere = leads-nowhere b running.accepted key state c.args.push c.requires.legal to c.square_ahead-to.ensures stuck;
     })
 
 -- the search that knows what was found of boxes taken alone
-known-in : (c : In_ok-lost) → IsSearch c.args.board.now c.args.limit (holding c.args.index (knowing c.ask.new.losses (progress_of c.args.search.now)))
-known-in c = keeps-knowing c.args.board.now c.args.limit (holding c.args.index (progress_of c.args.search.now)) c.ask.new.losses c.requires.state.running.search
+known-in : (c : In_ok-lost) → IsSearch c.args.setting.now.board.now c.args.limit (holding c.args.index (knowing c.ask.new.losses (progress_of c.args.search.now)))
+known-in c = keeps-knowing c.args.setting.now.board.now c.args.limit (holding c.args.index (progress_of c.args.search.now)) c.ask.new.losses c.requires.state.running.search
     c.in_ok-lost.ensures.losses c.in_ok-lost.ensures.kept
 
 pub returns-then-is_some-clause-tells : goal.returns-then-is_some-clause-tells
 returns-then-is_some-clause-tells c =
-    let b = c.args.board.now in
+    let b = c.args.setting.now.board.now in
     let p = progress_of c.args.search.now in
     let q = knowing c.ask.new.losses p in
     let key = c.args.key.now in
@@ -65,7 +65,6 @@ pub arrive-requires-clause-state : goal.arrive-requires-clause-state
 arrive-requires-clause-state c = record {
   running = record {
     accepted = c.requires.state.running.accepted;
-    tables = c.requires.state.running.tables;
     search = known-in ((goal.at.arrive-requires-clause-state c).In_ok-lost);
   };
   there = c.requires.state.there;
@@ -74,5 +73,5 @@ arrive-requires-clause-state c = record {
 
 pub returns-clause-tells : goal.returns-clause-tells
 returns-clause-tells c = IfOk-weaker c.arrive.result _ _
-    (tells-knowing c.args.board.now c.args.limit (progress_of c.args.search.now) c.ask.new.losses c.args.index c.args.key.now c.args.depth c.args.push
+    (tells-knowing c.args.setting.now.board.now c.args.limit (progress_of c.args.search.now) c.ask.new.losses c.args.index c.args.key.now c.args.depth c.args.push
     (progress_of c.arrive.new.search)) c.arrive.ensures.tells

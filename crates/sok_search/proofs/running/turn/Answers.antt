@@ -5,29 +5,29 @@ use Rattle.sok_search.proofs.Turning.{go-dead, go-expanded, go-lost, held-noted}
 use Rattle.sok_search.proofs.running.turn.Goals as goal
 
 pub index-note-requires : goal.index-note-requires
-index-note-requires c = let h = held-noted c.args.board.now c.args.limit c.args.index (progress_of c.args.search.now) c.requires.held.search in search (rules, h)
+index-note-requires c = let h = held-noted c.args.setting.now.board.now c.args.limit c.args.index (progress_of c.args.search.now) c.requires.held.search in search (rules, h)
 
 pub visit-requires-clause-noted : goal.visit-requires-clause-noted
 visit-requires-clause-noted c =
-    let within = held-noted c.args.board.now c.args.limit c.args.index (progress_of c.args.search.now) c.requires.held.search in
+    let within = held-noted c.args.setting.now.board.now c.args.limit c.args.index (progress_of c.args.search.now) c.requires.held.search in
     slice_get-get_or c.args.search.now.notes.items c.args.index c.index-note.result.now within ∙ ap Some (sym c.index-note.ensures)
 
 pub returns-in-Expanded-clause-tells : goal.returns-in-Expanded-clause-tells
 returns-in-Expanded-clause-tells c =
-    let within = held-noted c.args.board.now c.args.limit c.args.index (progress_of c.args.search.now) c.requires.held.search in
+    let within = held-noted c.args.setting.now.board.now c.args.limit c.args.index (progress_of c.args.search.now) c.requires.held.search in
     let there = slice_get-get_or c.args.search.now.notes.items c.args.index c.index-note.result.now within ∙ ap Some (sym c.index-note.ensures) in
-    go-expanded c.args.board.now c.args.limit c.args.index c.in-Expanded.field-0
+    go-expanded c.args.setting.now.board.now c.args.limit c.args.index c.in-Expanded.field-0
     (progress_of c.args.search.now) c.index-note.result.now c.requires.held.search there c.in-Expanded.is
 
 pub returns-in-Dead-clause-tells : goal.returns-in-Dead-clause-tells
 returns-in-Dead-clause-tells c =
-    let within = held-noted c.args.board.now c.args.limit c.args.index (progress_of c.args.search.now) c.requires.held.search in
+    let within = held-noted c.args.setting.now.board.now c.args.limit c.args.index (progress_of c.args.search.now) c.requires.held.search in
     let there = slice_get-get_or c.args.search.now.notes.items c.args.index c.index-note.result.now within ∙ ap Some (sym c.index-note.ensures) in
-    go-dead c.args.board.now c.args.limit c.args.index (progress_of c.args.search.now) c.index-note.result.now c.requires.held.search there c.in-Dead.is
+    go-dead c.args.setting.now.board.now c.args.limit c.args.index (progress_of c.args.search.now) c.index-note.result.now c.requires.held.search there c.in-Dead.is
 
 pub returns-in-Lost-clause-tells : goal.returns-in-Lost-clause-tells
 returns-in-Lost-clause-tells c =
-    let within = held-noted c.args.board.now c.args.limit c.args.index (progress_of c.args.search.now) c.requires.held.search in
+    let within = held-noted c.args.setting.now.board.now c.args.limit c.args.index (progress_of c.args.search.now) c.requires.held.search in
     let there = slice_get-get_or c.args.search.now.notes.items c.args.index c.index-note.result.now within ∙ ap Some (sym c.index-note.ensures) in
-    go-lost c.args.board.now c.args.limit c.args.index c.in-Lost.field-0
+    go-lost c.args.setting.now.board.now c.args.limit c.args.index c.in-Lost.field-0
     (progress_of c.args.search.now) c.index-note.result.now c.requires.held.search there c.in-Lost.is

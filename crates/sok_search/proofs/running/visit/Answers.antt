@@ -8,42 +8,42 @@ use Rattle.sok_search.proofs.Turning.{cut-waits, go-beaten, go-on, go-solved, he
 use Rattle.sok_search.proofs.running.visit.Goals as goal
 
 pub depth-depth-requires : goal.depth-depth-requires
-depth-depth-requires c = held-within c.args.board.now c.args.limit c.args.index (progress_of c.args.search.now) c.requires.held.search
+depth-depth-requires c = held-within c.args.setting.now.board.now c.args.limit c.args.index (progress_of c.args.search.now) c.requires.held.search
 
 pub key-requires-clause-exists : goal.key-requires-clause-exists
-key-requires-clause-exists c = held-within c.args.board.now c.args.limit c.args.index (progress_of c.args.search.now) c.requires.held.search
+key-requires-clause-exists c = held-within c.args.setting.now.board.now c.args.limit c.args.index (progress_of c.args.search.now) c.requires.held.search
 
 pub key-requires-clause-few : goal.key-requires-clause-few
-key-requires-clause-few c = state-few c.args.board.now c.args.limit (holding c.args.index
+key-requires-clause-few c = state-few c.args.setting.now.board.now c.args.limit (holding c.args.index
     (progress_of c.args.search.now)) c.requires.held.search c.args.index c.requires.held.accepted
 
 pub returns-then-is_beaten-clause-tells : goal.returns-then-is_beaten-clause-tells
-returns-then-is_beaten-clause-tells c = go-beaten c.args.board.now c.args.limit c.args.index c.args.bound c.depth-depth.result
+returns-then-is_beaten-clause-tells c = go-beaten c.args.setting.now.board.now c.args.limit c.args.index c.args.bound c.depth-depth.result
     (progress_of c.args.search.now) c.args.note c.requires.held.search c.requires.noted c.requires.is_open c.depth-depth.ensures (c.if-is_beaten.ensures.0 refl)
 
 pub is_solved-requires : goal.is_solved-requires
 is_solved-requires c = record {
-  exist = (taken-key c.args.board.now c.args.limit c.args.index
+  exist = (taken-key c.args.setting.now.board.now c.args.limit c.args.index
       (progress_of c.args.search.now) c.in_ok-key.key c.depth-depth.result c.requires.held.search c.in_ok-key.ensures c.depth-depth.ensures).is.placed.boxes_exist;
 }
 
 pub returns-then-is_solved-clause-tells : goal.returns-then-is_solved-clause-tells
 returns-then-is_solved-clause-tells c =
     let key = c.in_ok-key.key in
-    go-solved c.args.board.now c.args.limit c.args.index c.args.bound c.depth-depth.result key (progress_of c.args.search.now) c.args.note c.requires.held.search
+    go-solved c.args.setting.now.board.now c.args.limit c.args.index c.args.bound c.depth-depth.result key (progress_of c.args.search.now) c.args.note c.requires.held.search
     (assumption (c.in_ok-key.ensures, c.depth-depth.ensures, c.requires.noted)) c.requires.is_open ((c.if-is_solved.ensures key.least).0 refl)
     (λ beaten. true≢false (sym (c.if-is_beaten.ensures.1 beaten)))
 
 pub mark-requires : goal.mark-requires
 mark-requires c =
-    let b = c.args.board.now in
+    let b = c.args.setting.now.board.now in
     let told : TellsExpanded b c.args.limit (progress_of c.args.search.now) c.args.index c.in_ok-key.key c.depth-depth.result (progress_of c.expand.new.search) On = subst
     (TellsExpanded b c.args.limit (progress_of c.args.search.now) c.args.index c.in_ok-key.key c.depth-depth.result (progress_of c.expand.new.search)) c.in-On.is c.in_ok-expand.ensures.tells in
     held-noted b c.args.limit c.args.index (progress_of c.expand.new.search) told.search
 
 pub returns-in-On-clause-tells : goal.returns-in-On-clause-tells
 returns-in-On-clause-tells c =
-    let b = c.args.board.now in
+    let b = c.args.setting.now.board.now in
     let p = progress_of c.args.search.now in
     let key = c.in_ok-key.key in
     let told : TellsExpanded b c.args.limit p c.args.index key c.depth-depth.result (progress_of c.expand.new.search) On = subst
@@ -54,7 +54,7 @@ returns-in-On-clause-tells c =
 
 pub returns-clause-tells : goal.returns-clause-tells
 returns-clause-tells c =
-    let b = c.args.board.now in
+    let b = c.args.setting.now.board.now in
     let p = progress_of c.args.search.now in
     let q = progress_of c.expand.new.search in
     let told : TellsExpanded b c.args.limit p c.args.index c.in_ok-key.key c.depth-depth.result q Full = subst

@@ -12,7 +12,7 @@ returns-in_ok-dirs-in-Some g c = λ limit wanted search.
     let taken = c.in_ok-certify-in-Some.ensures in (
       taken.entries,
       taken.took,
-      shown-solved c.args.board.now c.requires.accepted limit (progress_of c.args.search.now) search c.requires.finished c.requires.whole
+      shown-solved c.args.setting.now.board.now c.requires.accepted limit (progress_of c.args.search.now) search c.requires.finished c.requires.whole
           (omega (arith, few, small)) c.in-Some.pushes c.in_ok-dirs-in-Some.dirs.items
           taken.entries c.in-Some.is taken.first taken.fit c.in_ok-dirs-in-Some.ensures,
     )
@@ -25,14 +25,14 @@ returns-in_ok-certify-in-None g c = λ limit wanted search.
     let taken = c.in_ok-certify-in-None.ensures in (
       taken.entries,
       taken.took,
-      shown-unsolvable c.args.board.now c.requires.accepted limit (progress_of c.args.search.now) search c.requires.finished c.requires.whole
+      shown-unsolvable c.args.setting.now.board.now c.requires.accepted limit (progress_of c.args.search.now) search c.requires.finished c.requires.whole
           taken.entries c.in-None.is taken.first taken.fit,
     )
 
 pub certify-requires-clause-done : goal.certify-requires-clause-done
-certify-requires-clause-done g c = done-finished c.args.board.now c.requires.search.0 (progress_of c.args.search.now) _ c.requires.search.1
+certify-requires-clause-done g c = done-finished c.args.setting.now.board.now c.requires.search.0 (progress_of c.args.search.now) _ c.requires.search.1
     c.requires.finished (sym (ap claim_of c.in-Some.is))
 
 pub certify-requires-in-None-clause-done : goal.certify-requires-in-None-clause-done
-certify-requires-in-None-clause-done g c = done-finished c.args.board.now c.requires.search.0 (progress_of c.args.search.now) _ c.requires.search.1
+certify-requires-in-None-clause-done g c = done-finished c.args.setting.now.board.now c.requires.search.0 (progress_of c.args.search.now) _ c.requires.search.1
     c.requires.finished (sym (ap claim_of c.in-None.is))

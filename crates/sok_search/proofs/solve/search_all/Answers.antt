@@ -16,11 +16,10 @@ searched-finished b limit whole p q began Full told = record { more = told.more;
 pub finish-requires : goal.finish-requires
 finish-requires c = record {
   accepted = c.requires.accepted;
-  tables = c.requires.tables;
   search = c.in_ok-enter_start.ensures.search c.args.limit c.requires.positive;
 }
 
 pub returns : goal.returns
 returns c = IfOk-weaker c.finish.result _ _
-    (searched-finished c.args.board.now c.args.limit c.args.search.now.whole (progress_of c.enter_start.new.search) (progress_of c.finish.new.search)
+    (searched-finished c.args.setting.now.board.now c.args.limit c.args.search.now.whole (progress_of c.enter_start.new.search) (progress_of c.finish.new.search)
     c.in_ok-enter_start.ensures.whole) c.finish.ensures

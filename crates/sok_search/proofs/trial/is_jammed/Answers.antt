@@ -6,7 +6,7 @@ use Rattle.sok_search.proofs.trial.is_jammed.Goals as goal
 pub shift-requires-clause-from : goal.shift-requires-clause-from
 shift-requires-clause-from c =
     let (boxes, after, moved, laid) = c.requires.laid in
-    All-contains (λ square. square < length c.args.board.now.area) boxes c.args.from moved.exist moved.there
+    All-contains (λ square. square < length c.args.setting.now.board.now.area) boxes c.args.from moved.exist moved.there
 
 pub shift-requires-clause-to : goal.shift-requires-clause-to
 shift-requires-clause-to c = let (boxes, after, moved, laid) = c.requires.laid in moved.within
@@ -25,7 +25,7 @@ shift-requires-2-clause-from c = let (boxes, after, moved, laid) = c.requires.la
 pub shift-requires-2-clause-to : goal.shift-requires-2-clause-to
 shift-requires-2-clause-to c =
     let (boxes, after, moved, laid) = c.requires.laid in
-    All-contains (λ square. square < length c.args.board.now.area) boxes c.args.from moved.exist moved.there
+    All-contains (λ square. square < length c.args.setting.now.board.now.area) boxes c.args.from moved.exist moved.there
 
 pub returns-clause-laid : goal.returns-clause-laid
 returns-clause-laid c = λ boxes after moved laid.

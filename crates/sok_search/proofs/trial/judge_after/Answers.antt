@@ -11,9 +11,9 @@ use Rattle.sok_search.proofs.trial.judge_after.Goals as goal
 
 pub returns-then-stuck-clause-judged : goal.returns-then-stuck-clause-judged
 returns-then-stuck-clause-judged c losses player lost =
-    let b = c.args.board.now in
+    let b = c.args.setting.now.board.now in
     let after = put_in_order c.args.from c.args.to c.args.before.now in
-    let stuck = subst (λ (board : Numbered). IsStuck board c.args.to) c.requires.tables (c.stuck.ensures.0 c.if-stuck.true) in
+    let stuck = subst (λ (board : Numbered). IsStuck board c.args.to) c.args.setting.now.own (c.stuck.ensures.0 c.if-stuck.true) in
     let (place, at) = stuck-among b after c.args.to ((c.requires.moved.moved c.args.to).1 (inl refl)) stuck in
     (Barring.crowd (place ∷ []), tt, λ player rest. stuck-crowd b after place at)
 
@@ -35,15 +35,15 @@ returns-in-Some-clause-laid c =
     c.is_jammed.ensures.laid c.args.before.now (put_in_order c.args.from c.args.to c.args.before.now) c.requires.moved c.requires.laid
 
 pub returns-in-Some-2-clause-laid : goal.returns-in-Some-2-clause-laid
-returns-in-Some-2-clause-laid c = subst (λ (scene : Scene). IsLaidOut c.args.board.now c.args.before.now scene.layout) (sym c.bound_after.ensures.scene)
+returns-in-Some-2-clause-laid c = subst (λ (scene : Scene). IsLaidOut c.args.setting.now.board.now c.args.before.now scene.layout) (sym c.bound_after.ensures.scene)
     (c.is_jammed.ensures.laid c.args.before.now (put_in_order c.args.from c.args.to c.args.before.now) c.requires.moved c.requires.laid)
 
 pub returns-in-None-clause-laid : goal.returns-in-None-clause-laid
-returns-in-None-clause-laid c = subst (λ (scene : Scene). IsLaidOut c.args.board.now c.args.before.now scene.layout) (sym c.bound_after.ensures.scene)
+returns-in-None-clause-laid c = subst (λ (scene : Scene). IsLaidOut c.args.setting.now.board.now c.args.before.now scene.layout) (sym c.bound_after.ensures.scene)
     (c.is_jammed.ensures.laid c.args.before.now (put_in_order c.args.from c.args.to c.args.before.now) c.requires.moved c.requires.laid)
 
 pub returns-in-None-clause-judged : goal.returns-in-None-clause-judged
 returns-in-None-clause-judged c losses player lost =
     let after = put_in_order c.args.from c.args.to c.args.before.now in
-    let (members, crowd) = subst (TellsLeast c.args.board.now after) c.in-None.is c.in_ok-bound.ensures.least in
+    let (members, crowd) = subst (TellsLeast c.args.setting.now.board.now after) c.in-None.is c.in_ok-bound.ensures.least in
     (Barring.crowd members, tt, λ player rest. crowd)

@@ -3,7 +3,8 @@ use Rattle.std.proofs.lemmas.Bool.Decides.{nat_tests}
 use Rattle.std.proofs.lemmas.List.{length-append}
 use Rattle.sok_text.specs.Counts.{times}
 use Rattle.sok_text.proofs.Runs.{not_empty}
-use Rattle.sok_text.proofs.Tokens.{IsReadTo, IsReadTo-blank, IsReadTo-letter, IsReadTo-start, Spells-read, behind_first, left-le}
+use Rattle.sok_text.proofs.Tokens.{IsReadTo, IsReadTo-blank, IsReadTo-letter, IsReadTo-start, Spells-read, left-le}
+use Rattle.sok_text.proofs.Lines.{behind_first}
 use Rattle.sok_text.proofs.Tokens.{GoesWrong-no_letter, GoesWrong-never, GoesWrong-many}
 use Rattle.sok_text.proofs.lurd.read_lurd.Goals as goal
 

@@ -1,7 +1,8 @@
 use Rattle.std.proofs.Common.{◌≡◌, ◌&&◌, [], length, sym, ◌∙◌, ap, arith}
 use Rattle.std.proofs.lemmas.Bool.Decides.{nat_tests}
 use Rattle.sok_text.specs.Packed.{is_encoded}
-use Rattle.sok_text.proofs.Encoded.{behind_first, is_encoded-alone, is_encoded-mark}
+use Rattle.sok_text.proofs.Encoded.{is_encoded-alone, is_encoded-mark}
+use Rattle.sok_text.proofs.Lines.{behind_first}
 use Rattle.sok_text.proofs.Runs.{not_empty}
 use Rattle.sok_text.proofs.packed.is_encoded.Goals as goal
 use Rattle.sok_text.proofs.packed.is_encoded.Goals.{then-is_empty-via-then-is_empty, then-is_empty-via-else-is_empty+then-not-is_mark}

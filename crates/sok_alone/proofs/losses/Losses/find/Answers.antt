@@ -12,7 +12,7 @@ use Rattle.sok_alone.proofs.losses.Losses.find.Goals as goal
 
 pub returns-clause-more : goal.returns-clause-more
 returns-clause-more c =
-    let b = c.args.board.now in
+    let b = c.args.setting.now.board.now in
     let key = c.args.key.now in
     let inner = c.in-Some.inner in
     let region = c.in_ok-region.region in

@@ -5,7 +5,7 @@ use Rattle.sok_alone.proofs.losses.Losses.loss_after.Goals as goal
 
 pub returns : goal.returns
 returns c =
-    let b = c.args.board.now in
+    let b = c.args.setting.now.board.now in
     let from = c.args.from in
     let after = put_in_order from c.args.to c.args.boxes.now in
     let two = c.loss_of_two.new.self in

@@ -13,27 +13,27 @@ pub returns-then-not-are_fair-clause-exact : goal.returns-then-not-are_fair-clau
 returns-then-not-are_fair-clause-exact c = (
   (λ e. absurd (true≢false (sym e))),
   λ bars.
-      let b = c.args.board.now in
+      let b = c.args.setting.now.board.now in
       let u = c.args.self.now.u.now in
       let v = c.args.self.now.v.now in
       let priced : Priced b c.args.boxes.now u v c.in-AtLeast.pushes = subst (Bars b c.args.player c.args.boxes.now (Barring.bound u v)) c.in-AtLeast.is bars in
       let fair = AreFair-Priced b c.args.boxes.now u v c.in-AtLeast.pushes priced in
       let listed = subst (λ (bs : List ℕ). AreFair b bs u v) (sym c.list-boxes.ensures.list) fair in
-      let told = subst (λ (other : Numbered). AreFair other c.list-boxes.result.now u v) (sym c.requires.tables) listed in
+      let told = subst (λ (other : Numbered). AreFair other c.list-boxes.result.now u v) (sym c.args.setting.now.own) listed in
       absurd (true≢false (sym (c.are_fair.ensures.1 told) ∙ c.if-not-are_fair.true)),
 )
 
 pub total-requires-2 : goal.total-requires-2
 total-requires-2 c =
-    let few = few_goals c.args.tables.now.board c.goals.ensures.accepted in
+    let few = few_goals c.args.setting.now.tables.now.board c.goals.ensures.accepted in
     let same = c.if-self-goals.false in
     let count = c.goals.ensures.count in
     omega (arith, few, same, count)
 
-a_price_a_goal : (c : After-from) → length c.args.self.now.v.now ≡ length (goals_of c.args.board.now)
+a_price_a_goal : (c : After-from) → length c.args.self.now.v.now ≡ length (goals_of c.args.setting.now.board.now)
 a_price_a_goal c =
     let same = c.if-self-goals.false in
-    let goals : c.goals.result ≡ length (goals_of c.args.board.now) = c.goals.ensures.count ∙ ap (λ (b : Numbered). length (goals_of b)) c.requires.tables in
+    let goals : c.goals.result ≡ length (goals_of c.args.setting.now.board.now) = c.goals.ensures.count ∙ ap (λ (b : Numbered). length (goals_of b)) c.args.setting.now.own in
     omega (arith, same, goals)
 
 a_price_a_box : (c : After-from) → length c.args.self.now.u.now ≡ length c.args.boxes.now
@@ -43,13 +43,13 @@ a_price_a_box c =
     omega (arith, same, listed)
 
 priced : (c : After-from) → nat_le c.from.result c.in-Some.left ≡ true
-    → Bars c.args.board.now c.args.player c.args.boxes.now (Barring.bound c.args.self.now.u.now c.args.self.now.v.now) c.args.rest
+    → Bars c.args.setting.now.board.now c.args.player c.args.boxes.now (Barring.bound c.args.self.now.u.now c.args.self.now.v.now) c.args.rest
 priced c leaves =
-    let b = c.args.board.now in
+    let b = c.args.setting.now.board.now in
     let u = c.args.self.now.u.now in
     let v = c.args.self.now.v.now in
     let told = c.are_fair.ensures.0 c.if-not-are_fair.false in
-    let listed = subst (λ (other : Numbered). AreFair other c.list-boxes.result.now u v) c.requires.tables told in
+    let listed = subst (λ (other : Numbered). AreFair other c.list-boxes.result.now u v) c.args.setting.now.own told in
     let fair = subst (λ (bs : List ℕ). AreFair b bs u v) c.list-boxes.ensures.list listed in
     let (within, left) = c.in-Some.ensures in
     let of_boxes = c.total.ensures in
@@ -62,16 +62,16 @@ priced c leaves =
 
 pub returns-in-Some-clause-law : goal.returns-in-Some-clause-law
 returns-in-Some-clause-law c = λ leaves.
-    let accepted : IsAccepted c.args.board.now = subst IsAccepted c.requires.tables c.goals.ensures.accepted in
-    reasons-bar c.args.board.now accepted c.args.player c.args.boxes.now (Barring.bound c.args.self.now.u.now c.args.self.now.v.now) c.args.rest
+    let accepted : IsAccepted c.args.setting.now.board.now = subst IsAccepted c.args.setting.now.own c.goals.ensures.accepted in
+    reasons-bar c.args.setting.now.board.now accepted c.args.player c.args.boxes.now (Barring.bound c.args.self.now.u.now c.args.self.now.v.now) c.args.rest
     c.requires.placed (priced c leaves)
 
 pub returns-in-Some-clause-exact : goal.returns-in-Some-clause-exact
 returns-in-Some-clause-exact c = (
   priced c,
   λ bars.
-      let is_priced : Priced c.args.board.now c.args.boxes.now c.args.self.now.u.now c.args.self.now.v.now c.in-AtLeast.pushes =
-      subst (Bars c.args.board.now c.args.player c.args.boxes.now (Barring.bound c.args.self.now.u.now c.args.self.now.v.now)) c.in-AtLeast.is bars in
+      let is_priced : Priced c.args.setting.now.board.now c.args.boxes.now c.args.self.now.u.now c.args.self.now.v.now c.in-AtLeast.pushes =
+      subst (Bars c.args.setting.now.board.now c.args.player c.args.boxes.now (Barring.bound c.args.self.now.u.now c.args.self.now.v.now)) c.in-AtLeast.is bars in
       let enough = is_priced.enough in
       let (within, left) = c.in-Some.ensures in
       let of_boxes = c.total.ensures in

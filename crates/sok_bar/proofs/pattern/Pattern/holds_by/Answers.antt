@@ -7,7 +7,7 @@ use Rattle.sok_bar.proofs.pattern.Pattern.holds_by.Goals as goal
 
 pub are_closed_alone-requires-clause-placed : goal.are_closed_alone-requires-clause-placed
 are_closed_alone-requires-clause-placed c =
-    let b = c.args.board.now in
+    let b = c.args.setting.now.board.now in
     let boxes = c.args.boxes.now in
     let members = c.args.self.now.members.now in
     let listed : AreMembers boxes members = subst (λ bs. AreMembers bs members) c.list-boxes.ensures.list (c.are_members.ensures.0 c.if-not-are_members.false) in

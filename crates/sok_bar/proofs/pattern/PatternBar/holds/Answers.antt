@@ -19,9 +19,9 @@ bars b accepted player boxes members inner rest placed (Ok t) told = λ yes.
 bars b accepted player boxes members inner rest placed (Err e) told = told
 
 pub holds_by-requires-clause-memo : goal.holds_by-requires-clause-memo
-holds_by-requires-clause-memo c = c.new-memo.ensures c.args.board.now
+holds_by-requires-clause-memo c = c.new-memo.ensures c.args.setting.now.board.now
 
 pub returns-clause-law : goal.returns-clause-law
 returns-clause-law c =
-    bars c.args.board.now c.squares-squares.ensures.accepted c.args.player c.args.boxes.now c.args.self.now.members.now c.args.self.now.inner.now c.args.rest c.requires.placed
+    bars c.args.setting.now.board.now c.squares-squares.ensures.accepted c.args.player c.args.boxes.now c.args.self.now.members.now c.args.self.now.inner.now c.args.rest c.requires.placed
     c.holds_by.result c.holds_by.ensures.exact

@@ -9,14 +9,14 @@ use Rattle.sok_cert.proofs.progress.Progress.end_line.Goals as goal
 
 pub returns-then-is_some-clause-stands : goal.returns-then-is_some-clause-stands
 returns-then-is_some-clause-stands c = λ text stands.
-    let b = c.args.board.now in
+    let b = c.args.setting.now.board.now in
     let p = progressed_of c.args.self.now in
     let some = sym c.is_some.ensures ∙ c.if-is_some.true in
     wrong-stays b p (text ++ c.args.part.now) (10 ∷ []) some (wrong-stays b p text c.args.part.now some stands)
 
 pub returns-clause-stands : goal.returns-clause-stands
 returns-clause-stands c = λ text stands.
-    let b = c.args.board.now in
+    let b = c.args.setting.now.board.now in
     let p = progressed_of c.args.self.now in
     let part = c.args.part.now in
     let line = c.extend_from_slice.new.self.items in

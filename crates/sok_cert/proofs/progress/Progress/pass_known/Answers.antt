@@ -8,11 +8,11 @@ use Rattle.sok_cert.proofs.Streaming.{IsReadSo-unless, IsTaken-start, stands-inn
 use Rattle.sok_cert.proofs.progress.Progress.pass_known.Goals as goal
 
 pub returns-then-is_some-clause-takes : goal.returns-then-is_some-clause-takes
-returns-then-is_some-clause-takes c = IsTaken-start c.args.board.now (progressed_of c.args.self.now) c.args.rest.now
+returns-then-is_some-clause-takes c = IsTaken-start c.args.setting.now.board.now (progressed_of c.args.self.now) c.args.rest.now
 
 pub returns-clause-takes : goal.returns-clause-takes
 returns-clause-takes c =
-    let b = c.args.board.now in
+    let b = c.args.setting.now.board.now in
     let p = progressed_of c.args.self.now in
     let next : Progressed = record {
       stage = c.judge_read.new.stage;

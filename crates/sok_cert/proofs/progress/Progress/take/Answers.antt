@@ -5,11 +5,11 @@ use Rattle.sok_cert.proofs.Streaming.{StandsFor-same, IsTaken-start, IsTaken-lin
 use Rattle.sok_cert.proofs.progress.Progress.take.Goals as goal
 
 pub loop-part-init : goal.loop-part-init
-loop-part-init c = record { taken = IsTaken-start c.args.board.now (progressed_of c.args.self.now) c.args.piece.now; of_board = c.requires.of_board }
+loop-part-init c = record { taken = IsTaken-start c.args.setting.now.board.now (progressed_of c.args.self.now) c.args.piece.now; of_board = c.requires.of_board }
 
 pub loop-part-preserved : goal.loop-part-preserved
 loop-part-preserved c =
-    let b = c.args.board.now in
+    let b = c.args.setting.now.board.now in
     let old = progressed_of c.args.self.now in
     let now = progressed_of c.loop-part.self in
     let ended = progressed_of c.end_line.new.self in
@@ -25,7 +25,7 @@ loop-part-preserved c =
 
 pub returns-clause-stands : goal.returns-clause-stands
 returns-clause-stands c = λ text stands.
-    let b = c.args.board.now in
+    let b = c.args.setting.now.board.now in
     let old = progressed_of c.args.self.now in
     let now = progressed_of c.loop-part.self in
     let next = progressed_of c.keep.new.self in

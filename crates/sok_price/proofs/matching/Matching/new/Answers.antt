@@ -4,11 +4,11 @@ use Rattle.sok_price.proofs.matching.Matching.new.Goals as goal
 
 pub invariant_of-result : goal.invariant_of-result
 invariant_of-result c =
-    let b = c.args.tables.now.board in
+    let b = c.args.setting.now.tables.now.board in
     let costs = c.in_ok-tabled.field-0 in
     let squares = c.squares-squares.result in
     let tabled = c.in_ok-tabled.ensures.tabled in
-    let area : squares ≡ length b.area = c.squares-squares.ensures.count ∙ sym (ap (λ (h : Numbered). length h.area) c.requires.tables) in
+    let area : squares ≡ length b.area = c.squares-squares.ensures.count ∙ sym (ap (λ (h : Numbered). length h.area) c.args.setting.now.own) in
     let are = subst (AreRows squares) (sym c.in_ok-spare_rows.ensures) (AreRows-spare squares c.goals-goals.result) in
     let room : (squares + 1) * costs.goals ≤ length costs.entries.items =
     subst (λ n. (n + 1) * costs.goals ≤ length costs.entries.items) (sym area) (omega (arith, tabled.whole)) in
