@@ -4,7 +4,8 @@ pub mod Around
 pub mod Beside
 pub mod Confined
 pub mod Covering
-pub mod Floods
+pub mod Floors
+pub mod Graphs
 pub mod Inside
 pub mod Lists
 pub mod Moves
@@ -15,4 +16,5 @@ pub mod Premises
 pub mod Putting
 pub mod ReadingOrder
 pub mod Refusals
+pub mod Searches
 pub mod Tables

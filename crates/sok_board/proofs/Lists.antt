@@ -2,9 +2,10 @@
 use Rattle.std.proofs.Common.{◌≡◌, ◌⊎◌, inl, inr, sym, ap, subst, ◌∙◌, refl, ℕ, List, Some, length, slice_get, [], ◌∷◌, ◌++◌, Bool, true, false, All, AllPairs}
 use Rattle.std.proofs.Common.{Contains, arith, filter, cond, zero, suc}
 use Rattle.std.proofs.lemmas.List.Kept.{AllPairs-cons}
-use Rattle.std.proofs.lemmas.List.Elements.{All-append, All-tail, All-head, All-contains, All-contains_itself, All-filter, filter_passes, Contains-push}
+use Rattle.std.proofs.lemmas.List.Elements.{All-append, All-tail, All-head, All-contains, All-contains_itself, All-filter, filter_passes}
 use Rattle.std.proofs.lemmas.List.{get_or_append_left, get_or_push, length-append}
-use Rattle.std.proofs.lemmas.Option.{slice_get_within, slice_get-get_or, get_or_from_slice_get}
+use Rattle.std.proofs.lemmas.Bool.{cases_lt}
+use Rattle.std.proofs.lemmas.Option.{same_Some, slice_get_within, slice_get-get_or, get_or_from_slice_get}
 
 pub AllPairs-head : {X : Type 0} (R : X → X → Type 0) (x : X) (xs : List X) → AllPairs R (x ∷ xs) → All (R x) xs
 AllPairs-head R x xs pairs = λ k d within. pairs 0 (suc k) d (omega arith) (omega (arith, within))
@@ -31,6 +32,35 @@ pub slice_get-push : {X : Type 0} (xs : List X) (x : X) → slice_get (xs ++ x �
 slice_get-push xs x =
     let longer = length-append xs (x ∷ []) in
     slice_get-get_or (xs ++ x ∷ []) (length xs) x (omega (arith, longer)) ∙ ap Some (get_or_push xs x x (length xs) refl)
+
+-- the elements of a longer list
+pub slice_get-append : {X : Type 0} (xs ys : List X) (k : ℕ) (x : X) → slice_get xs k ≡ Some x → slice_get (xs ++ ys) k ≡ Some x
+slice_get-append xs ys k x at =
+    let within = slice_get_within xs k x at in
+    let longer = length-append xs ys in
+    slice_get-get_or (xs ++ ys) k x (omega (arith, within, longer)) ∙ ap Some (get_or_append_left xs ys x k within ∙ get_or_from_slice_get xs k x x at)
+
+-- an element of a list with one more at its end
+pub slice_get-push_cases : {X : Type 0} (xs : List X) (x : X) (k : ℕ) (y : X) → slice_get (xs ++ x ∷ []) k ≡ Some y
+    → (slice_get xs k ≡ Some y) ⊎ ((k ≡ length xs) × (x ≡ y))
+slice_get-push_cases xs x k y at =
+    let within = slice_get_within (xs ++ x ∷ []) k y at in
+    let longer = length-append xs (x ∷ []) in
+    elim (cases_lt k (length xs)) [
+      | inl below ↦ inl (slice_get-get_or xs k y below ∙ ap Some (sym (get_or_append_left xs (x ∷ []) y k below) ∙ get_or_from_slice_get (xs ++ x ∷ []) k y
+          y at))
+      | inr past ↦
+          let last : k ≡ length xs = omega (arith, within, longer, past) in
+          inr (last, same_Some x y (sym (slice_get-push xs x) ∙ ap (slice_get (xs ++ x ∷ [])) (sym last) ∙ at))
+    ]
+
+-- what holds of each element, and of one more, at its place
+pub each-push : {X : Type 0} (P : ℕ → X → Type 0) (xs : List X) (x : X) → ((k : ℕ) (y : X) → slice_get xs k ≡ Some y → P k y) → P (length xs) x → (k : ℕ)
+    → (y : X) → slice_get (xs ++ x ∷ []) k ≡ Some y → P k y
+each-push P xs x each last k y at = elim (slice_get-push_cases xs x k y at) [
+  | inl before ↦ each k y before
+  | inr (is, same) ↦ subst (P k) same (subst (λ n. P n x) (sym is) last)
+]
 
 pub Contains-cons : {X : Type 0} (x y : X) (xs : List X) → Contains xs y → Contains (x ∷ xs) y
 Contains-cons x y xs (k, within, is) = (suc k, omega (arith, within), is)
@@ -68,13 +98,6 @@ same_ordered R asym (x ∷ xs) (y ∷ ys) ordered_xs ordered_ys to from =
     (λ s among. among_rest R asym x y s xs ys same after_x among (to s (Contains-cons x s xs among)))
     (λ s among. among_rest R asym y x s ys xs (sym same) after_y among (from s (Contains-cons y s ys among))) in
     λ i. same i ∷ rest i
-
--- the last element, and those before it
-pub All-split : {X : Type 0} (P : X → Type 0) (xs : List X) (x : X) → All P (xs ++ x ∷ []) → All P xs × P x
-All-split P xs x all = (
-  λ k d within. subst P (get_or_append_left xs (x ∷ []) d k within) (all k d (omega (arith, within, length-append xs (x ∷ [])))),
-  All-contains P (xs ++ x ∷ []) x all (Contains-push xs x),
-)
 
 -- a filter keeps what passes
 pub Contains-filter : {X : Type 0} (p : X → Bool) (xs : List X) (y : X) → Contains xs y → p y ≡ true → Contains (filter p xs) y

@@ -1,6 +1,6 @@
 -- The squares of an area in a list, and their numbers in a table.
 use Rattle.std.proofs.Common.{ℕ, ◌≡◌, ◌<◌, ◌≤◌, ◌+◌, inl, inr, refl, sym, ap, ◌∙◌, subst, List, [], ◌∷◌, ◌++◌, Bool, true, false, Option, Some}
-use Rattle.std.proofs.Common.{None, All, AllPairs, Contains, arith, length, get_or, set, take, filter, position, cond, nat_lt, not, ◌==◌}
+use Rattle.std.proofs.Common.{None, All, AllPairs, Contains, IsTrue, ◌↔◌, arith, length, get_or, set, take, filter, position, cond, nat_lt, not, ◌==◌}
 use Rattle.std.specs.List.{range_with_len, position_or_len}
 use Rattle.std.specs.List.Sorted.{IsStrictlyIncreasing}
 use Rattle.std.proofs.lemmas.Bool.{cases_Bool}
@@ -16,7 +16,6 @@ use Rattle.sok_rules.specs.declared.cell.Spot.{Spot}
 use Rattle.sok_rules.specs.Squares.{Rows, holds, is_open, is_box, is_goal, places, same_spot}
 use Rattle.sok_rules.specs.Levels.{IsProper}
 use Rattle.sok_board.specs.Area.{Numbered, InArea, IsArea, Before, spot_of, goals_of, boxes_of}
-use Rattle.sok_board.specs.Floods.{MarksArea}
 use Rattle.sok_board.specs.Tables.{table_places, HasPlace, place_of, entry}
 use Rattle.sok_rules.proofs.Spots.{apart_back, same_spot-is, same_spot-refl}
 use Rattle.sok_board.proofs.AreaLaws.{before_apart, spot_of-at, origin}
@@ -27,15 +26,14 @@ use Rattle.sok_rules.proofs.ReadingOrder.{Contains-places}
 use Rattle.sok_board.proofs.ReadingOrder.{in_order-places}
 use Rattle.sok_board.proofs.Tables.{entry-set_same, entry-set_other}
 
--- the marked places of a level are its area
-pub IsArea-marked : (rows : Rows) (marks : List Bool) → IsProper rows → MarksArea rows marks → IsArea rows (filter (λ s. entry false marks s) (places rows))
-IsArea-marked rows marks proper exact = record {
-  inside = All-weaker (λ (s : Spot). entry false marks s ≡ true) (InArea rows) (λ s e. (exact s).0 e) (filter (λ s. entry false marks s) (places rows))
-      (filter_passes (λ (s : Spot). entry false marks s) (places rows));
+-- the places of a level that pass a test of the area are the area
+pub IsArea-filter : (rows : Rows) (p : Spot → Bool) → IsProper rows → ((s : Spot) → IsTrue (p s) ↔ InArea rows s) → IsArea rows (filter p (places rows))
+IsArea-filter rows p proper exact = record {
+  inside = All-weaker (λ (s : Spot). p s ≡ true) (InArea rows) (λ s e. (exact s).0 e) (filter p (places rows)) (filter_passes p (places rows));
   whole = λ s inside.
       let (cell, at, _) = cell-from_holds is_open rows s (InArea-open rows proper s inside) in
-      Contains-filter (λ s. entry false marks s) (places rows) s (Contains-places rows s cell at) ((exact s).1 inside);
-  in_order = AllPairs-filter Before (λ s. entry false marks s) (places rows) (in_order-places rows);
+      Contains-filter p (places rows) s (Contains-places rows s cell at) ((exact s).1 inside);
+  in_order = AllPairs-filter Before p (places rows) (in_order-places rows);
 }
 
 ends : (at n : ℕ) → at ≤ n → ◌≡◌ {A = Option ℕ} (cond (nat_lt (cond (at == n) (n + 1) at) (n + 1)) (Some (cond (at == n) (n + 1) at)) None)

@@ -24,7 +24,7 @@ pub entry-set_same : {X : Type 0} (other x : X) (table : List X) (s : Spot) → 
 entry-set_same other x table s short within = entry-within other (set table (place_of s) x) s short ∙ get_or-set_same table (place_of s) x other within
 
 -- squares within the columns are told apart by their places
-same_place : (a s : Spot) → a.col < table_side → s.col < table_side → place_of a ≡ place_of s → a ≡ s
+pub same_place : (a s : Spot) → a.col < table_side → s.col < table_side → place_of a ≡ place_of s → a ≡ s
 same_place a s short_a short_s same =
     let row : a.row ≡ s.row = omega (arith, short_a, short_s, same) in
     let col : a.col ≡ s.col = omega (arith, short_a, short_s, same) in

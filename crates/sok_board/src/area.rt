@@ -1,7 +1,7 @@
 //! The squares of a level's area, their numbers, and which of them have goals and boxes.
 
 ghost use Rattle.std.specs.Prelude.{◌≡◌, ◌<◌, ◌≤◌, ◌↔◌, IfOk, IsTrue, All, AllPairs, Bool};
-ghost use Rattle.std.specs.Prelude.{None, false, length, filter, position};
+ghost use Rattle.std.specs.Prelude.{None, false, length, filter, position, is_some};
 ghost use Rattle.sok_rules.specs.Squares.{places, same_spot};
 ghost use Rattle.sok_rules.specs.Levels.{IsProper};
 ghost use Rattle.sok_rules.specs.declared.cell.Cell.{Cell};
@@ -12,8 +12,9 @@ ghost use Rattle.sok_board.specs.Limits.{square_limit};
 ghost use Rattle.sok_board.specs.Tables.{HasPlace, entry};
 
 use crate::cells::cell_or_wall;
-use crate::flood::mark_area;
+use crate::floor::Floor;
 use crate::places::man;
+use crate::search::{Search, depths_from};
 use crate::table;
 use sok_rules::cell::{Cell, Spot};
 use sok_rules::fault::Memory;
@@ -29,24 +30,27 @@ pub const SQUARE_LIMIT: usize = 4096;
 /// The most boxes that an area has.
 pub const BOX_LIMIT: usize = 128;
 
-/// The squares of a level's area, row by row and from left to right.
+/// The squares of a level's area, row by row and from left to right: those to which a breadth
+/// first search from the player's square comes.
 pub(crate) fn squares(alloc: Global, level: &Level, spots: &[Spot]) -> Result<Vec<Spot>, Memory>
     requires proper { IsProper level.now }
     requires places { spots.now ≡ places level.now }
     ensures { IfOk result (λ squares. IsArea level.now squares.items) }
 {
-    let marks = mark_area(alloc, level, man(level, spots))?;
-    keep_marked(alloc, spots, &marks)
+    let man = man(level, spots);
+    let found = depths_from(&Floor { level, man }, Search::new(alloc))?;
+    keep_found(alloc, spots, &found.depths)
 }
 
-/// Those of some squares that a table marks.
-fn keep_marked(alloc: Global, spots: &[Spot], marks: &[bool]) -> Result<Vec<Spot>, Memory>
-    ensures { IfOk result (λ kept. kept.items ≡ filter (λ s. entry false marks.now s) spots.now) }
+/// Those of some squares that have a depth in a table.
+fn keep_found(alloc: Global, spots: &[Spot], depths: &[Option<u16>]) -> Result<Vec<Spot>, Memory>
+    ensures { IfOk result
+        (λ kept. kept.items ≡ filter (λ s. is_some (entry None depths.now s)) spots.now) }
 {
     let kept = spots
         .iter()
         .copied()
-        .filter(|spot| table::entry(marks, *spot, false))
+        .filter(|spot| table::entry(depths, *spot, None).is_some())
         .collect(alloc)?;
     Ok(kept)
 }

@@ -7,12 +7,13 @@
 //! | `box_set` | the squares of the boxes of a position |
 //! | `cells` | what stands on a level's squares |
 //! | `fault` | why a level is not accepted |
-//! | `flood` | the flood that finds the squares of an area |
+//! | `floor` | the squares of a level without a wall as nodes of a search |
 //! | `law` | play stays inside the area and leaves what stands outside it |
 //! | `neighbours` | the numbers of the squares beside each square |
 //! | `places` | the squares of a level's text in reading order |
 //! | `refusal` | the squares for which a level is not accepted |
 //! | `runs` | the area as runs of squares that lie side by side |
+//! | `search` | breadth first search over numbered nodes |
 //! | `survey` | the tests by which a level is accepted, in the order of refusal |
 //! | `table` | tables with an entry for each square |
 #![tactic(auto)]
@@ -22,11 +23,12 @@ pub mod board;
 pub mod box_set;
 mod cells;
 pub mod fault;
-mod flood;
+mod floor;
 pub mod law;
 mod neighbours;
 mod places;
 mod refusal;
 pub mod runs;
+pub mod search;
 mod survey;
 mod table;

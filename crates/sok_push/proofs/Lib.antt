@@ -3,4 +3,3 @@ pub mod Premises
 pub mod Pulls
 pub mod Pushes
 pub mod PushingLaws
-pub mod Searches

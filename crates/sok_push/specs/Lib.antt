@@ -2,5 +2,5 @@
 pub mod Distances
 pub mod Pushes
 pub mod Pushing
--- the proof's own: what is found by the search outwards from a goal
-pub mod Searches
+-- the proof's own: pushes in reverse as a graph
+pub mod Pulls

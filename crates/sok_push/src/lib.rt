@@ -4,12 +4,12 @@
 //! | Module | What it holds |
 //! |---|---|
 //! | `law` | a push by the rules is a push of a box without others |
-//! | `search` | the search outwards from a goal |
+//! | `pull` | pushes in reverse as the ways of a search from a goal |
 //! | `setting` | a board with its tables |
 //! | `tables` | the distances of a board's squares to its goals |
 #![tactic(auto)]
 
 pub mod law;
-mod search;
+mod pull;
 pub mod setting;
 pub mod tables;

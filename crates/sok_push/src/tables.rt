@@ -5,9 +5,10 @@ ghost use Rattle.sok_board.specs.Area.{IsAccepted, goals_of};
 ghost use Rattle.sok_push.specs.Pushing.{IsStuck, TellsDistance};
 ghost use Rattle.sok_push.specs.Distances.{goal_at, distance_at, IsFilled, TellsStuck};
 
-use crate::search::{Search, search_from};
+use crate::pull::Pulls;
 use sok_board::area::Sq;
 use sok_board::board::Board;
+use sok_board::search::{Search, depths_from};
 use sok_rules::cell::Spot;
 use sok_rules::fault::Memory;
 use sok_rules::level::Level;
@@ -108,10 +109,10 @@ fn entries(alloc: Global, board: &Board) -> Result<Vec<Option<u16>>, Memory>
         (record { board = board.now; entries = entries.items })) }
 {
     let mut entries = Vec::new(alloc);
-    let mut search = Search::new(alloc, board.squares())?;
+    let mut search = Search::new(alloc);
     for goal in board.goals() {
-        search = search_from(board, *goal, search)?;
-        entries.extend_from_slice(&search.distances)?;
+        search = depths_from(&Pulls { board, goal: *goal }, search)?;
+        entries.extend_from_slice(&search.depths)?;
     }
     Ok(entries)
 }

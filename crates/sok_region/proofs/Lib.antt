@@ -1,6 +1,5 @@
-pub mod Flooding
 pub mod Floods
 pub mod Laying
+pub mod Paths
 pub mod Regions
-pub mod Tracing
 pub mod Walks

@@ -1,5 +1,5 @@
 -- A region as the squares that a flood draws.
-use Rattle.std.proofs.Common.{ℕ, ◌≡◌, ◌<◌, ◌*◌, ◌↔◌, refl, sym, ap, ◌∙◌, subst, List, [], Bool, true, true≢false, Option, Some, None, IsSome, Vec, Contains}
+use Rattle.std.proofs.Common.{ℕ, ◌≡◌, ◌<◌, ◌*◌, ◌↔◌, refl, sym, ap, ◌∙◌, subst, List, [], Bool, true, true≢false, Option, Some, None, IfSome, IsSome, Vec, Contains}
 use Rattle.std.proofs.Common.{arith, length}
 use Rattle.std.specs.List.{range_with_len}
 use Rattle.std.specs.List.Sorted.{IsStrictlyIncreasing}
@@ -21,7 +21,9 @@ use Rattle.sok_board.specs.Runs.{word_bits}
 use Rattle.sok_field.specs.Numbers.{Draws, bit_of_number, has_number}
 use Rattle.sok_field.specs.Trails.{trail, Leads}
 use Rattle.sok_field.proofs.OneSquare.{has-within}
-use Rattle.sok_region.specs.Floods.{marked, Met, IsFlood, FindsWay}
+use Rattle.sok_board.specs.Graphs.{TellsLetters}
+use Rattle.sok_region.specs.Paths.{paths}
+use Rattle.sok_region.proofs.Paths.{follow-trail}
 use Rattle.sok_region.proofs.Walks.{AreBoxes, standing, not_listed, run-trail, trail-run, trail-lets}
 
 -- the squares of words are those whose bits are set
@@ -163,24 +165,29 @@ Leads-region b boxes player words proper area region from to from_there to_there
     let is : to ≡ arrives.to = same_player b boxes area to arrives.to to_within arrives.within arrives.is in
     (same.0, arrives.leads ∙ ap Some (sym is))
 
--- among the squares of a region a flood leads from each to each, and to no other
+-- the shortest letters over squares of a region lead from each to each, and to no other
 pub walks-exactly : {A : Type 0} (b : Numbered) (boxes : List ℕ) (player : ℕ) (words : List ℕ) → IsProper b.rows → IsArea b.rows b.area
-    → IsRegion b boxes player (squares_of words)
-    → (lets : ℕ → Bool) → lets ≡ has_number words → (from to : ℕ) → Contains (squares_of words) from → (f : Met) → IsFlood b lets from f
-    → ((s : ℕ) → (marked f.marks s ≡ true) ↔ Leads b lets from s)
-    → (walk : Option (Vec Dir A)) → FindsWay f.steps to walk → IsSome walk ↔ (Contains (squares_of words) from × Contains (squares_of words) to)
-walks-exactly b boxes player words proper area region lets is from to here f flood exact None leads = (
+    → IsRegion b boxes player (squares_of words) → (from to : ℕ) → Contains (squares_of words) from → (walk : Option (Vec Dir A))
+    → TellsLetters (paths b (has_number words) from) to walk → IsSome walk ↔ (Contains (squares_of words) from × Contains (squares_of words) to)
+walks-exactly b boxes player words proper area region from to here None none = (
   λ some. absurd (true≢false (sym some)),
   λ (_, there).
-      let reached = subst (λ through. Leads b through from to) (sym is) (Leads-region b boxes player words proper area region from to here there) in
-      let (k, step, at, same) = flood.listed to ((exact to).1 reached) in
-      absurd (leads.met k step at same),
+      let (w, leads) = Leads-region b boxes player words proper area region from to here there in
+      absurd (none w (follow-trail b (has_number words) from w from ∙ leads)),
 )
-walks-exactly b boxes player words proper area region lets is from to here f flood exact (Some w) leads = (
+walks-exactly b boxes player words proper area region from to here (Some w) shortest = (
   λ some. (
     here,
     (Contains-squares_of words to).1 (trail-lets b (has_number words) w.items from to ((Contains-squares_of words from).0 here)
-        (ap (λ through. trail b through from w.items) (sym is) ∙ leads.lead b lets from flood.reached)),
+        (sym (follow-trail b (has_number words) from w.items from) ∙ shortest.lead)),
   ),
   λ both. refl,
 )
+
+-- and are a walk
+pub walks-legally : {A : Type 0} (b : Numbered) (boxes : List ℕ) (player : ℕ) (words : List ℕ) → IsProper b.rows → IsArea b.rows b.area
+    → IsRegion b boxes player (squares_of words) → (from to : ℕ) (walk : Option (Vec Dir A)) → TellsLetters (paths b (has_number words) from) to walk
+    → IfSome walk (λ w. IsWalkBetween b boxes from to w.items)
+walks-legally b boxes player words proper area region from to None none = tt
+walks-legally b boxes player words proper area region from to (Some w) shortest =
+    IsWalkBetween-trail b boxes player words proper area region w.items from to (sym (follow-trail b (has_number words) from w.items from) ∙ shortest.lead)

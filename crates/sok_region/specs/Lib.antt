@@ -3,4 +3,4 @@ pub mod Layouts
 pub mod Regions
 pub mod States
 -- Words of the proofs alone
-pub mod Floods
+pub mod Paths

@@ -2,13 +2,13 @@
 //!
 //! | Module | What it holds |
 //! |---|---|
-//! | `flood` | a flood over squares of a board, and the walks that it finds |
 //! | `law` | being the same state |
 //! | `layout` | the boxes of a state, laid out over the squares of the area |
+//! | `path` | the squares that are let through as the ways of a search |
 //! | `region` | where the player comes without a push |
 #![tactic(auto)]
 
-mod flood;
 pub mod law;
 pub mod layout;
+mod path;
 pub mod region;

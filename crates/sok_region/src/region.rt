@@ -6,10 +6,11 @@ ghost use Rattle.sok_board.specs.Area.{IsAccepted};
 ghost use Rattle.sok_region.specs.Regions.{IsPlaced, IsRegion, IsRegionOf, IsWalkBetween};
 ghost use Rattle.sok_region.specs.Regions.{squares_of};
 
-use crate::flood::flood_from;
+use crate::path::Paths;
 use sok_board::area::Sq;
 use sok_board::board::Board;
 use sok_board::box_set::BoxSet;
+use sok_board::search::letters_to;
 use sok_field::drawing;
 use sok_field::field::Field;
 use sok_field::numbers::{self, WORDS};
@@ -84,11 +85,11 @@ impl Region {
             → IfOk result
             (λ walk. IfSome walk (λ w. IsWalkBetween board.now boxes from to w.items)) }
     {
-        if !self.has(from) {
+        if to as usize >= board.squares() || !self.has(from) {
             return Ok(None);
         }
-        let flood = flood_from(alloc, board, &self.words, from)?;
-        flood.letters_to(alloc, to)
+        let lets = &self.words;
+        letters_to(alloc, &Paths { board, lets, from }, to)
     }
 }
 

@@ -1,9 +1,6 @@
-use Rattle.std.proofs.Common.{◌≡◌, [], length}
 use Rattle.sok_push.specs.Distances.{IsFilled}
 use Rattle.sok_push.proofs.Filled.{with_entries}
 use Rattle.sok_push.proofs.tables.entries.Given as goal
 
 abbrev pub invariant-loop-goal : goal.invariant-loop-goal
-invariant-loop-goal l =
-    IsFilled l.goal-index (with_entries l.board l.entries.items) × (length l.search.distances.items ≡ length l.board.area) × (l.search.pending.items ≡ [])
-    × (l.search.beyond.items ≡ [])
+invariant-loop-goal l = IsFilled l.goal-index (with_entries l.board l.entries.items)
