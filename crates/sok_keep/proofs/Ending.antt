@@ -14,8 +14,9 @@ use Rattle.sok_engine.specs.declared.input.InputFault.TheVariants as input
 use Rattle.sok_engine.specs.Faults.{of_book, of_input, of_lurd}
 use Rattle.sok_engine.specs.Written.{Answer, Answers, AnswersOf, IsFaultOf, Writes, WritesOne}
 use Rattle.sok_engine.proofs.Answering.{EndsBy-fault}
-use Rattle.sok_store.specs.Calls.{Changes, EndsOpen, IsCaused}
-use Rattle.sok_keep.specs.Causes.{IsCausedFault}
+use Rattle.sok_store.specs.Calls.{Changes, EndsOpen, IsCaused, Turns}
+use Rattle.sok_store.proofs.Calls.{stops_same}
+use Rattle.sok_keep.specs.Causes.{IsCausedFault, TakesIn}
 use Rattle.sok_keep.specs.Offers.{StaysOnFault}
 
 -- a fault of a book is one of the answers, where it is answered
@@ -90,3 +91,9 @@ module _ (old new : State) (More : Book → Book → Type 0) where
       → IsCausedFault old new More told
   unproved_caused fault told (inl memory) caused = λ is. let no : tool.Memory ≡ tool.Book refusal.Database = sym memory ∙ is in absurd cc
   unproved_caused fault told (inr same) caused = λ is. caused (sym same ∙ is)
+
+-- a file that is not read changes nothing
+pub unread_takes : {T : Type 0} (s : State) (Makes MayMake : Book → Book → Type 0) (fault : InputFault) → Turns s s Makes
+    → TakesIn {T = T} s s Makes MayMake (Err (of_input fault))
+unread_takes s Makes MayMake fault turns =
+    record { writes = turns; keeps_open = tt; stop = stops_same s MayMake; cause = λ told. absurd (input_database fault told) }

@@ -56,13 +56,9 @@ tells_all text book records answer are same status =
 
 -- ---- calls
 
-pub page_unshown : (old new : State) (id : ℤ) (told : ToolFault)
+pub page_unshown : (old new : State) (id : ℤ) (held : Option (List ℕ)) (told : ToolFault)
     → (fault : BookFault) × (told ≡ of_book fault) × Keeps old new (λ b. IsOutside fault ⊎ ((fault ≡ refusal.NoLevel) × IsNone (page_at b (id_number id))))
-    → Keeps old new (λ b. IsFaultOf (IsShow b id) told)
-page_unshown old new id told (fault, is, keeps) clean book holds =
-    let (why, held) = keeps clean book holds in (subst (IsFaultOf (IsShow book id)) (sym is) (not_shown book id fault why), held)
-
-pub page_unanswered : (old new : State) (id : ℤ) (held : Option (List ℕ)) (fault : ToolFault) → Keeps old new (λ b. IsFaultOf (IsShow b id) fault)
-    → Keeps old new (λ b. Writes (IsShow b id) held held (Err fault))
-page_unanswered old new id held fault keeps clean book holds =
-    let (why, kept) = keeps clean book holds in (ends_unwritten (IsShow book id) held fault why, kept)
+    → Keeps old new (λ b. Writes (IsShow b id) held held (Err told))
+page_unshown old new id held told (fault, is, keeps) clean book holds =
+    let (why, kept) = keeps clean book holds in
+    (ends_unwritten (IsShow book id) held told (subst (IsFaultOf (IsShow book id)) (sym is) (not_shown book id fault why)), kept)

@@ -137,24 +137,24 @@ module _ {T : Type 0} (old mid new : State) (blocks : List Block) (n : ℕ) (tex
   early : HasCleanDisk new → HasCleanDisk mid
   early clean = omega (arith, clean, next.stop.clean)
 
-  pub next_stops : Carries old mid (AddsCount blocks n) → Stops old new (AddsSome blocks)
+  next_stops : Carries old mid (AddsCount blocks n) → Stops old new (AddsSome blocks)
   next_stops carries = survives_then old mid new _ _ _ (λ _ db made. made) (λ clean db made book shows.
       let (middle, first, shows_mid, stays) = carries (early clean) book shows in
       let (after, adds, has) = made middle shows_mid in
       (after, (n + 1, counted blocks n within book middle after first adds), has)) stop next.stop
 
-  pub next_carries : OnOk result (Carries old mid (AddsCount blocks n) → Carries old new (AddsCount blocks (n + 1)))
-  next_carries = go result next.done
+  next_carries : Carries old mid (AddsCount blocks n) → OnOk result (Carries old new (AddsCount blocks (n + 1)))
+  next_carries carries = go result next.done
     where
       go : (r : Result T ToolFault) → OnOk r (Carries mid new (AddsNext (n + 1) (level_at blocks (n + 1)) (title_at blocks (n + 1))))
-          → OnOk r (Carries old mid (AddsCount blocks n) → Carries old new (AddsCount blocks (n + 1)))
-      go (Ok x) done = λ carries clean book shows.
+          → OnOk r (Carries old new (AddsCount blocks (n + 1)))
+      go (Ok x) done = λ clean book shows.
           let (middle, first, shows_mid, stays) = carries (early clean) book shows in
           let (after, adds, shows_new, stays_new) = done clean middle shows_mid in
           (after, counted blocks n within book middle after first adds, shows_new, λ up. stays_new (stays up))
       go (Err fault) done = tt
 
-  pub next_caused : Turns old mid (λ b after. AddsFirst blocks b n text after) → IfErr result (IsCausedFault old new (AddsSome blocks))
+  next_caused : Turns old mid (λ b after. AddsFirst blocks b n text after) → IfErr result (IsCausedFault old new (AddsSome blocks))
   next_caused turns = go result next.cause
     where
       go : (r : Result T ToolFault) → IfErr r (IsCausedFault mid new (AddsNext (n + 1) (level_at blocks (n + 1)) (title_at blocks (n + 1))))
@@ -166,6 +166,10 @@ module _ {T : Type 0} (old mid new : State) (blocks : List Block) (n : ℕ) (tex
             | inl (after, adds, big) ↦ inl (after, (n + 1, counted blocks n within book middle after (text, first) adds), big)
             | inr why ↦ inr (cause_before old mid new _ _ stop next.stop clean why)
           ]
+
+  pub next_treats : Turns old mid (λ b after. AddsFirst blocks b n text after) → Carries old mid (AddsCount blocks n)
+      → OnOk result (Carries old new (AddsCount blocks (n + 1))) × Stops old new (AddsSome blocks) × IfErr result (IsCausedFault old new (AddsSome blocks))
+  next_treats turns carries = (next_carries carries, next_stops carries, next_caused turns)
 
 -- all were added
 pub all_treats : {T : Type 0} (old new : State) (blocks : List Block) (n : ℕ) (lines : T) → Carries old new (AddsCount blocks n) → Stops old new (AddsSome blocks)

@@ -9,10 +9,10 @@ ghost use Rattle.sok_board.specs.declared.fault.BoardFault.{BoardFault};
 ghost use Rattle.sok_book.specs.declared.fault.BookFault.TheVariants as refusal;
 ghost use Rattle.sok_engine.specs.Faults.{of_board, of_book, of_level};
 ghost use Rattle.sok_engine.specs.declared.fault.ToolFault.TheVariants as tool;
-ghost use Rattle.sok_store.specs.Calls.{KeepsOpen, Stops, Turns};
+ghost use Rattle.sok_store.specs.Calls.{Turns};
 ghost use Rattle.sok_keep.specs.Adds.{AddsBytes, WritesAdding, fault_line, id_line, title_at};
 ghost use Rattle.sok_keep.specs.Adding.{AddsNext, AddsSome, EndsLevel, EndsLevels};
-ghost use Rattle.sok_keep.specs.Causes.{IsCausedFault, Treats};
+ghost use Rattle.sok_keep.specs.Causes.{TakesIn, Treats};
 
 use crate::line::{LINE_ROOM, Line};
 use itoa::Buffer;
@@ -43,14 +43,10 @@ pub fn add_bytes<S: Alter, R: Read, W: Write>(
     input: &mut R,
     out: &mut W,
 ) -> Result<u8, ToolFault>
-    ensures writes { Turns (state S.Store book.old) (state S.Store book.new) (λ pages after.
-        WritesAdding pages (R.remaining input.old) after (W.contents out.old) (W.contents out.new)
-        result) }
-    ensures open { OnOk result (KeepsOpen (state S.Store book.old) (state S.Store book.new)) }
-    ensures stop { Stops (state S.Store book.old) (state S.Store book.new)
-        (AddsBytes (R.remaining input.old)) }
-    ensures cause { IfErr result (IsCausedFault (state S.Store book.old) (state S.Store book.new)
-        (AddsBytes (R.remaining input.old))) }
+    ensures { TakesIn (state S.Store book.old) (state S.Store book.new)
+        (λ pages after. WritesAdding pages (R.remaining input.old) after
+        (W.contents out.old) (W.contents out.new) result)
+        (AddsBytes (R.remaining input.old)) result }
 {
     let bytes = read_input(alloc, input)?;
     let mut lines = Vec::new(alloc);

@@ -41,20 +41,9 @@ pub fn show_bytes<S: Alter, W: Write>(
         (IsCausedFault (state S.Store book.old) (state S.Store book.new) MakesNone) }
     ensures stop { Stops (state S.Store book.old) (state S.Store book.new) MakesNone }
 {
-    let answer = shown(alloc, book, id)?;
-    answer.write(out)
-}
-
-/// The answer that shows a level.
-fn shown<S: Alter>(alloc: Global, book: &mut Book<S>, id: i64) -> Result<Answer, ToolFault>
-    ensures gives { Keeps (state S.Store book.old) (state S.Store book.new)
-        (λ pages. Gives (IsShow pages id) result) }
-    ensures cause { IfErr result
-        (IsCausedFault (state S.Store book.old) (state S.Store book.new) MakesNone) }
-    ensures stop { Stops (state S.Store book.old) (state S.Store book.new) MakesNone }
-{
     let kept = record_at(book, id)?;
-    Ok(Answer::new(shown_text(alloc, &kept)?, 0))
+    let answer = Answer::new(shown_text(alloc, &kept)?, 0);
+    answer.write(out)
 }
 
 /// The record of the level with an id.

@@ -15,6 +15,7 @@ use Rattle.sok_store.specs.Calls.{Carries, Changes, Stops, Turns}
 use Rattle.sok_store.proofs.Calls.{changes_turns, held_shown, same_turns, shown, stops_same, turns_more}
 use Rattle.sok_keep.specs.Causes.{IsCausedFault}
 use Rattle.sok_keep.proofs.Ending.{book_database}
+use Rattle.sok_keep.proofs.Treating.{memory_caused}
 use Rattle.sok_settle.specs.Going.{Goes, GoesStep, Leave, MayStep, Step, StepsOnce}
 use Rattle.sok_settle.specs.Lines.{TellsLine}
 
@@ -35,9 +36,6 @@ pub same_leads : (s : State) (Makes : Book → Book → Type 0) → ((book : Boo
 same_leads s Makes so = (λ clean book holds. (book, so book holds.0, holds), λ clean book shows. (book, so book shows.0, shows, λ up. up))
 
 -- ---- faults that are not the database's
-
-pub memory_uncaused : (old new : State) (Makes : Book → Book → Type 0) (fault : ToolFault) → fault ≡ tool.Memory → IsCausedFault old new Makes fault
-memory_uncaused old new Makes fault memory told = let no : tool.Memory ≡ tool.Book refusal.Database = sym memory ∙ told in absurd cc
 
 pub write_uncaused : (old new : State) (Makes : Book → Book → Type 0) (fault : ToolFault) → fault ≡ tool.WriteFailed → IsCausedFault old new Makes fault
 write_uncaused old new Makes fault failed told = let no : tool.WriteFailed ≡ tool.Book refusal.Database = sym failed ∙ told in absurd cc
@@ -92,7 +90,7 @@ module _ (One : Step) (Left : Leave) where
       turns = turns_more (λ book after left p. subst (λ f. StepsOnce One Left book after held later (Err f)) (sym memory) (left p, keeps)) turns;
       done = tt;
       stop = stop;
-      cause = memory_uncaused old new _ fault memory;
+      cause = memory_caused old new _ fault memory;
     }
 
     -- a write fails before a line is made

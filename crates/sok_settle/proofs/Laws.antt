@@ -1,7 +1,7 @@
 -- What holds of a book after some of its levels were settled.
-use Rattle.std.proofs.Common.{ℕ, ℤ, pos, zero, suc, ◌≡◌, ◌≢◌, ◌⊎◌, ◌∙◌, ◌+◌, ◌-◌, ◌<◌, ◌≤◌, ◌<ℤ◌, ◌&&◌, inl, inr, List, [], Some, Bool, true, false, Ok, Err}
+use Rattle.std.proofs.Common.{ℕ, ℤ, pos, zero, suc, ◌≡◌, ◌≢◌, ◌⊎◌, ◌∙◌, ◌+◌, ◌-◌, ◌<◌, ◌≤◌, ◌<ℤ◌, inl, inr, List, [], Some, Bool, true, Ok, Err}
 use Rattle.std.proofs.Common.{ap, arith, refl, slice_get, subst, sym}
-use Rattle.std.proofs.lemmas.Bool.{cases_lt}
+use Rattle.std.proofs.lemmas.Bool.{and_parts, cases_lt}
 use Rattle.std.proofs.lemmas.Option.{none-some, same_Some}
 use Rattle.sok_rules.specs.declared.cell.Dir.{Dir}
 use Rattle.sok_rules.specs.Squares.{Rows}
@@ -152,11 +152,6 @@ level_tested keeping limit from n book after line page (is_past_limit other leas
 level_tested keeping limit from n book after line page (is_too_long other letters pushes tried least many says is same) there = absurd cc
 level_tested keeping limit from n book after line page (is_too_much other tried unkept says is same) there = absurd cc
 
-both_true : (all settled : Bool) → (all && settled) ≡ true → (all ≡ true) × (settled ≡ true)
-both_true true true is = (refl, refl)
-both_true true false is = absurd cc
-both_true false settled is = absurd cc
-
 else_at : (book after : Book) (place id : ℕ) (page : Page) → page_at after id ≡ Some page → (place ≡ id - 1 → ⊥)
     → ((m : ℕ) → (place ≡ m → ⊥) → slice_get after m ≡ slice_get book m) → page_at book id ≡ Some page
 else_at book after place zero page there other else = absurd (none-some page there)
@@ -175,7 +170,7 @@ first_tested : (keeping : Keeping) (limit : ℕ) (from : ℤ) (book : Book) (n :
     → SettlesFirst keeping limit from book n text all after → all ≡ true → id ≤ n → page_at after id ≡ Some page → IsKeptAsIs from id page
 first_tested keeping limit from book _ _ _ _ id page none each low there = absurd (no_page book id page low there)
 first_tested keeping limit from book _ _ _ _ id page (more n text line all settled before after first level) each low there =
-    let (all_is, settled_is) = both_true all settled each in
+    let (all_is, settled_is) = and_parts all settled each in
     let positive = is_positive after id page there in
     elim (cases_lt id (n + 1)) [
       | inl under ↦

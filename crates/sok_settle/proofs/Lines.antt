@@ -17,7 +17,7 @@ use Rattle.sok_engine.specs.Faults.{of_input}
 use Rattle.sok_engine.specs.Limits.{input_limit}
 use Rattle.sok_store.specs.Calls.{Carries, KeepsOpen, Stops, Turns}
 use Rattle.sok_store.proofs.Calls.{same_turns, stops_less, stops_same, turns_more}
-use Rattle.sok_keep.specs.Causes.{IsCausedFault}
+use Rattle.sok_keep.specs.Causes.{IsCausedFault, TakesIn}
 use Rattle.sok_keep.proofs.Adding.{some_longer}
 use Rattle.sok_keep.proofs.Treating.{carries_open}
 use Rattle.sok_settle.specs.Going.{EndsAt, GoesStep, GoesWhere, IsAnyBook, none}
@@ -133,10 +133,10 @@ module _ (bytes : List ℕ) where
 
   module _ (known : Option (List ℕ)) (are : IfSome known (λ all. bytes ≡ all)) (old new : State) (first later : Option (List ℕ)) (result : Result ℕ ToolFault)
       (goes : GoesLines old new first later result) where
-    pub read_turns : Turns old new (λ book after. WritesOffers book known after first later result)
+    read_turns : Turns old new (λ book after. WritesOffers book known after first later result)
     read_turns = turns_more (λ book after made. (bytes, are, made tt)) goes.turns
 
-    pub read_open : OnOk result (KeepsOpen old new)
+    read_open : OnOk result (KeepsOpen old new)
     read_open = go result goes.done
       where
         go : (r : Result ℕ ToolFault) → OnOk r (Carries old new (λ book after. IsAnyBook book → OffersUntil bytes book after first later result))
@@ -144,10 +144,10 @@ module _ (bytes : List ℕ) where
         go (Ok status) done = carries_open old new _ done
         go (Err fault) done = tt
 
-    pub read_stops : Stops old new (OffersBytes known)
+    read_stops : Stops old new (OffersBytes known)
     read_stops = stops_less old new _ (OffersBytes known) (λ book after made. (bytes, are, made tt)) goes.stop
 
-    pub read_caused : IfErr result (IsCausedFault old new (OffersBytes known))
+    read_caused : IfErr result (IsCausedFault old new (OffersBytes known))
     read_caused = go result goes.cause
       where
         go : (r : Result ℕ ToolFault) → IfErr r (IsCausedFault old new (λ book after. IsAnyBook book → OffersSome (full_lines bytes) book after))
@@ -157,6 +157,10 @@ module _ (bytes : List ℕ) where
           | inl (after, makes, big) ↦ inl (after, (bytes, are, makes tt), big)
           | inr why ↦ inr why
         ]
+
+    -- all that is promised of it
+    pub read_takes : TakesIn old new (λ book after. WritesOffers book known after first later result) (OffersBytes known) result
+    read_takes = record { writes = read_turns; keeps_open = read_open; stop = read_stops; cause = read_caused }
 
 -- ---- they are not read
 

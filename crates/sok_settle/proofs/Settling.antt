@@ -177,15 +177,15 @@ module _ (keeping : Keeping) (limit : ℕ) (from : ℤ) where
       early : HasCleanDisk new → HasCleanDisk mid
       early clean = omega (arith, clean, goes.stop.clean)
 
-      pub whole_stops : Stops old new (SettlesSome keeping limit from)
+      whole_stops : Stops old new (SettlesSome keeping limit from)
       whole_stops = stops_later old mid new (SettlesSome keeping limit from) one _ (λ clean db made book shows.
           let (are, stores) = found (early clean) book (held_shown old book shows) in
           let (after, makes, has) = made book (shown mid book stores) in (after, makes are, has)) goes.stop
 
-      pub whole_turns : Turns old new (λ book after. WritesSettling keeping limit from book after first later result)
+      whole_turns : Turns old new (λ book after. WritesSettling keeping limit from book after first later result)
       whole_turns = finds_then early (λ book after are makes. makes are) found goes.turns
 
-      pub whole_open : OnOk result (EndsOpen old new)
+      whole_open : OnOk result (EndsOpen old new)
       whole_open = go result goes.done
         where
           go : (r : Result ℕ ToolFault) → OnOk r (Carries mid new (λ book after. AreRecordsOf book records → WritesSettling keeping limit from book after first later result))
@@ -195,7 +195,7 @@ module _ (keeping : Keeping) (limit : ℕ) (from : ℤ) where
               let (after, makes, shows_after, up) = done clean book (shown mid book stores) in up stores.1.0
           go (Err fault) done = tt
 
-      pub whole_caused : IfErr result (IsCausedFault old new (SettlesSome keeping limit from))
+      whole_caused : IfErr result (IsCausedFault old new (SettlesSome keeping limit from))
       whole_caused = go result goes.cause
         where
           go : (r : Result ℕ ToolFault) → IfErr r (IsCausedFault mid new (λ book after. AreRecordsOf book records → SettlesSome keeping limit from book after))
@@ -207,6 +207,11 @@ module _ (keeping : Keeping) (limit : ℕ) (from : ℤ) where
                 | inl (after, makes, big) ↦ inl (after, makes are, big)
                 | inr why ↦ inr (cause_before old mid new _ _ one goes.stop clean why)
               ]
+
+      -- all that is promised of it
+      pub whole : Turns old new (λ book after. WritesSettling keeping limit from book after first later result) × OnOk result (EndsOpen old new)
+          × Stops old new (SettlesSome keeping limit from) × IfErr result (IsCausedFault old new (SettlesSome keeping limit from))
+      whole = (whole_turns, whole_open, whole_stops, whole_caused)
 
   -- ---- without records
 

@@ -1,11 +1,10 @@
 //! Lines of offers are gone through.
 
-ghost use Rattle.std.specs.Prelude.{◌≡◌, ◌≤◌, IfErr, List, OnOk, length, ℕ};
+ghost use Rattle.std.specs.Prelude.{◌≡◌, ◌≤◌, List, length, ℕ};
 ghost use Rattle.sqlite.specs.Held.{state};
 ghost use Rattle.sok_text.specs.Lurd.{Spells};
 ghost use Rattle.sok_engine.specs.Limits.{input_limit};
-ghost use Rattle.sok_store.specs.Calls.{KeepsOpen, Stops, Turns};
-ghost use Rattle.sok_keep.specs.Causes.{IsCausedFault};
+ghost use Rattle.sok_keep.specs.Causes.{TakesIn};
 ghost use Rattle.sok_settle.specs.Going.{GoesStep, GoesWhere, IsAnyBook};
 ghost use Rattle.sok_settle.specs.Lines.{TellsRefused, TellsUnread};
 ghost use Rattle.sok_settle.specs.Offers.{AnswersOffer, OffersBytes, OffersSome, OffersUntil};
@@ -42,14 +41,10 @@ pub fn offers_bytes<S: Alter, R: Read, W: Write>(
     input: &mut R,
     out: &mut W,
 ) -> Result<u8, ToolFault>
-    ensures writes { Turns (state S.Store book.old) (state S.Store book.new) (λ pages after.
-        WritesOffers pages (R.remaining input.old) after (W.contents out.old) (W.contents out.new)
-        result) }
-    ensures open { OnOk result (KeepsOpen (state S.Store book.old) (state S.Store book.new)) }
-    ensures stop { Stops (state S.Store book.old) (state S.Store book.new)
-        (OffersBytes (R.remaining input.old)) }
-    ensures cause { IfErr result (IsCausedFault (state S.Store book.old) (state S.Store book.new)
-        (OffersBytes (R.remaining input.old))) }
+    ensures { TakesIn (state S.Store book.old) (state S.Store book.new)
+        (λ pages after. WritesOffers pages (R.remaining input.old) after
+        (W.contents out.old) (W.contents out.new) result)
+        (OffersBytes (R.remaining input.old)) result }
 {
     let bytes = read_input(alloc, input)?;
     offer_lines(alloc, book, bytes.as_slice(), out)

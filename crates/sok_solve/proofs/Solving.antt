@@ -1,5 +1,5 @@
 -- What is answered to a level that is to be solved.
-use Rattle.std.proofs.Common.{ℕ, ◌≡◌, ◌<◌, ◌↔◌, ◌⊎◌, Bool, true, false, List, Option, Some, None, Result, Ok, Err}
+use Rattle.std.proofs.Common.{ℕ, ◌≡◌, ◌<◌, ◌⊎◌, Bool, true, false, List, Option, Some, None, Result, Ok, Err}
 use Rattle.std.proofs.Common.{IsSome, MatchBool, MatchResult, inl, inr, length, refl, subst, sym, true≢false}
 use Rattle.std.specs.Option.{IsSomeAnd}
 use Rattle.sok_rules.specs.declared.cell.Dir.{Dir}
@@ -13,8 +13,9 @@ use Rattle.sok_board.specs.declared.fault.BoardFault.TheVariants as board
 use Rattle.sok_board.specs.Refusals.{IsAcceptable}
 use Rattle.sok_search.specs.declared.fault.SolveFault.{SolveFault}
 use Rattle.sok_search.specs.declared.fault.SolveFault.TheVariants as solve
-use Rattle.sok_search.specs.Faults.{IsBadLimit, IsRefusal}
+use Rattle.sok_search.specs.Faults.{IsBadLimit, TellsFault}
 use Rattle.sok_search.specs.Outcomes.{IsCutShort}
+use Rattle.sok_search.proofs.Refusing.{no-fault}
 use Rattle.sok_engine.specs.declared.fault.ToolFault.{ToolFault}
 use Rattle.sok_engine.specs.declared.fault.ToolFault.TheVariants as tool
 use Rattle.sok_engine.specs.Certified.{Certified}
@@ -36,34 +37,38 @@ replayed rows w (play.Blocked at) solves blocked = absurd (blocked_not_legal row
 replayed rows w play.TooLong solves blocked = absurd blocked
 replayed rows w play.Memory solves blocked = refl
 
--- a fault is no answer of a search
-abbrev fails : (B : Type 0) → SolveFault → Result B SolveFault
-fails B fault = Err fault
-
 -- why a level is not solved is one of its answers, memory aside
-pub refused_answer : {A : Type 0} (B : Type 0) (Tells : A → Type 0) (Becoming : A → AnswersOf A) (rows : Rows) (limit : ℕ) (fault : SolveFault)
-    → (fails B fault ≡ fails B solve.BadLimit) ↔ IsBadLimit limit → IsRefusal rows limit fault
-    → IsFaultOf (IsAnswered Tells Becoming limit rows) (of_solve fault)
-refused_answer B Tells Becoming rows limit solve.BadLimit bad_limit is = is_bad is refl
-refused_answer B Tells Becoming rows limit (solve.Level board.Memory) bad_limit is = tt
-refused_answer B Tells Becoming rows limit (solve.Level fault) bad_limit is = is_refused (λ bad. let same = bad_limit.1 bad in cc) fault is.0 is.1 refl
-refused_answer B Tells Becoming rows limit solve.Memory bad_limit is = tt
+pub refused_answer : {A B : Type 0} {rows : Rows} {limit : ℕ} {fault : SolveFault} (Tells : A → Type 0) (Becoming : A → AnswersOf A) (told : ToolFault)
+    → TellsFault {A = B} rows limit (Err fault) → told ≡ of_solve fault → IsFaultOf (IsAnswered Tells Becoming limit rows) told
+refused_answer {B = B} {rows = rows} {limit = limit} {fault = fault} Tells Becoming told tells same =
+    subst (IsFaultOf (IsAnswered Tells Becoming limit rows)) (sym same) (of fault tells)
+  where
+    of : (fault : SolveFault) → TellsFault {A = B} rows limit (Err fault) → IsFaultOf (IsAnswered Tells Becoming limit rows) (of_solve fault)
+    of solve.BadLimit it = is_bad (it.bad_limit.0 refl) refl
+    of (solve.Level board.Memory) it = tt
+    of (solve.Level fault) it = is_refused (λ bad. let same = it.bad_limit.1 bad in cc) fault it.refused.0 it.refused.1 refl
+    of solve.Memory it = tt
 
--- what is told is the answer of an acceptable level within its limit
-pub told_answer : {A : Type 0} (Tells : A → Type 0) (rows : Rows) (limit : ℕ) (answer : Result A ToolFault) → ¬ (IsBadLimit limit) → IsAcceptable rows
+-- a level of which something was found is acceptable, and its limit good
+found_of : {B : Type 0} {rows : Rows} {limit : ℕ} {found : B} → TellsFault rows limit (Ok found) → ¬ (IsBadLimit limit) × IsAcceptable rows
+found_of {found = found} it =
+    (λ bad. no-fault found _ (it.bad_limit.1 bad), (it.exact (λ same. no-fault found _ same) (λ same. no-fault found _ same)).0 refl)
+
+-- what is told of it is its answer
+pub told_answer : {A B : Type 0} {rows : Rows} {limit : ℕ} {found : B} (Tells : A → Type 0) (answer : Result A ToolFault) → TellsFault rows limit (Ok found)
     → MatchResult answer Tells (λ fault. fault ≡ tool.Memory) → Gives (IsAnswered Tells Becomes limit rows) answer
-told_answer Tells rows limit (Ok told) good acceptable tells = is_told good acceptable told tells refl
-told_answer Tells rows limit (Err fault) good acceptable memory = subst (IsFaultOf (IsAnswered Tells Becomes limit rows)) (sym memory) tt
+told_answer Tells (Ok told) it tells = is_told (found_of it).0 (found_of it).1 told tells refl
+told_answer {rows = rows} {limit = limit} Tells (Err fault) it memory = subst (IsFaultOf (IsAnswered Tells Becomes limit rows)) (sym memory) tt
 
 -- the same with a certificate, which may be too long
-pub told_within : (Tells : Certified → Type 0) (rows : Rows) (limit : ℕ) (answer : Result Certified ToolFault) → ¬ (IsBadLimit limit) → IsAcceptable rows
-    → TellsWithin Tells answer → Gives (IsAnswered Tells BecomesWithin limit rows) answer
-told_within Tells rows limit (Ok told) good acceptable (tells, short) =
-    is_told good acceptable told tells (Within-few cert_limit (λ bytes. Becomes told) told.cert (Ok told) short refl)
-told_within Tells rows limit (Err fault) good acceptable tells = elim tells [
+pub told_within : {B : Type 0} {rows : Rows} {limit : ℕ} {found : B} (Tells : Certified → Type 0) (answer : Result Certified ToolFault)
+    → TellsFault rows limit (Ok found) → TellsWithin Tells answer → Gives (IsAnswered Tells BecomesWithin limit rows) answer
+told_within Tells (Ok told) it (tells, short) =
+    is_told (found_of it).0 (found_of it).1 told tells (Within-few cert_limit (λ bytes. Becomes told) told.cert (Ok told) short refl)
+told_within {rows = rows} {limit = limit} Tells (Err fault) it tells = elim tells [
   | inl memory ↦ subst (IsFaultOf (IsAnswered Tells BecomesWithin limit rows)) (sym memory) tt
   | inr long ↦ subst (IsFaultOf (IsAnswered Tells BecomesWithin limit rows)) (sym long.0)
-      (is_told good acceptable long.1.0 long.1.1 (Within-much cert_limit (λ bytes. Becomes long.1.0) long.1.0.cert long.1.2))
+      (is_told (found_of it).0 (found_of it).1 long.1.0 long.1.1 (Within-much cert_limit (λ bytes. Becomes long.1.0) long.1.0.cert long.1.2))
 ]
 
 -- what would be told is too long, or memory was refused

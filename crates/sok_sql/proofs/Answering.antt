@@ -17,7 +17,7 @@ use Rattle.sok_sql.proofs.Texts.{all_text, all_is, all_plain, all_unlisted, all_
 use Rattle.sok_sql.proofs.Texts.{last_text, last_is, last_plain, last_unlisted}
 use Rattle.sok_sql.proofs.Choosing.{reads_one}
 use Rattle.sok_sql.proofs.Listing.{lists, lists_table, finds, lasts}
-use Rattle.sok_sql.proofs.Calls.{shown_up, shown_same, unchanged_holds, unchanged_same, undone_holds, unread_undone}
+use Rattle.sok_sql.proofs.Calls.{shown_open, shown_same, unchanged_holds, unchanged_same, undone_holds, unread_undone}
 
 -- a stop in the middle of a query leaves what was there
 query_commits : (s : State) (sql : List ℕ) (params : Row) (db : Trees) → IsPlain (understood level_schema sql) → is_ok (understood no_schema sql) ≡ false
@@ -30,7 +30,7 @@ query_commits s sql params db plain missing (inr has) = never_commits sql params
 module _ (old new : State) (leaves : List Leaf) (holds : Holds old leaves) where
   query_holds : (sql : List ℕ) (params : Row) → IsPlain (understood level_schema sql) → (rows : List Row) → Shown sql params old new rows → Holds new leaves
   query_holds sql params plain rows h =
-      let was = holds (shown_up old new sql params rows h) in
+      let was = holds (shown_open old new sql params rows h).0 in
       unchanged_holds old new leaves holds (shown_same old new sql params rows (subst (λ s. IsPlain (understood s sql)) (sym was.schema) plain) h)
 
   -- a query answers as its text means, and nothing has changed
@@ -38,7 +38,7 @@ module _ (old new : State) (leaves : List Leaf) (holds : Holds old leaves) where
       → IsPlain (understood level_schema sql) → reads_listing level_schema sql ≡ false → (rows : List Row) → Shown sql params old new rows
       → Stores new leaves × HasLeaves old.now.trees leaves × IsAnswer query (overlay old.now.trees []) params rows
   answers sql params query columns is plain unlisted rows h =
-      let was = holds (shown_up old new sql params rows h) in
+      let was = holds (shown_open old new sql params rows h).0 in
       let read = reads_as sql params old new level_schema was.schema _ is plain unlisted rows h in
       let same = shown_same old new sql params rows (subst (λ s. IsPlain (understood s sql)) (sym was.schema) plain) h in
       ((same.0.is_open, unchanged_holds old new leaves holds same same.0.is_open), was.rows, read.answer Null)

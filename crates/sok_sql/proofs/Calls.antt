@@ -53,20 +53,13 @@ module _ (old new : State) where
     | inr runs ↦ runs_up h.0.returning h.0.command (text_of sql h.0) (timed params h.0.formats h.1.now) count (rw runs at h.2) up
   ]
 
-  pub shown_up : (sql : List ℕ) (params : Row) (rows : List Row) → Shown sql params old new rows → IsTrue old.is_open
-  unfolding Shown
-  shown_up sql params rows h =
-      elim h.0.returning as (λ r. st.ShowsRows old new sql h.0 (timed params h.0.formats h.1.now) rows r → IsTrue old.is_open) [
-        | None ↦ λ it. it.3.0.was_open
-        | Some what ↦ λ it. it.1.shown.was_open
-      ] h.2
-
-  pub shown_open : (sql : List ℕ) (params : Row) (rows : List Row) → Shown sql params old new rows → IsTrue new.is_open
+  -- a file that is shown is open, and was
+  pub shown_open : (sql : List ℕ) (params : Row) (rows : List Row) → Shown sql params old new rows → IsTrue old.is_open × IsTrue new.is_open
   unfolding Shown
   shown_open sql params rows h =
-      elim h.0.returning as (λ r. st.ShowsRows old new sql h.0 (timed params h.0.formats h.1.now) rows r → IsTrue new.is_open) [
-        | None ↦ λ it. it.3.0.is_open
-        | Some what ↦ λ it. it.1.shown.is_open
+      elim h.0.returning as (λ r. st.ShowsRows old new sql h.0 (timed params h.0.formats h.1.now) rows r → IsTrue old.is_open × IsTrue new.is_open) [
+        | None ↦ λ it. (it.3.0.was_open, it.3.0.is_open)
+        | Some what ↦ λ it. (it.1.shown.was_open, it.1.shown.is_open)
       ] h.2
 
   pub shown_same : (sql : List ℕ) (params : Row) (rows : List Row) → IsPlain (understood old.now.schema sql) → Shown sql params old new rows

@@ -4,6 +4,7 @@ use Rattle.std.proofs.Common.{Option, Some, Ok, Bool, true, false, if◌then◌e
 use Rattle.sqlite.specs.State.{State}
 use Rattle.sok_rules.specs.declared.cell.Dir.{Dir}
 use Rattle.sok_rules.specs.Limits.{letter_limit}
+use Rattle.sok_rules.specs.Squares.{Rows}
 use Rattle.sok_rules.specs.Play.{start, pushes, Solves}
 use Rattle.sok_book.specs.declared.fault.BookFault.{BookFault}
 use Rattle.sok_book.specs.declared.fault.BookFault.TheVariants.{Database, Memory}
@@ -51,8 +52,15 @@ offers book id page letters better at judged = record {
   after_is = ap (with_page book id) (sym (best_is page letters better judged));
 }
 
-module _ (page : Page) (letters : List Dir) (best : BestColumns) (are : AreBestColumns page.level (solution_of page.level letters) best)
-    (kept : IsKeptSolution page.level (solution_of page.level letters)) where
+-- the columns are of the solution that the letters are on the rows of the page
+module _ (page : Page) (letters : List Dir) (best : BestColumns) (rows : Rows) (same : rows ≡ page.level)
+    (found : AreBestColumns rows (solution_of rows letters) best) (keeps : IsKeptSolution rows (solution_of rows letters)) where
+  are : AreBestColumns page.level (solution_of page.level letters) best
+  are = subst (λ rows. AreBestColumns rows (solution_of rows letters) best) same found
+
+  kept : IsKeptSolution page.level (solution_of page.level letters)
+  kept = subst (λ rows. IsKeptSolution rows (solution_of rows letters)) same keeps
+
   judged_by : (better : Bool) → is_better best.pushes (best_pushes page) ≡ better → AreJudged page letters better
   judged_by better test = record {
     few = kept.few;
@@ -85,19 +93,18 @@ module _ (page : Page) (letters : List Dir) (best : BestColumns) (are : AreBestC
         shows,
       )
 
-  pub offer_stored : (id : ℕ) (told : Standing) → told.offer ≡ Stored → told.pushes ≡ best.pushes → told.moves ≡ best.moves
-      → is_better best.pushes (best_pushes page) ≡ true
-      → Replaces id page (λ told book after. OffersTelling book id letters told after) told (HasBest best)
-  offer_stored id told offer pushed moved test = record {
+  pub offer_stored : (id : ℕ) → is_better best.pushes (best_pushes page) ≡ true
+      → Replaces id page (λ told book after. OffersTelling book id letters told after)
+      (record { offer = Stored; pushes = best.pushes; moves = best.moves }) (HasBest best)
+  offer_stored id test = record {
     after = improved page letters;
     makes = λ book at. record {
-      offered = subst (λ o. Offers book id letters o (with_page book id (improved page letters))) (sym offer)
-          (offers book id page letters true at (judged_by true test));
+      offered = offers book id page letters true at (judged_by true test);
       best = solution_of page.level letters;
       has = some_and (page_at (with_page book id (improved page letters)) id) (λ p. p.best ≡ Some (solution_of page.level letters)) (improved page letters)
           (page_there book id page (improved page letters) at) refl;
-      pushes = pushed ∙ are.pushes;
-      moves = moved ∙ are.moves;
+      pushes = are.pushes;
+      moves = are.moves;
     };
     writes = λ may. improves;
   }

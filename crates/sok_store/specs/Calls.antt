@@ -25,6 +25,10 @@ title_kept (Some title) = kept_title title
 abbrev pub Keeps : State → State → (Book → Type 0) → Type 0
 Keeps old new P = HasCleanDisk new → (book : Book) → HoldsBook old book → P book × HoldsBook new book
 
+-- and this fault is for a cause that is not of the command, or one of the book's own
+abbrev pub KeepsRefused : State → State → (Book → BookFault → Type 0) → BookFault → Type 0
+KeepsRefused old new Refuses fault = Keeps old new (λ book. IsOutside fault ⊎ Refuses book fault)
+
 -- the connection is open and shows the book that it held before, and of it this is true
 abbrev pub Finds : State → State → (Book → Type 0) → Type 0
 Finds old new P = HasCleanDisk new → (book : Book) → HoldsBook old book → P book × StoresBook new book

@@ -1,5 +1,5 @@
 -- What a command does with the book that a connection holds, to whichever of its ends it comes.
-use Rattle.std.specs.Prelude.{⊤, ℕ, ℤ, ◌≡◌, ◌⊎◌, List, Option, Result, IfErr, IfOk, IsNone, OnErr, OnOk}
+use Rattle.std.specs.Prelude.{⊤, ℕ, ℤ, ◌≡◌, List, Option, Result, IfErr, IfOk, IsNone, OnErr, OnOk}
 use Rattle.sqlite.specs.State.{State}
 use Rattle.sok_rules.specs.declared.cell.Dir.{Dir}
 use Rattle.sok_rules.specs.Squares.{Rows}
@@ -13,7 +13,7 @@ use Rattle.sok_book.specs.Commands.{Adds, Offers, Proves}
 use Rattle.sok_book.specs.Records.{IsRecordAt}
 use Rattle.sok_book.specs.Refusals.{IsNotAdded, IsNotOffered, IsNotProved}
 use Rattle.sok_store.specs.Faults.{IsOutside}
-use Rattle.sok_store.specs.Calls.{Changes, Finds, IsCaused, Keeps, MakesNone, ShowsOn, Stops, id_number}
+use Rattle.sok_store.specs.Calls.{Changes, Finds, IsCaused, Keeps, KeepsRefused, MakesNone, ShowsOn, Stops, id_number}
 use Rattle.sok_store.specs.Known.{IsNotKnown, ProvesKnown}
 use Rattle.sok_store.specs.Standing.{OffersTelling}
 use Rattle.sok_store.specs.declared.standing.Standing.{Standing}
@@ -22,7 +22,7 @@ use Rattle.sok_store.specs.Changing.{AddsPage, IsCausedAdding, IsCausedSetting, 
 -- the page with an id is read
 pub record RunsReading (old new : State) (id : ℕ) (result : Result PageWithId BookFault) : Type 0 where
   pub found : IfOk result (λ kept. Finds old new (λ book. IsRecordAt book id kept))
-  pub refused : IfErr result (λ fault. Keeps old new (λ book. IsOutside fault ⊎ ((fault ≡ NoLevel) × IsNone (page_at book id))))
+  pub refused : IfErr result (KeepsRefused old new (λ book fault. (fault ≡ NoLevel) × IsNone (page_at book id)))
   pub shows : IfErr result (ShowsOn old new)
   pub stop : Stops old new MakesNone
   pub cause : IfErr result (IsCaused old new MakesNone)
@@ -38,7 +38,7 @@ pub record RunsSetting {X : Type 0} (old new : State) (id : ℕ) (Makes : Page �
 -- a page is added, with this text and this title
 pub record RunsAddingPage (old new : State) (text : List ℕ) (title : Option (List ℕ)) (result : Result ℤ BookFault) : Type 0 where
   pub added : IfOk result (AddsPage old new text title)
-  pub refused : IfErr result (λ fault. Keeps old new (λ book. IsOutside fault ⊎ IsFull book fault))
+  pub refused : IfErr result (KeepsRefused old new IsFull)
   pub stop : StopsAdding old new text title
   pub cause : IfErr result (IsCausedAdding old new text title)
 
@@ -46,7 +46,7 @@ pub record RunsAddingPage (old new : State) (text : List ℕ) (title : Option (L
 pub record Runs {X : Type 0} (old new : State) (Makes : X → Book → Book → Type 0) (MayMake : Book → Book → Type 0)
     (Refuses : Book → BookFault → Type 0) (result : Result X BookFault) : Type 0 where
   pub done : IfOk result (λ x. Changes old new (Makes x))
-  pub refused : IfErr result (λ fault. Keeps old new (λ book. IsOutside fault ⊎ Refuses book fault))
+  pub refused : IfErr result (KeepsRefused old new Refuses)
   pub stop : Stops old new MayMake
   pub cause : IfErr result (IsCaused old new MayMake)
 

@@ -1,6 +1,6 @@
 //! A book over a connection to a database.
 
-ghost use Rattle.std.specs.Prelude.{◌≡◌, ◌⊎◌, false, All, IfErr, IfOk, IsNone};
+ghost use Rattle.std.specs.Prelude.{◌≡◌, false, All, IfErr, IfOk, IsNone};
 ghost use Rattle.std.specs.Prelude.{MatchResult, OnOk, option_map};
 ghost use Rattle.sqlite.specs.Held.{state};
 ghost use Rattle.sqlite.specs.State.{HasCleanDisk, Survives};
@@ -15,8 +15,8 @@ ghost use Rattle.sok_book.specs.Refusals.{IsNotAdded, IsNotOffered, IsNotProved}
 ghost use Rattle.sok_book.specs.declared.record.Offer.{Offer};
 ghost use Rattle.sok_cert.specs.Claim.{Claim};
 ghost use Rattle.sok_store.specs.Faults.{IsOutside};
-ghost use Rattle.sok_store.specs.Calls.{Changes, Finds, IsCaused, Keeps, MakesNone};
-ghost use Rattle.sok_store.specs.Calls.{ShowsOn, Stops};
+ghost use Rattle.sok_store.specs.Calls.{Changes, Finds, IsCaused, Keeps, KeepsRefused};
+ghost use Rattle.sok_store.specs.Calls.{MakesNone, ShowsOn, Stops};
 ghost use Rattle.sok_store.specs.Calls.{id_number, title_kept};
 ghost use Rattle.sok_store.specs.Known.{IsCertified, IsNotKnown, ProvesKnown};
 ghost use Rattle.sok_store.specs.Opening.{IsCausedOpening, IsUnopened, LeavesOpening, Opens};
@@ -119,10 +119,8 @@ impl<S: Alter> Book<S> {
     pub fn get(&mut self, id: i64) -> Result<Record, BookFault>
         ensures found { IfOk result (λ kept. Finds (state S.Store self.old) (state S.Store self.new)
             (λ book. IsRecordAt book (id_number id) kept)) }
-        ensures refused { IfErr result (λ fault.
-            Keeps (state S.Store self.old) (state S.Store self.new)
-            (λ book. IsOutside fault
-            ⊎ ((fault ≡ BookFault.NoLevel) × IsNone (page_at book (id_number id))))) }
+        ensures refused { IfErr result (KeepsRefused (state S.Store self.old) (state S.Store self.new)
+            (λ book fault. (fault ≡ BookFault.NoLevel) × IsNone (page_at book (id_number id)))) }
         ensures stop { Stops (state S.Store self.old) (state S.Store self.new) MakesNone }
         ensures cause { IfErr result
             (IsCaused (state S.Store self.old) (state S.Store self.new) MakesNone) }
@@ -155,9 +153,8 @@ impl<S: Alter> Book<S> {
         ensures added { IfOk result (λ id. Changes (state S.Store self.old) (state S.Store self.new)
             (λ book after. Adds book level.now
             (title_kept (option_map (λ bytes. bytes.now) title.entry)) (id_number id) after)) }
-        ensures refused { IfErr result (λ fault.
-            Keeps (state S.Store self.old) (state S.Store self.new)
-            (λ book. IsOutside fault ⊎ IsNotAdded book level.now fault)) }
+        ensures refused { IfErr result (KeepsRefused (state S.Store self.old) (state S.Store self.new)
+            (λ book fault. IsNotAdded book level.now fault)) }
         ensures untouched { IfErr result (λ fault. (cause : BoardFault)
             → fault ≡ BookFault.Level cause → self.new ≡ self.old) }
         ensures stop { Stops (state S.Store self.old) (state S.Store self.new)
@@ -176,9 +173,8 @@ impl<S: Alter> Book<S> {
         ensures offered { IfOk result (λ answer.
             Changes (state S.Store self.old) (state S.Store self.new)
             (λ book after. Offers book (id_number id) letters.now answer after)) }
-        ensures refused { IfErr result (λ fault.
-            Keeps (state S.Store self.old) (state S.Store self.new)
-            (λ book. IsOutside fault ⊎ IsNotOffered book (id_number id) letters.now fault)) }
+        ensures refused { IfErr result (KeepsRefused (state S.Store self.old) (state S.Store self.new)
+            (λ book fault. IsNotOffered book (id_number id) letters.now fault)) }
         ensures stop { Stops (state S.Store self.old) (state S.Store self.new)
             (λ book after. (answer : Offer)
             × Offers book (id_number id) letters.now answer after) }
@@ -197,9 +193,8 @@ impl<S: Alter> Book<S> {
         ensures offered { IfOk result (λ told.
             Changes (state S.Store self.old) (state S.Store self.new)
             (λ book after. OffersTelling book (id_number id) letters.now told after)) }
-        ensures refused { IfErr result (λ fault.
-            Keeps (state S.Store self.old) (state S.Store self.new)
-            (λ book. IsOutside fault ⊎ IsNotOffered book (id_number id) letters.now fault)) }
+        ensures refused { IfErr result (KeepsRefused (state S.Store self.old) (state S.Store self.new)
+            (λ book fault. IsNotOffered book (id_number id) letters.now fault)) }
         ensures shows { IfErr result
             (ShowsOn (state S.Store self.old) (state S.Store self.new)) }
         ensures stop { Stops (state S.Store self.old) (state S.Store self.new)
@@ -221,10 +216,8 @@ impl<S: Alter> Book<S> {
         ensures proved { IfOk result (λ shown.
             Changes (state S.Store self.old) (state S.Store self.new)
             (λ book after. Proves book (id_number id) certificate.now shown after)) }
-        ensures refused { IfErr result (λ fault.
-            Keeps (state S.Store self.old) (state S.Store self.new)
-            (λ book. IsOutside fault
-            ⊎ IsNotProved book (id_number id) certificate.now fault)) }
+        ensures refused { IfErr result (KeepsRefused (state S.Store self.old) (state S.Store self.new)
+            (λ book fault. IsNotProved book (id_number id) certificate.now fault)) }
         ensures stop { Stops (state S.Store self.old) (state S.Store self.new)
             (λ book after. (shown : Claim)
             × Proves book (id_number id) certificate.now shown after) }
@@ -243,10 +236,8 @@ impl<S: Alter> Book<S> {
         requires { IsCertified level.now claim }
         ensures proved { OnOk result (Changes (state S.Store self.old) (state S.Store self.new)
             (λ book after. ProvesKnown book (id_number id) claim after)) }
-        ensures refused { IfErr result (λ fault.
-            Keeps (state S.Store self.old) (state S.Store self.new)
-            (λ book. IsOutside fault
-            ⊎ IsNotKnown book (id_number id) level.now claim fault)) }
+        ensures refused { IfErr result (KeepsRefused (state S.Store self.old) (state S.Store self.new)
+            (λ book fault. IsNotKnown book (id_number id) level.now claim fault)) }
         ensures stop { Stops (state S.Store self.old) (state S.Store self.new)
             (λ book after. ProvesKnown book (id_number id) claim after) }
         ensures cause { IfErr result (IsCaused (state S.Store self.old) (state S.Store self.new)

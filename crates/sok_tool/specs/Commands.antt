@@ -1,5 +1,5 @@
 -- What the program does for a command line.
-use Rattle.std.specs.Prelude.{ℕ, ℤ, ◌≡◌, Bool, List, [], Option, Some, None, Result, Err, unwrap_or}
+use Rattle.std.specs.Prelude.{ℕ, ℤ, ◌≡◌, List, [], Option, Some, None, Result, Err, unwrap_or}
 use Rattle.std.specs.Str.Parse.{digits_value}
 use Rattle.sok_search.specs.Faults.{IsBadLimit}
 use Rattle.sok_book.specs.Books.{Book}
@@ -10,7 +10,7 @@ use Rattle.sok_engine.specs.Inputs.{Within}
 use Rattle.sok_engine.specs.Limits.{cert_limit, input_limit}
 use Rattle.sok_engine.specs.Written.{Answers, Writes}
 use Rattle.sok_files.specs.Endings.{Ends, Runs}
-use Rattle.sok_files.specs.Files.{Files, OfFile, OfFiles}
+use Rattle.sok_files.specs.Files.{Files, IsMade, OfFile, OfFiles}
 use Rattle.sok_files.specs.Solving.{SolvesLevel}
 use Rattle.sok_judge.specs.Checks.{IsCheck}
 use Rattle.sok_keep.specs.Adds.{AddsBytes, WritesAdding}
@@ -24,77 +24,82 @@ use Rattle.sok_play.specs.Listing.{IsListing}
 use Rattle.sok_play.specs.Plays.{IsReplay}
 use Rattle.sok_book.specs.declared.text.BookText.TheVariants.{Overview, Export}
 use Rattle.sok_store.specs.Calls.{MakesNone}
-use Rattle.sok_words.specs.Forms.{Form, add, check, draw, export, from_of, id_value, limit_of, list, offer, offers, prove, replay, settle, show, solve}
+use Rattle.sok_words.specs.declared.job.Job.{Job}
+use Rattle.sok_words.specs.Forms.{Form, IsPlain, Means, add, check, draw, export, from_of, id_value, limit_of, list, offer, offers, prove, replay, settle, show, solve}
 use Rattle.sok_tool.specs.Certs.{keeping_of}
-use Rattle.sok_tool.specs.Databases.{Databases, OfOpened, Place, WorksOn, at, made_at, read_at}
+use Rattle.sok_tool.specs.Databases.{Databases, OfOpened, WorksOn, at, made_at, read_at}
 
--- what is answered to the job of playing a text: of replaying it, or of drawing the level behind it
-abbrev pub RunsPlay : (ℕ → List ℕ → List ℕ → Answers) → Files → List ℕ → ℕ → List ℕ → Bytes → Bytes → ℕ → Type 0
-RunsPlay P files file n text out err exit = Runs (OfFile (files.reads file) (Within input_limit (P n text))) out.old out.new err.old err.new exit
+-- of the files that may be opened so, and of those that may be made
+abbrev pub files_by : {O : Type 0} → (List ℕ → Option (List ℕ) → Type 0) → (List ℕ → Type 0) → (O → Option (List ℕ)) → (List ℕ → O → Type 0) → Files
+files_by reads lacks contents makes = record { reads = reads; lacks = lacks; makes = λ path. IsMade contents (makes path) }
 
--- what is answered to the job of judging
-abbrev pub RunsCheck : Files → List ℕ → ℕ → List ℕ → Bytes → Bytes → ℕ → Type 0
-RunsCheck files file n cert out err exit =
-    Runs (OfFiles (files.reads file) (files.reads cert) (λ text. Within input_limit (IsCheck cert_limit n text))) out.old out.new err.old err.new exit
+-- a text is played on a level of a file: it is replayed, or the level behind it is drawn
+abbrev pub RunsPlay : (ℕ → List ℕ → List ℕ → Answers) → (Option (List ℕ) → Type 0) → ℕ → Bytes → Result ℕ ToolFault → List ℕ → Type 0
+RunsPlay P reads n out result text = Writes (OfFile reads (Within input_limit (P n text))) out.old out.new result
 
--- what is answered to the job of solving, with a certificate where a path is given
-abbrev pub RunsSolve : Files → List ℕ → ℕ → ℕ → Bool → Option (List ℕ) → Bytes → Bytes → ℕ → Type 0
-RunsSolve files file n most bound path out err exit =
-    (result : Result ℕ ToolFault) × SolvesLevel file (files.reads file) files.makes n most bound path out result × Ends result err.old err.new exit
-
--- a command works on the book in a database, with a file that may be lacking, and the program ends with its status, or that of the fault
-abbrev pub RunsOn : Place → Type 0 → (Book → Book → Type 0) → (Book → Book → Result ℕ ToolFault → Type 0) → Bytes → Bytes → ℕ → Type 0
-RunsOn db lacks MayMake Makes out err exit =
-    (result : Result ℕ ToolFault) × WorksOn db lacks MayMake (λ book after. Makes book after result) out result × Ends result err.old err.new exit
+-- a certificate is judged for a level
+abbrev pub RunsCheck : Files → List ℕ → ℕ → List ℕ → Bytes → Result ℕ ToolFault → Type 0
+RunsCheck files file n cert out result =
+    Writes (OfFiles (files.reads file) (files.reads cert) (λ text. Within input_limit (IsCheck cert_limit n text))) out.old out.new result
 
 -- the levels of a file are added
-abbrev pub RunsAdd : Files → Databases → List ℕ → List ℕ → Bytes → Bytes → ℕ → Type 0
-RunsAdd files databases db file out err exit =
-    RunsOn (made_at databases db) (files.lacks file) (λ book after. OfOpened (files.reads file) (λ known. AddsBytes known book after))
-    (λ book after result. OfOpened (files.reads file) (λ known. WritesAdding book known after out.old out.new result)) out err exit
+abbrev pub RunsAdd : Files → Databases → List ℕ → List ℕ → Bytes → Result ℕ ToolFault → Type 0
+RunsAdd files databases db file out result =
+    WorksOn (made_at databases db) (files.lacks file) (λ book after. OfOpened (files.reads file) (λ known. AddsBytes known book after))
+    (λ book after. OfOpened (files.reads file) (λ known. WritesAdding book known after out.old out.new result)) out result
 
 -- a text is offered to the level with an id
-abbrev pub RunsOffer : Databases → List ℕ → ℤ → List ℕ → Bytes → Bytes → ℕ → Type 0
-RunsOffer databases db id text out err exit =
-    RunsOn (at databases db) ⊥ (OffersText id text) (λ book after result. WritesOffer book id text after out.old out.new result) out err exit
+abbrev pub RunsOffer : Databases → List ℕ → ℤ → Bytes → Result ℕ ToolFault → List ℕ → Type 0
+RunsOffer databases db id out result text =
+    WorksOn (at databases db) ⊥ (OffersText id text) (λ book after. WritesOffer book id text after out.old out.new result) out result
 
 -- the lines of a file are offered
-abbrev pub RunsOffers : Files → Databases → List ℕ → List ℕ → Bytes → Bytes → ℕ → Type 0
-RunsOffers files databases db file out err exit =
-    RunsOn (at databases db) (files.lacks file) (λ book after. OfOpened (files.reads file) (λ known. OffersBytes known book after))
-    (λ book after result. OfOpened (files.reads file) (λ known. WritesOffers book known after out.old out.new result)) out err exit
+abbrev pub RunsOffers : Files → Databases → List ℕ → List ℕ → Bytes → Result ℕ ToolFault → Type 0
+RunsOffers files databases db file out result =
+    WorksOn (at databases db) (files.lacks file) (λ book after. OfOpened (files.reads file) (λ known. OffersBytes known book after))
+    (λ book after. OfOpened (files.reads file) (λ known. WritesOffers book known after out.old out.new result)) out result
 
 -- the certificate in a file is judged for the level with an id
-abbrev pub RunsProve : Files → Databases → List ℕ → ℤ → List ℕ → Bytes → Bytes → ℕ → Type 0
-RunsProve files databases db id cert out err exit =
-    RunsOn (at databases db) (files.lacks cert) (λ book after. OfOpened (files.reads cert) (λ known. ProvesBytes id known book after))
-    (λ book after result. OfOpened (files.reads cert) (λ known. WritesProof book id known after out.old out.new result)) out err exit
+abbrev pub RunsProve : Files → Databases → List ℕ → ℤ → List ℕ → Bytes → Result ℕ ToolFault → Type 0
+RunsProve files databases db id cert out result =
+    WorksOn (at databases db) (files.lacks cert) (λ book after. OfOpened (files.reads cert) (λ known. ProvesBytes id known book after))
+    (λ book after. OfOpened (files.reads cert) (λ known. WritesProof book id known after out.old out.new result)) out result
 
 -- the levels that nothing is proved of are settled, within a limit that is not refused, from an id on, with their certificates in a folder, if one is given
-abbrev pub RunsSettle : Files → Databases → List ℕ → ℕ → ℤ → Option (List ℕ) → Bytes → Bytes → ℕ → Type 0
-RunsSettle files databases db limit from folder out err exit =
-    RunsOn (at databases db) ⊥ (SettlesSome (keeping_of files.makes folder) limit from)
-    (λ book after result. (IsBadLimit limit → result ≡ Err tool.BadLimit)
-    × WritesSettling (keeping_of files.makes folder) limit from book after out.old out.new result) out err exit
+abbrev pub RunsSettle : Files → Databases → List ℕ → ℕ → ℤ → Option (List ℕ) → Bytes → Result ℕ ToolFault → Type 0
+RunsSettle files databases db limit from folder out result =
+    WorksOn (at databases db) ⊥ (SettlesSome (keeping_of files.makes folder) limit from)
+    (λ book after. (IsBadLimit limit → result ≡ Err tool.BadLimit)
+    × WritesSettling (keeping_of files.makes folder) limit from book after out.old out.new result) out result
 
 -- the book is only read, and such an answer is written
-abbrev pub RunsShowing : Databases → List ℕ → (Book → Answers) → Bytes → Bytes → ℕ → Type 0
-RunsShowing databases db P out err exit =
-    RunsOn (read_at databases db) ⊥ MakesNone (λ book after result. (after ≡ book) × Writes (P book) out.old out.new result) out err exit
+abbrev pub RunsShowing : Databases → List ℕ → (Book → Answers) → Bytes → Result ℕ ToolFault → Type 0
+RunsShowing databases db P out result =
+    WorksOn (read_at databases db) ⊥ MakesNone (λ book after. (after ≡ book) × Writes (P book) out.old out.new result) out result
+
+-- the program ends with the status of what is done so, or with that of the fault
+abbrev pub EndsWith : (Result ℕ ToolFault → Type 0) → Bytes → ℕ → Type 0
+EndsWith Does err exit = (result : Result ℕ ToolFault) × Does result × Ends result err.old err.new exit
 
 -- what becomes of the output, of the files and of the book that a form names, with its values
 abbrev pub Serves : Files → Databases → Form → Bytes → Bytes → ℕ → Type 0
 Serves files databases (list file) out err exit = Runs (OfFile (files.reads file) (Within input_limit IsListing)) out.old out.new err.old err.new exit
-Serves files databases (replay file number text) out err exit = RunsPlay IsReplay files file (digits_value 10 number) text out err exit
-Serves files databases (draw file number text) out err exit = RunsPlay IsDrawing files file (digits_value 10 number) (unwrap_or text []) out err exit
-Serves files databases (check file number cert) out err exit = RunsCheck files file (digits_value 10 number) cert out err exit
+Serves files databases (replay file number text) out err exit =
+    EndsWith (λ result. RunsPlay IsReplay (files.reads file) (digits_value 10 number) out result text) err exit
+Serves files databases (draw file number text) out err exit =
+    EndsWith (λ result. RunsPlay IsDrawing (files.reads file) (digits_value 10 number) out result (unwrap_or text [])) err exit
+Serves files databases (check file number cert) out err exit = EndsWith (RunsCheck files file (digits_value 10 number) cert out) err exit
 Serves files databases (solve file number limit bound cert) out err exit =
-    RunsSolve files file (digits_value 10 number) (limit_of limit) bound cert out err exit
-Serves files databases (add db file) out err exit = RunsAdd files databases db file out err exit
-Serves files databases (offer db id text) out err exit = RunsOffer databases db (id_value id) text out err exit
-Serves files databases (offers db file) out err exit = RunsOffers files databases db file out err exit
-Serves files databases (prove db id cert) out err exit = RunsProve files databases db (id_value id) cert out err exit
-Serves files databases (settle db limit from folder) out err exit = RunsSettle files databases db (limit_of limit) (from_of from) folder out err exit
-Serves files databases (show db (Some id)) out err exit = RunsShowing databases db (λ book. IsShow book (id_value id)) out err exit
-Serves files databases (show db None) out err exit = RunsShowing databases db (IsBookText Overview) out err exit
-Serves files databases (export db solutions) out err exit = RunsShowing databases db (IsBookText (Export solutions)) out err exit
+    EndsWith (SolvesLevel file (files.reads file) files.makes (digits_value 10 number) (limit_of limit) bound cert out) err exit
+Serves files databases (add db file) out err exit = EndsWith (RunsAdd files databases db file out) err exit
+Serves files databases (offer db id text) out err exit = EndsWith (λ result. RunsOffer databases db (id_value id) out result text) err exit
+Serves files databases (offers db file) out err exit = EndsWith (RunsOffers files databases db file out) err exit
+Serves files databases (prove db id cert) out err exit = EndsWith (RunsProve files databases db (id_value id) cert out) err exit
+Serves files databases (settle db limit from folder) out err exit = EndsWith (RunsSettle files databases db (limit_of limit) (from_of from) folder out) err exit
+Serves files databases (show db (Some id)) out err exit = EndsWith (RunsShowing databases db (λ book. IsShow book (id_value id)) out) err exit
+Serves files databases (show db None) out err exit = EndsWith (RunsShowing databases db (IsBookText Overview) out) err exit
+Serves files databases (export db solutions) out err exit = EndsWith (RunsShowing databases db (IsBookText (Export solutions)) out) err exit
+
+-- and what becomes of them for a job of such a form
+abbrev pub ServesJob : Files → Databases → Job → Bytes → Bytes → ℕ → Type 0
+ServesJob files databases job out err exit = (form : Form) → IsPlain form → Means form job → Serves files databases form out err exit

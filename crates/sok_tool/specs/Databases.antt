@@ -12,6 +12,8 @@ use Rattle.sok_sql.specs.Connections.{IsKnown, IsSame}
 use Rattle.sok_store.specs.Calls.{Stops, Turns}
 use Rattle.sok_store.specs.Opening.{IsCausedOpening, IsUnopened, Opens}
 use Rattle.sok_keep.specs.Causes.{IsCausedFault}
+use Rattle.sok_databases.specs.declared.databases.Access.{Access}
+use Rattle.sok_databases.specs.declared.databases.Access.TheVariants as accesses
 
 -- of the database at one path: the connections to it, what each shows, which one may be opened there, how it may be refused, and which one is given back
 pub record Place : Type 1 where
@@ -33,6 +35,18 @@ pub record Databases : Type 1 where
   pub reads : List ℕ → Connection → Type 0
   pub refuses : List ℕ → ToolFault → Type 0
   pub closes_as : List ℕ → Connection → Type 0
+
+-- of those that may be opened so, each as it is to be changed, made or read
+abbrev pub databases_by : {C : Type 0} → (C → State) → (Access → List ℕ → C → Type 0) → (List ℕ → ToolFault → Type 0) → (List ℕ → C → Type 0) → Databases
+databases_by {C} shows opens_as refuses closes_as = record {
+  Connection = C;
+  shows = shows;
+  opens_as = opens_as accesses.Change;
+  makes = opens_as accesses.Make;
+  reads = opens_as accesses.Read;
+  refuses = refuses;
+  closes_as = closes_as;
+}
 
 -- of the one that is at a path
 abbrev pub at : Databases → List ℕ → Place

@@ -6,20 +6,16 @@ ghost use Rattle.std.specs.Prelude.{◌≡◌, Err, IfErr, IfOk, option_map, str
 ghost use Rattle.sqlite.specs.Held.{state};
 ghost use Rattle.sok_search.specs.Faults.{IsBadLimit};
 ghost use Rattle.sok_engine.specs.declared.fault.ToolFault.TheVariants as tool;
-ghost use Rattle.sok_engine.specs.Written.{Writes};
 ghost use Rattle.sok_files.specs.Files.{IsMade};
-ghost use Rattle.sok_store.specs.Calls.{MakesNone, Stops, Turns};
+ghost use Rattle.sok_store.specs.Calls.{Stops, Turns};
 ghost use Rattle.sok_keep.specs.Causes.{IsCausedFault};
-ghost use Rattle.sok_keep.specs.Adds.{AddsBytes, WritesAdding};
-ghost use Rattle.sok_keep.specs.Offers.{OffersText, WritesOffer};
-ghost use Rattle.sok_keep.specs.Proves.{ProvesBytes, WritesProof};
 ghost use Rattle.sok_keep.specs.Shows.{IsBookText, IsShow};
-ghost use Rattle.sok_settle.specs.Offers.{OffersBytes, WritesOffers};
 ghost use Rattle.sok_settle.specs.Settles.{SettlesSome, WritesSettling};
-ghost use Rattle.sok_tool.specs.Databases.{IsWithoutBook, OfOpened, OpensFound, WorksOn, place};
+ghost use Rattle.sok_tool.specs.Commands.{RunsAdd, RunsOffer, RunsOffers, RunsProve, RunsSettle};
+ghost use Rattle.sok_tool.specs.Commands.{RunsShowing, files_by};
+ghost use Rattle.sok_tool.specs.Databases.{IsWithoutBook, OpensFound, databases_by, place};
 ghost use Rattle.sok_tool.specs.Certs.{keeping_of};
 ghost use Rattle.sok_databases.specs.declared.databases.Access.{Access};
-ghost use Rattle.sok_databases.specs.declared.databases.Access.TheVariants as accesses;
 
 use crate::certs::CertFolder;
 use sok_book::fault::BookFault;
@@ -45,12 +41,9 @@ pub(crate) fn add<
     F: Folder + Databases<Opened = Connection<S>> + AllocGlobal,
     W: Write,
 >(rt: &F, db: &str, path: &str, out: &mut W) -> Result<u8, ToolFault>
-    ensures { WorksOn (place (state S.Store)
-        (F.opens_as rt.now accesses.Make db.now) (F.refuses rt.now db.now) (F.closes_as rt.now db.now)) (F.lacks rt.now path.now)
-        (λ book after. OfOpened (F.reads rt.now path.now) (λ known. AddsBytes known book after))
-        (λ book after. OfOpened (F.reads rt.now path.now) (λ known.
-        WritesAdding book known after (W.contents out.old) (W.contents out.new) result))
-        (record { old = W.contents out.old; new = W.contents out.new }) result }
+    ensures { RunsAdd (files_by (F.reads rt.now) (F.lacks rt.now) F.Output.contents (F.makes rt.now))
+        (databases_by (state S.Store) (F.opens_as rt.now) (F.refuses rt.now) (F.closes_as rt.now))
+        db.now path.now (record { old = W.contents out.old; new = W.contents out.new }) result }
 {
     let (mut book, mut input) = book_and_file(rt, db, Access::Make, path)?;
     let told = add_bytes(rt.alloc(), &mut book, &mut input, out);
@@ -66,12 +59,9 @@ pub(crate) fn offer<S: Alter + Drop, F: Databases<Opened = Connection<S>> + Allo
     text: &[u8],
     out: &mut W,
 ) -> Result<u8, ToolFault>
-    ensures { WorksOn (place (state S.Store)
-        (F.opens_as rt.now accesses.Change db.now) (F.refuses rt.now db.now) (F.closes_as rt.now db.now)) ⊥
-        (OffersText id text.now)
-        (λ book after.
-        WritesOffer book id text.now after (W.contents out.old) (W.contents out.new) result)
-        (record { old = W.contents out.old; new = W.contents out.new }) result }
+    ensures { RunsOffer
+        (databases_by (state S.Store) (F.opens_as rt.now) (F.refuses rt.now) (F.closes_as rt.now))
+        db.now id (record { old = W.contents out.old; new = W.contents out.new }) result text.now }
 {
     let mut book = book_of(rt, db, Access::Change)?;
     let told = offer_bytes(rt.alloc(), &mut book, id, text, out);
@@ -85,12 +75,9 @@ pub(crate) fn offers<
     F: Folder + Databases<Opened = Connection<S>> + AllocGlobal,
     W: Write,
 >(rt: &F, db: &str, path: &str, out: &mut W) -> Result<u8, ToolFault>
-    ensures { WorksOn (place (state S.Store)
-        (F.opens_as rt.now accesses.Change db.now) (F.refuses rt.now db.now) (F.closes_as rt.now db.now)) (F.lacks rt.now path.now)
-        (λ book after. OfOpened (F.reads rt.now path.now) (λ known. OffersBytes known book after))
-        (λ book after. OfOpened (F.reads rt.now path.now) (λ known.
-        WritesOffers book known after (W.contents out.old) (W.contents out.new) result))
-        (record { old = W.contents out.old; new = W.contents out.new }) result }
+    ensures { RunsOffers (files_by (F.reads rt.now) (F.lacks rt.now) F.Output.contents (F.makes rt.now))
+        (databases_by (state S.Store) (F.opens_as rt.now) (F.refuses rt.now) (F.closes_as rt.now))
+        db.now path.now (record { old = W.contents out.old; new = W.contents out.new }) result }
 {
     let (mut book, mut input) = book_and_file(rt, db, Access::Change, path)?;
     let told = offers_bytes(rt.alloc(), &mut book, &mut input, out);
@@ -104,12 +91,9 @@ pub(crate) fn prove<
     F: Folder + Databases<Opened = Connection<S>> + AllocGlobal,
     W: Write,
 >(rt: &F, db: &str, id: i64, path: &str, out: &mut W) -> Result<u8, ToolFault>
-    ensures { WorksOn (place (state S.Store)
-        (F.opens_as rt.now accesses.Change db.now) (F.refuses rt.now db.now) (F.closes_as rt.now db.now)) (F.lacks rt.now path.now)
-        (λ book after. OfOpened (F.reads rt.now path.now) (λ known. ProvesBytes id known book after))
-        (λ book after. OfOpened (F.reads rt.now path.now) (λ known.
-        WritesProof book id known after (W.contents out.old) (W.contents out.new) result))
-        (record { old = W.contents out.old; new = W.contents out.new }) result }
+    ensures { RunsProve (files_by (F.reads rt.now) (F.lacks rt.now) F.Output.contents (F.makes rt.now))
+        (databases_by (state S.Store) (F.opens_as rt.now) (F.refuses rt.now) (F.closes_as rt.now))
+        db.now id path.now (record { old = W.contents out.old; new = W.contents out.new }) result }
 {
     let (mut book, mut cert_input) = book_and_file(rt, db, Access::Change, path)?;
     let told = prove_bytes(rt.alloc(), &mut book, id, &mut cert_input, out);
@@ -131,15 +115,9 @@ pub(crate) fn settle<
     folder: Option<String>,
     out: &mut W,
 ) -> Result<u8, ToolFault>
-    ensures { WorksOn (place (state S.Store)
-        (F.opens_as rt.now accesses.Change db.now) (F.refuses rt.now db.now) (F.closes_as rt.now db.now)) ⊥
-        (SettlesSome (keeping_of (λ path. IsMade F.Output.contents (F.makes rt.now path))
-        (option_map (λ s. string_bytes s) folder)) limit from)
-        (λ book after. (IsBadLimit limit → result ≡ Err tool.BadLimit)
-        × WritesSettling (keeping_of (λ path. IsMade F.Output.contents (F.makes rt.now path))
-        (option_map (λ s. string_bytes s) folder)) limit from book after
-        (W.contents out.old) (W.contents out.new) result)
-        (record { old = W.contents out.old; new = W.contents out.new }) result }
+    ensures { RunsSettle (files_by (F.reads rt.now) (F.lacks rt.now) F.Output.contents (F.makes rt.now))
+        (databases_by (state S.Store) (F.opens_as rt.now) (F.refuses rt.now) (F.closes_as rt.now))
+        db.now limit from (option_map (λ s. string_bytes s) folder) (record { old = W.contents out.old; new = W.contents out.new }) result }
 {
     let mut book = book_of(rt, db, Access::Change)?;
     let told = settle_book(rt, &mut book, limit, from, folder, out);
@@ -187,11 +165,9 @@ pub(crate) fn show<S: Alter + Drop, F: Databases<Opened = Connection<S>> + Alloc
     id: i64,
     out: &mut W,
 ) -> Result<u8, ToolFault>
-    ensures { WorksOn (place (state S.Store)
-        (F.opens_as rt.now accesses.Read db.now) (F.refuses rt.now db.now) (F.closes_as rt.now db.now)) ⊥ MakesNone
-        (λ book after. (after ≡ book)
-        × Writes (IsShow book id) (W.contents out.old) (W.contents out.new) result)
-        (record { old = W.contents out.old; new = W.contents out.new }) result }
+    ensures { RunsShowing
+        (databases_by (state S.Store) (F.opens_as rt.now) (F.refuses rt.now) (F.closes_as rt.now))
+        db.now (λ book. IsShow book id) (record { old = W.contents out.old; new = W.contents out.new }) result }
 {
     let mut book = book_of(rt, db, Access::Read)?;
     let told = show_bytes(rt.alloc(), &mut book, id, out);
@@ -206,11 +182,9 @@ pub(crate) fn tell<S: Alter + Drop, F: Databases<Opened = Connection<S>> + Alloc
     text: BookText,
     out: &mut W,
 ) -> Result<u8, ToolFault>
-    ensures { WorksOn (place (state S.Store)
-        (F.opens_as rt.now accesses.Read db.now) (F.refuses rt.now db.now) (F.closes_as rt.now db.now)) ⊥ MakesNone
-        (λ book after. (after ≡ book)
-        × Writes (IsBookText text book) (W.contents out.old) (W.contents out.new) result)
-        (record { old = W.contents out.old; new = W.contents out.new }) result }
+    ensures { RunsShowing
+        (databases_by (state S.Store) (F.opens_as rt.now) (F.refuses rt.now) (F.closes_as rt.now))
+        db.now (IsBookText text) (record { old = W.contents out.old; new = W.contents out.new }) result }
 {
     let mut book = book_of(rt, db, Access::Read)?;
     let told = book_bytes(rt.alloc(), &mut book, text, out);

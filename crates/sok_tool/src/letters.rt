@@ -2,16 +2,11 @@
 
 ghost use Rattle.std.specs.Prelude.{IfErr, IfOk};
 ghost use Rattle.sqlite.specs.Held.{state};
-ghost use Rattle.sok_engine.specs.Inputs.{Within};
-ghost use Rattle.sok_engine.specs.Limits.{input_limit};
-ghost use Rattle.sok_engine.specs.Written.{Writes};
-ghost use Rattle.sok_files.specs.Files.{OfFile};
-ghost use Rattle.sok_keep.specs.Offers.{OffersText, WritesOffer};
 ghost use Rattle.sok_play.specs.Drawings.{IsDrawing};
 ghost use Rattle.sok_play.specs.Plays.{IsReplay};
-ghost use Rattle.sok_tool.specs.Databases.{WorksOn, place};
+ghost use Rattle.sok_tool.specs.Commands.{RunsOffer, RunsPlay};
+ghost use Rattle.sok_tool.specs.Databases.{databases_by};
 ghost use Rattle.sok_tool.specs.Letters.{IsLetters, IsUnread, OnLetters};
-ghost use Rattle.sok_databases.specs.declared.databases.Access.TheVariants as accesses;
 
 use crate::keeping;
 use sok_databases::databases::Databases;
@@ -45,9 +40,9 @@ pub(crate) fn replay<F: Folder + AllocGlobal, R: Read, W: Write>(
     input: &mut R,
     out: &mut W,
 ) -> Result<u8, ToolFault>
-    ensures { OnLetters word.now (R.remaining input.old) (λ letters.
-        Writes (OfFile (F.reads rt.now path.now) (Within input_limit (IsReplay n letters)))
-        (W.contents out.old) (W.contents out.new) result)
+    ensures { OnLetters word.now (R.remaining input.old)
+        (RunsPlay IsReplay (F.reads rt.now path.now) n
+        (record { old = W.contents out.old; new = W.contents out.new }) result)
         (record { old = W.contents out.old; new = W.contents out.new }) result }
 {
     let letters = letters_of(rt.alloc(), word, input)?;
@@ -63,9 +58,9 @@ pub(crate) fn draw<F: Folder + AllocGlobal, R: Read, W: Write>(
     input: &mut R,
     out: &mut W,
 ) -> Result<u8, ToolFault>
-    ensures { OnLetters word.now (R.remaining input.old) (λ letters.
-        Writes (OfFile (F.reads rt.now path.now) (Within input_limit (IsDrawing n letters)))
-        (W.contents out.old) (W.contents out.new) result)
+    ensures { OnLetters word.now (R.remaining input.old)
+        (RunsPlay IsDrawing (F.reads rt.now path.now) n
+        (record { old = W.contents out.old; new = W.contents out.new }) result)
         (record { old = W.contents out.old; new = W.contents out.new }) result }
 {
     let letters = letters_of(rt.alloc(), word, input)?;
@@ -79,12 +74,9 @@ pub(crate) fn offer<
     R: Read,
     W: Write,
 >(rt: &F, db: &str, id: i64, word: &str, input: &mut R, out: &mut W) -> Result<u8, ToolFault>
-    ensures { OnLetters word.now (R.remaining input.old) (λ letters. WorksOn (place (state S.Store)
-        (F.opens_as rt.now accesses.Change db.now) (F.refuses rt.now db.now) (F.closes_as rt.now db.now)) ⊥
-        (OffersText id letters)
-        (λ book after.
-        WritesOffer book id letters after (W.contents out.old) (W.contents out.new) result)
-        (record { old = W.contents out.old; new = W.contents out.new }) result)
+    ensures { OnLetters word.now (R.remaining input.old) (RunsOffer
+        (databases_by (state S.Store) (F.opens_as rt.now) (F.refuses rt.now) (F.closes_as rt.now))
+        db.now id (record { old = W.contents out.old; new = W.contents out.new }) result)
         (record { old = W.contents out.old; new = W.contents out.new }) result }
 {
     let letters = letters_of(rt.alloc(), word, input)?;

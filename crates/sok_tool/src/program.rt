@@ -4,12 +4,11 @@ ghost use Rattle.std.specs.Prelude.{◌≡◌, ◌≤◌, ◌∷◌, ℕ, List, 
 ghost use Rattle.sok_engine.specs.Inputs.{OfReader, Within};
 ghost use Rattle.sok_engine.specs.Limits.{input_limit};
 ghost use Rattle.sok_play.specs.Plays.{IsPlay};
-ghost use Rattle.sok_words.specs.Forms.{Form, IsPlain, Means, words_of};
+ghost use Rattle.sok_words.specs.Forms.{Form, IsPlain, words_of};
 ghost use Rattle.sok_files.specs.Endings.{Runs};
-ghost use Rattle.sok_files.specs.Files.{IsMade};
-ghost use Rattle.sqlite.specs.Held.{Held, state};
-ghost use Rattle.sok_tool.specs.Commands.{Serves};
-ghost use Rattle.sok_databases.specs.declared.databases.Access.TheVariants as accesses;
+ghost use Rattle.sqlite.specs.Held.{state};
+ghost use Rattle.sok_tool.specs.Commands.{Serves, ServesJob, files_by};
+ghost use Rattle.sok_tool.specs.Databases.{databases_by};
 
 use crate::keeping::{add, offers, prove, settle, show, tell};
 use crate::letters::{draw, offer, replay};
@@ -47,19 +46,8 @@ pub fn run<
         (W.contents out.old) (W.contents out.new) (E.contents err.old) (E.contents err.new) result }
     ensures serves { (program : List ℕ) (form : Form) → IsPlain form
         → map (λ word. string_bytes word) words.now ≡ program ∷ words_of form
-        → Serves (record {
-          reads = F.reads rt.now;
-          lacks = F.lacks rt.now;
-          makes = λ path. IsMade F.Output.contents (F.makes rt.now path);
-        }) (record {
-          Connection = Held S;
-          shows = state S.Store;
-          opens_as = F.opens_as rt.now accesses.Change;
-          makes = F.opens_as rt.now accesses.Make;
-          reads = F.opens_as rt.now accesses.Read;
-          refuses = F.refuses rt.now;
-          closes_as = F.closes_as rt.now;
-        }) form
+        → Serves (files_by (F.reads rt.now) (F.lacks rt.now) F.Output.contents (F.makes rt.now))
+        (databases_by (state S.Store) (F.opens_as rt.now) (F.refuses rt.now) (F.closes_as rt.now)) form
         (record { old = W.contents out.old; new = W.contents out.new })
         (record { old = E.contents err.old; new = E.contents err.new }) result }
 {
@@ -80,20 +68,8 @@ fn served<
     W: Write,
     E: Write,
 >(rt: &F, job: Job, input: &mut R, out: &mut W, err: &mut E) -> u8
-    ensures { (form : Form) → IsPlain form → Means form job
-        → Serves (record {
-          reads = F.reads rt.now;
-          lacks = F.lacks rt.now;
-          makes = λ path. IsMade F.Output.contents (F.makes rt.now path);
-        }) (record {
-          Connection = Held S;
-          shows = state S.Store;
-          opens_as = F.opens_as rt.now accesses.Change;
-          makes = F.opens_as rt.now accesses.Make;
-          reads = F.opens_as rt.now accesses.Read;
-          refuses = F.refuses rt.now;
-          closes_as = F.closes_as rt.now;
-        }) form
+    ensures { ServesJob (files_by (F.reads rt.now) (F.lacks rt.now) F.Output.contents (F.makes rt.now))
+        (databases_by (state S.Store) (F.opens_as rt.now) (F.refuses rt.now) (F.closes_as rt.now)) job
         (record { old = W.contents out.old; new = W.contents out.new })
         (record { old = E.contents err.old; new = E.contents err.new }) result }
 {

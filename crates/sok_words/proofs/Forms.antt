@@ -1,19 +1,17 @@
 -- What the command makes of a form.
-use Rattle.std.proofs.Common.{◌≡◌, ◌&&◌, ◌||◌, ◌∙◌, sym, true≢false, Bool, false, true, ℕ, refl, ap, List, [], ◌∷◌, map, Option, Some, None, codes, lit<}
+use Rattle.std.proofs.Common.{◌≡◌, ◌∙◌, ◌++◌, IfSome, get_or, sym, true≢false, Bool, false, true, refl, ap, List, [], ◌∷◌, map, Option, Some, None, codes, lit<}
 use Rattle.std.proofs.Common.{Result, Ok, Err, IsErrAnd, Global, String, option_map, string_bytes, unwrap_or}
 use Rattle.std.specs.Str.{bytes_eq}
-use Rattle.std.specs.Str.Parse.{IsNumeral}
 use Rattle.clap.specs.Walk.{Row, Text, walked}
-use Rattle.clap.specs.Words.{first_of}
 use Rattle.clap.specs.Simple.{subcommand_of}
 use Rattle.clap.specs.Takes.{takes}
-use Rattle.sok_words.specs.Forms.{Answers, Form, IsId, IsNumber, IsPlain, Means, list, replay, draw, solve, check, add, offer, offers, prove, settle, show, export, words_of}
-use Rattle.sok_words.specs.Rows.{HasId, HasNumber, HasValues}
+use Rattle.sok_words.specs.Forms.{Answers, Form, IsId, IsNumber, IsPlain, IsValue, flag_words, list, replay, draw, solve, check, add, offer, offers, prove, settle, show, export, words_of}
+use Rattle.sok_words.specs.Rows.{HasValues}
 use Rattle.sok_words.specs.Shapes.{sok_app}
 use Rattle.sok_words.specs.declared.job.Job.{Job}
 use Rattle.sok_words.specs.declared.job.JobRefused.{JobRefused}
-use Rattle.sok_words.proofs.WordSteps.{AllPass, Said, named, number_is_value, value, word_of}
-use Rattle.sok_words.proofs.Lines.{IsSub, id_passes, number_passes, TakesSaid, rows_said, runs}
+use Rattle.sok_words.proofs.WordSteps.{Said, all_met, all_pass, asked_of, named, number_is_value, value, word_of}
+use Rattle.sok_words.proofs.Lines.{IsSub, id_passes, number_passes, rows_said, runs, takes_said}
 
 -- the command takes the words, and gives the values of the form
 pub record Reads (program : Text) (form : Form) : Type 0 where
@@ -23,175 +21,112 @@ pub record Reads (program : Text) (form : Form) : Type 0 where
   pub enters : subcommand_of sok_app (program ∷ words_of form) ≡ Some (name, rows)
   pub values : HasValues form name rows
 
-by : (program : Text) (form : Form) (name : Text) (said : List Said) → words_of form ≡ name ∷ map word_of said → IsSub name (map word_of said)
-    → TakesSaid name said → HasValues form name (rows_said name said) → Reads program form
-by program form name said is sub well values =
-    let runs = runs program name said sub well in record {
+-- ---- what is said in a form
+
+abbrev text : (word : Text) → IsValue word → Said
+text word is = value word is true refl
+
+abbrev number : (word : Text) → IsNumber word → Said
+number word n = value word (number_is_value word n.0) _ (number_passes word n)
+
+abbrev id : (word : Text) → IsId word → Said
+id word n = value word (number_is_value word n.0) _ (id_passes word n)
+
+abbrev option : Text → List Said
+option name = named false name ∷ []
+
+abbrev flag : Text → Bool → List Said
+flag name is_given = map (named true) (flag_words name is_given)
+
+-- a text that may be left out, behind the name of its option
+abbrev given : {Has : Text → Type 0} → List Said → ((word : Text) → Has word → Said) → (word : Option Text) → IfSome word Has → List Said
+given name say None has = []
+given name say (Some word) has = name ++ say word has ∷ []
+
+-- in the order of its words
+abbrev said_of : (form : Form) → IsPlain form → List Said
+said_of (list file) f = text file f ∷ []
+said_of (replay file digits letters) (f, n, t) = text file f ∷ number digits n ∷ text letters t ∷ []
+said_of (draw file digits letters) (f, n, t) = text file f ∷ number digits n ∷ given [] text letters t
+said_of (solve file digits limit bound cert) (f, n, l, c) = text file f ∷ number digits n
+    ∷ (given (option (codes "--limit")) number limit l ++ flag (codes "--bound") bound
+    ++ given (option (codes "--cert")) text cert c)
+said_of (check file digits cert) (f, n, c) = text file f ∷ number digits n ∷ text cert c ∷ []
+said_of (add db file) (d, f) = text db d ∷ text file f ∷ []
+said_of (offer db digits letters) (d, i, t) = text db d ∷ id digits i ∷ text letters t ∷ []
+said_of (offers db file) (d, f) = text db d ∷ text file f ∷ []
+said_of (prove db digits cert) (d, i, c) = text db d ∷ id digits i ∷ text cert c ∷ []
+said_of (settle db limit from certs) (d, l, i, c) = text db d
+    ∷ (given (option (codes "--limit")) number limit l ++ given (option (codes "--from")) id from i
+    ++ given (option (codes "--certs")) text certs c)
+said_of (show db digits) (d, i) = text db d ∷ given [] id digits i
+said_of (export db solutions) d = text db d ∷ flag (codes "--solutions") solutions
+
+abbrev name_of : Form → Text
+name_of form = get_or (words_of form) 0 []
+
+-- the words of the form are its name and what is said, of which the command asks no more than is asked of the values, and these are found
+abbrev Finds : (form : Form) → IsPlain form → Type 0
+Finds form plain = let name = name_of form in let said = said_of form plain in
+    (words_of form ≡ name ∷ map word_of said) × IsSub name (map word_of said) × (takes_said name said ≡ asked_of said true)
+    × HasValues form name (rows_said name said)
+
+-- what stands for an option that is left out
+default_limit : IsNumber (codes "100000")
+default_limit = ((lit< tt, (lit< tt, (lit< tt, (lit< tt, (lit< tt, (lit< tt, (lit< tt, tt))))))), lit< tt)
+
+default_from : IsId (codes "1")
+default_from = ((lit< tt, (lit< tt, tt)), lit< tt)
+
+finds : (form : Form) (plain : IsPlain form) → Finds form plain
+unfolding walked all_pass
+finds (list file) f = (refl, refl, refl, (refl, refl))
+finds (replay file digits letters) (f, n, t) = (refl, refl, refl, (refl, refl, (n, refl, refl), refl))
+finds (draw file digits None) (f, n, t) = (refl, refl, refl, (refl, refl, (n, refl, refl), refl))
+finds (draw file digits (Some letters)) (f, n, t) = (refl, refl, refl, (refl, refl, (n, refl, refl), refl))
+finds (solve file digits None false None) (f, n, l, c) = (refl, refl, refl, (refl, refl, (n, refl, refl), (default_limit, refl, refl), refl, refl))
+finds (solve file digits None false (Some cert)) (f, n, l, c) = (refl, refl, refl, (refl, refl, (n, refl, refl), (default_limit, refl, refl), refl, refl))
+finds (solve file digits None true None) (f, n, l, c) = (refl, refl, refl, (refl, refl, (n, refl, refl), (default_limit, refl, refl), refl, refl))
+finds (solve file digits None true (Some cert)) (f, n, l, c) = (refl, refl, refl, (refl, refl, (n, refl, refl), (default_limit, refl, refl), refl, refl))
+finds (solve file digits (Some limit) false None) (f, n, l, c) = (refl, refl, refl, (refl, refl, (n, refl, refl), (l, refl, refl), refl, refl))
+finds (solve file digits (Some limit) false (Some cert)) (f, n, l, c) = (refl, refl, refl, (refl, refl, (n, refl, refl), (l, refl, refl), refl, refl))
+finds (solve file digits (Some limit) true None) (f, n, l, c) = (refl, refl, refl, (refl, refl, (n, refl, refl), (l, refl, refl), refl, refl))
+finds (solve file digits (Some limit) true (Some cert)) (f, n, l, c) = (refl, refl, refl, (refl, refl, (n, refl, refl), (l, refl, refl), refl, refl))
+finds (check file digits cert) (f, n, c) = (refl, refl, refl, (refl, refl, (n, refl, refl), refl))
+finds (add db file) (d, f) = (refl, refl, refl, (refl, refl, refl))
+finds (offer db digits letters) (d, i, t) = (refl, refl, refl, (refl, refl, (i, refl), refl))
+finds (offers db file) (d, f) = (refl, refl, refl, (refl, refl, refl))
+finds (prove db digits cert) (d, i, c) = (refl, refl, refl, (refl, refl, (i, refl), refl))
+finds (settle db None None None) (d, l, i, c) = (refl, refl, refl, (refl, refl, (default_limit, refl, refl), (default_from, refl), refl))
+finds (settle db None None (Some certs)) (d, l, i, c) = (refl, refl, refl, (refl, refl, (default_limit, refl, refl), (default_from, refl), refl))
+finds (settle db None (Some from) None) (d, l, i, c) = (refl, refl, refl, (refl, refl, (default_limit, refl, refl), (i, refl), refl))
+finds (settle db None (Some from) (Some certs)) (d, l, i, c) = (refl, refl, refl, (refl, refl, (default_limit, refl, refl), (i, refl), refl))
+finds (settle db (Some limit) None None) (d, l, i, c) = (refl, refl, refl, (refl, refl, (l, refl, refl), (default_from, refl), refl))
+finds (settle db (Some limit) None (Some certs)) (d, l, i, c) = (refl, refl, refl, (refl, refl, (l, refl, refl), (default_from, refl), refl))
+finds (settle db (Some limit) (Some from) None) (d, l, i, c) = (refl, refl, refl, (refl, refl, (l, refl, refl), (i, refl), refl))
+finds (settle db (Some limit) (Some from) (Some certs)) (d, l, i, c) = (refl, refl, refl, (refl, refl, (l, refl, refl), (i, refl), refl))
+finds (show db None) (d, i) = (refl, refl, refl, (refl, refl, (i, refl)))
+finds (show db (Some digits)) (d, i) = (refl, refl, refl, (refl, refl, (i, refl)))
+finds (export db false) d = (refl, refl, refl, (refl, refl, refl))
+finds (export db true) d = (refl, refl, refl, (refl, refl, refl))
+
+pub reads : (program : Text) (form : Form) → IsPlain form → Reads program form
+reads program form plain =
+    let (is, sub, asked, values) = finds form plain in
+    let said = said_of form plain in
+    let runs = runs program (name_of form) said sub (asked ∙ all_met said true refl) in record {
       takes = ap (λ (words : List Text). takes sok_app (program ∷ words)) is ∙ runs.takes;
-      name = name;
-      rows = rows_said name said;
+      name = name_of form;
+      rows = rows_said (name_of form) said;
       enters = ap (λ (words : List Text). subcommand_of sok_app (program ∷ words)) is ∙ runs.enters;
       values = values;
     }
 
--- digits are a value
-abbrev digits : (text : Text) → IsNumeral 10 text → Said
-digits text numeral = value text (number_is_value text numeral)
-
-default_is_number : IsNumber (codes "100000")
-default_is_number = ((lit< tt, (lit< tt, (lit< tt, (lit< tt, (lit< tt, (lit< tt, (lit< tt, tt))))))), lit< tt)
-
-one_is_id : IsId (codes "1")
-one_is_id = ((lit< tt, (lit< tt, tt)), lit< tt)
-
-pub reads : (program : Text) (form : Form) → IsPlain form → Reads program form
-unfolding walked AllPass
-reads program (list file) is =
-    by program (list file) (codes "list") (value file is ∷ []) refl refl (record { passes = (refl, tt); ends = refl }) (refl, refl)
-reads program (replay file number text) (f, n, t) =
-    by program (replay file number text) (codes "replay") (value file f ∷ digits number n.0 ∷ value text t ∷ []) refl refl
-    (record { passes = (refl, (refl, (rw (number_passes (codes "N") number n) refl, tt))); ends = refl }) (refl, refl, (n, refl, refl), refl)
-reads program (draw file number None) (f, n, t) =
-    by program (draw file number None) (codes "draw") (value file f ∷ digits number n.0 ∷ []) refl refl
-    (record { passes = (refl, (refl, tt)); ends = ap (λ b. (b && true) && true) (number_passes (codes "N") number n) })
-    (refl, refl, (n, refl, refl), refl)
-reads program (draw file number (Some text)) (f, n, t) =
-    by program (draw file number (Some text)) (codes "draw") (value file f ∷ digits number n.0 ∷ value text t ∷ []) refl refl
-    (record { passes = (refl, (refl, (rw (number_passes (codes "N") number n) refl, tt))); ends = refl }) (refl, refl, (n, refl, refl), refl)
-reads program (check file number cert) (f, n, c) =
-    by program (check file number cert) (codes "check") (value file f ∷ digits number n.0 ∷ value cert c ∷ []) refl refl
-    (record { passes = (refl, (refl, (rw (number_passes (codes "N") number n) refl, tt))); ends = refl }) (refl, refl, (n, refl, refl), refl)
-reads program (add db file) (d, f) =
-    by program (add db file) (codes "add") (value db d ∷ value file f ∷ []) refl refl (record { passes = (refl, (refl, tt)); ends = refl }) (refl, refl, refl)
-reads program (offer db id text) (d, i, t) =
-    by program (offer db id text) (codes "offer") (value db d ∷ digits id i.0 ∷ value text t ∷ []) refl refl
-    (record { passes = (refl, (refl, (rw (id_passes (codes "ID") id i) refl, tt))); ends = refl }) (refl, refl, (i, refl), refl)
-reads program (offers db file) (d, f) =
-    by program (offers db file) (codes "offers") (value db d ∷ value file f ∷ []) refl refl (record { passes = (refl, (refl, tt)); ends = refl }) (refl, refl, refl)
-reads program (prove db id cert) (d, i, c) =
-    by program (prove db id cert) (codes "prove") (value db d ∷ digits id i.0 ∷ value cert c ∷ []) refl refl
-    (record { passes = (refl, (refl, (rw (id_passes (codes "ID") id i) refl, tt))); ends = refl }) (refl, refl, (i, refl), refl)
-reads program (settle db None None None) (d, l, i, c) =
-    by program (settle db None None None) (codes "settle") (value db d ∷ []) refl refl (record { passes = (refl, tt); ends = refl })
-    (refl, refl, (default_is_number, refl, refl), (one_is_id, refl), refl)
-reads program (settle db None None (Some folder)) (d, l, i, c) =
-    by program (settle db None None (Some folder)) (codes "settle") (value db d ∷ named (codes "--certs") ∷ value folder c ∷ []) refl refl
-    (record { passes = (refl, (refl, (refl, tt))); ends = refl }) (refl, refl, (default_is_number, refl, refl), (one_is_id, refl), refl)
-reads program (settle db None (Some id) None) (d, l, i, c) =
-    by program (settle db None (Some id) None) (codes "settle") (value db d ∷ named (codes "--from") ∷ digits id i.0 ∷ []) refl refl
-    (record { passes = (refl, (refl, (refl, tt))); ends = ap (λ b. (b && true) && true) (id_passes (codes "from") id i) })
-    (refl, refl, (default_is_number, refl, refl), (i, refl), refl)
-reads program (settle db None (Some id) (Some folder)) (d, l, i, c) =
-    by program (settle db None (Some id) (Some folder)) (codes "settle")
-    (value db d ∷ named (codes "--from") ∷ digits id i.0 ∷ named (codes "--certs") ∷ value folder c ∷ []) refl refl
-    (record { passes = (refl, (refl, (refl, (rw (id_passes (codes "from") id i) refl, (refl, tt))))); ends = refl })
-    (refl, refl, (default_is_number, refl, refl), (i, refl), refl)
-reads program (settle db (Some limit) None None) (d, l, i, c) =
-    by program (settle db (Some limit) None None) (codes "settle") (value db d ∷ named (codes "--limit") ∷ digits limit l.0 ∷ []) refl refl
-    (record { passes = (refl, (refl, (refl, tt))); ends = ap (λ b. (b && true) && true) (number_passes (codes "limit") limit l) })
-    (refl, refl, (l, refl, refl), (one_is_id, refl), refl)
-reads program (settle db (Some limit) None (Some folder)) (d, l, i, c) =
-    by program (settle db (Some limit) None (Some folder)) (codes "settle")
-    (value db d ∷ named (codes "--limit") ∷ digits limit l.0 ∷ named (codes "--certs") ∷ value folder c ∷ []) refl refl
-    (record { passes = (refl, (refl, (refl, (rw (number_passes (codes "limit") limit l) refl, (refl, tt))))); ends = refl })
-    (refl, refl, (l, refl, refl), (one_is_id, refl), refl)
-reads program (settle db (Some limit) (Some id) None) (d, l, i, c) =
-    by program (settle db (Some limit) (Some id) None) (codes "settle")
-    (value db d ∷ named (codes "--limit") ∷ digits limit l.0 ∷ named (codes "--from") ∷ digits id i.0 ∷ []) refl refl
-    (record {
-      passes = (refl, (refl, (refl, (rw (number_passes (codes "limit") limit l) refl, (refl, tt)))));
-      ends = ap (λ b. (b && true) && true) (id_passes (codes "from") id i);
-    }) (refl, refl, (l, refl, refl), (i, refl), refl)
-reads program (settle db (Some limit) (Some id) (Some folder)) (d, l, i, c) =
-    by program (settle db (Some limit) (Some id) (Some folder)) (codes "settle")
-    (value db d ∷ named (codes "--limit") ∷ digits limit l.0 ∷ named (codes "--from") ∷ digits id i.0 ∷ named (codes "--certs") ∷ value folder c ∷ []) refl refl
-    (record {
-      passes = (refl, (refl, (refl, (rw (number_passes (codes "limit") limit l) refl, (refl, (rw (id_passes (codes "from") id i) refl, (refl, tt)))))));
-      ends = refl;
-    }) (refl, refl, (l, refl, refl), (i, refl), refl)
-reads program (show db None) (d, i) =
-    by program (show db None) (codes "show") (value db d ∷ []) refl refl (record { passes = (refl, tt); ends = refl }) (refl, refl, (i, refl))
-reads program (show db (Some id)) (d, i) =
-    by program (show db (Some id)) (codes "show") (value db d ∷ digits id i.0 ∷ []) refl refl
-    (record { passes = (refl, (refl, tt)); ends = ap (λ b. (b && true) && true) (id_passes (codes "ID") id i) }) (refl, refl, (i, refl))
-reads program (export db false) is =
-    by program (export db false) (codes "export") (value db is ∷ []) refl refl (record { passes = (refl, tt); ends = refl }) (refl, refl, refl)
-reads program (export db true) is =
-    by program (export db true) (codes "export") (value db is ∷ named (codes "--solutions") ∷ []) refl refl
-    (record { passes = (refl, (refl, tt)); ends = refl }) (refl, refl, refl)
-reads program (solve file number None false None) (f, n, m, c) =
-    by program (solve file number None false None) (codes "solve") (value file f ∷ digits number n.0 ∷ []) refl refl
-    (record {
-      passes = (refl, (refl, tt));
-      ends = ap (λ b. (b && true) && true) (number_passes (codes "N") number n);
-    }) (refl, refl, (n, refl, refl), (default_is_number, refl, refl), refl, refl)
-reads program (solve file number None false (Some path)) (f, n, m, c) =
-    by program (solve file number None false (Some path)) (codes "solve") (value file f ∷ digits number n.0 ∷ named (codes "--cert") ∷ value path c ∷ []) refl refl
-    (record {
-      passes = (refl, (refl, (rw (number_passes (codes "N") number n) refl, (refl, tt))));
-      ends = refl;
-    }) (refl, refl, (n, refl, refl), (default_is_number, refl, refl), refl, refl)
-reads program (solve file number (Some l) false None) (f, n, m, c) =
-    by program (solve file number (Some l) false None) (codes "solve") (value file f ∷ digits number n.0 ∷ named (codes "--limit") ∷ digits l m.0 ∷ []) refl refl
-    (record {
-      passes = (refl, (refl, (rw (number_passes (codes "N") number n) refl, (refl, tt))));
-      ends = ap (λ b. (b && true) && true) (number_passes (codes "limit") l m);
-    }) (refl, refl, (n, refl, refl), (m, refl, refl), refl, refl)
-reads program (solve file number (Some l) false (Some path)) (f, n, m, c) =
-    by program (solve file number (Some l) false (Some path)) (codes "solve") (value file f ∷ digits number n.0 ∷ named (codes "--limit") ∷ digits l m.0 ∷ named (codes "--cert") ∷ value path c ∷ []) refl refl
-    (record {
-      passes = (refl, (refl, (rw (number_passes (codes "N") number n) refl, (refl, (rw (number_passes (codes "limit") l m) refl, (refl, tt))))));
-      ends = refl;
-    }) (refl, refl, (n, refl, refl), (m, refl, refl), refl, refl)
-reads program (solve file number None true None) (f, n, m, c) =
-    by program (solve file number None true None) (codes "solve") (value file f ∷ digits number n.0 ∷ named (codes "--bound") ∷ []) refl refl
-    (record {
-      passes = (refl, (refl, (rw (number_passes (codes "N") number n) refl, tt)));
-      ends = refl;
-    }) (refl, refl, (n, refl, refl), (default_is_number, refl, refl), refl, refl)
-reads program (solve file number None true (Some path)) (f, n, m, c) =
-    by program (solve file number None true (Some path)) (codes "solve") (value file f ∷ digits number n.0 ∷ named (codes "--bound") ∷ named (codes "--cert") ∷ value path c ∷ []) refl refl
-    (record {
-      passes = (refl, (refl, (rw (number_passes (codes "N") number n) refl, (refl, (refl, tt)))));
-      ends = refl;
-    }) (refl, refl, (n, refl, refl), (default_is_number, refl, refl), refl, refl)
-reads program (solve file number (Some l) true None) (f, n, m, c) =
-    by program (solve file number (Some l) true None) (codes "solve") (value file f ∷ digits number n.0 ∷ named (codes "--limit") ∷ digits l m.0 ∷ named (codes "--bound") ∷ []) refl refl
-    (record {
-      passes = (refl, (refl, (rw (number_passes (codes "N") number n) refl, (refl, (rw (number_passes (codes "limit") l m) refl, tt)))));
-      ends = refl;
-    }) (refl, refl, (n, refl, refl), (m, refl, refl), refl, refl)
-reads program (solve file number (Some l) true (Some path)) (f, n, m, c) =
-    by program (solve file number (Some l) true (Some path)) (codes "solve") (value file f ∷ digits number n.0 ∷ named (codes "--limit") ∷ digits l m.0 ∷ named (codes "--bound") ∷ named (codes "--cert") ∷ value path c ∷ []) refl refl
-    (record {
-      passes = (refl, (refl, (rw (number_passes (codes "N") number n) refl, (refl, (rw (number_passes (codes "limit") l m) refl, (refl, (refl, tt)))))));
-      ends = refl;
-    }) (refl, refl, (n, refl, refl), (m, refl, refl), refl, refl)
-
 -- ---- a job of the values
 
-another : (a b : Text) → a ≡ b → bytes_eq b a ≡ false → bytes_eq a a ≡ true → ⊥
+-- no form has two names
+pub another : (a b : Text) → a ≡ b → bytes_eq b a ≡ false → bytes_eq a a ≡ true → ⊥
 another a b e apart same = true≢false (sym same ∙ ap (λ (w : Text). bytes_eq w a) e ∙ apart)
-
--- what has the values of each such form has those of a form under the name of solve
-pub means_solve : (made : Job) (form : Form) (name : Text) (rows : List Row) → name ≡ codes "solve" → HasValues form name rows
-    → ((file number : Text) (limit : Option Text) (bound : Bool) (cert : Option Text) → HasValues (solve file number limit bound cert) name rows
-    → Means (solve file number limit bound cert) made) → Means form made
-means_solve made (solve file number limit bound cert) name rows is has means = means file number limit bound cert has
-means_solve made _ name rows is has means = absurd (another (codes "solve") _ (sym is ∙ has.0) refl refl)
-
--- and so under that of settle
-pub means_settle : (made : Job) (form : Form) (name : Text) (rows : List Row) → name ≡ codes "settle" → HasValues form name rows
-    → ((db : Text) (limit from certs : Option Text) → HasValues (settle db limit from certs) name rows → Means (settle db limit from certs) made)
-    → Means form made
-means_settle made (settle db limit from certs) name rows is has means = means db limit from certs has
-means_settle made _ name rows is has means = absurd (another (codes "settle") _ (sym is ∙ has.0) refl refl)
-
--- and that of draw
-pub means_draw : (made : Job) (form : Form) (name : Text) (rows : List Row) → name ≡ codes "draw" → HasValues form name rows
-    → ((file number : Text) (text : Option Text) → HasValues (draw file number text) name rows → Means (draw file number text) made) → Means form made
-means_draw made (draw file number text) name rows is has means = means file number text has
-means_draw made _ name rows is has means = absurd (another (codes "draw") _ (sym is ∙ has.0) refl refl)
 
 -- the bytes of a text, or none where it is left out
 pub given_or_none : (given : Option (String Global)) (none made : String Global) (text : Option Text) → string_bytes none ≡ []
@@ -203,33 +138,3 @@ given_or_none (Some s) none made text empty is same = ap (λ (s : String Global)
 pub refuses : (form : Form) (made : Result Job JobRefused) (e : JobRefused) → IsErrAnd made (λ told. told ≡ e) → e.status ≡ 6 → Answers form made
 refuses form (Ok job) e none memory = absurd none
 refuses form (Err told) e is memory = ap (λ (r : JobRefused). r.status) is ∙ memory
-
-abbrev pub is_level_name : Text → Bool
-is_level_name name = bytes_eq name (codes "replay") || bytes_eq name (codes "draw") || bytes_eq name (codes "solve") || bytes_eq name (codes "check")
-
--- so it was where the level of a form under such a name is not given
-pub refuses_level : (form : Form) (name : Text) (rows : List Row) (made : Result Job JobRefused) (e : JobRefused) → is_level_name name ≡ true
-    → HasValues form name rows → IsErrAnd made (λ told. told ≡ e)
-    → ((file digits : Text) (number : ℕ) → first_of (codes "FILE") rows ≡ Some file → HasNumber rows (codes "N") digits number → e.status ≡ 6)
-    → Answers form made
-refuses_level (replay file number text) name rows made e level has is memory =
-    refuses (replay file number text) made e is (memory file number _ has.1 has.2)
-refuses_level (draw file number text) name rows made e level has is memory =
-    refuses (draw file number text) made e is (memory file number _ has.1 has.2)
-refuses_level (solve file number limit bound cert) name rows made e level has is memory =
-    refuses (solve file number limit bound cert) made e is (memory file number _ has.1 has.2)
-refuses_level (check file number cert) name rows made e level has is memory =
-    refuses (check file number cert) made e is (memory file number _ has.1 has.2)
-refuses_level _ name rows made e level has is memory = absurd (true≢false (sym level ∙ ap is_level_name has.0))
-
-abbrev pub is_entry_name : Text → Bool
-is_entry_name name = bytes_eq name (codes "offer") || bytes_eq name (codes "prove")
-
--- and where the entry is not
-pub refuses_entry : (form : Form) (name : Text) (rows : List Row) (made : Result Job JobRefused) (e : JobRefused) → is_entry_name name ≡ true
-    → HasValues form name rows → IsErrAnd made (λ told. told ≡ e)
-    → ((db digits : Text) → first_of (codes "DB") rows ≡ Some db → HasId rows (codes "ID") digits → e.status ≡ 6)
-    → Answers form made
-refuses_entry (offer db id text) name rows made e entry has is memory = refuses (offer db id text) made e is (memory db id has.1 has.2)
-refuses_entry (prove db id cert) name rows made e entry has is memory = refuses (prove db id cert) made e is (memory db id has.1 has.2)
-refuses_entry _ name rows made e entry has is memory = absurd (true≢false (sym entry ∙ ap is_entry_name has.0))

@@ -8,16 +8,17 @@ use Rattle.std.proofs.lemmas.Int.{ints}
 use Rattle.std.proofs.lemmas.Str.Parse.{digit_from_value}
 use Rattle.clap.specs.Lexer.{without_minus}
 use Rattle.clap.specs.Values.{IsSignedIn}
+use Rattle.clap.specs.ValueTests.{accepts}
 use Rattle.clap.specs.Walk.{after_step, subcommand_met, subcommand_or_other, Held, Names, Row, Text, Walk, answers_to, finished, nothing_held}
 use Rattle.clap.specs.Walk.{rows_after, walk, walk_from, walked, idle}
 use Rattle.clap.specs.Simple.{App, Shape, built, entered, is_simple, label_of, names_of, new_shape, subcommand_of}
-use Rattle.clap.specs.Takes.{other_passes, default_passes, entered_passes, is_valid, level_passes, settle_passes, step_passes, takes, value_passes, walk_passes}
+use Rattle.clap.specs.Takes.{other_passes, default_passes, entered_passes, is_valid, level_passes, settle_passes, step_passes, takes, walk_passes}
 use Rattle.clap.specs.declared.builder.value_parser.ValueParser.TheVariants as vp
 use Rattle.clap.proofs.ValueTestLemmas.{Accepts-accepts}
 use Rattle.clap.proofs.WalkLemmas.{walk_stopped}
 use Rattle.sok_words.specs.Forms.{IsId, IsNumber}
-use Rattle.sok_words.specs.Shapes.{id_rule, number_rule, sok_app}
-use Rattle.sok_words.proofs.WordSteps.{AllPass, Said, all_steps, all_turns, led, no_minus, no_plus, word_of}
+use Rattle.sok_words.specs.Shapes.{sok_app}
+use Rattle.sok_words.proofs.WordSteps.{Said, all_pass, all_turns, led, no_minus, no_plus, word_of}
 
 -- ---- the first word
 
@@ -88,9 +89,8 @@ abbrev pub rows_said : Text → List Said → List Row
 rows_said name said = finished (sub_shape name).rules (held_after (sub_shape name) said)
 
 -- the words that are said pass, and the subcommand's walk ends well behind them
-pub record TakesSaid (name : Text) (said : List Said) : Type 0 where
-  pub passes : AllPass (sub_shape name) (walk_from nothing_held) said
-  pub ends : leaf_ends_well (sub_shape name) (held_after (sub_shape name) said) ≡ true
+abbrev pub takes_said : Text → List Said → Bool
+takes_said name said = all_pass (leaf_ends_well (sub_shape name)) (sub_shape name) (walk_from nothing_held) said
 
 -- the word is the name of a subcommand and not that for help; what is asked of its words is what they ask, and it is entered with their rows
 abbrev pub IsSub : Text → List Text → Type 0
@@ -104,14 +104,14 @@ pub record Runs (program name : Text) (words : List Text) (rows : List Row) : Ty
   pub takes : takes sok_app (program ∷ name ∷ words) ≡ true
   pub enters : subcommand_of sok_app (program ∷ name ∷ words) ≡ Some (name, rows)
 
-pub runs : (program name : Text) (said : List Said) → IsSub name (map word_of said) → TakesSaid name said
+pub runs : (program name : Text) (said : List Said) → IsSub name (map word_of said) → takes_said name said ≡ true
     → Runs program name (map word_of said) (rows_said name said)
 runs program name said sub well =
     let words = map word_of said in
     let met = ap (λ p. p.0) sub in
-    let steps = all_steps (sub_shape name) (walk_from nothing_held) said well.passes in
+    let (turns, steps, ends) = all_turns (leaf_ends_well (sub_shape name)) (sub_shape name) (walk_from nothing_held) said well in
     let level : level_passes (sub_shape name) [] nothing_held words false ≡ true =
-    ap₂ ◌&&◌ (all_turns (sub_shape name) (walk_from nothing_held) said well.passes) (ap (λ (w : Walk). leaf_ends_well (sub_shape name) w.held) steps ∙ well.ends) in
+    ap₂ ◌&&◌ turns (ap (λ (w : Walk). leaf_ends_well (sub_shape name) w.held) steps ∙ ends) in
     record {
       takes = taken program name words met (ap (λ p. p.1) sub) (ap (λ p. p.2) sub ∙ ap (λ b. b && true) level);
       enters = entered_at program name words met ∙ ap (λ p. p.3) sub
@@ -120,18 +120,18 @@ runs program name said sub well =
 
 -- ---- numbers
 
-pub number_passes : (id text : Text) → IsNumber text → value_passes (number_rule id) text ≡ true
-number_passes id text n = Accepts-accepts false (vp.Signed (pos 0) (pos 4294967295)) text
-    (number_accepted text n)
+-- what is asked of a number passes, whatever rule asks it
+pub number_passes : (text : Text) → IsNumber text → accepts false (vp.Signed (pos 0) (pos 4294967295)) text ≡ true
+number_passes text n = Accepts-accepts false (vp.Signed (pos 0) (pos 4294967295)) text (accepted text n)
   where
-    number_accepted : (t : Text) → IsNumber t → IsSignedIn (pos 0) (pos 4294967295) t
-    number_accepted t n = rw (no_minus t n.0, no_plus t n.0) (n.0, omega (arith, ints), omega (arith, ints), omega (arith, ints))
+    accepted : (t : Text) → IsNumber t → IsSignedIn (pos 0) (pos 4294967295) t
+    accepted t n = rw (no_minus t n.0, no_plus t n.0) (n.0, omega (arith, ints), omega (arith, ints), omega (arith, ints))
 
-pub id_passes : (id text : Text) → IsId text → value_passes (id_rule id) text ≡ true
-id_passes id text n = Accepts-accepts false (vp.Signed (negsuc 9223372036854775807) (pos 9223372036854775807)) text (id_accepted text n)
+pub id_passes : (text : Text) → IsId text → accepts false (vp.Signed (negsuc 9223372036854775807) (pos 9223372036854775807)) text ≡ true
+id_passes text n = Accepts-accepts false (vp.Signed (negsuc 9223372036854775807) (pos 9223372036854775807)) text (accepted text n)
   where
-    id_accepted : (t : Text) → IsId t → IsSignedIn (negsuc 9223372036854775807) (pos 9223372036854775807) t
-    id_accepted t n = rw (no_minus t n.0, no_plus t n.0) (n.0, omega (arith, ints), omega (arith, ints), omega (arith, ints))
+    accepted : (t : Text) → IsId t → IsSignedIn (negsuc 9223372036854775807) (pos 9223372036854775807) t
+    accepted t n = rw (no_minus t n.0, no_plus t n.0) (n.0, omega (arith, ints), omega (arith, ints), omega (arith, ints))
 
 pub minus_free : (text : Text) → IsNumber text → without_minus text ≡ text
 minus_free [] n = refl

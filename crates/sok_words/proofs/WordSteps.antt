@@ -1,6 +1,5 @@
 -- One step of the walk over the words of a subcommand.
 use Rattle.std.proofs.Common.{◌≡◌, ◌∙◌, ◌==◌, ◌&&◌, Bool, not, ℕ, true, false, true≢false, refl, sym, ap, ap₂, List, [], ◌∷◌, map, Option, Some, None, is_none, arith}
-use Rattle.std.specs.Bool.{⊤}
 use Rattle.std.specs.List.{fold}
 use Rattle.std.specs.Str.{bytes_eq}
 use Rattle.std.specs.Str.Parse.{IsNumeral, without_leading_plus, starts_with_minus}
@@ -56,30 +55,43 @@ value_turn s waiting position word h v =
     ap₂ ◌&&◌ (value_asks_nothing s waiting word h v)
     (ap (λ m. step_passes s position m.0 m.1) (value_met s.rules waiting position word h v))
 
--- a word that is said: a value, or the name of an option
+-- a word that is said: a value, with what its rule asks of it, which it meets, or the name of an option, which may be a flag
 pub data Said : Type 0 where
-  value : (word : Text) → IsValue word → Said
-  named : Text → Said
+  value : (word : Text) → IsValue word → (asked : Bool) → asked ≡ true → Said
+  named : (is_flag : Bool) → Text → Said
 
 abbrev pub word_of : Said → Text
-word_of (value word is) = word
-word_of (named word) = word
+word_of (value word is asked met) = word
+word_of (named is_flag word) = word
+
+-- What is asked of the values, each at the word behind it or at the end; `last` is what is asked of the one before. It is spelled as the walk computes it.
+abbrev pub asked_of : List Said → Bool → Bool
+asked_of [] last = (last && true) && true
+asked_of (value word is asked met ∷ xs) last = (last && true) && asked_of xs asked
+asked_of (named false word ∷ xs) last = ((last && true) && true) && asked_of xs true
+asked_of (named true word ∷ xs) last = (((last && true) && true) && true) && asked_of xs true
+
+pub all_met : (said : List Said) (last : Bool) → last ≡ true → asked_of said last ≡ true
+all_met [] last p = ap (λ b. (b && true) && true) p
+all_met (value word is asked met ∷ xs) last p = ap₂ (λ a b. (a && true) && b) p (all_met xs asked met)
+all_met (named false word ∷ xs) last p = ap₂ (λ a b. ((a && true) && true) && b) p (all_met xs true refl)
+all_met (named true word ∷ xs) last p = ap₂ (λ a b. (((a && true) && true) && true) && b) p (all_met xs true refl)
 
 -- where the walk is after it
 abbrev pub led : Shape → Walk → Said → Walk
-led s w (value word is) = after_step s.rules word w (plain_word s.rules w.waiting word w.held).0 (plain_word s.rules w.waiting word w.held).1
-led s w (named word) = walked s.rules [] w word
+led s w (value word is asked met) = after_step s.rules word w (plain_word s.rules w.waiting word w.held).0 (plain_word s.rules w.waiting word w.held).1
+led s w (named is_flag word) = walked s.rules [] w word
 
 -- whether all that it does passes, where no subcommand was met before it
 abbrev pub passes : Shape → Walk → Said → Bool
-passes s w (value word is) = (not w.is_trailing && is_none w.stopped)
+passes s w (value word is asked met) = (not w.is_trailing && is_none w.stopped)
     && step_passes s w.position (plain_word s.rules w.waiting word w.held).0 (plain_word s.rules w.waiting word w.held).1
-passes s w (named word) = turn_passes s [] w word
+passes s w (named is_flag word) = turn_passes s [] w word
 
--- and all of them
-unfoldable pub AllPass : Shape → Walk → List Said → Type 0
-AllPass s w [] = ⊤
-AllPass s w (x ∷ xs) = (passes s w x ≡ true) × AllPass s (led s w x) xs
+-- and all of them, and then the end
+unfoldable pub all_pass : (Held → Bool) → Shape → Walk → List Said → Bool
+all_pass ends s w [] = ends w.held
+all_pass ends s w (x ∷ xs) = passes s w x && all_pass ends s (led s w x) xs
 
 goes_on : (h : Held) (waiting : Waiting) (position : ℕ) (is_trailing : Bool) (stopped : Option (Text × List Text))
     → (not is_trailing && is_none stopped) ≡ true
@@ -89,15 +101,15 @@ goes_on h waiting position false (Some x) p = absurd (true≢false (sym p))
 goes_on h waiting position true stopped p = absurd (true≢false (sym p))
 
 turn : (s : Shape) (w : Walk) (x : Said) → passes s w x ≡ true → turn_passes s [] w (word_of x) ≡ true
-turn s w (named word) p = p
-turn s w (value word is) p =
+turn s w (named is_flag word) p = p
+turn s w (value word is asked met) p =
     let (here, step) = and_parts _ _ p in
     let on : w ≡ at w.held w.waiting w.position = goes_on w.held w.waiting w.position w.is_trailing w.stopped here in
     ap (λ w. turn_passes s [] w word) on ∙ value_turn s w.waiting w.position word w.held is ∙ step
 
 step : (s : Shape) (w : Walk) (x : Said) → passes s w x ≡ true → walked s.rules [] w (word_of x) ≡ led s w x
-step s w (named word) p = refl
-step s w (value word is) p =
+step s w (named is_flag word) p = refl
+step s w (value word is asked met) p =
     let (here, step) = and_parts _ _ p in
     let on : w ≡ at w.held w.waiting w.position = goes_on w.held w.waiting w.position w.is_trailing w.stopped here in
     let met = plain_word s.rules w.waiting word w.held in
@@ -105,17 +117,18 @@ step s w (value word is) p =
     ∙ ap (λ w. after_step s.rules word w met.0 met.1) (sym on)
 
 -- the words that are said pass, and lead where each of them does
-pub all_turns : (s : Shape) (w : Walk) (said : List Said) → AllPass s w said → walk_passes s [] w (map word_of said) ≡ true
-unfolding walk_passes AllPass
-all_turns s w [] p = refl
-all_turns s w (x ∷ xs) (here, later) =
-    ap₂ ◌&&◌ (turn s w x here) (ap (λ w. walk_passes s [] w (map word_of xs)) (step s w x here) ∙ all_turns s (led s w x) xs later)
-
-pub all_steps : (s : Shape) (w : Walk) (said : List Said) → AllPass s w said → fold (walked s.rules []) w (map word_of said) ≡ fold (led s) w said
-unfolding AllPass
-all_steps s w [] p = refl
-all_steps s w (x ∷ xs) (here, later) =
-    ap (λ w. fold (walked s.rules []) w (map word_of xs)) (step s w x here) ∙ all_steps s (led s w x) xs later
+pub all_turns : (ends : Held → Bool) (s : Shape) (w : Walk) (said : List Said) → all_pass ends s w said ≡ true
+    → (walk_passes s [] w (map word_of said) ≡ true) × (fold (walked s.rules []) w (map word_of said) ≡ fold (led s) w said)
+    × (ends (fold (led s) w said).held ≡ true)
+unfolding walk_passes all_pass
+all_turns ends s w [] p = (refl, refl, p)
+all_turns ends s w (x ∷ xs) p =
+    let (here, later) = and_parts _ _ p in
+    let (turns, steps, end) = all_turns ends s (led s w x) xs later in (
+      ap₂ ◌&&◌ (turn s w x here) (ap (λ w. walk_passes s [] w (map word_of xs)) (step s w x here) ∙ turns),
+      ap (λ w. fold (walked s.rules []) w (map word_of xs)) (step s w x here) ∙ steps,
+      end,
+    )
 
 -- ---- numbers
 

@@ -1,51 +1,32 @@
-use Rattle.std.proofs.Common.{subst, sym, w64}
+use Rattle.std.proofs.Common.{◌∙◌, subst, sym, true≢false, w64}
 use Rattle.std.proofs.lemmas.Int.{to_z-of_z}
 use Rattle.sqlite.specs.Held.{state}
 use Rattle.sok_book.specs.Records.{AreRecordsOf}
 use Rattle.sok_store.specs.Calls.{Finds}
 use Rattle.sok_store.proofs.Calls.{stops_none}
-use Rattle.sok_settle.proofs.Settling.{bad_turns, unlisted_caused, unlisted_turns, whole_caused, whole_open, whole_stops, whole_turns}
+use Rattle.sok_settle.proofs.Settling.{bad_turns, unlisted_caused, unlisted_turns, whole}
 use Rattle.sok_settle.proofs.settle.settle_bytes.Goals as goal
 
 pub returns-then-is_bad-clause-writes : goal.returns-then-is_bad-clause-writes
 returns-then-is_bad-clause-writes g c =
     bad_turns (g.C.Certs.keeping c.args.certs.now) c.args.limit c.args.from (state g.S.Store c.args.book.now) (g.W.Write.contents c.args.out.now) (c.is_bad.ensures.0 c.if-is_bad.true)
 
-pub returns-in-Ok-clause-writes : goal.returns-in-Ok-clause-writes
-returns-in-Ok-clause-writes g c =
+pub returns-in-Ok : goal.returns-in-Ok
+returns-in-Ok g c =
     let old = state g.S.Store c.args.book.now in
     let mid = state g.S.Store c.list.new.self in
     let found = subst (λ rs. Finds old mid (λ book. AreRecordsOf book rs)) (sym c.deref.ensures.value) c.in-Ok.ensures.listed in
-    whole_turns (g.C.Certs.keeping c.args.certs.now) c.args.limit c.args.from c.deref.result.now old mid (state g.S.Store c.settle_all.new.book) c.list.ensures.stop found
+    let (writes, ends_open, stop, cause) =
+    whole (g.C.Certs.keeping c.args.certs.now) c.args.limit c.args.from c.deref.result.now old mid (state g.S.Store c.settle_all.new.book) c.list.ensures.stop found
     (g.W.Write.contents c.args.out.now) (g.W.Write.contents c.settle_all.new.out) c.settle_all.result
-    (rw (to_z-of_z w64 c.args.from c.ranges.from) at c.settle_all.ensures)
-
-pub returns-in-Ok-clause-open : goal.returns-in-Ok-clause-open
-returns-in-Ok-clause-open g c =
-    let old = state g.S.Store c.args.book.now in
-    let mid = state g.S.Store c.list.new.self in
-    let found = subst (λ rs. Finds old mid (λ book. AreRecordsOf book rs)) (sym c.deref.ensures.value) c.in-Ok.ensures.listed in
-    whole_open (g.C.Certs.keeping c.args.certs.now) c.args.limit c.args.from c.deref.result.now old mid (state g.S.Store c.settle_all.new.book) c.list.ensures.stop found
-    (g.W.Write.contents c.args.out.now) (g.W.Write.contents c.settle_all.new.out) c.settle_all.result
-    (rw (to_z-of_z w64 c.args.from c.ranges.from) at c.settle_all.ensures)
-
-pub returns-in-Ok-clause-stop : goal.returns-in-Ok-clause-stop
-returns-in-Ok-clause-stop g c =
-    let old = state g.S.Store c.args.book.now in
-    let mid = state g.S.Store c.list.new.self in
-    let found = subst (λ rs. Finds old mid (λ book. AreRecordsOf book rs)) (sym c.deref.ensures.value) c.in-Ok.ensures.listed in
-    whole_stops (g.C.Certs.keeping c.args.certs.now) c.args.limit c.args.from c.deref.result.now old mid (state g.S.Store c.settle_all.new.book) c.list.ensures.stop found
-    (g.W.Write.contents c.args.out.now) (g.W.Write.contents c.settle_all.new.out) c.settle_all.result
-    (rw (to_z-of_z w64 c.args.from c.ranges.from) at c.settle_all.ensures)
-
-pub returns-in-Ok-clause-cause : goal.returns-in-Ok-clause-cause
-returns-in-Ok-clause-cause g c =
-    let old = state g.S.Store c.args.book.now in
-    let mid = state g.S.Store c.list.new.self in
-    let found = subst (λ rs. Finds old mid (λ book. AreRecordsOf book rs)) (sym c.deref.ensures.value) c.in-Ok.ensures.listed in
-    whole_caused (g.C.Certs.keeping c.args.certs.now) c.args.limit c.args.from c.deref.result.now old mid (state g.S.Store c.settle_all.new.book) c.list.ensures.stop found
-    (g.W.Write.contents c.args.out.now) (g.W.Write.contents c.settle_all.new.out) c.settle_all.result
-    (rw (to_z-of_z w64 c.args.from c.ranges.from) at c.settle_all.ensures)
+    (rw (to_z-of_z w64 c.args.from c.ranges.from) at c.settle_all.ensures) in
+    record {
+      writes = writes;
+      bad_limit = λ bad. absurd (true≢false (sym (c.is_bad.ensures.1 bad) ∙ c.if-is_bad.false));
+      «open» = ends_open;
+      stop = stop;
+      cause = cause;
+    }
 
 pub returns-in-Err-clause-writes : goal.returns-in-Err-clause-writes
 returns-in-Err-clause-writes g c =

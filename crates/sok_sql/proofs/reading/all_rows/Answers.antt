@@ -42,7 +42,7 @@ pub returns-clause-open : goal.returns-clause-open
 returns-clause-open g c clean =
     let old = state g.S.Store c.args.conn.now in
     let new = state g.S.Store c.query_all.new.self in (
-      IfOk-weaker c.query_all.result _ _ (λ rows h. shown_open old new _ _ rows.items h) (c.query_all.ensures.ok clean),
+      IfOk-weaker c.query_all.result _ _ (λ rows h. (shown_open old new _ _ rows.items h).1) (c.query_all.ensures.ok clean),
       IfErr-weaker c.query_all.result _ _ (λ e h. missing_open old new _ _ e h) (c.query_all.ensures.err clean),
     )
 

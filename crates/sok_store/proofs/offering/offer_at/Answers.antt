@@ -1,16 +1,17 @@
-use Rattle.std.proofs.Common.{◌≡◌, ◌⊎◌, ap, inl, refl, subst}
+use Rattle.std.proofs.Common.{◌≡◌, ◌⊎◌, ap, inl, subst}
 use Rattle.sqlite.specs.Held.{state}
 use Rattle.sok_book.specs.declared.fault.BookFault.TheVariants.{Memory}
 use Rattle.sok_book.specs.declared.record.Offer.TheVariants.{Stored}
-use Rattle.sok_book.specs.Books.{PageWithId, solution_of}
-use Rattle.sok_book.specs.Kept.{IsKeptSolution}
+use Rattle.sok_book.specs.Books.{PageWithId}
 use Rattle.sok_book.specs.Refusals.{IsNoSolution}
-use Rattle.sok_store.specs.Changing.{AreBestColumns}
-use Rattle.sok_store.specs.declared.standing.Standing.{Standing}
+use Rattle.sok_store.specs.Changing.{HasBest}
+use Rattle.sok_store.specs.Standing.{OffersTelling}
 use Rattle.sok_store.proofs.Calls.{stops_none, stores_on}
 use Rattle.sok_store.proofs.Offered.{offer_kept, offer_refused, offer_stored}
-use Rattle.sok_store.proofs.Running.{refused_runs, replaced_runs, unread_runs, unreplaced_runs}
+use Rattle.sok_store.proofs.Running.{Replaces, refused_runs, replaced_runs, unread_runs, unreplaced_runs}
+use Rattle.sok_store.proofs.offering.offer_at.Given as given
 use Rattle.sok_store.proofs.offering.offer_at.Goals as goal
+use Rattle.sok_store.proofs.offering.offer_at.Goals.{In-None}
 
 pub returns-in-Err-clause-runs : goal.returns-in-Err-clause-runs
 returns-in-Err-clause-runs g c =
@@ -28,40 +29,32 @@ pub returns-in-Some-clause-runs : goal.returns-in-Some-clause-runs
 returns-in-Some-clause-runs g c =
     let old = state g.S.Store c.args.conn.now in
     let mid = state g.S.Store c.read_record.new.conn in
-    let page = c.in-Ok.kept.page in
     let best = c.in-Ok-best_columns in
-    let level : c.kept.inside.level ≡ c.in-Ok.kept.page.level = ap (λ (k : PageWithId). k.page.level) c.kept.view_is in
-    let are = subst (λ rows. AreBestColumns rows (solution_of rows c.args.letters.now) best.best) level best.ensures.are in
-    let kept = subst (λ rows. IsKeptSolution rows (solution_of rows c.args.letters.now)) level best.ensures.kept in
+    let level = ap (λ (k : PageWithId). k.page.level) c.kept.view_is in
     record {
-      done = offer_kept page c.args.letters.now best.best are kept old mid c.args.id c.in-Ok.kept.id c.in-Some.told c.in-Ok.ensures
-          c.in-Some.ensures;
+      done = offer_kept c.in-Ok.kept.page c.args.letters.now best.best c.kept.inside.level level best.ensures.are best.ensures.kept old mid c.args.id
+          c.in-Ok.kept.id c.in-Some.told c.in-Ok.ensures c.in-Some.ensures;
       refused = tt;
       stop = stops_none old mid _ c.in-Ok.ensures.stop;
       cause = tt;
     }
 
+-- a better one is stored
+stored : (g : given.Over) (c : In-None g)
+    → Replaces c.args.id c.in-Ok.kept.page (λ told book after. OffersTelling book c.args.id c.args.letters.now told after)
+    (record { offer = Stored; pushes = c.in-Ok-best_columns.best.pushes; moves = c.in-Ok-best_columns.best.moves }) (HasBest c.in-Ok-best_columns.best)
+stored g c =
+    let best = c.in-Ok-best_columns in
+    offer_stored c.in-Ok.kept.page c.args.letters.now best.best c.kept.inside.level (ap (λ (k : PageWithId). k.page.level) c.kept.view_is) best.ensures.are
+    best.ensures.kept c.args.id c.in-None.ensures
+
 pub returns-in-Ok-store_best-clause-runs : goal.returns-in-Ok-store_best-clause-runs
 returns-in-Ok-store_best-clause-runs g c =
-    let best = c.in-Ok-best_columns in
-    let level : c.kept.inside.level ≡ c.in-Ok.kept.page.level = ap (λ (k : PageWithId). k.page.level) c.kept.view_is in
-    let are = subst (λ rows. AreBestColumns rows (solution_of rows c.args.letters.now) best.best) level best.ensures.are in
-    let kept = subst (λ rows. IsKeptSolution rows (solution_of rows c.args.letters.now)) level best.ensures.kept in
-    let told : Standing = record { offer = Stored; pushes = best.best.pushes; moves = best.best.moves } in
-    replaced_runs (offer_stored c.in-Ok.kept.page c.args.letters.now best.best are kept c.args.id told refl refl refl c.in-None.ensures)
-    (state g.S.Store c.args.conn.now) (state g.S.Store c.read_record.new.conn) (state g.S.Store c.store_best.new.conn) c.in-Ok.ensures _ _
-    c.in-Ok-store_best.ensures
+    replaced_runs (stored g (goal.at.returns-in-Ok-store_best-clause-runs g c).In-None) _ _ _ c.in-Ok.ensures _ _ c.in-Ok-store_best.ensures
 
 pub returns-clause-runs : goal.returns-clause-runs
 returns-clause-runs g c =
-    let best = c.in-Ok-best_columns in
-    let level : c.kept.inside.level ≡ c.in-Ok.kept.page.level = ap (λ (k : PageWithId). k.page.level) c.kept.view_is in
-    let are = subst (λ rows. AreBestColumns rows (solution_of rows c.args.letters.now) best.best) level best.ensures.are in
-    let kept = subst (λ rows. IsKeptSolution rows (solution_of rows c.args.letters.now)) level best.ensures.kept in
-    let told : Standing = record { offer = Stored; pushes = best.best.pushes; moves = best.best.moves } in
-    unreplaced_runs (offer_stored c.in-Ok.kept.page c.args.letters.now best.best are kept c.args.id told refl refl refl c.in-None.ensures)
-    (state g.S.Store c.args.conn.now) (state g.S.Store c.read_record.new.conn) (state g.S.Store c.store_best.new.conn) c.in-Ok.ensures _ _
-    c.in-Err-store_best.ensures
+    unreplaced_runs (stored g (goal.at.returns-clause-runs g c).In-None) _ _ _ c.in-Ok.ensures _ _ c.in-Err-store_best.ensures
 
 pub returns-in-Err-clause-shows : goal.returns-in-Err-clause-shows
 returns-in-Err-clause-shows g c = c.in-Err.ensures.shows
