@@ -3,7 +3,7 @@ use Rattle.std.proofs.Common.{ℕ, ◌≡◌, ◌<◌, ◌≤◌, ◌∙◌, ◌
 use Rattle.std.specs.Map.{keys_of}
 use Rattle.std.proofs.lemmas.List.{length_push, length-map, map-append}
 use Rattle.std.proofs.lemmas.List.Elements.{All-push}
-use Rattle.sok_board.specs.Area.{Numbered, IsAccepted}
+use Rattle.sok_board.specs.Area.{BoardView, IsAccepted}
 use Rattle.sok_board.specs.Limits.{box_limit}
 use Rattle.sok_board.proofs.Lists.{slice_get-push}
 use Rattle.sok_state.specs.declared.key.Key.{Key}
@@ -21,7 +21,7 @@ use Rattle.sok_alone.specs.Known.{IsCome, IsKnown, IsReached, inner_at, roll_of}
 use Rattle.sok_alone.specs.Meeting.{IsMet}
 
 -- a state as it would be located
-located-at : (b : Numbered) → IsAccepted b → (start key : Key) (reason : InnerReason) → IsReached b start key
+located-at : (b : BoardView) → IsAccepted b → (start key : Key) (reason : InnerReason) → IsReached b start key
     → IsLocated b (length start.boxes) (inner_node (inner_at key reason)) (record { boxes = key.boxes; key = key })
 located-at b accepted start key reason reached = record {
   position = record { placed = reached.state.is.placed; as_many = reached.as_many };
@@ -29,7 +29,7 @@ located-at b accepted start key reason reached = record {
   key_is = key-of-itself b accepted key reached.state;
 }
 
-module _ (b : Numbered) (accepted : IsAccepted b) (start : Key) (few_boxes : length start.boxes ≤ box_limit) (limit : ℕ) (old new : Known)
+module _ (b : BoardView) (accepted : IsAccepted b) (start : Key) (few_boxes : length start.boxes ≤ box_limit) (limit : ℕ) (old new : Known)
     (known : IsKnown b start limit old) (key : Key) (reason : InnerReason) (reached : IsReached b start key)
     (absent : Contains (keys_of old.table.entries) key → ⊥) (stands : MayStand b key reason) (room : length old.inner.items < limit)
     (entries_are : new.table.entries ≡ old.table.entries ++ (key, 0) ∷ []) (inner_are : new.inner.items ≡ old.inner.items ++ inner_at key reason ∷ [])

@@ -2,7 +2,7 @@
 use Rattle.std.proofs.Common.{ℕ, ◌≤◌, Contains, arith, length}
 use Rattle.std.specs.Map.{keys_of}
 use Rattle.sok_rules.specs.States.{MoreStatesFrom}
-use Rattle.sok_board.specs.Area.{Numbered, IsAccepted}
+use Rattle.sok_board.specs.Area.{BoardView, IsAccepted}
 use Rattle.sok_state.specs.declared.key.Key.{Key}
 use Rattle.sok_state.specs.Keys.{key_position}
 use Rattle.sok_state.proofs.States.{key-of-itself}
@@ -12,7 +12,7 @@ use Rattle.sok_alone.specs.Known.{IsKnown, IsReached}
 use Rattle.sok_alone.proofs.Knowing.{as-many, reached-at}
 
 -- a full table that lacks a state that is reached
-pub full-more : (b : Numbered) → IsAccepted b → (start : Key) (limit : ℕ) (known : Known) → IsKnown b start limit known → limit ≤ length known.inner.items
+pub full-more : (b : BoardView) → IsAccepted b → (start : Key) (limit : ℕ) (known : Known) → IsKnown b start limit known → limit ≤ length known.inner.items
     → (key : Key) → IsReached b start key → (Contains (keys_of known.table.entries) key → ⊥) → MoreStatesFrom b.rows (key_position b start) limit
 full-more b accepted start limit known is full key reached absent =
     let few = is.few in

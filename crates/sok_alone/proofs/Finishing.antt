@@ -8,7 +8,7 @@ use Rattle.sok_rules.specs.Play.{Position}
 use Rattle.sok_rules.specs.States.{MoreStatesFrom, ReachedFrom, Same}
 use Rattle.sok_rules.proofs.Reaching.{reached-on, reached-solves}
 use Rattle.sok_rules.proofs.Walking.{Same-trans}
-use Rattle.sok_board.specs.Area.{Numbered, IsAccepted, position_of}
+use Rattle.sok_board.specs.Area.{BoardView, IsAccepted, position_of}
 use Rattle.sok_board.specs.Limits.{box_limit}
 use Rattle.sok_region.specs.Regions.{IsPlaced}
 use Rattle.sok_state.specs.declared.key.Key.{Key}
@@ -51,7 +51,7 @@ none-ended (Ok (Some inner)) P lives none on told = told
 none-ended (Err fault) P lives none on told = told
 
 -- a list that is closed from a state is so from each position of it
-pub closed-walked : (b : Numbered) (player : ℕ) (boxes : List ℕ) (key : Key) (limit : ℕ) → key.boxes ≡ boxes → IsKeyOf b (position_of b player boxes) key
+pub closed-walked : (b : BoardView) (player : ℕ) (boxes : List ℕ) (key : Key) (limit : ℕ) → key.boxes ≡ boxes → IsKeyOf b (position_of b player boxes) key
     → (inner : List Inner) → AreClosedWithin b key.least key.boxes limit inner → AreClosedWithin b player boxes limit inner
 closed-walked b player boxes key limit are is inner within =
     let rolled = within.closed.rolled in
@@ -79,7 +79,7 @@ closed-walked b player boxes key limit are is inner within =
     }
 
 -- the known states are a closed list
-closed-finished : (b : Numbered) → IsAccepted b → (player : ℕ) (boxes : List ℕ) (key : Key) (limit : ℕ) (known : Known) → IsPlaced b boxes player
+closed-finished : (b : BoardView) → IsAccepted b → (player : ℕ) (boxes : List ℕ) (key : Key) (limit : ℕ) (known : Known) → IsPlaced b boxes player
     → key.boxes ≡ boxes → length key.boxes ≤ box_limit → IsKeyOf b (position_of b player boxes) key → IsFinished b key limit key known
     → AreClosedAlone b player boxes known.inner.items
 closed-finished b accepted player boxes key limit known placed boxes_are few key_is finished =
@@ -98,7 +98,7 @@ closed-finished b accepted player boxes key limit known placed boxes_are few key
     ((missed-closed inner_node b count (IsBarredAlone b) from inner roll accepted few entered starter None followed).0 refl)
 
 -- what a run from the key of a state tells of the position with that state
-pub tells-alone : (b : Numbered) → IsAccepted b → (lives : Tabled) (player : ℕ) (boxes : List ℕ) (key : Key) (limit : ℕ) (known : Known) → IsPlaced b boxes player
+pub tells-alone : (b : BoardView) → IsAccepted b → (lives : Tabled) (player : ℕ) (boxes : List ℕ) (key : Key) (limit : ℕ) (known : Known) → IsPlaced b boxes player
     → key.boxes ≡ boxes → length key.boxes ≤ box_limit → IsKeyOf b (position_of b player boxes) key → (met : Met) → TellsRun b lives key limit key known met
     → TellsAlone b lives player boxes limit known.inner.items met
 tells-alone b accepted lives player boxes key limit known placed boxes_are few key_is On finished = record {

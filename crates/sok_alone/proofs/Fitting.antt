@@ -2,7 +2,7 @@
 use Rattle.std.proofs.Common.{ℕ, ◌≤◌, ◌<◌, sym, subst, List, ◌∷◌, All, MatchBool, arith, length}
 use Rattle.std.proofs.lemmas.List.Elements.{All-append, All-cons, All-nil, All-weaker}
 use Rattle.sok_rules.specs.Play.{AllOnGoals}
-use Rattle.sok_board.specs.Area.{Numbered, IsAccepted}
+use Rattle.sok_board.specs.Area.{BoardView, IsAccepted}
 use Rattle.sok_board.specs.Limits.{square_limit}
 use Rattle.sok_region.specs.Regions.{IsPlaced}
 use Rattle.sok_price.specs.Prices.{AreMembers}
@@ -16,7 +16,7 @@ use Rattle.sok_alone.specs.Judging.{IsBarring, MayStand}
 use Rattle.sok_state.specs.Keys.{key_position}
 use Rattle.sok_alone.specs.Known.{inner_at}
 
-module _ (b : Numbered) (accepted : IsAccepted b) (key : Key) (placed : IsPlaced b key.boxes key.least) where
+module _ (b : BoardView) (accepted : IsAccepted b) (key : Key) (placed : IsPlaced b key.boxes key.least) where
   -- there are no more boxes than squares
   few : length key.boxes ≤ square_limit
   few =

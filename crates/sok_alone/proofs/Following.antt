@@ -4,7 +4,7 @@ use Rattle.std.proofs.lemmas.List.{get_or-map, length-map}
 use Rattle.std.proofs.lemmas.Option.{slice_get-get_or}
 use Rattle.sok_rules.specs.declared.fault.Memory.{Memory}
 use Rattle.sok_rules.specs.Play.{Position}
-use Rattle.sok_board.specs.Area.{Numbered}
+use Rattle.sok_board.specs.Area.{BoardView}
 use Rattle.sok_state.specs.declared.key.Key.{Key}
 use Rattle.sok_state.specs.declared.push.Push.{Push}
 use Rattle.sok_state.specs.Keys.{IsKeyOf}
@@ -38,7 +38,7 @@ marked-at known index one within is =
     ∙ ap Some (get_or-map expanded known.inner.items index one mark within ∙ ap expanded (sym is))
 
 -- a push to a state that is known now is found
-pub found-met : (b : Numbered) (start : Key) (limit : ℕ) (old new : Known) (key next : Key) (push : Push)
+pub found-met : (b : BoardView) (start : Key) (limit : ℕ) (old new : Known) (key next : Key) (push : Push)
     → ((after : Position) → LeadsTo b key push after → IsKeyOf b after next) → IsMet b start limit old next new → IsFound b new.table.entries key 0 push
 found-met b start limit old new key next push is met = record {
   next = next;
@@ -50,7 +50,7 @@ found-met b start limit old new key next push is met = record {
   near = omega arith;
 }
 
-module _ (b : Numbered) (start : Key) (limit : ℕ) (old : Known) (known : IsKnown b start limit old) (index : ℕ) (key : Key)
+module _ (b : BoardView) (start : Key) (limit : ℕ) (old : Known) (known : IsKnown b start limit old) (index : ℕ) (key : Key)
     (there : IsAt old.table.entries key index) (before : AreFollowed b (roll_of old) index) (pushes : List Push)
     (whole : (push : Push) → IsLegal b key push → Contains pushes push) where
   -- the state is followed, where all its pushes are
@@ -74,7 +74,7 @@ module _ (b : Numbered) (start : Key) (limit : ℕ) (old : Known) (known : IsKno
   tells-expanded lives new (Err fault) told = told
 
 -- a first state was met, and then all were expanded
-module _ (b : Numbered) (start : Key) (limit : ℕ) (old known : Known) (first : Key) (met : IsMet b start limit old first known) where
+module _ (b : BoardView) (start : Key) (limit : ℕ) (old known : Known) (first : Key) (met : IsMet b start limit old first known) where
   finished : (new : Known) → HasRun b start limit known (length new.inner.items) new → IsFinished b start limit first new
   finished new all = record {
     known = all.known;

@@ -2,8 +2,8 @@
 use Rattle.std.proofs.Common.{ℕ, ◌≡◌, ◌≤◌, ◌<◌, ◌∙◌, ◌++◌, [], ap, sym, Bool, Some, arith, length, map, slice_get}
 use Rattle.std.specs.Map.{keys_of, values_of}
 use Rattle.std.proofs.lemmas.List.{append_assoc, append-nil, length-append, length-map, map-append}
-use Rattle.sok_board.specs.Area.{Numbered}
-use Rattle.sok_region.proofs.Floods.{slice_get-append}
+use Rattle.sok_board.specs.Area.{BoardView}
+use Rattle.sok_board.proofs.Lists.{slice_get-append}
 use Rattle.sok_state.specs.declared.key.Key.{Key}
 use Rattle.sok_state.specs.declared.push.Push.{Push}
 use Rattle.sok_state.specs.Tables.{Entries, IsAt}
@@ -46,7 +46,7 @@ module _ (old new : Known) (grows : Grows old new) where
       ∙ ap (λ depths. slice_get depths place) (depths-append old.table.entries grows.entries)
       ∙ slice_get-append (values_of old.table.entries) (values_of grows.entries) place depth there
 
-  pub found-grows : (b : Numbered) (key : Key) (depth : ℕ) (push : Push) → IsFound b old.table.entries key depth push
+  pub found-grows : (b : BoardView) (key : Key) (depth : ℕ) (push : Push) → IsFound b old.table.entries key depth push
       → IsFound b new.table.entries key depth push
   found-grows b key depth push found = record {
     next = found.next;
@@ -96,7 +96,7 @@ module _ (old new : Known) (grows : Grows old new) where
       depth_is = depth-before depth marked.depth_is;
     }
 
-  pub followed-grows : (b : Numbered) (n : ℕ) → n ≤ length old.table.entries → n ≤ length old.inner.items → AreFollowed b (roll_of old) n
+  pub followed-grows : (b : BoardView) (n : ℕ) → n ≤ length old.table.entries → n ≤ length old.inner.items → AreFollowed b (roll_of old) n
       → AreFollowed b (roll_of new) n
   followed-grows b n within_entries within_inner followed i key depth below marked push legal =
       found-grows b key depth push

@@ -6,7 +6,7 @@ use Rattle.std.proofs.lemmas.List.Elements.{All-contains}
 use Rattle.std.proofs.lemmas.Option.{slice_get_within}
 use Rattle.sok_rules.proofs.Reaching.{reached-step, reached-walk}
 use Rattle.sok_rules.proofs.Walking.{boxes-Same}
-use Rattle.sok_board.specs.Area.{Numbered, IsAccepted}
+use Rattle.sok_board.specs.Area.{BoardView, IsAccepted}
 use Rattle.sok_board.proofs.Lists.{Contains-at}
 use Rattle.sok_state.specs.declared.key.Key.{Key}
 use Rattle.sok_state.specs.declared.push.Push.{Push}
@@ -24,7 +24,7 @@ use Rattle.sok_alone.specs.declared.known.Known.{Known}
 use Rattle.sok_alone.specs.Known.{IsCome, IsKnown, IsReached}
 
 -- the state that a push leads to is reached
-pub reached-next : (b : Numbered) (start key next : Key) (push : Push) → IsReached b start key → IsLegal b key push
+pub reached-next : (b : BoardView) (start key next : Key) (push : Push) → IsReached b start key → IsLegal b key push
     → ((after : Position) → LeadsTo b key push after → IsKeyOf b after next) → IsKey b next → length next.boxes ≡ length key.boxes → IsReached b start next
 reached-next b start key next push reached legal is state kept =
     let leads = legal.leads in
@@ -36,7 +36,7 @@ reached-next b start key next push reached legal is state kept =
           (reached-step b.rows (key_position b start) leads.before push.dir _ before leads.steps) (is legal.after leads).same;
     }
 
-module _ (b : Numbered) (start : Key) (limit : ℕ) (known : Known) (is : IsKnown b start limit known) where
+module _ (b : BoardView) (start : Key) (limit : ℕ) (known : Known) (is : IsKnown b start limit known) where
   -- there are as many positions as keys
   pub as-many : length known.table.entries ≡ length known.inner.items
   as-many = is.entered.rolled.table.count

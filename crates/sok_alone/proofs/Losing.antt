@@ -12,7 +12,7 @@ use Rattle.sok_rules.proofs.Thinner.{NeverFrom-thinner, walk-thinner}
 use Rattle.sok_rules.proofs.Steps.{both}
 use Rattle.sok_rules.proofs.Walking.{Same-sym}
 use lib.Pointwise.{pointwise, pointwise_decides}
-use Rattle.sok_board.specs.Area.{Numbered, IsAccepted, position_of}
+use Rattle.sok_board.specs.Area.{BoardView, IsAccepted, position_of}
 use Rattle.sok_board.specs.BoxSets.{IsMoved, put_in_order}
 use Rattle.sok_board.proofs.Moves.{IsMoved-put}
 use Rattle.sok_region.specs.Regions.{IsPlaced}
@@ -29,7 +29,7 @@ use Rattle.sok_alone.specs.Losses.{AddsLosses, ArePushed, HasKeyAt, IsLoss, IsLo
 -- ---- losses
 
 -- the loss of a state's key is closed from each player of the state
-lost-at : (b : Numbered) (player : ℕ) (boxes : List ℕ) (key : Key) → IsKeyOf b (position_of b player boxes) key → key.boxes ≡ boxes → (losses : List Loss)
+lost-at : (b : BoardView) (player : ℕ) (boxes : List ℕ) (key : Key) → IsKeyOf b (position_of b player boxes) key → key.boxes ≡ boxes → (losses : List Loss)
     → All (IsLoss b) losses → (place : ℕ) → HasKeyAt losses place key → IsLostBy b player boxes losses place
 lost-at b player boxes key is boxes_are losses each place at =
     let loss = at.loss in
@@ -48,14 +48,14 @@ lost-at b player boxes key is boxes_are losses each place at =
       fit = one.fit;
     }
 
-lost-found : (b : Numbered) (player : ℕ) (boxes : List ℕ) (key : Key) → IsKeyOf b (position_of b player boxes) key → key.boxes ≡ boxes
+lost-found : (b : BoardView) (player : ℕ) (boxes : List ℕ) (key : Key) → IsKeyOf b (position_of b player boxes) key → key.boxes ≡ boxes
     → (losses : List Loss) → All (IsLoss b) losses → (found : Option ℕ) → IfSome found (λ place. HasKeyAt losses place key)
     → IfSome found (IsLostBy b player boxes losses)
 lost-found b player boxes key is boxes_are losses each None told = told
 lost-found b player boxes key is boxes_are losses each (Some place) at = lost-at b player boxes key is boxes_are losses each place at
 
 -- a loss is closed from each square to which the player comes in its state
-pub lost-from : (b : Numbered) → IsAccepted b → (player : ℕ) (boxes : List ℕ) (losses : List Loss) → All (IsLoss b) losses → (place : ℕ) (loss : Loss)
+pub lost-from : (b : BoardView) → IsAccepted b → (player : ℕ) (boxes : List ℕ) (losses : List Loss) → All (IsLoss b) losses → (place : ℕ) (loss : Loss)
     → slice_get losses place ≡ Some loss → Contains loss.region player → ((square : ℕ) → Contains loss.key.boxes square → Contains boxes square)
     → IsLostBy b player boxes losses place
 lost-from b accepted player boxes losses each place loss there comes among =
@@ -75,7 +75,7 @@ lost-from b accepted player boxes losses each place loss there comes among =
     }
 
 -- some of the boxes make a position with the player
-pub placed-among : (b : Numbered) (player : ℕ) (some boxes : List ℕ) → IsStrictlyIncreasing some → ((square : ℕ) → Contains some square → Contains boxes square)
+pub placed-among : (b : BoardView) (player : ℕ) (some boxes : List ℕ) → IsStrictlyIncreasing some → ((square : ℕ) → Contains some square → Contains boxes square)
     → IsPlaced b boxes player → IsPlaced b some player
 placed-among b player some boxes rising among placed = record {
   rising = rising;
@@ -85,7 +85,7 @@ placed-among b player some boxes rising among placed = record {
   free = λ there. placed.free (among player there);
 }
 
-module _ (b : Numbered) (player : ℕ) (boxes : List ℕ) (losses : List Loss) (place : ℕ) (lost : IsLostBy b player boxes losses place) where
+module _ (b : BoardView) (player : ℕ) (boxes : List ℕ) (losses : List Loss) (place : ℕ) (lost : IsLostBy b player boxes losses place) where
   -- where there are more boxes
   lost-more : (more : List ℕ) → ((square : ℕ) → Contains boxes square → Contains more square) → IsLostBy b player more losses place
   lost-more more among = record {
@@ -120,7 +120,7 @@ module _ (b : Numbered) (player : ℕ) (boxes : List ℕ) (losses : List Loss) (
 -- ---- walks
 
 -- what is lost from one player of a state is lost from another
-pub lost-walked : (b : Numbered) → IsAccepted b → (player other : ℕ) (boxes : List ℕ) (losses : List Loss) (place : ℕ) → IsPlaced b boxes player
+pub lost-walked : (b : BoardView) → IsAccepted b → (player other : ℕ) (boxes : List ℕ) (losses : List Loss) (place : ℕ) → IsPlaced b boxes player
     → Same b.rows (position_of b player boxes) (position_of b other boxes) → IsLostBy b player boxes losses place → IsLostBy b other boxes losses place
 lost-walked b accepted player other boxes losses place placed same lost =
     let squares = lost.loss.key.boxes in
@@ -141,13 +141,13 @@ lost-walked b accepted player other boxes losses place placed same lost =
 -- ---- some of the boxes
 
 -- what is lost of some of the boxes is lost of them all
-lost-among : (b : Numbered) (player : ℕ) (some boxes : List ℕ) → ((square : ℕ) → Contains some square → Contains boxes square) → (losses : List Loss)
+lost-among : (b : BoardView) (player : ℕ) (some boxes : List ℕ) → ((square : ℕ) → Contains some square → Contains boxes square) → (losses : List Loss)
     → (found : Option ℕ) → IfSome found (IsLostBy b player some losses) → IfSome found (IsLostBy b player boxes losses)
 lost-among b player some boxes among losses None told = told
 lost-among b player some boxes among losses (Some place) lost = lost-more b player some losses place lost boxes among
 
 -- so is what is told of some of them
-pub tells-among : (b : Numbered) (player : ℕ) (some boxes : List ℕ) → ((square : ℕ) → Contains some square → Contains boxes square) → (old new : Losses)
+pub tells-among : (b : BoardView) (player : ℕ) (some boxes : List ℕ) → ((square : ℕ) → Contains some square → Contains boxes square) → (old new : Losses)
     (found : Option ℕ) → TellsLoss b player some old new found → TellsLoss b player boxes old new found
 tells-among b player some boxes among old new found told = record {
   losses = told.losses;
@@ -156,7 +156,7 @@ tells-among b player some boxes among old new found told = record {
 }
 
 -- what is told by the key of their state, once it is made
-pub tells-key : (b : Numbered) (player : ℕ) (boxes : List ℕ) (key : Key) → IsKeyOf b (position_of b player boxes) key → key.boxes ≡ boxes
+pub tells-key : (b : BoardView) (player : ℕ) (boxes : List ℕ) (key : Key) → IsKeyOf b (position_of b player boxes) key → key.boxes ≡ boxes
     → (old made new : Losses) → KeepsPlaces (losses_of old) (losses_of made) → (r : Result (Option ℕ) Memory) → OnOk r (AddsLosses b made new)
     → IfOk r (λ found. IfSome found (λ place. HasKeyAt (losses_of new) place key)) → IfOk r (TellsLoss b player boxes old new)
 tells-key b player boxes key is boxes_are old made new stay (Ok found) more there = record {
@@ -174,7 +174,7 @@ module _ (from to : ℕ) (boxes some after : List ℕ) (among : (square : ℕ) �
     | inr (before, stays) ↦ inr (among square before, stays)
   ])
 
-  pub placed-pushed : (b : Numbered) → ArePushed b boxes from to → IsStrictlyIncreasing after → IsPlaced b after from
+  pub placed-pushed : (b : BoardView) → ArePushed b boxes from to → IsStrictlyIncreasing after → IsPlaced b after from
   placed-pushed b pushed rising =
       let exist : (square : ℕ) → Contains after square → square < length b.area = λ square there. elim ((moved square).0 there) [
         | inl is ↦ subst (λ s. s < length b.area) (sym is) pushed.within

@@ -4,7 +4,7 @@ use Rattle.std.specs.List.Sorted.{IsStrictlyIncreasing}
 use Rattle.std.proofs.lemmas.Bool.{cases_eq, cases_lt}
 use Rattle.std.proofs.lemmas.List.{get_or-map, map-append}
 use Rattle.std.proofs.lemmas.Option.{get_or_from_slice_get}
-use Rattle.sok_board.specs.Area.{Numbered}
+use Rattle.sok_board.specs.Area.{BoardView}
 use Rattle.sok_entry.specs.declared.entry.Inner.{Inner}
 use Rattle.sok_bar.specs.Patterns.{AreClosedAlone, IsPattern, squares_at}
 use Rattle.sok_bar.proofs.Rising.{below_later}
@@ -47,7 +47,7 @@ members-as boxes list squares others members list_is squares_are at =
     subst (λ (s : List ℕ). AreMembersAt boxes s members) squares_are (subst (λ (bs : List ℕ). AreMembersAt bs squares members) list_is at)
 
 -- what is closed of them alone is a pattern
-pub pattern-of : (b : Numbered) (player : ℕ) (boxes squares members : List ℕ) (inner : List Inner) → AreMembersAt boxes squares members
+pub pattern-of : (b : BoardView) (player : ℕ) (boxes squares members : List ℕ) (inner : List Inner) → AreMembersAt boxes squares members
     → AreClosedAlone b player squares inner → IsPattern b player boxes members inner
 pattern-of b player boxes squares members inner at closed = record {
   listed = at.listed;

@@ -5,9 +5,9 @@ use Rattle.sok_alone.specs.declared.asking.Asking.{Asking}
 use Rattle.sok_alone.specs.declared.losses.Losses.{Losses}
 use Rattle.sok_alone.specs.Losses.{ArePushed, KeepsLosses, TellsLoss}
 
--- a push that is free, on a board with its tables, of which losses are kept
+-- a push that is free, on a board with its distances, of which losses are kept
 pub record MayAsk (asking : Asking) (kept : Losses) : Type 0 where
-  pub tables : asking.tables.now.board ≡ asking.board.now
+  pub distances : asking.distances.now.board ≡ asking.board.now
   pub pushed : ArePushed asking.board.now asking.boxes.now asking.from asking.to
   pub losses : KeepsLosses asking.board.now kept
 

@@ -1,6 +1,6 @@
 -- What is known of the states of some boxes alone.
 use Rattle.std.specs.Prelude.{ℕ, ◌≡◌, ◌≤◌, All, length, map}
-use Rattle.sok_board.specs.Area.{Numbered, IsAccepted}
+use Rattle.sok_board.specs.Area.{BoardView, IsAccepted}
 use Rattle.sok_board.specs.Limits.{box_limit}
 use Rattle.sok_rules.specs.States.{ReachedFrom}
 use Rattle.sok_state.specs.declared.key.Key.{Key}
@@ -16,7 +16,7 @@ use Rattle.sok_bar.specs.Patterns.{IsBarredAlone, inner_node, is_expanded}
 use Rattle.sok_alone.specs.declared.known.Known.{Known}
 
 -- an accepted board, a table of states at which a search stops, with room for them, and a state of few boxes from which it starts
-pub record IsAsked (b : Numbered) (lives : Tabled) (start : Key) : Type 0 where
+pub record IsAsked (b : BoardView) (lives : Tabled) (start : Key) : Type 0 where
   pub accepted : IsAccepted b
   pub room : length b.area ≤ lives.room
   pub few_boxes : length start.boxes ≤ box_limit
@@ -30,19 +30,19 @@ abbrev pub roll_of : Known → Rolled
 roll_of known = record { entries = known.table.entries; room = known.table.room; marks = map (λ one. is_expanded one.reason) known.inner.items }
 
 -- a state of as many boxes, which is reached with them alone
-pub record IsReached (b : Numbered) (start : Key) (key : Key) : Type 0 where
+pub record IsReached (b : BoardView) (start : Key) (key : Key) : Type 0 where
   pub state : IsKey b key
   pub as_many : length key.boxes ≡ length start.boxes
   pub reached : ReachedFrom b.rows (key_position b start) (key_position b key)
 
 -- a position at depth 0 that is reached, with numbers that are small enough
-pub record IsCome (b : Numbered) (start : Key) (one : Inner) : Type 0 where
+pub record IsCome (b : BoardView) (start : Key) (one : Inner) : Type 0 where
   pub first : one.depth ≡ 0
   pub reached : ReachedFrom b.rows (key_position b start) (node_position b (inner_node one))
   pub fits : FitsInner one
 
 -- all that is known
-pub record IsKnown (b : Numbered) (start : Key) (limit : ℕ) (known : Known) : Type 0 where
+pub record IsKnown (b : BoardView) (start : Key) (limit : ℕ) (known : Known) : Type 0 where
   pub entered : AreEntered inner_node b (length start.boxes) (IsBarredAlone b) known.inner.items (roll_of known)
   pub of_board : IsOfBoard b (roll_of known)
   pub come : All (IsCome b start) known.inner.items

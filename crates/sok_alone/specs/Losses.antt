@@ -2,7 +2,7 @@
 use Rattle.std.specs.Prelude.{ℕ, ◌≡◌, ◌<◌, ◌≤◌, ◌↔◌, List, Option, Some, All, Contains, length, slice_get}
 use Rattle.std.specs.List.Sorted.{IsStrictlyIncreasing}
 use Rattle.std.specs.Option.{IfSome}
-use Rattle.sok_board.specs.Area.{Numbered}
+use Rattle.sok_board.specs.Area.{BoardView}
 use Rattle.sok_entry.specs.Text.{FitsInner}
 use Rattle.sok_region.specs.Regions.{IsRegion}
 use Rattle.sok_state.specs.declared.key.Key.{Key}
@@ -17,7 +17,7 @@ abbrev pub loss_limit : ℕ
 loss_limit = 200
 
 -- a state of some boxes alone, with where the player comes in it, and positions of them that are closed under pushes
-pub record IsLoss (b : Numbered) (loss : Loss) : Type 0 where
+pub record IsLoss (b : BoardView) (loss : Loss) : Type 0 where
   pub state : IsKey b loss.key
   pub region : IsRegion b loss.key.boxes loss.key.least loss.region
   pub closed : AreClosedAlone b loss.key.least loss.key.boxes loss.inner
@@ -25,7 +25,7 @@ pub record IsLoss (b : Numbered) (loss : Loss) : Type 0 where
   pub fit : All FitsInner loss.inner
 
 -- losses of a board, room for all its squares, and what searches on it keep
-pub record KeepsLosses (b : Numbered) (kept : Losses) : Type 0 where
+pub record KeepsLosses (b : BoardView) (kept : Losses) : Type 0 where
   pub room : length b.area ≤ kept.asked.room
   pub each : All (IsLoss b) kept.losses.items
   pub workspace : IsWorkspace b kept.workspace
@@ -37,7 +37,7 @@ pub record HasKeyAt (losses : List Loss) (place : ℕ) (key : Key) : Type 0 wher
   pub same : loss.key ≡ key
 
 -- the loss at a place is of boxes among these, and is closed from where the player stands
-pub record IsLostBy (b : Numbered) (player : ℕ) (boxes : List ℕ) (losses : List Loss) (place : ℕ) : Type 0 where
+pub record IsLostBy (b : BoardView) (player : ℕ) (boxes : List ℕ) (losses : List Loss) (place : ℕ) : Type 0 where
   pub loss : Loss
   pub there : slice_get losses place ≡ Some loss
   pub rising : IsStrictlyIncreasing loss.key.boxes
@@ -55,12 +55,12 @@ abbrev pub losses_of : Losses → List Loss
 losses_of kept = kept.losses.items
 
 -- more are kept than before, each of the board
-pub record AddsLosses (b : Numbered) (old new : Losses) : Type 0 where
+pub record AddsLosses (b : BoardView) (old new : Losses) : Type 0 where
   pub losses : KeepsLosses b new
   pub kept : KeepsPlaces (losses_of old) (losses_of new)
 
 -- they are, and the loss at a place shows that nothing solves
-pub record TellsLoss (b : Numbered) (player : ℕ) (boxes : List ℕ) (old new : Losses) (found : Option ℕ) : Type 0 where
+pub record TellsLoss (b : BoardView) (player : ℕ) (boxes : List ℕ) (old new : Losses) (found : Option ℕ) : Type 0 where
   pub losses : KeepsLosses b new
   pub kept : KeepsPlaces (losses_of old) (losses_of new)
   pub lost : IfSome found (IsLostBy b player boxes (losses_of new))
@@ -71,7 +71,7 @@ pub record AreChosen (boxes squares chosen : List ℕ) : Type 0 where
   pub exact : (n : ℕ) → Contains chosen n ↔ (Contains boxes n × Contains squares n)
 
 -- a box that stands on one square can be pushed to another, which is free
-pub record ArePushed (b : Numbered) (boxes : List ℕ) (from to : ℕ) : Type 0 where
+pub record ArePushed (b : BoardView) (boxes : List ℕ) (from to : ℕ) : Type 0 where
   pub exist : All (λ square. square < length b.area) boxes
   pub there : Contains boxes from
   pub within : to < length b.area

@@ -1,6 +1,6 @@
 -- What the steps of a search tell.
 use Rattle.std.specs.Prelude.{ℕ, ◌≡◌, ◌≤◌, ◌+◌, ◌++◌, List, All, Contains, length}
-use Rattle.sok_board.specs.Area.{Numbered, position_of}
+use Rattle.sok_board.specs.Area.{BoardView, position_of}
 use Rattle.sok_state.specs.declared.key.Key.{Key}
 use Rattle.sok_state.specs.declared.push.Push.{Push}
 use Rattle.sok_state.specs.Tables.{Entries, IsAt, Tabled}
@@ -23,59 +23,59 @@ pub record Grows (old new : Known) : Type 0 where
   pub inner_are : new.inner.items ≡ old.inner.items ++ inner
 
 -- a state is known now
-pub record IsMet (b : Numbered) (start : Key) (limit : ℕ) (old : Known) (key : Key) (new : Known) : Type 0 where
+pub record IsMet (b : BoardView) (start : Key) (limit : ℕ) (old : Known) (key : Key) (new : Known) : Type 0 where
   pub known : IsKnown b start limit new
   pub grows : Grows old new
   pub place : ℕ
   pub there : IsAt new.table.entries key place
 
-abbrev pub TellsMet : Numbered → Tabled → Key → ℕ → Known → Key → Known → Met → Type 0
+abbrev pub TellsMet : BoardView → Tabled → Key → ℕ → Known → Key → Known → Met → Type 0
 TellsMet b lives start limit old key new On = IsMet b start limit old key new
 TellsMet b lives start limit old key new Ended = HasEnded lives b.rows (key_position b start) limit
 
 -- the states that pushes lead to are known now
-pub record HasFollowed (b : Numbered) (start : Key) (limit : ℕ) (old : Known) (key : Key) (pushes : List Push) (new : Known) : Type 0 where
+pub record HasFollowed (b : BoardView) (start : Key) (limit : ℕ) (old : Known) (key : Key) (pushes : List Push) (new : Known) : Type 0 where
   pub known : IsKnown b start limit new
   pub grows : Grows old new
   pub found : (push : Push) → Contains pushes push → IsFound b new.table.entries key 0 push
 
-abbrev pub TellsFollowed : Numbered → Tabled → Key → ℕ → Known → Key → List Push → Known → Met → Type 0
+abbrev pub TellsFollowed : BoardView → Tabled → Key → ℕ → Known → Key → List Push → Known → Met → Type 0
 TellsFollowed b lives start limit old key pushes new On = HasFollowed b start limit old key pushes new
 TellsFollowed b lives start limit old key pushes new Ended = HasEnded lives b.rows (key_position b start) limit
 
 -- all that is known holds, and the states before a place are followed
-pub record HasRun (b : Numbered) (start : Key) (limit : ℕ) (old : Known) (place : ℕ) (new : Known) : Type 0 where
+pub record HasRun (b : BoardView) (start : Key) (limit : ℕ) (old : Known) (place : ℕ) (new : Known) : Type 0 where
   pub known : IsKnown b start limit new
   pub grows : Grows old new
   pub followed : AreFollowed b (roll_of new) place
 
-abbrev pub TellsExpanded : Numbered → Tabled → Key → ℕ → Known → ℕ → Known → Met → Type 0
+abbrev pub TellsExpanded : BoardView → Tabled → Key → ℕ → Known → ℕ → Known → Met → Type 0
 TellsExpanded b lives start limit old index new On = HasRun b start limit old (index + 1) new
 TellsExpanded b lives start limit old index new Ended = HasEnded lives b.rows (key_position b start) limit
 
 -- so are all known states
-abbrev pub TellsAll : Numbered → Tabled → Key → ℕ → Known → Known → Met → Type 0
+abbrev pub TellsAll : BoardView → Tabled → Key → ℕ → Known → Known → Met → Type 0
 TellsAll b lives start limit old new On = HasRun b start limit old (length new.inner.items) new
 TellsAll b lives start limit old new Ended = HasEnded lives b.rows (key_position b start) limit
 
 -- in the end: they are, and a state is among them
-pub record IsFinished (b : Numbered) (start : Key) (limit : ℕ) (first : Key) (new : Known) : Type 0 where
+pub record IsFinished (b : BoardView) (start : Key) (limit : ℕ) (first : Key) (new : Known) : Type 0 where
   pub known : IsKnown b start limit new
   pub followed : AreFollowed b (roll_of new) (length new.inner.items)
   pub place : ℕ
   pub there : IsAt new.table.entries first place
 
-abbrev pub TellsRun : Numbered → Tabled → Key → ℕ → Key → Known → Met → Type 0
+abbrev pub TellsRun : BoardView → Tabled → Key → ℕ → Key → Known → Met → Type 0
 TellsRun b lives start limit first new On = IsFinished b start limit first new
 TellsRun b lives start limit first new Ended = HasEnded lives b.rows (key_position b start) limit
 
 -- positions of some boxes alone that are closed under pushes, no more than the limit, with numbers that are small enough
-pub record AreClosedWithin (b : Numbered) (player : ℕ) (boxes : List ℕ) (limit : ℕ) (inner : List Inner) : Type 0 where
+pub record AreClosedWithin (b : BoardView) (player : ℕ) (boxes : List ℕ) (limit : ℕ) (inner : List Inner) : Type 0 where
   pub closed : AreClosedAlone b player boxes inner
   pub few : length inner ≤ limit
   pub fit : All FitsInner inner
 
 -- the known positions are so, where the search has run from where the player stands
-abbrev pub TellsAlone : Numbered → Tabled → ℕ → List ℕ → ℕ → List Inner → Met → Type 0
+abbrev pub TellsAlone : BoardView → Tabled → ℕ → List ℕ → ℕ → List Inner → Met → Type 0
 TellsAlone b lives player boxes limit inner On = AreClosedWithin b player boxes limit inner
 TellsAlone b lives player boxes limit inner Ended = HasEnded lives b.rows (position_of b player boxes) limit

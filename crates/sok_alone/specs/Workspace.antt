@@ -1,12 +1,12 @@
 -- What searches of some boxes alone keep from one to the next.
 use Rattle.std.specs.Prelude.{ℕ, List}
-use Rattle.sok_board.specs.Area.{Numbered, IsAccepted}
+use Rattle.sok_board.specs.Area.{BoardView, IsAccepted}
 use Rattle.sok_region.specs.Layouts.{IsLaidOut}
 use Rattle.sok_state.specs.Normalizers.{Normalizes}
 use Rattle.sok_alone.specs.declared.workspace.Workspace.{Workspace}
 
 -- one for an accepted board, on which some boxes are laid out
-pub record IsWorkspace (b : Numbered) (workspace : Workspace) : Type 0 where
+pub record IsWorkspace (b : BoardView) (workspace : Workspace) : Type 0 where
   pub accepted : IsAccepted b
   pub normalizes : Normalizes b workspace.normalizer
   pub boxes : List ℕ

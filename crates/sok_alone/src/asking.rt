@@ -12,8 +12,8 @@ use crate::losses::Losses;
 use sok_board::area::Sq;
 use sok_board::board::Board;
 use sok_board::box_set::BoxSet;
-use sok_push::setting::Setting;
-use sok_push::tables::Tables;
+use sok_distance::distances::Distances;
+use sok_distance::setting::Setting;
 use sok_rules::cell::Dir;
 use sok_rules::fault::Memory;
 use std::alloc::Global;
@@ -30,7 +30,7 @@ const KNOWN: usize = 1_000;
 pub(crate) struct Asking<'a> {
     alloc: Global,
     board: &'a Board,
-    tables: &'a Tables,
+    distances: &'a Distances,
     known: usize,
     boxes: &'a BoxSet,
     from: Sq,
@@ -95,7 +95,7 @@ impl Losses {
         let asking = Asking {
             alloc,
             board: setting.board,
-            tables: setting.tables,
+            distances: setting.distances,
             known,
             boxes,
             from,
@@ -209,7 +209,7 @@ impl Losses {
             asking.alloc,
             &Setting {
                 board: asking.board,
-                tables: asking.tables,
+                distances: asking.distances,
             },
             after,
             asking.from,

@@ -12,7 +12,7 @@ use crate::known::Known;
 use crate::meeting::{Met, meet};
 use crate::workspace::Workspace;
 use sok_bar::inners::is_expanded;
-use sok_push::setting::Setting;
+use sok_distance::setting::Setting;
 use sok_rules::fault::Memory;
 use sok_state::key::Key;
 use sok_state::push::Push;

@@ -13,8 +13,8 @@ use crate::closing::close_alone;
 use crate::found::FoundPattern;
 use sok_board::area::Sq;
 use sok_board::box_set::BoxSet;
+use sok_distance::setting::Setting;
 use sok_entry::entry::Numbers;
-use sok_push::setting::Setting;
 use sok_rules::fault::Memory;
 use std::alloc::Global;
 

@@ -2,7 +2,7 @@
 
 ghost use Rattle.std.specs.Prelude.{ℕ, ◌≡◌, ◌≤◌, All, IfOk, IfSome, OnOk, Some, length, slice_get};
 ghost use Rattle.sok_bar.specs.Patterns.{IsPattern};
-ghost use Rattle.sok_board.specs.Area.{Numbered};
+ghost use Rattle.sok_board.specs.Area.{BoardView};
 ghost use Rattle.sok_entry.specs.Text.{FitsInner};
 ghost use Rattle.sok_region.specs.Regions.{IsPlaced};
 ghost use Rattle.sok_state.specs.Keys.{IsKey};
@@ -18,8 +18,8 @@ use crate::workspace::Workspace;
 use sok_board::area::Sq;
 use sok_board::board::Board;
 use sok_board::box_set::BoxSet;
+use sok_distance::setting::Setting;
 use sok_entry::inners::Inners;
-use sok_push::setting::Setting;
 use sok_region::region::Region;
 use sok_rules::fault::Memory;
 use sok_state::key::Key;
@@ -82,9 +82,9 @@ impl Losses {
         boxes: &BoxSet,
         place: u32,
     ) -> Result<FoundPattern, Memory>
-        requires lost { (b : Numbered) × (player : ℕ)
+        requires lost { (b : BoardView) × (player : ℕ)
             × IsLostBy b player boxes.now (losses_of self.now) place }
-        ensures holds { (b : Numbered) (player : ℕ)
+        ensures holds { (b : BoardView) (player : ℕ)
             → IsLostBy b player boxes.now (losses_of self.now) place → IfOk result
             (λ pattern. IsPattern b player boxes.now pattern.members pattern.inner) }
         ensures few { IfOk result (λ pattern. length pattern.inner ≤ loss_limit) }

@@ -7,7 +7,7 @@ ghost use Rattle.sok_alone.specs.Meeting.{TellsMet};
 
 use crate::judging::{Judged, judge};
 use crate::known::{Known, add};
-use sok_push::setting::Setting;
+use sok_distance::setting::Setting;
 use sok_rules::fault::Memory;
 use sok_state::key::Key;
 use sok_state::table::Table;

@@ -10,7 +10,7 @@ use crate::workspace::Workspace;
 use sok_board::area::Sq;
 use sok_board::box_set::BoxSet;
 use sok_closed::solved::is_solved;
-use sok_push::setting::Setting;
+use sok_distance::setting::Setting;
 use sok_rules::fault::Memory;
 use sok_state::key::Key;
 use sok_state::push::Push;
@@ -79,7 +79,7 @@ fn way(setting: &Setting<'_>, boxes: &BoxSet, moved: Sq, square: Sq) -> u16
 {
     let mut least = u16::MAX;
     for (index, goal) in setting.board.goals().iter().enumerate() {
-        if let Some(pushes) = setting.tables.dist(index, square)
+        if let Some(pushes) = setting.distances.dist(index, square)
             && pushes < least
             && (*goal == moved || !boxes.has(*goal))
         {

@@ -6,26 +6,26 @@ use Rattle.std.specs.List.Sorted.{IsStrictlyIncreasing}
 use Rattle.std.proofs.lemmas.Bool.{cases_lt}
 use Rattle.std.proofs.lemmas.List.{get_or_default}
 use Rattle.std.proofs.lemmas.List.Edits.{length-remove}
-use Rattle.sok_board.specs.Area.{Numbered, goals_of}
+use Rattle.sok_board.specs.Area.{BoardView, goals_of}
 use Rattle.sok_board.proofs.Lists.{Contains-cons}
-use Rattle.sok_push.specs.Pushing.{Chain, TellsDistance}
-use Rattle.sok_push.specs.Distances.{goal_at}
+use Rattle.sok_distance.specs.Pushing.{Chain, TellsDistance}
+use Rattle.sok_distance.specs.Distances.{goal_at}
 use Rattle.sok_bar.specs.Reached.{Reaches, IsReachedBy, HasReached}
 use Rattle.sok_bar.proofs.Removal.{Contains-remove}
 use Rattle.sok_bar.proofs.Rising.{below_later}
 
 -- what the distance of a square to a goal tells
-pub told_reaches : (b : Numbered) (square goal : ℕ) (o : Option ℕ) → TellsDistance b (goal_at b goal) square o → (is_some o ≡ true → Reaches b square goal)
+pub told_reaches : (b : BoardView) (square goal : ℕ) (o : Option ℕ) → TellsDistance b (goal_at b goal) square o → (is_some o ≡ true → Reaches b square goal)
     × (Reaches b square goal → is_some o ≡ true)
 told_reaches b square goal (Some d) told = ((λ _. record { pushes = d; chain = told.0 }), λ _. refl)
 told_reaches b square goal None told = ((λ none. absurd (true≢false (sym none))), λ reaches. absurd (told reaches.pushes reaches.chain))
 
 -- of the first goals, each that is reached is in a list
-abbrev pub HasFirst : Numbered → List ℕ → List ℕ → ℕ → List ℕ → Type 0
+abbrev pub HasFirst : BoardView → List ℕ → List ℕ → ℕ → List ℕ → Type 0
 HasFirst b boxes members k goals = (goal : ℕ) → goal < k → IsReachedBy b boxes members goal → Contains goals (goal_at b goal)
 
 -- so many of the first goals are reached
-pub record Counts (b : Numbered) (boxes members : List ℕ) (k count : ℕ) : Type 0 where
+pub record Counts (b : BoardView) (boxes members : List ℕ) (k count : ℕ) : Type 0 where
   pub low : count ≤ k
   pub goals : List ℕ
   pub enough : HasFirst b boxes members k goals
@@ -33,7 +33,7 @@ pub record Counts (b : Numbered) (boxes members : List ℕ) (k count : ℕ) : Ty
   pub least : (others : List ℕ) → HasFirst b boxes members k others → count ≤ length others
 
 -- one more goal that is not reached
-pub Counts-missed : (b : Numbered) (boxes members : List ℕ) (k count : ℕ) → Counts b boxes members k count → (IsReachedBy b boxes members k → ⊥)
+pub Counts-missed : (b : BoardView) (boxes members : List ℕ) (k count : ℕ) → Counts b boxes members k count → (IsReachedBy b boxes members k → ⊥)
     → Counts b boxes members (k + 1) count
 Counts-missed b boxes members k count counts missed = record {
   low = let low = counts.low in omega (arith, low);
@@ -47,7 +47,7 @@ Counts-missed b boxes members k count counts missed = record {
 }
 
 -- one more goal that is reached
-pub Counts-reached : (b : Numbered) (boxes members : List ℕ) (k count : ℕ) → IsStrictlyIncreasing (goals_of b) → k < length (goals_of b)
+pub Counts-reached : (b : BoardView) (boxes members : List ℕ) (k count : ℕ) → IsStrictlyIncreasing (goals_of b) → k < length (goals_of b)
     → Counts b boxes members k count → IsReachedBy b boxes members k → Counts b boxes members (k + 1) (count + 1)
 Counts-reached b boxes members k count rising exists counts here = record {
   low = let low = counts.low in omega (arith, low);
@@ -70,7 +70,7 @@ Counts-reached b boxes members k count rising exists counts here = record {
 }
 
 -- all goals
-pub HasReached-first : (b : Numbered) (boxes members goals : List ℕ) → HasFirst b boxes members (length (goals_of b)) goals → HasReached b boxes members goals
+pub HasReached-first : (b : BoardView) (boxes members goals : List ℕ) → HasFirst b boxes members (length (goals_of b)) goals → HasReached b boxes members goals
 HasReached-first b boxes members goals first = λ x g n member (j, within, is) chain.
     let at : goal_at b j ≡ g = get_or_default (goals_of b) j 0 g within ∙ is in
     subst (Contains goals) at (first j within (record {
@@ -83,7 +83,7 @@ HasReached-first b boxes members goals first = λ x g n member (j, within, is) c
       };
     }))
 
-pub HasFirst-reached : (b : Numbered) (boxes members goals : List ℕ) → HasReached b boxes members goals → HasFirst b boxes members (length (goals_of b)) goals
+pub HasFirst-reached : (b : BoardView) (boxes members goals : List ℕ) → HasReached b boxes members goals → HasFirst b boxes members (length (goals_of b)) goals
 HasFirst-reached b boxes members goals has = λ goal within reached.
     has reached.from (goal_at b goal) reached.reaches.pushes reached.member (goal, within, get_or_default (goals_of b) goal (goal_at b goal) 0 within)
     reached.reaches.chain

@@ -11,13 +11,13 @@ use Rattle.sok_rules.proofs.Runs.{solves_on}
 use Rattle.sok_rules.proofs.Spots.{next-opposite, opposite-twice}
 use Rattle.sok_rules.proofs.Steps.{IsStanding, IsStanding-step}
 use Rattle.sok_rules.proofs.Walking.{boxes-Same, IsStanding-Same}
-use Rattle.sok_board.specs.Area.{Numbered, IsAccepted, IsArea, InArea, spot_of, beside, position_of}
+use Rattle.sok_board.specs.Area.{BoardView, IsAccepted, IsArea, InArea, spot_of, beside, position_of}
 use Rattle.sok_board.proofs.AreaLaws.{InArea-spot_of}
 use Rattle.sok_board.proofs.Confined.{confines-play}
 use Rattle.sok_board.proofs.Positions.{listed_box}
 use Rattle.sok_region.specs.Regions.{IsPlaced}
 use Rattle.sok_region.proofs.Walks.{standing}
-use Rattle.sok_push.specs.Pushing.{IsStuck}
+use Rattle.sok_distance.specs.Pushing.{IsStuck}
 use Rattle.sok_price.specs.Prices.{IsMember}
 use Rattle.sok_bar.specs.declared.rest.Rest.{Rest}
 use Rattle.sok_bar.specs.declared.rest.Rest.TheVariants.{AtLeast, Never}
@@ -27,21 +27,21 @@ use Rattle.sok_bar.proofs.Kept.{MovesBox, InArea-step, box-moved, box_kept, neve
 use Rattle.sok_bar.proofs.Rising.{Contains-member}
 
 -- a box that is held along an axis is held in both of its directions
-Held-opposite : (b : Numbered) (IsOne : ℕ → Type 0) (s : ℕ) (d : Dir) → Held b IsOne s d → Held b IsOne s (opposite d)
+Held-opposite : (b : BoardView) (IsOne : ℕ → Type 0) (s : ℕ) (d : Dir) → Held b IsOne s d → Held b IsOne s (opposite d)
 Held-opposite b IsOne s d (Held.wall_ahead h) = Held.wall_behind (subst (IsWallBeside b s) (sym (opposite-twice d)) h)
 Held-opposite b IsOne s d (Held.wall_behind h) = Held.wall_ahead h
 Held-opposite b IsOne s d (Held.box_ahead h) = Held.box_behind (subst (λ e. IsSomeAnd (beside b s e) IsOne) (sym (opposite-twice d)) h)
 Held-opposite b IsOne s d (Held.box_behind h) = Held.box_ahead h
 Held-opposite b IsOne s d (Held.between_stuck h k) = Held.between_stuck k (subst (λ e. IsSomeAnd (beside b s e) (IsStuck b)) (sym (opposite-twice d)) h)
 
-pub IsHeld-along : (b : Numbered) (IsOne : ℕ → Type 0) (s : ℕ) → IsHeld b IsOne s → (d : Dir) → Held b IsOne s d
+pub IsHeld-along : (b : BoardView) (IsOne : ℕ → Type 0) (s : ℕ) → IsHeld b IsOne s → (d : Dir) → Held b IsOne s d
 IsHeld-along b IsOne s held Left = held.across
 IsHeld-along b IsOne s held Up = held.along
 IsHeld-along b IsOne s held Right = Held-opposite b IsOne s Left held.across
 IsHeld-along b IsOne s held Down = Held-opposite b IsOne s Up held.along
 
 -- a position with boxes on some squares of the area that are held, one of them off a goal
-record IsJammed (b : Numbered) (IsOne : ℕ → Type 0) (x : Position) : Type 0 where
+record IsJammed (b : BoardView) (IsOne : ℕ → Type 0) (x : Position) : Type 0 where
   inside : InArea b.rows x.man
   standing : IsStanding b.rows x
   within : (s : ℕ) → IsOne s → s < length b.area
@@ -52,7 +52,7 @@ record IsJammed (b : Numbered) (IsOne : ℕ → Type 0) (x : Position) : Type 0 
   off_goal : IsGoalSquare b off → ⊥
 
 -- a held box that is pushed lands on a stuck square
-lands_stuck : (b : Numbered) (IsOne : ℕ → Type 0) (d : Dir) (x : Position) (a : After) (s : ℕ) → IsJammed b IsOne x → (moves : MovesBox b d x a s)
+lands_stuck : (b : BoardView) (IsOne : ℕ → Type 0) (d : Dir) (x : Position) (a : After) (s : ℕ) → IsJammed b IsOne x → (moves : MovesBox b d x a s)
     → Held b IsOne moves.lone.from d → IsStuck b moves.lone.to
 lands_stuck b IsOne d x a s jam moves (Held.wall_ahead h) =
     let wall : holds is_wall b.rows moves.push.to ≡ true =
@@ -74,7 +74,7 @@ lands_stuck b IsOne d x a s jam moves (Held.box_behind h) =
 lands_stuck b IsOne d x a s jam moves (Held.between_stuck h k) = subst (λ o. IsSomeAnd o (IsStuck b)) moves.lone.beside_ahead h
 
 -- nothing solves from a position with a jam
-never_jammed : (b : Numbered) → IsArea b.rows b.area → (IsOne : ℕ → Type 0) (w : List Dir) (x : Position) → IsJammed b IsOne x → SolvesFrom b.rows x w → ⊥
+never_jammed : (b : BoardView) → IsArea b.rows b.area → (IsOne : ℕ → Type 0) (w : List Dir) (x : Position) → IsJammed b IsOne x → SolvesFrom b.rows x w → ⊥
 never_jammed b area IsOne [] x jam solves = jam.off_goal (solves (spot_of b jam.off) (jam.boxes jam.off jam.off_one))
 never_jammed b area IsOne (d ∷ w) x jam solves = solves_on b.rows d w x solves (λ a stepped on.
     let inside = InArea-step b.rows d x a jam.inside stepped in
@@ -96,13 +96,13 @@ never_jammed b area IsOne (d ∷ w) x jam solves = solves_on b.rows d w x solves
     }) on)
 
 -- what has no solution needs any number of pushes
-pub IsBarred-never : (b : Numbered) (player : ℕ) (boxes : List ℕ) → ((x : Position) → Same b.rows (position_of b player boxes) x → NeverFrom b.rows x)
+pub IsBarred-never : (b : BoardView) (player : ℕ) (boxes : List ℕ) → ((x : Position) → Same b.rows (position_of b player boxes) x → NeverFrom b.rows x)
     → (rest : Rest) → IsBarred b player boxes rest
 IsBarred-never b player boxes never (AtLeast n) = record { each = λ x same w solves. absurd (never x same w solves) }
 IsBarred-never b player boxes never Never = record { each = never }
 
 -- a jam bars its position, whatever is still to be shown; the player stands on a free square
-pub jams-bar : (b : Numbered) → IsAccepted b → (player : ℕ) (boxes members : List ℕ) (rest : Rest) → IsPlaced b boxes player → IsJam b boxes members
+pub jams-bar : (b : BoardView) → IsAccepted b → (player : ℕ) (boxes members : List ℕ) (rest : Rest) → IsPlaced b boxes player → IsJam b boxes members
     → IsBarred b player boxes rest
 jams-bar b accepted player boxes members rest placed jam = IsBarred-never b player boxes (λ x (v, leads, quiet) w solves.
     let y : Position = position_of b player boxes in

@@ -12,14 +12,14 @@ use Rattle.sok_rules.proofs.Runs.{solves_on}
 use Rattle.sok_rules.proofs.Spots.{same_spot-is}
 use Rattle.sok_rules.proofs.Steps.{IsPush, step_cases}
 use Rattle.sok_rules.proofs.Backs.{moved-to}
-use Rattle.sok_board.specs.Area.{Numbered, IsArea, InArea, spot_of, number_of}
+use Rattle.sok_board.specs.Area.{BoardView, IsArea, InArea, spot_of, number_of}
 use Rattle.sok_board.proofs.AreaLaws.{number_of-spot_of, InArea-next}
 use Rattle.sok_board.proofs.Numbering.{Contains-goals_of}
-use Rattle.sok_push.specs.Pushing.{lone_push, lone_pushes, IsStuck}
-use Rattle.sok_push.proofs.PushingLaws.{IsLonePush, lone_push-push}
+use Rattle.sok_distance.specs.Pushing.{lone_push, lone_pushes, IsStuck}
+use Rattle.sok_distance.proofs.PushingLaws.{IsLonePush, lone_push-push}
 
 -- the box that a letter pushes stands on a known square
-pub record MovesBox (b : Numbered) (d : Dir) (x : Position) (a : After) (s : ℕ) : Type 0 where
+pub record MovesBox (b : BoardView) (d : Dir) (x : Position) (a : After) (s : ℕ) : Type 0 where
   pub push : IsPush b.rows d x a
   pub lone : IsLonePush b d x.man push.from push.to
   pub is : lone.from ≡ s
@@ -32,13 +32,13 @@ InArea-step rows d x a inside stepped = elim (step_cases rows d x a stepped) [
 ]
 
 -- where a push leaves its box
-pub box-moved : (b : Numbered) (d : Dir) (x : Position) (a : After) (s : ℕ) → (moves : MovesBox b d x a s) → a.position.boxes (spot_of b moves.lone.to) ≡ true
+pub box-moved : (b : BoardView) (d : Dir) (x : Position) (a : After) (s : ℕ) → (moves : MovesBox b d x a s) → a.position.boxes (spot_of b moves.lone.to) ≡ true
 box-moved b d x a s moves =
     ap (λ (y : After). y.position.boxes (spot_of b moves.lone.to)) moves.push.leads ∙ ap (moved x.boxes moves.push.from moves.push.to) moves.lone.to_spot ∙
     moved-to x.boxes moves.push.from moves.push.to
 
 -- a box stays on its square, or it is the one that is pushed
-pub box_kept : (b : Numbered) → IsArea b.rows b.area → (d : Dir) (x : Position) (a : After) → InArea b.rows x.man → step b.rows d x ≡ Some a → (s : ℕ)
+pub box_kept : (b : BoardView) → IsArea b.rows b.area → (d : Dir) (x : Position) (a : After) → InArea b.rows x.man → step b.rows d x ≡ Some a → (s : ℕ)
     → s < length b.area
     → x.boxes (spot_of b s) ≡ true → (a.position.boxes (spot_of b s) ≡ true) ⊎ MovesBox b d x a s
 box_kept b area d x a inside stepped s within there = elim (step_cases b.rows d x a stepped) [
@@ -58,12 +58,12 @@ box_kept b area d x a inside stepped s within there = elim (step_cases b.rows d 
 ]
 
 -- where a lone push from a stuck square leads is stuck
-IsStuck-pushed : (b : Numbered) (d : Dir) (from to : ℕ) → lone_push b d from ≡ Some to → IsStuck b from → IsStuck b to
+IsStuck-pushed : (b : BoardView) (d : Dir) (from to : ℕ) → lone_push b d from ≡ Some to → IsStuck b from → IsStuck b to
 IsStuck-pushed b d from to goes stuck = λ g n goal (w, leads, long). stuck g (n + 1) goal
     (d ∷ w, ap (option_and_then (λ t. lone_pushes b t w)) goes ∙ leads, omega (arith, long))
 
 -- nothing solves while a box stands on a stuck square
-pub never_stuck : (b : Numbered) → IsArea b.rows b.area → (w : List Dir) (x : Position) (s : ℕ) → InArea b.rows x.man → s < length b.area
+pub never_stuck : (b : BoardView) → IsArea b.rows b.area → (w : List Dir) (x : Position) (s : ℕ) → InArea b.rows x.man → s < length b.area
     → x.boxes (spot_of b s) ≡ true → IsStuck b s → SolvesFrom b.rows x w → ⊥
 never_stuck b area [] x s inside within there stuck solves = stuck s 0 (Contains-goals_of b s within (solves (spot_of b s) there)) ([], refl, refl)
 never_stuck b area (d ∷ w) x s inside within there stuck solves =

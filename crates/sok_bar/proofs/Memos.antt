@@ -3,7 +3,7 @@ use Rattle.std.proofs.Common.{ℕ, ◌≡◌, ◌↔◌, ap, subst, sym, List, l
 use Rattle.sok_rules.specs.Play.{Position}
 use Rattle.sok_rules.specs.States.{Same}
 use Rattle.sok_rules.proofs.Walking.{Same-sym, Same-trans}
-use Rattle.sok_board.specs.Area.{Numbered, IsAccepted, position_of}
+use Rattle.sok_board.specs.Area.{BoardView, IsAccepted, position_of}
 use Rattle.sok_region.specs.Regions.{IsPlaced}
 use Rattle.sok_state.specs.declared.key.Key.{Key}
 use Rattle.sok_state.specs.Keys.{IsKeyOf, key_position}
@@ -13,7 +13,7 @@ use Rattle.sok_entry.specs.declared.entry.Inner.{Inner}
 use Rattle.sok_bar.specs.Patterns.{AreClosedAlone, IsBarredAlone, inner_node}
 
 -- a list that is closed from a position is closed from each from which a walk leads there
-IsClosed-Same : {E : Type 0} (node : E → Node) (b : Numbered) (count : ℕ) (x y : Position) (IsBarred : E → Type 0) (entries : List E)
+IsClosed-Same : {E : Type 0} (node : E → Node) (b : BoardView) (count : ℕ) (x y : Position) (IsBarred : E → Type 0) (entries : List E)
     → Same b.rows y x → IsClosed node b count x IsBarred entries → IsClosed node b count y IsBarred entries
 IsClosed-Same node b count x y IsBarred entries same closed =
     let (e, starter) = closed.rolled.starter in
@@ -29,13 +29,13 @@ IsClosed-Same node b count x y IsBarred entries same closed =
     }
 
 -- positions of boxes alone that are closed from one player of a state are closed from another
-pub closed-from : (b : Numbered) (player other : ℕ) (boxes : List ℕ) (inner : List Inner) → Same b.rows (position_of b player boxes) (position_of b other boxes)
+pub closed-from : (b : BoardView) (player other : ℕ) (boxes : List ℕ) (inner : List Inner) → Same b.rows (position_of b player boxes) (position_of b other boxes)
     → AreClosedAlone b other boxes inner → AreClosedAlone b player boxes inner
 closed-from b player other boxes inner same closed =
     IsClosed-Same inner_node b (length boxes) (position_of b other boxes) (position_of b player boxes) (IsBarredAlone b) inner same closed
 
 -- so it is with the square of its key
-pub closed-by-key : (b : Numbered) → IsAccepted b → (player : ℕ) (boxes : List ℕ) (inner : List Inner) (key : Key) → IsPlaced b boxes player
+pub closed-by-key : (b : BoardView) → IsAccepted b → (player : ℕ) (boxes : List ℕ) (inner : List Inner) (key : Key) → IsPlaced b boxes player
     → IsKeyOf b (position_of b player boxes) key → key.boxes ≡ boxes → AreClosedAlone b player boxes inner ↔ AreClosedAlone b key.least key.boxes inner
 closed-by-key b accepted player boxes inner key placed is boxes_are =
     let x = position_of b player boxes in

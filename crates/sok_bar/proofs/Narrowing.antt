@@ -7,7 +7,7 @@ use Rattle.std.proofs.lemmas.List.{append-nil, get_or_default}
 use Rattle.std.proofs.lemmas.List.Elements.{All-contains, Contains-get_or, filter-append}
 use Rattle.std.proofs.lemmas.List.FromFn.{length-range_with_len, get_or-range_with_len}
 use Rattle.std.proofs.lemmas.Option.{same_Some, get_or_from_slice_get, slice_get-get_or, slice_get_within}
-use Rattle.sok_board.specs.Area.{Numbered, IsArea, spot_of}
+use Rattle.sok_board.specs.Area.{BoardView, IsArea, spot_of}
 use Rattle.sok_board.proofs.AreaLaws.{number_of-spot_of, same_number}
 use Rattle.sok_board.proofs.Lists.{Contains-filter, Contains-from_filter}
 use Rattle.sok_board.proofs.Numbering.{rising-chosen}
@@ -49,7 +49,7 @@ fewer p q less (x ∷ xs) (suc k) within on off =
     omega (arith, rest, length-filter_cons p x xs, length-filter_cons q x xs, one-le (q x) (p x) (less x))
 
 -- a box that is not held is in no jam
-KeepsJams-taken : (b : Numbered) → IsArea b.rows b.area → (boxes old new : List ℕ) (s : ℕ) → IsTaken b s old new → KeepsJams b boxes old → KeepsJams b boxes new
+KeepsJams-taken : (b : BoardView) → IsArea b.rows b.area → (boxes old new : List ℕ) (s : ℕ) → IsTaken b s old new → KeepsJams b boxes old → KeepsJams b boxes new
 KeepsJams-taken b area boxes old new s taken keeps = record {
   among = λ t (within, there). keeps.among t (within, ((taken.others (spot_of b t)).0 there).1);
   most = λ members jam t member.
@@ -62,7 +62,7 @@ KeepsJams-taken b area boxes old new s taken keeps = record {
 }
 
 -- one box more is taken away
-pub TellsPass-taken : (b : Numbered) → IsArea b.rows b.area → (boxes : List ℕ) (n : ℕ) (old mid new : List ℕ) (before : Bool) → n < length boxes
+pub TellsPass-taken : (b : BoardView) → IsArea b.rows b.area → (boxes : List ℕ) (n : ℕ) (old mid new : List ℕ) (before : Bool) → n < length boxes
     → TellsPass b boxes n old mid before → IsTaken b (get_or boxes n 0) mid new → TellsPass b boxes (n + 1) old new true
 TellsPass-taken b area boxes n old mid new before within pass taken =
     let s = get_or boxes n 0 in
@@ -84,7 +84,7 @@ TellsPass-taken b area boxes n old mid new before within pass taken =
     ]
 
 -- or left
-pub TellsPass-left : (b : Numbered) (boxes : List ℕ) (n : ℕ) (old mid new : List ℕ) (before : Bool) → TellsPass b boxes n old mid before
+pub TellsPass-left : (b : BoardView) (boxes : List ℕ) (n : ℕ) (old mid new : List ℕ) (before : Bool) → TellsPass b boxes n old mid before
     → IsLeft b (get_or boxes n 0) mid new → TellsPass b boxes (n + 1) old new before
 TellsPass-left b boxes n old mid new before pass left =
     subst (λ rows. TellsPass b boxes (n + 1) old rows before) (sym left.same) (record {
@@ -100,7 +100,7 @@ TellsPass-left b boxes n old mid new before pass left =
     })
 
 -- whether it is one or the other
-pub TellsPass-more : (b : Numbered) → IsArea b.rows b.area → (boxes : List ℕ) (n : ℕ) (old mid new : List ℕ) (before one : Bool) → n < length boxes
+pub TellsPass-more : (b : BoardView) → IsArea b.rows b.area → (boxes : List ℕ) (n : ℕ) (old mid new : List ℕ) (before one : Bool) → n < length boxes
     → TellsPass b boxes n old mid before → TellsTaken b (get_or boxes n 0) mid new one → TellsPass b boxes (n + 1) old new (before || one)
 TellsPass-more b area boxes n old mid new before one within pass told = elim (cases_Bool one) [
   | inl on ↦ subst (TellsPass b boxes (n + 1) old new) (sym (ap (λ t. before || t) on ∙ or_on before))
@@ -118,7 +118,7 @@ TellsPass-more b area boxes n old mid new before one within pass told = elim (ca
     or_off false = refl
 
 -- all boxes are drawn at first
-pub KeepsJams-drawn : (b : Numbered) → IsArea b.rows b.area → (boxes rows : List ℕ) → ((s : ℕ) → Contains boxes s → s < length b.area)
+pub KeepsJams-drawn : (b : BoardView) → IsArea b.rows b.area → (boxes rows : List ℕ) → ((s : ℕ) → Contains boxes s → s < length b.area)
     → Draws b (Contains boxes) rows → KeepsJams b boxes rows
 KeepsJams-drawn b area boxes rows exist drawn = record {
   among = λ s (within, there).
@@ -130,14 +130,14 @@ KeepsJams-drawn b area boxes rows exist drawn = record {
       (within, (drawn (spot_of b s)).1 (s, number_of-spot_of b area s within, one));
 }
 
-pub laid-exist : (b : Numbered) (boxes : List ℕ) (laid : Laid) → IsLaidOut b boxes laid → (s : ℕ) → Contains boxes s → s < length b.area
+pub laid-exist : (b : BoardView) (boxes : List ℕ) (laid : Laid) → IsLaidOut b boxes laid → (s : ℕ) → Contains boxes s → s < length b.area
 laid-exist b boxes laid out s one = All-contains (λ n. n < length b.area) laid.boxes s out.exist ((out.listed s).1 one)
 
-pub KeepsJams-laid : (b : Numbered) → IsArea b.rows b.area → (boxes : List ℕ) (laid : Laid) → IsLaidOut b boxes laid → KeepsJams b boxes laid.boxed
+pub KeepsJams-laid : (b : BoardView) → IsArea b.rows b.area → (boxes : List ℕ) (laid : Laid) → IsLaidOut b boxes laid → KeepsJams b boxes laid.boxed
 KeepsJams-laid b area boxes laid out = KeepsJams-drawn b area boxes laid.boxed (laid-exist b boxes laid out) out.boxed
 
 -- a box of a jam is held by the boxes that are drawn
-pub loose-alone : (b : Numbered) (boxes rows : List ℕ) (s : ℕ) → KeepsJams b boxes rows → (IsHeld b (IsDrawn b rows) s → ⊥) → HasJamWith b boxes s → ⊥
+pub loose-alone : (b : BoardView) (boxes rows : List ℕ) (s : ℕ) → KeepsJams b boxes rows → (IsHeld b (IsDrawn b rows) s → ⊥) → HasJamWith b boxes s → ⊥
 loose-alone b boxes rows s keeps loose (members, jam, member) =
     loose (IsHeld-more b (IsMember boxes members) (IsDrawn b rows) (keeps.most members jam) s (jam.held s member))
 
@@ -152,7 +152,7 @@ filter-range_more p n =
     )
 
 -- the members that are drawn
-module _ (b : Numbered) (boxes rows : List ℕ) (exist : (s : ℕ) → Contains boxes s → s < length b.area) (keeps : KeepsJams b boxes rows) where
+module _ (b : BoardView) (boxes rows : List ℕ) (exist : (s : ℕ) → Contains boxes s → s < length b.area) (keeps : KeepsJams b boxes rows) where
   test : ℕ → Bool
   test i = has rows (spot_of b (get_or boxes i 0))
 
@@ -220,7 +220,7 @@ module _ (b : Numbered) (boxes rows : List ℕ) (exist : (s : ℕ) → Contains 
   )
 
 -- each box that is left is held, where those are that a list has
-pub each-held : (b : Numbered) (boxes others rows : List ℕ) → KeepsJams b boxes rows → ((t : ℕ) → Contains boxes t → Contains others t)
+pub each-held : (b : BoardView) (boxes others rows : List ℕ) → KeepsJams b boxes rows → ((t : ℕ) → Contains boxes t → Contains others t)
     → ((k : ℕ) → k < length others → IsDrawn b rows (get_or others k 0) → IsHeld b (IsDrawn b rows) (get_or others k 0))
     → (t : ℕ) → IsDrawn b rows t → IsHeld b (IsDrawn b rows) t
 each-held b boxes others rows keeps listed held t drawn =
@@ -228,12 +228,12 @@ each-held b boxes others rows keeps listed held t drawn =
     let at : get_or others k 0 ≡ t = get_or_default others k 0 t within ∙ is in
     subst (IsHeld b (IsDrawn b rows)) at (held k within (subst (IsDrawn b rows) (sym at) drawn))
 
-pub IsNarrowed-same : (b : Numbered) (s : ℕ) (squares boxes rows old new : List ℕ) (stays : Bool) → squares ≡ boxes → rows ≡ old
+pub IsNarrowed-same : (b : BoardView) (s : ℕ) (squares boxes rows old new : List ℕ) (stays : Bool) → squares ≡ boxes → rows ≡ old
     → IsNarrowed b squares s rows new stays → IsNarrowed b boxes s old new stays
 IsNarrowed-same b s squares boxes rows old new stays same_squares same_rows narrowed =
     subst (λ xs. IsNarrowed b xs s old new stays) same_squares (subst (λ xs. IsNarrowed b squares s xs new stays) same_rows narrowed)
 
-module _ (b : Numbered) (area : IsArea b.rows b.area) (boxes : List ℕ) (laid : Laid) (out : IsLaidOut b boxes laid) (held : List ℕ) (s : ℕ) (stays : Bool)
+module _ (b : BoardView) (area : IsArea b.rows b.area) (boxes : List ℕ) (laid : Laid) (out : IsLaidOut b boxes laid) (held : List ℕ) (s : ℕ) (stays : Bool)
     (narrowed : IsNarrowed b laid.boxes s laid.boxed held stays) where
   left : KeepsJams b boxes held
   left = narrowed.jams boxes (KeepsJams-laid b area boxes laid out)

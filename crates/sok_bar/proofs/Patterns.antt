@@ -12,7 +12,7 @@ use Rattle.sok_rules.specs.States.{Same}
 use Rattle.sok_rules.proofs.Reaching.{reached-solves}
 use Rattle.sok_rules.proofs.Spots.{same_spot-is}
 use Rattle.sok_rules.proofs.Thinner.{IsThinner}
-use Rattle.sok_board.specs.Area.{Numbered, is_among, is_decoration, position_of, spot_of}
+use Rattle.sok_board.specs.Area.{BoardView, is_among, is_decoration, position_of, spot_of}
 use Rattle.sok_board.proofs.Positions.{among_numbers}
 use Rattle.sok_region.specs.Regions.{IsPlaced}
 use Rattle.sok_price.specs.Prices.{AreMembers}
@@ -48,7 +48,7 @@ among-boxes boxes members s listed (k, within, is) =
     (get_or members k 0, inside, get_or_default boxes (get_or members k 0) s 0 inside ∙ there)
 
 -- they make a position with the player
-pub IsPlaced-alone : (b : Numbered) (player : ℕ) (boxes members : List ℕ) → IsPlaced b boxes player → AreMembers boxes members
+pub IsPlaced-alone : (b : BoardView) (player : ℕ) (boxes members : List ℕ) → IsPlaced b boxes player → AreMembers boxes members
     → IsPlaced b (squares_at boxes members) player
 IsPlaced-alone b player boxes members placed listed = record {
   rising = squares_at-rise boxes members placed.rising listed;
@@ -66,7 +66,7 @@ IsPlaced-alone b player boxes members placed listed = record {
 -- ---- alone on the board
 
 -- a position has boxes that are among those of another
-pub thinner-among : (b : Numbered) (player : ℕ) (squares boxes : List ℕ) → ((n : ℕ) → Contains squares n → Contains boxes n)
+pub thinner-among : (b : BoardView) (player : ℕ) (squares boxes : List ℕ) → ((n : ℕ) → Contains squares n → Contains boxes n)
     → IsThinner (position_of b player squares) (position_of b player boxes)
 thinner-among b player squares boxes are_among = record {
   man = refl;

@@ -3,7 +3,7 @@ use Rattle.std.proofs.Common.{ℕ, ◌≡◌, arith, List, false, length, true�
 use Rattle.std.proofs.lemmas.List.Elements.{All-contains}
 use Rattle.sok_rules.specs.Play.{NeverFrom}
 use Rattle.sok_rules.proofs.Thinner.{NeverFrom-thinner}
-use Rattle.sok_board.specs.Area.{Numbered, IsAccepted, IsArea, position_of}
+use Rattle.sok_board.specs.Area.{BoardView, IsAccepted, IsArea, position_of}
 use Rattle.sok_region.specs.Regions.{IsPlaced}
 use Rattle.sok_price.specs.Laws.{ArePlaced}
 use Rattle.sok_price.specs.Prices.{Priced, IsCrowd}
@@ -24,23 +24,23 @@ use Rattle.sok_bar.specs.Rests.{IsBarred}
 use Rattle.sok_bar.proofs.Jams.{IsBarred-never, jams-bar}
 use Rattle.sok_bar.proofs.Patterns.{IsPlaced-alone, NeverFrom-Same, among-boxes, thinner-among}
 
-ArePlaced-placed : (b : Numbered) (boxes : List ℕ) (player : ℕ) → IsPlaced b boxes player → ArePlaced b player boxes
+ArePlaced-placed : (b : BoardView) (boxes : List ℕ) (player : ℕ) → IsPlaced b boxes player → ArePlaced b player boxes
 ArePlaced-placed b boxes player placed = record { player_exists = placed.player_exists; boxes_exist = placed.boxes_exist; rising = placed.rising }
 
-prices-bar : (b : Numbered) → IsArea b.rows b.area → (player : ℕ) (boxes u v : List ℕ) (n : ℕ) → ArePlaced b player boxes → Priced b boxes u v n
+prices-bar : (b : BoardView) → IsArea b.rows b.area → (player : ℕ) (boxes u v : List ℕ) (n : ℕ) → ArePlaced b player boxes → Priced b boxes u v n
     → IsBarred b player boxes (AtLeast n)
 prices-bar b area player boxes u v n placed priced = record {
   each =
       λ x same. AtLeast-Priced b area x boxes u v n (stands_same b area player boxes placed x same) priced;
 }
 
-crowds-bar : (b : Numbered) → IsArea b.rows b.area → (player : ℕ) (boxes members : List ℕ) (rest : Rest) → ArePlaced b player boxes → IsCrowd b boxes members
+crowds-bar : (b : BoardView) → IsArea b.rows b.area → (player : ℕ) (boxes members : List ℕ) (rest : Rest) → ArePlaced b player boxes → IsCrowd b boxes members
     → IsBarred b player boxes rest
 crowds-bar b area player boxes members rest placed crowd =
     IsBarred-never b player boxes (λ x same. Never-IsCrowd b area x boxes members (stands_same b area player boxes placed x same) crowd) rest
 
 -- what bars boxes that are alone on the board
-alone-bars : (b : Numbered) → IsAccepted b → (player : ℕ) (boxes : List ℕ) (reason : InnerReason) → IsPlaced b boxes player → is_expanded reason ≡ false
+alone-bars : (b : BoardView) → IsAccepted b → (player : ℕ) (boxes : List ℕ) (reason : InnerReason) → IsPlaced b boxes player → is_expanded reason ≡ false
     → BarsAlone b boxes reason → IsBarred b player boxes Never
 alone-bars b accepted player boxes Expanded placed other bars = absurd (true≢false other)
 alone-bars b accepted player boxes (Crowd members) placed other crowd =
@@ -48,7 +48,7 @@ alone-bars b accepted player boxes (Crowd members) placed other crowd =
 alone-bars b accepted player boxes (Frozen members) placed other jam = jams-bar b accepted player boxes members Never placed jam
 
 -- positions of them that are closed under pushes
-pub NeverFrom-alone : (b : Numbered) → IsAccepted b → (player : ℕ) (boxes : List ℕ) (inner : List Inner) → IsPlaced b boxes player
+pub NeverFrom-alone : (b : BoardView) → IsAccepted b → (player : ℕ) (boxes : List ℕ) (inner : List Inner) → IsPlaced b boxes player
     → AreClosedAlone b player boxes inner → NeverFrom b.rows (position_of b player boxes)
 NeverFrom-alone b accepted player boxes inner placed closed =
     roll-agrees inner_node b (length boxes) (position_of b player boxes) inner closed.rolled (λ _ _. ⊥) (λ depth next more n near agrees. agrees)
@@ -60,7 +60,7 @@ NeverFrom-alone b accepted player boxes inner placed closed =
     (IsStanding-placed b accepted.numbered accepted.proper player boxes placed)
 
 -- members that are never solved alone are never solved among others
-patterns-bar : (b : Numbered) → IsAccepted b → (player : ℕ) (boxes members : List ℕ) (inner : List Inner) (rest : Rest) → IsPlaced b boxes player
+patterns-bar : (b : BoardView) → IsAccepted b → (player : ℕ) (boxes members : List ℕ) (inner : List Inner) (rest : Rest) → IsPlaced b boxes player
     → IsPattern b player boxes members inner → IsBarred b player boxes rest
 patterns-bar b accepted player boxes members inner rest placed pattern = IsBarred-never b player boxes (λ x same.
     NeverFrom-Same b.rows (position_of b player boxes) x same
@@ -69,7 +69,7 @@ patterns-bar b accepted player boxes members inner rest placed pattern = IsBarre
     (NeverFrom-alone b accepted player (squares_at boxes members) inner (IsPlaced-alone b player boxes members placed pattern.listed) pattern.closed))) rest
 
 -- a case for each reason
-pub reasons-bar : (b : Numbered) → IsAccepted b → ReasonsBar b
+pub reasons-bar : (b : BoardView) → IsAccepted b → ReasonsBar b
 reasons-bar b accepted player boxes Barring.spent (AtLeast n) placed none = record { each = λ x same w solves. omega (arith, none) }
 reasons-bar b accepted player boxes Barring.spent Never placed none = absurd none
 reasons-bar b accepted player boxes (Barring.bound u v) (AtLeast n) placed priced =

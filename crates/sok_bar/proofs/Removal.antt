@@ -9,7 +9,7 @@ use Rattle.std.proofs.lemmas.List.FromFn.{map-range_with_len_more}
 use Rattle.sok_rules.specs.declared.cell.Dir.{Dir}
 use Rattle.sok_rules.specs.declared.cell.Dir.TheVariants.{Left, Up}
 use Rattle.sok_rules.specs.Squares.{opposite}
-use Rattle.sok_board.specs.Area.{Numbered, beside}
+use Rattle.sok_board.specs.Area.{BoardView, beside}
 use Rattle.sok_price.specs.Prices.{IsMember}
 use Rattle.sok_bar.specs.Jam.{Held, IsHeld, IsJam}
 use Rattle.sok_bar.proofs.Rising.{Contains-member}
@@ -19,14 +19,14 @@ one_of_more None P Q more none = none
 one_of_more (Some s) P Q more one = more s one
 
 -- more boxes hold what fewer hold
-Held-more : (b : Numbered) (P Q : ℕ → Type 0) → ((s : ℕ) → P s → Q s) → (s : ℕ) (d : Dir) → Held b P s d → Held b Q s d
+Held-more : (b : BoardView) (P Q : ℕ → Type 0) → ((s : ℕ) → P s → Q s) → (s : ℕ) (d : Dir) → Held b P s d → Held b Q s d
 Held-more b P Q more s d (Held.wall_ahead h) = Held.wall_ahead h
 Held-more b P Q more s d (Held.wall_behind h) = Held.wall_behind h
 Held-more b P Q more s d (Held.box_ahead h) = Held.box_ahead (one_of_more (beside b s d) P Q more h)
 Held-more b P Q more s d (Held.box_behind h) = Held.box_behind (one_of_more (beside b s (opposite d)) P Q more h)
 Held-more b P Q more s d (Held.between_stuck h k) = Held.between_stuck h k
 
-pub IsHeld-more : (b : Numbered) (P Q : ℕ → Type 0) → ((s : ℕ) → P s → Q s) → (s : ℕ) → IsHeld b P s → IsHeld b Q s
+pub IsHeld-more : (b : BoardView) (P Q : ℕ → Type 0) → ((s : ℕ) → P s → Q s) → (s : ℕ) → IsHeld b P s → IsHeld b Q s
 IsHeld-more b P Q more s held = record { across = Held-more b P Q more s Left held.across; along = Held-more b P Q more s Up held.along }
 
 -- an element other than the one at a place is there after the removal of that place
@@ -52,5 +52,5 @@ range-more n =
     sym (map-id (range_with_len 0 (n + 1))) ∙ map-range_with_len_more (λ (m : ℕ). m) 0 n n (omega arith) ∙ ap (λ xs. xs ++ n ∷ []) (map-id (range_with_len 0 n))
 
 -- a box of a jam is held by all boxes
-pub IsHeld-all : (b : Numbered) (boxes jam : List ℕ) → IsJam b boxes jam → (s : ℕ) → IsMember boxes jam s → IsHeld b (Contains boxes) s
+pub IsHeld-all : (b : BoardView) (boxes jam : List ℕ) → IsJam b boxes jam → (s : ℕ) → IsMember boxes jam s → IsHeld b (Contains boxes) s
 IsHeld-all b boxes jam is_jam s one = IsHeld-more b (IsMember boxes jam) (Contains boxes) (Contains-member boxes jam) s (is_jam.held s one)

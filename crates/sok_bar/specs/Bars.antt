@@ -1,7 +1,7 @@
 -- The reasons for barring a position: what each of them says, and what it shows.
 use Rattle.std.specs.Prelude.{ℕ, ◌≡◌, ◌↔◌, Bool, List, Option, Some, None, Result, IfOk, IsOkAnd, IsTrue}
 use Rattle.sok_rules.specs.declared.fault.Memory.{Memory}
-use Rattle.sok_board.specs.Area.{Numbered}
+use Rattle.sok_board.specs.Area.{BoardView}
 use Rattle.sok_region.specs.Regions.{IsPlaced}
 use Rattle.sok_price.specs.Prices.{Priced, IsCrowd}
 use Rattle.sok_entry.specs.declared.entry.Inner.{Inner}
@@ -24,7 +24,7 @@ pub data Barring : Type 0 where
 
 -- what a reason says of a position with a player and these boxes: no more pushes are asked for; the prices bound the pushes,
 -- and say nothing of positions without a solution; the members are a crowd, a jam or a pattern, whatever is to be shown
-abbrev pub Bars : Numbered → ℕ → List ℕ → Barring → Rest → Type 0
+abbrev pub Bars : BoardView → ℕ → List ℕ → Barring → Rest → Type 0
 Bars b player boxes Barring.spent (AtLeast n) = n ≡ 0
 Bars b player boxes Barring.spent Never = ⊥
 Bars b player boxes (Barring.bound u v) (AtLeast n) = Priced b boxes u v n
@@ -34,7 +34,7 @@ Bars b player boxes (Barring.frozen members) rest = IsJam b boxes members
 Bars b player boxes (Barring.pattern members inner) rest = IsPattern b player boxes members inner
 
 -- whether it is so is what is answered. Memory may be refused to a pattern, and to no other reason
-abbrev pub IsJudged : Numbered → ℕ → List ℕ → Barring → Rest → Result Bool Memory → Type 0
+abbrev pub IsJudged : BoardView → ℕ → List ℕ → Barring → Rest → Result Bool Memory → Type 0
 IsJudged b player boxes (Barring.pattern members inner) rest result = IfOk result (λ holds. IsTrue holds ↔ IsPattern b player boxes members inner)
 IsJudged b player boxes reason rest result = IsOkAnd result (λ holds. IsTrue holds ↔ Bars b player boxes reason rest)
 
@@ -56,6 +56,6 @@ barring (Frozen members) = Some (Barring.frozen members)
 barring (Pattern members inner) = Some (Barring.pattern members inner)
 
 -- the law of reasons: a position that is barred by what a reason says is barred by what rests to be shown
-abbrev pub ReasonsBar : Numbered → Type 0
+abbrev pub ReasonsBar : BoardView → Type 0
 ReasonsBar b = (player : ℕ) (boxes : List ℕ) (reason : Barring) (rest : Rest) → IsPlaced b boxes player → Bars b player boxes reason rest
     → IsBarred b player boxes rest

@@ -1,14 +1,14 @@
 -- Lists of positions that were found closed, kept while more are judged.
 use Rattle.std.specs.Prelude.{All}
-use Rattle.sok_board.specs.Area.{Numbered}
+use Rattle.sok_board.specs.Area.{BoardView}
 use Rattle.sok_bar.specs.declared.memo.Kept.{Kept}
 use Rattle.sok_bar.specs.declared.memo.Memo.{Memo}
 use Rattle.sok_bar.specs.Patterns.{AreClosedAlone}
 
 -- the positions of a kept list are closed from its state
-abbrev pub IsClosedKept : Numbered → Kept → Type 0
+abbrev pub IsClosedKept : BoardView → Kept → Type 0
 IsClosedKept b kept = AreClosedAlone b kept.key.least kept.key.boxes kept.inner
 
 -- so it is of each list
-pub record KeepsClosed (b : Numbered) (memo : Memo) : Type 0 where
+pub record KeepsClosed (b : BoardView) (memo : Memo) : Type 0 where
   pub each : All (IsClosedKept b) memo.lists.items

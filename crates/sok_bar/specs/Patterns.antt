@@ -1,6 +1,6 @@
 -- Boxes that are never solved, taken alone: a list of positions of them that is closed under pushes.
 use Rattle.std.specs.Prelude.{ℕ, List, Bool, true, false, length, map, slice_index}
-use Rattle.sok_board.specs.Area.{Numbered, position_of}
+use Rattle.sok_board.specs.Area.{BoardView, position_of}
 use Rattle.sok_closed.specs.Rolls.{IsClosed, Node}
 use Rattle.sok_entry.specs.declared.entry.Inner.{Inner}
 use Rattle.sok_entry.specs.declared.entry.InnerReason.{InnerReason}
@@ -18,16 +18,16 @@ abbrev pub inner_node : Inner → Node
 inner_node one = record { depth = one.depth; player = one.player; boxes = one.boxes; expanded = is_expanded one.reason }
 
 -- what its reason says of its boxes, which are all that are on the board
-abbrev pub BarsAlone : Numbered → List ℕ → InnerReason → Type 0
+abbrev pub BarsAlone : BoardView → List ℕ → InnerReason → Type 0
 BarsAlone b boxes Expanded = Unit {0}
 BarsAlone b boxes (Crowd members) = IsCrowd b boxes members
 BarsAlone b boxes (Frozen members) = IsJam b boxes members
 
-abbrev pub IsBarredAlone : Numbered → Inner → Type 0
+abbrev pub IsBarredAlone : BoardView → Inner → Type 0
 IsBarredAlone b one = BarsAlone b one.boxes one.reason
 
 -- from where the player stands, the boxes alone lead to these positions and no others, of which none is solved
-abbrev pub AreClosedAlone : Numbered → ℕ → List ℕ → List Inner → Type 0
+abbrev pub AreClosedAlone : BoardView → ℕ → List ℕ → List Inner → Type 0
 AreClosedAlone b player boxes inner = IsClosed inner_node b (length boxes) (position_of b player boxes) (IsBarredAlone b) inner
 
 -- the squares of members
@@ -35,6 +35,6 @@ abbrev pub squares_at : List ℕ → List ℕ → List ℕ
 squares_at boxes members = map (slice_index boxes) members
 
 -- members of the boxes that are never solved alone
-pub record IsPattern (b : Numbered) (player : ℕ) (boxes members : List ℕ) (inner : List Inner) : Type 0 where
+pub record IsPattern (b : BoardView) (player : ℕ) (boxes members : List ℕ) (inner : List Inner) : Type 0 where
   pub listed : AreMembers boxes members
   pub closed : AreClosedAlone b player (squares_at boxes members) inner

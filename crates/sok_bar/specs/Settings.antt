@@ -1,7 +1,7 @@
 -- What a test of boxes is given: boxes on squares of a board, and those of them that may hold others.
 use Rattle.std.specs.Prelude.{ℕ, ◌<◌, ◌≤◌, List, IsTrue, All, Contains, length}
 use Rattle.std.specs.List.Sorted.{IsStrictlyIncreasing}
-use Rattle.sok_board.specs.Area.{Numbered, spot_of}
+use Rattle.sok_board.specs.Area.{BoardView, spot_of}
 use Rattle.sok_board.specs.Limits.{box_limit}
 use Rattle.sok_field.specs.Fields.{has}
 use Rattle.sok_price.specs.Prices.{AreMembers, IsMember}
@@ -9,17 +9,17 @@ use Rattle.sok_bar.specs.declared.held.Holders.{Holders}
 use Rattle.sok_bar.specs.declared.held.Holders.TheVariants.{Every, Members, Drawn}
 
 -- boxes on squares of a board
-pub record AreBoxesOn (b : Numbered) (boxes : List ℕ) : Type 0 where
+pub record AreBoxesOn (b : BoardView) (boxes : List ℕ) : Type 0 where
   pub exist : All (λ square. square < length b.area) boxes
   pub rising : IsStrictlyIncreasing boxes
   pub few : length boxes ≤ box_limit
 
 -- a square of the area that bit rows have
-abbrev pub IsDrawn : Numbered → List ℕ → ℕ → Type 0
+abbrev pub IsDrawn : BoardView → List ℕ → ℕ → Type 0
 IsDrawn b rows s = (s < length b.area) × IsTrue (has rows (spot_of b s))
 
 -- a square of a box that may hold others
-abbrev pub IsHolder : Numbered → List ℕ → Holders → ℕ → Type 0
+abbrev pub IsHolder : BoardView → List ℕ → Holders → ℕ → Type 0
 IsHolder b boxes Every = Contains boxes
 IsHolder b boxes (Members members) = IsMember boxes members.now
 IsHolder b boxes (Drawn squares) = IsDrawn b squares.now

@@ -8,7 +8,7 @@ ghost use Rattle.sok_bar.specs.Rests.{IsBarred};
 use crate::rest::Rest;
 use sok_board::area::Sq;
 use sok_board::box_set::BoxSet;
-use sok_push::setting::Setting;
+use sok_distance::setting::Setting;
 use sok_rules::fault::Memory;
 use std::alloc::Global;
 
@@ -18,7 +18,7 @@ pub trait Bar {
     ghost says: { Self → Barring };
 
     /// Whether what it says is so of a position, given by the squares of its boxes and of its
-    /// player, with the tables of its board. Where it answers true, what is still to be shown is so
+    /// player, with the distances of its board. Where it answers true, what is still to be shown is so
     /// of each position of the same state. It refuses only for want of memory.
     fn holds(
         &self,

@@ -9,8 +9,8 @@ use crate::bar::Bar;
 use crate::rest::Rest;
 use sok_board::area::Sq;
 use sok_board::box_set::BoxSet;
-use sok_push::setting::Setting;
-use sok_push::tables::Tables;
+use sok_distance::distances::Distances;
+use sok_distance::setting::Setting;
 use sok_rules::fault::Memory;
 use std::alloc::Global;
 
@@ -43,10 +43,10 @@ impl Bar for Bound<'_> {
         if self.u.len() != boxes.len() {
             return Ok(false);
         }
-        if self.v.len() != setting.tables.goals() {
+        if self.v.len() != setting.distances.goals() {
             return Ok(false);
         }
-        if !are_fair(setting.tables, boxes, self.u, self.v) {
+        if !are_fair(setting.distances, boxes, self.u, self.v) {
             return Ok(false);
         }
         match total(self.u).checked_sub(total(self.v)) {
@@ -57,14 +57,14 @@ impl Bar for Bound<'_> {
 }
 
 /// Whether no box costs more than a goal and its distance to it.
-fn are_fair(tables: &Tables, boxes: &[Sq], u: &[u32], v: &[u32]) -> bool
-    requires boxes_exist { All (λ square. square < length tables.now.board.area) boxes.now }
+fn are_fair(distances: &Distances, boxes: &[Sq], u: &[u32], v: &[u32]) -> bool
+    requires boxes_exist { All (λ square. square < length distances.now.board.area) boxes.now }
     requires a_price_a_box { length u.now ≡ length boxes.now }
-    requires a_price_a_goal { length v.now ≡ length (goals_of tables.now.board) }
-    ensures { IsTrue result ↔ AreFair tables.now.board boxes.now u.now v.now }
+    requires a_price_a_goal { length v.now ≡ length (goals_of distances.now.board) }
+    ensures { IsTrue result ↔ AreFair distances.now.board boxes.now u.now v.now }
 {
     for (place, square) in boxes.iter().enumerate() {
-        if !is_fair(tables, *square, u[place], v) {
+        if !is_fair(distances, *square, u[place], v) {
             return false;
         }
     }
@@ -72,13 +72,13 @@ fn are_fair(tables: &Tables, boxes: &[Sq], u: &[u32], v: &[u32]) -> bool
 }
 
 /// Whether a box costs no more than a goal and its distance to it, whatever the goal.
-fn is_fair(tables: &Tables, square: Sq, price: u32, v: &[u32]) -> bool
-    requires exists { square < length tables.now.board.area }
-    requires a_price_a_goal { length v.now ≡ length (goals_of tables.now.board) }
-    ensures { IsTrue result ↔ IsFair tables.now.board square price v.now }
+fn is_fair(distances: &Distances, square: Sq, price: u32, v: &[u32]) -> bool
+    requires exists { square < length distances.now.board.area }
+    requires a_price_a_goal { length v.now ≡ length (goals_of distances.now.board) }
+    ensures { IsTrue result ↔ IsFair distances.now.board square price v.now }
 {
     for (goal, goal_price) in v.iter().enumerate() {
-        if !is_affordable(tables, goal, square, price, *goal_price) {
+        if !is_affordable(distances, goal, square, price, *goal_price) {
             return false;
         }
     }
@@ -86,12 +86,18 @@ fn is_fair(tables: &Tables, square: Sq, price: u32, v: &[u32]) -> bool
 }
 
 /// Whether a box costs no more than one goal and its distance to it, if there is one.
-fn is_affordable(tables: &Tables, goal: usize, square: Sq, price: u32, goal_price: u32) -> bool
-    requires goal { goal < length (goals_of tables.now.board) }
-    requires exists { square < length tables.now.board.area }
-    ensures { IsTrue result ↔ IsAffordable tables.now.board square price goal goal_price }
+fn is_affordable(
+    distances: &Distances,
+    goal: usize,
+    square: Sq,
+    price: u32,
+    goal_price: u32,
+) -> bool
+    requires goal { goal < length (goals_of distances.now.board) }
+    requires exists { square < length distances.now.board.area }
+    ensures { IsTrue result ↔ IsAffordable distances.now.board square price goal goal_price }
 {
-    match tables.dist(goal, square) {
+    match distances.dist(goal, square) {
         Some(pushes) => u64::from(price) <= u64::from(goal_price) + u64::from(pushes),
         None => true,
     }

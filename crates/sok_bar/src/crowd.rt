@@ -11,8 +11,8 @@ use crate::members::are_members;
 use crate::rest::Rest;
 use sok_board::area::Sq;
 use sok_board::box_set::BoxSet;
-use sok_push::setting::Setting;
-use sok_push::tables::Tables;
+use sok_distance::distances::Distances;
+use sok_distance::setting::Setting;
 use sok_rules::fault::Memory;
 use std::alloc::Global;
 
@@ -40,23 +40,23 @@ impl Bar for Crowd<'_> {
         if !are_members(boxes, self.members) {
             return Ok(false);
         }
-        Ok(reached_goals(setting.tables, boxes, self.members) < self.members.len())
+        Ok(reached_goals(setting.distances, boxes, self.members) < self.members.len())
     }
 }
 
 /// How many goals are reached from members, each alone on the board.
-fn reached_goals(tables: &Tables, boxes: &[Sq], members: &[u32]) -> usize
-    requires boxes_exist { All (λ square. square < length tables.now.board.area) boxes.now }
+fn reached_goals(distances: &Distances, boxes: &[Sq], members: &[u32]) -> usize
+    requires boxes_exist { All (λ square. square < length distances.now.board.area) boxes.now }
     requires listed { AreMembers boxes.now members.now }
-    ensures enough { (goals : List ℕ) × HasReached tables.now.board boxes.now members.now goals
+    ensures enough { (goals : List ℕ) × HasReached distances.now.board boxes.now members.now goals
         × (length goals ≡ result) }
-    ensures least { (goals : List ℕ) → HasReached tables.now.board boxes.now members.now goals
+    ensures least { (goals : List ℕ) → HasReached distances.now.board boxes.now members.now goals
         → result ≤ length goals }
-    ensures accepted { IsAccepted tables.now.board }
+    ensures accepted { IsAccepted distances.now.board }
 {
     let mut reached = 0;
-    for goal in 0..tables.goals() {
-        if is_reached(tables, goal, boxes, members) {
+    for goal in 0..distances.goals() {
+        if is_reached(distances, goal, boxes, members) {
             reached += 1;
         }
     }
@@ -64,14 +64,14 @@ fn reached_goals(tables: &Tables, boxes: &[Sq], members: &[u32]) -> usize
 }
 
 /// Whether a goal is reached from a member, alone on the board.
-fn is_reached(tables: &Tables, goal: usize, boxes: &[Sq], members: &[u32]) -> bool
-    requires boxes_exist { All (λ square. square < length tables.now.board.area) boxes.now }
+fn is_reached(distances: &Distances, goal: usize, boxes: &[Sq], members: &[u32]) -> bool
+    requires boxes_exist { All (λ square. square < length distances.now.board.area) boxes.now }
     requires listed { AreMembers boxes.now members.now }
-    requires exists { goal < length (goals_of tables.now.board) }
-    ensures { IsTrue result ↔ IsReachedBy tables.now.board boxes.now members.now goal }
+    requires exists { goal < length (goals_of distances.now.board) }
+    ensures { IsTrue result ↔ IsReachedBy distances.now.board boxes.now members.now goal }
 {
     for member in members {
-        if reaches(tables, boxes[*member as usize], goal) {
+        if reaches(distances, boxes[*member as usize], goal) {
             return true;
         }
     }
@@ -79,10 +79,10 @@ fn is_reached(tables: &Tables, goal: usize, boxes: &[Sq], members: &[u32]) -> bo
 }
 
 /// Whether a box alone on the board comes from a square to a goal.
-fn reaches(tables: &Tables, square: Sq, goal: usize) -> bool
-    requires square_exists { square < length tables.now.board.area }
-    requires goal_exists { goal < length (goals_of tables.now.board) }
-    ensures { IsTrue result ↔ Reaches tables.now.board square goal }
+fn reaches(distances: &Distances, square: Sq, goal: usize) -> bool
+    requires square_exists { square < length distances.now.board.area }
+    requires goal_exists { goal < length (goals_of distances.now.board) }
+    ensures { IsTrue result ↔ Reaches distances.now.board square goal }
 {
-    tables.dist(goal, square).is_some()
+    distances.dist(goal, square).is_some()
 }

@@ -4,7 +4,7 @@ ghost use Rattle.std.specs.List.Sorted.{IsStrictlyIncreasing};
 ghost use Rattle.std.specs.Prelude.{◌<◌, ◌≤◌, ◌↔◌, IsTrue, length};
 ghost use Rattle.sok_board.specs.Area.{IsAccepted};
 ghost use Rattle.sok_board.specs.Limits.{box_limit};
-ghost use Rattle.sok_push.specs.Pushing.{IsStuck};
+ghost use Rattle.sok_distance.specs.Pushing.{IsStuck};
 ghost use Rattle.sok_price.specs.Prices.{AreMembers};
 ghost use Rattle.sok_bar.specs.Jam.{AreHeld, Held, IsBetween, IsHeld};
 ghost use Rattle.sok_bar.specs.Settings.{AreHolders, IsDrawn, IsHolder, AreBoxesOn};
@@ -12,8 +12,8 @@ ghost use Rattle.sok_bar.specs.Settings.{AreHolders, IsDrawn, IsHolder, AreBoxes
 use crate::members::is_member;
 use sok_board::area::Sq;
 use sok_board::board::Board;
+use sok_distance::setting::Setting;
 use sok_field::field::Field;
-use sok_push::setting::Setting;
 use sok_rules::cell::Dir;
 
 /// Which boxes may hold another: all of some, members of their list, or those in bit rows.
@@ -130,5 +130,5 @@ fn are_stuck(setting: &Setting<'_>, first: Sq, second: Sq) -> bool
     ensures { IsTrue result ↔ (IsStuck setting.now.board.now first
         × IsStuck setting.now.board.now second) }
 {
-    setting.tables.stuck(first) && setting.tables.stuck(second)
+    setting.distances.stuck(first) && setting.distances.stuck(second)
 }

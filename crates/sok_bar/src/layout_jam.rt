@@ -9,8 +9,8 @@ ghost use Rattle.sok_bar.specs.Narrowed.{HasDrawnOffGoal, IsNarrowed, TellsPass,
 use crate::held::{Holders, is_drawn, is_held};
 use sok_board::area::Sq;
 use sok_board::board::Board;
+use sok_distance::setting::Setting;
 use sok_field::field::Field;
-use sok_push::setting::Setting;
 use sok_region::layout::Layout;
 
 /// Whether the boxes of a layout have a jam with the box on a square: exactly where `find_frozen`

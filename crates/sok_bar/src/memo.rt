@@ -1,7 +1,7 @@
 //! Lists of positions that were found closed, kept while more are judged.
 
 ghost use Rattle.std.specs.Prelude.{◌≡◌, ◌↔◌, Contains, IfOk, IsTrue};
-ghost use Rattle.sok_board.specs.Area.{IsAccepted, Numbered};
+ghost use Rattle.sok_board.specs.Area.{IsAccepted, BoardView};
 ghost use Rattle.sok_region.specs.Regions.{IsPlaced};
 ghost use Rattle.sok_bar.specs.Memos.{IsClosedKept, KeepsClosed};
 ghost use Rattle.sok_bar.specs.Patterns.{AreClosedAlone};
@@ -10,8 +10,8 @@ use crate::alone::are_closed_alone;
 use crate::inners::are_same;
 use sok_board::area::Sq;
 use sok_board::box_set::BoxSet;
+use sok_distance::setting::Setting;
 use sok_entry::inners::Inners;
-use sok_push::setting::Setting;
 use sok_rules::fault::Memory;
 use sok_state::key::Key;
 use std::alloc::Global;
@@ -50,7 +50,7 @@ pub struct Memo {
 impl Memo {
     /// No list is kept. It keeps the allocator for those that come.
     pub fn new(alloc: Global) -> Memo
-        ensures { (b : Numbered) → KeepsClosed b result }
+        ensures { (b : BoardView) → KeepsClosed b result }
     {
         Memo {
             lists: Vec::new(alloc),
@@ -103,7 +103,7 @@ impl Memo {
 
     /// Keeps a list for a state, while there is room.
     fn keep(&mut self, key: Key, inner: &Inners) -> Result<(), Memory>
-        ensures { (b : Numbered) → IsClosedKept b (record { key = key; inner = inner.now })
+        ensures { (b : BoardView) → IsClosedKept b (record { key = key; inner = inner.now })
             → KeepsClosed b self.old → KeepsClosed b self.new }
     {
         let Some(room) = self.room.checked_sub(inner.as_slice().len()) else {

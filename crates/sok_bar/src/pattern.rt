@@ -15,8 +15,8 @@ use crate::memo::Memo;
 use crate::rest::Rest;
 use sok_board::area::Sq;
 use sok_board::box_set::BoxSet;
+use sok_distance::setting::Setting;
 use sok_entry::inners::Inners;
-use sok_push::setting::Setting;
 use sok_rules::fault::Memory;
 use std::alloc::Global;
 

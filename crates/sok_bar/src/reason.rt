@@ -16,8 +16,8 @@ use crate::rest::Rest;
 use crate::spent::Spent;
 use sok_board::area::Sq;
 use sok_board::box_set::BoxSet;
+use sok_distance::setting::Setting;
 use sok_entry::entry::Reason;
-use sok_push::setting::Setting;
 use sok_rules::fault::Memory;
 use std::alloc::Global;
 

@@ -8,7 +8,7 @@ use crate::bar::Bar;
 use crate::rest::Rest;
 use sok_board::area::Sq;
 use sok_board::box_set::BoxSet;
-use sok_push::setting::Setting;
+use sok_distance::setting::Setting;
 use sok_rules::fault::Memory;
 use std::alloc::Global;
 

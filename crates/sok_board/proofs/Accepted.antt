@@ -11,7 +11,7 @@ use Rattle.sok_rules.specs.declared.cell.Dir.TheVariants.{Left, Up, Right, Down}
 use Rattle.sok_rules.specs.declared.cell.Spot.{Spot}
 use Rattle.sok_rules.specs.Squares.{Rows, cell_at, holds, is_box, is_open, is_wall, next, same_spot}
 use Rattle.sok_rules.specs.Levels.{IsProper}
-use Rattle.sok_board.specs.Area.{Numbered, Before, InArea, IsArea, IsAccepted, number_of, spot_of, is_among, is_decoration, goals_of, boxes_of}
+use Rattle.sok_board.specs.Area.{BoardView, Before, InArea, IsArea, IsAccepted, number_of, spot_of, is_among, is_decoration, goals_of, boxes_of}
 use Rattle.sok_board.specs.Refusals.{IsRefused, lies_beside, has_gap}
 use Rattle.sok_board.specs.declared.fault.BoardFault.{BoardFault}
 use Rattle.sok_board.specs.declared.fault.BoardFault.TheVariants as fault
@@ -28,33 +28,33 @@ use Rattle.sok_board.proofs.Inside.{HasPlace-InArea, InArea-open}
 pub HasPlace-area : (rows : Rows) (squares : List Spot) → IsProper rows → IsArea rows squares → All HasPlace squares
 HasPlace-area rows squares proper area = All-weaker (InArea rows) HasPlace (HasPlace-InArea rows proper) squares area.inside
 
-InArea-some : (b : Numbered) → IsArea b.rows b.area → (s : Spot) (o : Option ℕ) → number_of b s ≡ o → IsSome o → InArea b.rows s
+InArea-some : (b : BoardView) → IsArea b.rows b.area → (s : Spot) (o : Option ℕ) → number_of b s ≡ o → IsSome o → InArea b.rows s
 InArea-some b area s None is some = absurd (true≢false (sym some))
 InArea-some b area s (Some n) is some =
     let (within, there) = spot_of-number_of b s n is in
     subst (InArea b.rows) there (InArea-spot_of b area n within)
 
 -- the squares with a number are those of the area
-pub IsSome-number_of : (b : Numbered) → IsArea b.rows b.area → (s : Spot) → IsSome (number_of b s) ↔ InArea b.rows s
+pub IsSome-number_of : (b : BoardView) → IsArea b.rows b.area → (s : Spot) → IsSome (number_of b s) ↔ InArea b.rows s
 IsSome-number_of b area s = (
   InArea-some b area s (number_of b s) refl,
   λ inside. let (n, is, _, _) = number-InArea b area s inside in ap is_some is,
 )
 
-pub is_among-InArea : (b : Numbered) → IsArea b.rows b.area → (s : Spot) → InArea b.rows s → is_among b.area s ≡ true
+pub is_among-InArea : (b : BoardView) → IsArea b.rows b.area → (s : Spot) → InArea b.rows s → is_among b.area s ≡ true
 is_among-InArea b area s inside =
     let (k, within, is) = area.whole s inside in
     list_any_at (same_spot s) b.area k s within (ap (same_spot s) is ∙ same_spot-refl s)
 
 -- a decoration is a box outside the area
-pub decoration-outside : (b : Numbered) → IsArea b.rows b.area → (s : Spot) → IsTrue (is_decoration b s)
+pub decoration-outside : (b : BoardView) → IsArea b.rows b.area → (s : Spot) → IsTrue (is_decoration b s)
     → (holds is_box b.rows s ≡ true) × (InArea b.rows s → ⊥)
 decoration-outside b area s e =
     let (box, apart) = both (holds is_box b.rows s) (not (is_among b.area s)) e in
     (box, λ inside. true≢false (sym (is_among-InArea b area s inside) ∙ not-true (is_among b.area s) apart))
 
 -- a square among those of an area is in the area
-pub InArea-is_among : (b : Numbered) → IsArea b.rows b.area → (s : Spot) → is_among b.area s ≡ true → InArea b.rows s
+pub InArea-is_among : (b : BoardView) → IsArea b.rows b.area → (s : Spot) → is_among b.area s ≡ true → InArea b.rows s
 InArea-is_among b area s among =
     let (k, x, within, is, same) = Any-from_list_any (same_spot s) b.area among in
     subst (InArea b.rows) (is ∙ sym (same_spot-is s x same)) (area.inside k x within)
@@ -65,7 +65,7 @@ IsArea-unique rows xs ys one two =
     same_ordered Before before_asym xs ys one.in_order two.in_order (λ s among. two.whole s (All-contains (InArea rows) xs s one.inside among))
     (λ s among. one.whole s (All-contains (InArea rows) ys s two.inside among))
 
-abbrev with_area : Rows → List Spot → Numbered
+abbrev with_area : Rows → List Spot → BoardView
 with_area rows area = record { rows = rows; area = area }
 
 pub has_gap-enclosed : (rows : Rows) (s : Spot) → ((d : Dir) → lies_beside rows s d ≡ true) → has_gap rows s ≡ false
@@ -92,7 +92,7 @@ refused-accepted rows fault.TooFewGoals (other, is, (_, _, few)) area accepted =
     absurd (omega (arith, boxes, goals, few, enough))
 refused-accepted rows fault.Memory refused area accepted = refl
 
-wall_here : (b : Numbered) → IsAccepted b → (s t : Spot) (d : Dir) (cell : Cell) → cell_at b.rows t ≡ Some cell → InArea b.rows s → next d s ≡ Some t
+wall_here : (b : BoardView) → IsAccepted b → (s t : Spot) (d : Dir) (cell : Cell) → cell_at b.rows t ≡ Some cell → InArea b.rows s → next d s ≡ Some t
     → IsNone (number_of b t) ↔ IsTrue (holds is_wall b.rows t)
 wall_here b accepted s t d cell at inside beside = elim (cases_Bool (is_wall cell)) [
   | inl wall ↦
@@ -111,13 +111,13 @@ wall_here b accepted s t d cell at inside beside = elim (cases_Bool (is_wall cel
       )
 ]
 
-wall_at : (b : Numbered) → IsAccepted b → (s t : Spot) (d : Dir) (o : Option Cell) → cell_at b.rows t ≡ o → InArea b.rows s → next d s ≡ Some t → IsSome o
+wall_at : (b : BoardView) → IsAccepted b → (s t : Spot) (d : Dir) (o : Option Cell) → cell_at b.rows t ≡ o → InArea b.rows s → next d s ≡ Some t → IsSome o
     → IsNone (number_of b t) ↔ IsTrue (holds is_wall b.rows t)
 wall_at b accepted s t d None at inside beside some = absurd (true≢false (sym some))
 wall_at b accepted s t d (Some cell) at inside beside some = wall_here b accepted s t d cell at inside beside
 
 -- the square beside one of the area has no number exactly where a wall stands
-pub wall_beside : (b : Numbered) → IsAccepted b → (s : Spot) (d : Dir) (o : Option Spot) → InArea b.rows s → next d s ≡ o
+pub wall_beside : (b : BoardView) → IsAccepted b → (s : Spot) (d : Dir) (o : Option Spot) → InArea b.rows s → next d s ≡ o
     → IsNone (option_and_then (number_of b) o) ↔ IsTrue (option_map_or (holds is_wall b.rows) o false)
 wall_beside b accepted s d None inside beside =
     absurd (true≢false (sym (subst (λ o. IsTrue (option_map_or (λ t. is_some (cell_at b.rows t)) o false)) beside (accepted.enclosed s d inside))))
@@ -126,18 +126,18 @@ wall_beside b accepted s d (Some t) inside beside =
     (subst (λ o. IsTrue (option_map_or (λ t. is_some (cell_at b.rows t)) o false)) beside (accepted.enclosed s d inside))
 
 -- the square that a list of an area's squares has at a number
-pub spot_read : (b c : Numbered) (n : ℕ) (x : Spot) → b ≡ c → n < length c.area → x ≡ get_or b.area n x → x ≡ spot_of c n
+pub spot_read : (b c : BoardView) (n : ℕ) (x : Spot) → b ≡ c → n < length c.area → x ≡ get_or b.area n x → x ≡ spot_of c n
 spot_read b c n x same within is =
-    let inside : n < length b.area = let long = ap (λ (a : Numbered). length a.area) same in omega (arith, within, long) in
+    let inside : n < length b.area = let long = ap (λ (a : BoardView). length a.area) same in omega (arith, within, long) in
     is ∙ sym (spot_of-get_or b.rows b.area n x inside) ∙ ap (λ a. spot_of a n) same
 
-pub HasPlace-spot_of : (b : Numbered) → IsAccepted b → (n : ℕ) → n < length b.area → HasPlace (spot_of b n)
+pub HasPlace-spot_of : (b : BoardView) → IsAccepted b → (n : ℕ) → n < length b.area → HasPlace (spot_of b n)
 HasPlace-spot_of b accepted n within = HasPlace-InArea b.rows accepted.proper (spot_of b n) (InArea-spot_of b accepted.numbered n within)
 
-found_number : (b : Numbered) (s : Spot) (o : Option ℕ) → number_of b s ≡ o → IfSome o (λ n. (n < length b.area) × (spot_of b n ≡ s))
+found_number : (b : BoardView) (s : Spot) (o : Option ℕ) → number_of b s ≡ o → IfSome o (λ n. (n < length b.area) × (spot_of b n ≡ s))
 found_number b s None is = tt
 found_number b s (Some n) is = spot_of-number_of b s n is
 
 -- the number of a square is a number of the area, and leads back to the square
-pub IfSome-number_of : (b : Numbered) (s : Spot) → IfSome (number_of b s) (λ n. (n < length b.area) × (spot_of b n ≡ s))
+pub IfSome-number_of : (b : BoardView) (s : Spot) → IfSome (number_of b s) (λ n. (n < length b.area) × (spot_of b n ≡ s))
 IfSome-number_of b s = found_number b s (number_of b s) refl

@@ -13,15 +13,15 @@ use Rattle.sok_rules.specs.declared.cell.Spot.{Spot}
 use Rattle.sok_rules.specs.Squares.{Rows, holds, is_open, next, same_spot}
 use Rattle.sok_rules.specs.Play.{start}
 use Rattle.sok_rules.proofs.Spots.{same_spot-is, same_spot-refl}
-use Rattle.sok_board.specs.Area.{Numbered, IsArea, InArea, stroll, Before, spot_of, number_of}
+use Rattle.sok_board.specs.Area.{BoardView, IsArea, InArea, stroll, Before, spot_of, number_of}
 
 abbrev pub origin : Spot
 origin = record { row = 0; col = 0 }
 
-pub spot_of-at : (b : Numbered) (n : ℕ) → spot_of b n ≡ get_or b.area n origin
+pub spot_of-at : (b : BoardView) (n : ℕ) → spot_of b n ≡ get_or b.area n origin
 spot_of-at b n = unwrap_or-slice_get b.area n origin
 
-pub spot_of-number_of : (b : Numbered) (s : Spot) (n : ℕ) → number_of b s ≡ Some n → (n < length b.area) × (spot_of b n ≡ s)
+pub spot_of-number_of : (b : BoardView) (s : Spot) (n : ℕ) → number_of b s ≡ Some n → (n < length b.area) × (spot_of b n ≡ s)
 spot_of-number_of b s n e =
     let found = position-Some (same_spot s) b.area n origin e in
     (found.0, spot_of-at b n ∙ sym (same_spot-is s (get_or b.area n origin) found.1))
@@ -31,7 +31,7 @@ before_apart a c (inl row) = grind (arith, nat_tests, row)
 before_apart a c (inr (row, col)) = grind (arith, nat_tests, row, col)
 
 -- a square's number is the place at which it stands
-pub number_of-spot_of : (b : Numbered) → IsArea b.rows b.area → (n : ℕ) → n < length b.area → number_of b (spot_of b n) ≡ Some n
+pub number_of-spot_of : (b : BoardView) → IsArea b.rows b.area → (n : ℕ) → n < length b.area → number_of b (spot_of b n) ≡ Some n
 number_of-spot_of b area n within =
     let at : spot_of b n ≡ get_or b.area n origin = spot_of-at b n in
     let first : position_or_len (same_spot (spot_of b n)) b.area ≡ n =
@@ -43,19 +43,19 @@ number_of-spot_of b area n within =
     ap (λ k. cond (nat_lt k (length b.area)) (Some k) None) first ∙ ap (λ t. cond t (Some n) None) found
 
 -- squares of the area are told apart by their numbers
-pub same_number : (b : Numbered) → IsArea b.rows b.area → (n m : ℕ) → n < length b.area → m < length b.area → spot_of b n ≡ spot_of b m → n ≡ m
+pub same_number : (b : BoardView) → IsArea b.rows b.area → (n m : ℕ) → n < length b.area → m < length b.area → spot_of b n ≡ spot_of b m → n ≡ m
 same_number b area n m n_within m_within same = same_Some n m
     (sym (number_of-spot_of b area n n_within) ∙ ap (number_of b) same ∙ number_of-spot_of b area m m_within)
 
 -- a square of the area has a number
-pub number-InArea : (b : Numbered) → IsArea b.rows b.area → (s : Spot) → InArea b.rows s
+pub number-InArea : (b : BoardView) → IsArea b.rows b.area → (s : Spot) → InArea b.rows s
     → (n : ℕ) × (number_of b s ≡ Some n) × (n < length b.area) × (spot_of b n ≡ s)
 number-InArea b area s inside =
     let (k, within, is) = area.whole s inside in
     let there : spot_of b k ≡ s = spot_of-at b k ∙ get_or_default b.area k origin s within ∙ is in
     (k, ap (number_of b) (sym there) ∙ number_of-spot_of b area k within, within, there)
 
-pub InArea-spot_of : (b : Numbered) → IsArea b.rows b.area → (n : ℕ) → n < length b.area → InArea b.rows (spot_of b n)
+pub InArea-spot_of : (b : BoardView) → IsArea b.rows b.area → (n : ℕ) → n < length b.area → InArea b.rows (spot_of b n)
 InArea-spot_of b area n within = subst (InArea b.rows) (sym (spot_of-at b n)) (area.inside n origin within)
 
 stroll-append : (rows : Rows) (w v : List Dir) (s : Spot) → stroll rows s (w ++ v) ≡ option_and_then (λ t. stroll rows t v) (stroll rows s w)

@@ -8,7 +8,7 @@ use Rattle.sok_rules.specs.declared.cell.Spot.{Spot}
 use Rattle.sok_rules.specs.Squares.{holds, is_wall, next}
 use Rattle.sok_board.specs.declared.neighbours.Neighbours.{Neighbours}
 use Rattle.sok_board.specs.declared.survey.Numbering.{Numbering}
-use Rattle.sok_board.specs.Area.{Numbered, IsAccepted, spot_of, number_of, beside}
+use Rattle.sok_board.specs.Area.{BoardView, IsAccepted, spot_of, number_of, beside}
 use Rattle.sok_board.specs.Boards.{IsNumbering}
 use Rattle.sok_board.specs.Neighbours.{number_towards, number_beside, neighbours_of}
 use Rattle.sok_board.specs.Tables.{entry}
@@ -21,13 +21,13 @@ number_towards-neighbours_of numbers s Up = refl
 number_towards-neighbours_of numbers s Right = refl
 number_towards-neighbours_of numbers s Down = refl
 
-same_numbers : (b : Numbered) (numbers : List (Option ℕ)) → ((s : Spot) → entry None numbers s ≡ number_of b s) → (o : Option Spot)
+same_numbers : (b : BoardView) (numbers : List (Option ℕ)) → ((s : Spot) → entry None numbers s ≡ number_of b s) → (o : Option Spot)
     → option_and_then (entry None numbers) o ≡ option_and_then (number_of b) o
 same_numbers b numbers exact None = refl
 same_numbers b numbers exact (Some s) = exact s
 
 -- what is kept of a square tells the squares beside it
-pub number_towards-kept : (b : Numbered) (kept : Numbering) → IsNumbering b kept → (n : ℕ) (d : Dir) (x : Neighbours) → n < length b.area
+pub number_towards-kept : (b : BoardView) (kept : Numbering) → IsNumbering b kept → (n : ℕ) (d : Dir) (x : Neighbours) → n < length b.area
     → x ≡ get_or kept.neighbours.items n x → number_towards x d ≡ beside b n d
 number_towards-kept b kept is n d x within read =
     let numbers = kept.numbers.items in
@@ -37,18 +37,18 @@ number_towards-kept b kept is n d x within read =
     ∙ same_numbers b numbers is.numbers (next d (spot_of b n))
 
 -- a square of the area has no neighbour in the area exactly where a wall stands
-pub wall-beside : (b : Numbered) → IsAccepted b → (n : ℕ) (d : Dir) → n < length b.area
+pub wall-beside : (b : BoardView) → IsAccepted b → (n : ℕ) (d : Dir) → n < length b.area
     → IsNone (beside b n d) ↔ IsTrue (option_map_or (holds is_wall b.rows) (next d (spot_of b n)) false)
 wall-beside b accepted n d within = wall_beside b accepted (spot_of b n) d (next d (spot_of b n)) (InArea-spot_of b accepted.numbered n within) refl
 
-number_exists : (b : Numbered) (s : Spot) (o : Option ℕ) → IfSome o (λ n. (n < length b.area) × (spot_of b n ≡ s)) → IfSome o (λ n. n < length b.area)
+number_exists : (b : BoardView) (s : Spot) (o : Option ℕ) → IfSome o (λ n. (n < length b.area) × (spot_of b n ≡ s)) → IfSome o (λ n. n < length b.area)
 number_exists b s None is = tt
 number_exists b s (Some n) is = is.0
 
-exists_beside : (b : Numbered) (o : Option Spot) → IfSome (option_and_then (number_of b) o) (λ n. n < length b.area)
+exists_beside : (b : BoardView) (o : Option Spot) → IfSome (option_and_then (number_of b) o) (λ n. n < length b.area)
 exists_beside b None = tt
 exists_beside b (Some s) = number_exists b s (number_of b s) (IfSome-number_of b s)
 
 -- a neighbour is of the area
-pub IfSome-beside : (b : Numbered) (n : ℕ) (d : Dir) → IfSome (beside b n d) (λ m. m < length b.area)
+pub IfSome-beside : (b : BoardView) (n : ℕ) (d : Dir) → IfSome (beside b n d) (λ m. m < length b.area)
 IfSome-beside b n d = exists_beside b (next d (spot_of b n))

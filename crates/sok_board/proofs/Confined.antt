@@ -10,7 +10,7 @@ use Rattle.sok_rules.proofs.Moved.{moved-other}
 use Rattle.sok_rules.proofs.Runs.{boxes-start}
 use Rattle.sok_rules.proofs.Spots.{same_spot-is}
 use Rattle.sok_rules.proofs.Steps.{step_cases}
-use Rattle.sok_board.specs.Area.{Numbered, InArea, IsArea}
+use Rattle.sok_board.specs.Area.{BoardView, InArea, IsArea}
 use Rattle.sok_board.specs.Confined.{IsConfined, ConfinesPlay, KeepsDecorations}
 use Rattle.sok_board.proofs.Accepted.{decoration-outside}
 use Rattle.sok_board.proofs.AreaLaws.{InArea-next, InArea-man}
@@ -46,7 +46,7 @@ confined-run rows (d ∷ w) x y inside e = option_and_then_some (λ (after : Aft
 pub confines-play : (rows : Rows) → ConfinesPlay rows
 confines-play rows x y w inside e = confined-run rows w x y inside e
 
-pub keeps-decorations : (b : Numbered) → IsArea b.rows b.area → KeepsDecorations b
+pub keeps-decorations : (b : BoardView) → IsArea b.rows b.area → KeepsDecorations b
 keeps-decorations b area y w e s decoration =
     let (box, out) = decoration-outside b area s decoration in
     (confined-run b.rows w (start b.rows) y (InArea-man b.rows) e).boxes s out ∙ boxes-start b.rows s ∙ box

@@ -1,19 +1,19 @@
--- Runs that have the squares of an area in order.
+-- Spans that have the squares of an area in order.
 use Rattle.std.proofs.Common.{ℕ, ◌≡◌, ◌≢◌, ◌<◌, ◌≤◌, ◌+◌, ◌-◌, ◌%◌, ap, sym, ◌∙◌, subst, inl, inr, arith, List, [], ◌∷◌, ◌++◌, All, length, get_or}
 use Rattle.std.proofs.lemmas.Bool.{cases_lt}
 use Rattle.std.proofs.lemmas.Option.{unwrap_or-slice_get}
 use Rattle.sok_rules.specs.declared.cell.Spot.{Spot}
-use Rattle.sok_board.specs.Area.{Numbered}
-use Rattle.sok_board.specs.Runs.{IsRun, Covers, spot_at, right_of, word_bits}
+use Rattle.sok_board.specs.Area.{BoardView}
+use Rattle.sok_board.specs.Spans.{IsSpan, Covers, spot_at, right_of, word_bits}
 use Rattle.sok_board.specs.Tables.{HasPlace}
-use Rattle.sok_board.specs.declared.runs.Run.{Run}
+use Rattle.sok_board.specs.declared.spans.Span.{Span}
 use Rattle.sok_board.proofs.AreaLaws.{origin}
 
--- one run more
-pub Covers-push : (b : Numbered) (runs : List Run) (from to : ℕ) (run : Run) → Covers b from runs to → IsRun b run → run.number ≡ to
-    → Covers b from (runs ++ run ∷ []) (to + run.length)
-Covers-push b [] from to run covers is at = (is, at ∙ sym covers, ap (λ n. n + run.length) covers)
-Covers-push b (first ∷ runs) from to run (here, number, rest) is at = (here, number, Covers-push b runs (from + first.length) to run rest is at)
+-- one span more
+pub Covers-push : (b : BoardView) (spans : List Span) (from to : ℕ) (span : Span) → Covers b from spans to → IsSpan b span → span.number ≡ to
+    → Covers b from (spans ++ span ∷ []) (to + span.length)
+Covers-push b [] from to span covers is at = (is, at ∙ sym covers, ap (λ n. n + span.length) covers)
+Covers-push b (first ∷ spans) from to span (here, number, rest) is at = (here, number, Covers-push b spans (from + first.length) to span rest is at)
 
 -- a square lies beside itself, and further ones one by one
 pub right_of-none : (squares : List Spot) (n k : ℕ) → k < 1 → spot_at squares (n + k) ≡ right_of (spot_at squares n) k
@@ -41,12 +41,12 @@ right_of-more squares n m row col before k within = elim (cases_lt k m) [
 pub columns-more : (first next m : ℕ) → first % word_bits + m ≤ word_bits → next ≡ first + m → next % word_bits ≢ 0 → first % word_bits + (m + 1) ≤ word_bits
 columns-more first next m before beside apart = omega (arith, before, beside, apart)
 
--- squares that lie side by side are a run
-pub IsRun-beside : (b : Numbered) (squares : List Spot) (n m : ℕ) → b.area ≡ squares → All HasPlace squares → 0 < m → n + m ≤ length squares
+-- squares that lie side by side are a span
+pub IsSpan-beside : (b : BoardView) (squares : List Spot) (n m : ℕ) → b.area ≡ squares → All HasPlace squares → 0 < m → n + m ≤ length squares
     → (spot_at squares n).col % word_bits + m ≤ word_bits
     → ((k : ℕ) → k < m → spot_at squares (n + k) ≡ right_of (spot_at squares n) k)
-    → IsRun b (record { first = get_or squares n origin; number = n; length = m })
-IsRun-beside b squares n m same places some within columns lies =
+    → IsSpan b (record { first = get_or squares n origin; number = n; length = m })
+IsSpan-beside b squares n m same places some within columns lies =
     let here = unwrap_or-slice_get squares n origin in
     let last : m - 1 < m = omega arith in
     let end : n + (m - 1) < length squares = omega arith in

@@ -15,7 +15,7 @@ use Rattle.sok_rules.specs.declared.cell.Cell.{Cell}
 use Rattle.sok_rules.specs.declared.cell.Spot.{Spot}
 use Rattle.sok_rules.specs.Squares.{Rows, holds, is_open, is_box, is_goal, places, same_spot}
 use Rattle.sok_rules.specs.Levels.{IsProper}
-use Rattle.sok_board.specs.Area.{Numbered, InArea, IsArea, Before, spot_of, goals_of, boxes_of}
+use Rattle.sok_board.specs.Area.{BoardView, InArea, IsArea, Before, spot_of, goals_of, boxes_of}
 use Rattle.sok_board.specs.Tables.{table_places, HasPlace, place_of, entry}
 use Rattle.sok_rules.proofs.Spots.{apart_back, same_spot-is, same_spot-refl}
 use Rattle.sok_board.proofs.AreaLaws.{before_apart, spot_of-at, origin}
@@ -126,14 +126,14 @@ pub spot_of-get_or : (rows : Rows) (squares : List Spot) (n : ℕ) (d : Spot) �
 spot_of-get_or rows squares n d within = spot_of-at (record { rows = rows; area = squares }) n ∙ get_or_default squares n origin d within
 
 -- the numbers that pass a test among the first squares, with one square more
-pub where_more : (test : Cell → Bool) (b : Numbered) (n : ℕ) (numbers : List ℕ) → n < length b.area
+pub where_more : (test : Cell → Bool) (b : BoardView) (n : ℕ) (numbers : List ℕ) → n < length b.area
     → numbers ≡ filter (λ k. holds test b.rows (spot_of b k)) (range_with_len 0 n) → true ≡ holds test b.rows (get_or b.area n origin)
     → numbers ++ n ∷ [] ≡ filter (λ k. holds test b.rows (spot_of b k)) (range_with_len 0 (n + 1))
 where_more test b n numbers within so_far passes =
     ap (λ list. list ++ n ∷ []) so_far ∙ chosen_more (λ k. holds test b.rows (spot_of b k)) n
     (ap (holds test b.rows) (spot_of-get_or b.rows b.area n origin within) ∙ sym passes)
 
-pub where_same : (test : Cell → Bool) (b : Numbered) (n : ℕ) (numbers : List ℕ) → n < length b.area
+pub where_same : (test : Cell → Bool) (b : BoardView) (n : ℕ) (numbers : List ℕ) → n < length b.area
     → numbers ≡ filter (λ k. holds test b.rows (spot_of b k)) (range_with_len 0 n) → false ≡ holds test b.rows (get_or b.area n origin)
     → numbers ≡ filter (λ k. holds test b.rows (spot_of b k)) (range_with_len 0 (n + 1))
 where_same test b n numbers within so_far fails = so_far ∙ chosen_same (λ k. holds test b.rows (spot_of b k)) n
@@ -160,11 +160,11 @@ below-chosen p n = All-filter p (λ k. k < n) (range_with_len 0 n) (λ k d withi
     omega (arith, here, within, long))
 
 -- a square of the area that is a goal is among the goals
-pub Contains-goals_of : (b : Numbered) (n : ℕ) → n < length b.area → holds is_goal b.rows (spot_of b n) ≡ true → Contains (goals_of b) n
+pub Contains-goals_of : (b : BoardView) (n : ℕ) → n < length b.area → holds is_goal b.rows (spot_of b n) ≡ true → Contains (goals_of b) n
 Contains-goals_of b n within goal = Contains-filter (λ k. holds is_goal b.rows (spot_of b k)) (range_with_len 0 (length b.area)) n
     (Contains-range (length b.area) n within) goal
 
 -- a square of the area on which a box starts is among the boxes
-pub Contains-boxes_of : (b : Numbered) (n : ℕ) → n < length b.area → holds is_box b.rows (spot_of b n) ≡ true → Contains (boxes_of b) n
+pub Contains-boxes_of : (b : BoardView) (n : ℕ) → n < length b.area → holds is_box b.rows (spot_of b n) ≡ true → Contains (boxes_of b) n
 Contains-boxes_of b n within box = Contains-filter (λ k. holds is_box b.rows (spot_of b k)) (range_with_len 0 (length b.area)) n
     (Contains-range (length b.area) n within) box

@@ -4,7 +4,7 @@ use Rattle.std.proofs.lemmas.Bool.{cases_eq, cases_lt}
 use Rattle.sok_rules.specs.declared.cell.Spot.{Spot}
 use Rattle.sok_rules.specs.Squares.{Rows}
 use Rattle.sok_rules.proofs.Refusing.{Names, Names-one, OrLater, OrLater-one}
-use Rattle.sok_board.specs.Area.{Numbered, Before, IsArea, IsEnclosed, IsStray, IsAccepted, boxes_of}
+use Rattle.sok_board.specs.Area.{BoardView, Before, IsArea, IsEnclosed, IsStray, IsAccepted, boxes_of}
 use Rattle.sok_board.specs.Limits.{square_limit, box_limit}
 use Rattle.sok_board.specs.Refusals.{IsLeak, IsFirst, OfArea, IsRefused, IsAcceptable}
 use Rattle.sok_board.specs.declared.fault.BoardFault.{BoardFault}
@@ -43,21 +43,21 @@ AtFirst-one : (fault_at : Spot → BoardFault) (P : Spot → Type 0) (f g : Boar
 AtFirst-one fault_at P f g (s, is, first) (t, also, other) = is ∙ ap fault_at (IsFirst-one P s t first other) ∙ sym also
 
 -- facts of a level and its area are of one area
-OfArea-both : (P Q : Numbered → Type 0) (rows : Rows) → ((b : Numbered) → P b → Q b → ⊥) → OfArea P rows → OfArea Q rows → ⊥
+OfArea-both : (P Q : BoardView → Type 0) (rows : Rows) → ((b : BoardView) → P b → Q b → ⊥) → OfArea P rows → OfArea Q rows → ⊥
 OfArea-both P Q rows apart (area, is, p) (other, also, q) =
     let same = IsArea-unique rows other area also is in
     apart (record { rows = rows; area = area }) p (subst (λ squares. Q (record { rows = rows; area = squares })) same q)
 
-abbrev Large : Numbered → Type 0
+abbrev Large : BoardView → Type 0
 Large b = square_limit < length b.area
 
-abbrev Small : Numbered → Type 0
+abbrev Small : BoardView → Type 0
 Small b = length b.area ≤ square_limit
 
-abbrev ManyBoxes : Numbered → Type 0
+abbrev ManyBoxes : BoardView → Type 0
 ManyBoxes b = box_limit < length (boxes_of b)
 
-abbrev FewBoxes : Numbered → Type 0
+abbrev FewBoxes : BoardView → Type 0
 FewBoxes b = length (boxes_of b) ≤ box_limit
 
 -- the causes in the order of refusal
@@ -113,11 +113,11 @@ pub IsRefused-acceptable : (rows : Rows) (f : BoardFault) → f ≢ fault.Memory
 IsRefused-acceptable rows f ample refused (area, accepted) = ample (refused-accepted rows f refused area accepted)
 
 -- a level with an accepted board can be accepted
-pub IsAcceptable-accepted : (rows : Rows) (b : Numbered) → b.rows ≡ rows → IsAccepted b → IsAcceptable rows
+pub IsAcceptable-accepted : (rows : Rows) (b : BoardView) → b.rows ≡ rows → IsAccepted b → IsAcceptable rows
 IsAcceptable-accepted rows b same accepted = subst IsAcceptable same (b.area, accepted)
 
 -- an accepted level has one area
-pub IsAccepted-one : (b c : Numbered) → b.rows ≡ c.rows → IsAccepted b → IsAccepted c → b ≡ c
+pub IsAccepted-one : (b c : BoardView) → b.rows ≡ c.rows → IsAccepted b → IsAccepted c → b ≡ c
 IsAccepted-one b c same accepted also =
     let area = IsArea-unique c.rows b.area c.area (subst (λ rows. IsArea rows b.area) same accepted.numbered) also.numbered in
     λ i. record { rows = same i; area = area i }

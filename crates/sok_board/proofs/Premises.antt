@@ -6,7 +6,7 @@ use Rattle.sok_rules.specs.declared.cell.Spot.{Spot}
 use Rattle.sok_rules.specs.Squares.{Rows, holds, places, places_from, places_in_row}
 use Rattle.sok_rules.specs.Play.{start, moved}
 use Rattle.sok_rules.proofs.Worked.{end_of}
-use Rattle.sok_board.specs.Area.{Numbered}
+use Rattle.sok_board.specs.Area.{BoardView}
 use Rattle.sok_board.specs.Confined.{KeepsDecorations}
 
 -- one push to the right solves
@@ -14,7 +14,7 @@ abbrev pub one_push : Rows
 one_push =
     (Wall ∷ Wall ∷ Wall ∷ Wall ∷ Wall ∷ []) ∷ (Wall ∷ ManOff ∷ BoxOff ∷ Goal ∷ Wall ∷ []) ∷ (Wall ∷ Wall ∷ Wall ∷ Wall ∷ Wall ∷ []) ∷ []
 
-abbrev pub without_area : Numbered
+abbrev pub without_area : BoardView
 without_area = record { rows = one_push; area = [] }
 
 pub KeepsDecorations-without_area : KeepsDecorations without_area → ⊥

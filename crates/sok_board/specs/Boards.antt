@@ -4,18 +4,18 @@ use Rattle.sok_rules.specs.declared.cell.Spot.{Spot}
 use Rattle.sok_rules.specs.Levels.{trimmed}
 use Rattle.sok_rules.specs.Play.{start}
 use Rattle.sok_board.specs.declared.survey.Numbering.{Numbering}
-use Rattle.sok_board.specs.Area.{Numbered, IsAccepted, number_of, goals_of, boxes_of}
+use Rattle.sok_board.specs.Area.{BoardView, IsAccepted, number_of, goals_of, boxes_of}
 use Rattle.sok_board.specs.Neighbours.{neighbours_of}
-use Rattle.sok_board.specs.Runs.{Covers}
+use Rattle.sok_board.specs.Spans.{Covers}
 use Rattle.sok_board.specs.Tables.{entry}
 
--- the squares of an accepted level by number and numbers by square, its runs, goals, player and boxes
-pub record IsNumbering (b : Numbered) (kept : Numbering) : Type 0 where
+-- the squares of an accepted level by number and numbers by square, its spans, goals, player and boxes
+pub record IsNumbering (b : BoardView) (kept : Numbering) : Type 0 where
   pub accepted : IsAccepted b
   pub trimmed : map trimmed b.rows ≡ b.rows
   pub numbers : (s : Spot) → entry None kept.numbers.items s ≡ number_of b s
   pub neighbours : kept.neighbours.items ≡ map (neighbours_of kept.numbers.items) b.area
-  pub runs : Covers b 0 kept.runs.items (length b.area)
+  pub spans : Covers b 0 kept.spans.items (length b.area)
   pub goals : kept.goals.items ≡ goals_of b
   pub player : Some kept.player ≡ number_of b (start b.rows).man
   pub boxes : kept.boxes.items ≡ boxes_of b

@@ -1,4 +1,4 @@
--- Numbered nodes, one of them the start, and how many letters lead from the start to each at least.
+-- BoardView nodes, one of them the start, and how many letters lead from the start to each at least.
 use Rattle.std.specs.Prelude.{ℕ, ◌≡◌, ◌≤◌, List, [], ◌∷◌, Option, Some, None, IfSome, Vec, length, slice_index_or}
 use Rattle.std.specs.Option.{option_and_then}
 use Rattle.sok_rules.specs.declared.cell.Dir.{Dir}

@@ -6,7 +6,7 @@ pub mod Faults
 pub mod Graphs
 pub mod Limits
 pub mod Refusals
-pub mod Runs
+pub mod Spans
 -- the proof's own: what is kept of a level, and the search that finds its area
 pub mod Boards
 pub mod Floors

@@ -10,7 +10,7 @@ use Rattle.sok_rules.specs.Squares.{Rows, cell_at, next}
 use Rattle.sok_board.specs.Limits.{square_limit, box_limit}
 use Rattle.sok_board.specs.declared.fault.BoardFault.{BoardFault}
 use Rattle.sok_board.specs.declared.fault.BoardFault.TheVariants.{NotEnclosed, BoxOutside, TooFewGoals, TooLarge, TooManyBoxes, Memory}
-use Rattle.sok_board.specs.Area.{InArea, IsArea, IsEnclosed, IsStray, IsAcceptedIn, Before, Numbered, goals_of, boxes_of}
+use Rattle.sok_board.specs.Area.{InArea, IsArea, IsEnclosed, IsStray, IsAcceptedIn, Before, BoardView, goals_of, boxes_of}
 
 -- whether the neighbour in a direction lies in some row
 abbrev pub lies_beside : Rows → Spot → Dir → Bool
@@ -29,13 +29,13 @@ abbrev pub IsFirst : (Spot → Type 0) → Spot → Type 0
 IsFirst P s = P s × ((t : Spot) → P t → Before t s → ⊥)
 
 -- the area is enclosed and not too large, and each box outside it is on a goal
-pub record IsTidy (b : Numbered) : Type 0 where
+pub record IsTidy (b : BoardView) : Type 0 where
   pub enclosed : IsEnclosed b.rows
   pub few_squares : length b.area ≤ square_limit
   pub no_stray : (s : Spot) → IsStray b.rows s → ⊥
 
 -- a fact of a level and its area
-abbrev pub OfArea : (Numbered → Type 0) → Rows → Type 0
+abbrev pub OfArea : (BoardView → Type 0) → Rows → Type 0
 OfArea P rows = (area : List Spot) × IsArea rows area × P (record { rows = rows; area = area })
 
 -- the cause that a fault names holds, and no earlier one does

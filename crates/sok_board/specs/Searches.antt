@@ -4,7 +4,7 @@ use Rattle.sok_rules.specs.declared.cell.Dir.{Dir}
 use Rattle.sok_rules.specs.declared.cell.Dir.TheVariants.{Left, Up, Right, Down}
 use Rattle.sok_board.specs.declared.search.Origin.{Origin}
 use Rattle.sok_board.specs.declared.search.Step.{Step}
-use Rattle.sok_board.specs.declared.search.Search.{Search}
+use Rattle.sok_board.specs.declared.search.Flood.{Flood}
 use Rattle.sok_board.specs.Graphs.{Graph}
 
 -- the depths found so far, where each node was met from, and the nodes in the order in which they were met
@@ -13,7 +13,7 @@ pub record Found : Type 0 where
   pub origins : List Origin
   pub steps : List Step
 
-abbrev pub found_of : Search → Found
+abbrev pub found_of : Flood → Found
 found_of search = record { depths = search.depths.items; origins = search.origins.items; steps = search.steps.items }
 
 abbrev pub depth_in : Found → ℕ → Option ℕ

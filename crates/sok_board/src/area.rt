@@ -14,7 +14,7 @@ ghost use Rattle.sok_board.specs.Tables.{HasPlace, entry};
 use crate::cells::cell_or_wall;
 use crate::floor::Floor;
 use crate::places::man;
-use crate::search::{Search, depths_from};
+use crate::search::{Flood, depths_from};
 use crate::table;
 use sok_rules::cell::{Cell, Spot};
 use sok_rules::fault::Memory;
@@ -38,7 +38,7 @@ pub(crate) fn squares(alloc: Global, level: &Level, spots: &[Spot]) -> Result<Ve
     ensures { IfOk result (λ squares. IsArea level.now squares.items) }
 {
     let man = man(level, spots);
-    let found = depths_from(&Floor { level, man }, Search::new(alloc))?;
+    let found = depths_from(&Floor { level, man }, Flood::new(alloc))?;
     keep_found(alloc, spots, &found.depths)
 }
 

@@ -11,13 +11,13 @@ ghost use Rattle.sok_board.specs.Area.{IsAccepted, number_of, spot_of, beside};
 ghost use Rattle.sok_board.specs.Area.{goals_of, boxes_of, position_of, AreGoals};
 ghost use Rattle.sok_board.specs.Limits.{box_limit};
 ghost use Rattle.sok_board.specs.Refusals.{IsRefused};
-ghost use Rattle.sok_board.specs.Runs.{Covers};
+ghost use Rattle.sok_board.specs.Spans.{Covers};
 
 use crate::area::{self, Sq};
 use crate::cells::cell_or_wall;
 use crate::fault::BoardFault;
 use crate::places::places;
-use crate::runs::Run;
+use crate::spans::Span;
 use crate::survey::{self, Numbering};
 use crate::table;
 use sok_rules::cell::{Dir, Spot};
@@ -36,10 +36,10 @@ pub struct Board {
 }
 
 impl Model for Board {
-    ghost use Rattle.sok_board.specs.Area.{Numbered};
+    ghost use Rattle.sok_board.specs.Area.{BoardView};
     ghost use Rattle.sok_board.specs.Boards.{IsNumbering};
 
-    ghost Value = { Numbered };
+    ghost Value = { BoardView };
 
     ghost view = { λ board. record { rows = board.level; area = board.squares.items } };
 
@@ -77,12 +77,12 @@ impl Board {
         self.squares.len()
     }
 
-    /// The squares of the area, row by row, as runs of squares that lie side by side.
-    pub fn runs(&self) -> &[Run]
-        ensures runs { Covers self.now 0 result.now (length self.now.area) }
+    /// The squares of the area, row by row, as spans of squares that lie side by side.
+    pub fn spans(&self) -> &[Span]
+        ensures spans { Covers self.now 0 result.now (length self.now.area) }
         ensures accepted { IsAccepted self.now }
     {
-        &self.numbering.runs
+        &self.numbering.spans
     }
 
     /// The squares of the area that are goals, rising.

@@ -2,7 +2,7 @@
 
 ghost use Rattle.std.specs.Prelude.{◌≡◌, ◌≢◌};
 ghost use Rattle.sok_rules.specs.Squares.{Rows};
-ghost use Rattle.sok_board.specs.Area.{IsAccepted, IsArea, Numbered};
+ghost use Rattle.sok_board.specs.Area.{IsAccepted, IsArea, BoardView};
 ghost use Rattle.sok_board.specs.Confined.{ConfinesPlay, KeepsDecorations};
 ghost use Rattle.sok_board.specs.Refusals.{IsAcceptable, IsRefused};
 ghost use Rattle.sok_board.specs.declared.fault.BoardFault.{BoardFault};
@@ -11,7 +11,7 @@ ghost use Rattle.sok_board.specs.declared.fault.BoardFault.TheVariants.{Memory};
 /// No letters lead the player out of the area, and none move a box that stands outside it.
 pub fn play_is_confined()
     ensures confined { (rows : Rows) → ConfinesPlay rows }
-    ensures decorations { (b : Numbered) → IsArea b.rows b.area → KeepsDecorations b }
+    ensures decorations { (b : BoardView) → IsArea b.rows b.area → KeepsDecorations b }
 {}
 
 /// A level is refused for one cause at most, and no refused level is accepted. An accepted one has
@@ -21,5 +21,5 @@ pub fn levels_have_one_refusal()
         → IsRefused rows f → IsRefused rows g → f ≡ g }
     ensures accepted { (rows : Rows) (f : BoardFault) → f ≢ Memory
         → IsRefused rows f → IsAcceptable rows → ⊥ }
-    ensures area { (b c : Numbered) → b.rows ≡ c.rows → IsAccepted b → IsAccepted c → b ≡ c }
+    ensures area { (b c : BoardView) → b.rows ≡ c.rows → IsAccepted b → IsAccepted c → b ≡ c }
 {}

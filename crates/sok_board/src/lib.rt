@@ -12,8 +12,8 @@
 //! | `neighbours` | the numbers of the squares beside each square |
 //! | `places` | the squares of a level's text in reading order |
 //! | `refusal` | the squares for which a level is not accepted |
-//! | `runs` | the area as runs of squares that lie side by side |
 //! | `search` | breadth first search over numbered nodes |
+//! | `spans` | the area as spans of squares that lie side by side |
 //! | `survey` | the tests by which a level is accepted, in the order of refusal |
 //! | `table` | tables with an entry for each square |
 #![tactic(auto)]
@@ -28,7 +28,7 @@ pub mod law;
 mod neighbours;
 mod places;
 mod refusal;
-pub mod runs;
 pub mod search;
+pub mod spans;
 mod survey;
 mod table;

@@ -47,19 +47,19 @@ pub(crate) struct Step {
 
 /// The lists of a search. A further search takes no memory where its nodes are no more.
 #[derive(Debug, Drop)]
-pub struct Search {
+pub struct Flood {
     /// For each node how many letters lead there from the start, at least, and None where none do.
     pub depths: Vec<Option<u16>>,
     origins: Vec<Origin>,
     steps: Vec<Step>,
 }
 
-impl Search {
+impl Flood {
     /// The lists of a search that is yet to begin.
-    pub fn new(alloc: Global) -> Search
+    pub fn new(alloc: Global) -> Flood
         ensures { result.depths.items ≡ [] }
     {
-        Search {
+        Flood {
             depths: Vec::new(alloc),
             origins: Vec::new(alloc),
             steps: Vec::new(alloc),
@@ -78,7 +78,7 @@ impl Search {
 }
 
 /// Finds the depth of each node, with the lists of a search before: breadth first search.
-pub fn depths_from<W: Ways>(ways: &W, search: Search) -> Result<Search, Memory>
+pub fn depths_from<W: Ways>(ways: &W, search: Flood) -> Result<Flood, Memory>
     ensures { IfOk result (λ after. AreDepths (W.graph ways.now) after.depths.items) }
 {
     searched(ways, search)
@@ -88,7 +88,7 @@ pub fn depths_from<W: Ways>(ways: &W, search: Search) -> Result<Search, Memory>
 pub fn letters_to<W: Ways>(alloc: Global, ways: &W, to: u16) -> Result<Option<Vec<Dir>>, Memory>
     ensures { IfOk result (TellsLetters (W.graph ways.now) to) }
 {
-    let search = searched(ways, Search::new(alloc))?;
+    let search = searched(ways, Flood::new(alloc))?;
     let Some(depth) = search.depth(to) else {
         return Ok(None);
     };
@@ -106,7 +106,7 @@ pub fn letters_to<W: Ways>(alloc: Global, ways: &W, to: u16) -> Result<Option<Ve
 }
 
 /// A search that has met the start, and nothing else.
-fn begun<W: Ways>(ways: &W, mut search: Search) -> Result<Search, Memory>
+fn begun<W: Ways>(ways: &W, mut search: Flood) -> Result<Flood, Memory>
     ensures { IfOk result (λ after. IsSearching (W.graph ways.now) 0 (found_of after)) }
 {
     let nodes = ways.nodes();
@@ -128,7 +128,7 @@ fn begun<W: Ways>(ways: &W, mut search: Search) -> Result<Search, Memory>
 }
 
 /// A search that takes one step after another, until no new node is met.
-fn searched<W: Ways>(ways: &W, search: Search) -> Result<Search, Memory>
+fn searched<W: Ways>(ways: &W, search: Flood) -> Result<Flood, Memory>
     ensures { IfOk result (λ after. IsSearched (W.graph ways.now) (found_of after)) }
 {
     let mut search = begun(ways, search)?;
@@ -144,7 +144,7 @@ fn searched<W: Ways>(ways: &W, search: Search) -> Result<Search, Memory>
 }
 
 /// Meets the node to which a letter leads from that of a step, if there is one and it is new.
-fn meet<W: Ways>(ways: &W, at: usize, dir: Dir, search: &mut Search) -> Result<(), Memory>
+fn meet<W: Ways>(ways: &W, at: usize, dir: Dir, search: &mut Flood) -> Result<(), Memory>
     requires searching { IsSearching (W.graph ways.now) (turn at dir) (found_of search.old) }
     requires exists { at < length search.old.steps.items }
     ensures { OnOk result (IsSearching (W.graph ways.now) (turn at dir + 1) (found_of search.new)) }

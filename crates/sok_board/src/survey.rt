@@ -12,19 +12,19 @@ use crate::fault::BoardFault;
 use crate::neighbours::{Neighbours, list_neighbours};
 use crate::places::man;
 use crate::refusal::{first_leak, first_stray};
-use crate::runs::{Run, list_runs};
+use crate::spans::{Span, list_spans};
 use crate::table;
 use sok_rules::cell::{Cell, Spot};
 use sok_rules::level::Level;
 use std::alloc::Global;
 
-/// The numbers of squares in a table, those of the squares beside each square, the runs of the
+/// The numbers of squares in a table, those of the squares beside each square, the spans of the
 /// area, the numbers of the goals and of the boxes, rising, and that of the player.
 #[derive(Debug, Drop)]
 pub(crate) struct Numbering {
     pub(crate) numbers: Vec<Option<Sq>>,
     pub(crate) neighbours: Vec<Neighbours>,
-    pub(crate) runs: Vec<Run>,
+    pub(crate) spans: Vec<Span>,
     pub(crate) goals: Vec<Sq>,
     pub(crate) player: Sq,
     pub(crate) boxes: Vec<Sq>,
@@ -63,12 +63,12 @@ pub(crate) fn number(
         return Err(BoardFault::TooFewGoals);
     }
     let neighbours = list_neighbours(alloc, squares, &numbers)?;
-    let runs = list_runs(alloc, squares)?;
+    let spans = list_spans(alloc, squares)?;
     let player = table::entry(&numbers, man(level, spots), None).unwrap();
     Ok(Numbering {
         numbers,
         neighbours,
-        runs,
+        spans,
         goals,
         player,
         boxes,

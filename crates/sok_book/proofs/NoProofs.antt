@@ -1,6 +1,6 @@
 -- A fault of a certificate's text or of its list, as a fault of the book.
 use Rattle.std.proofs.Common.{◌≡◌, ◌⊎◌, inl, inr, refl, ap, subst, ℕ, List, Option}
-use Rattle.sok_board.specs.Area.{Numbered}
+use Rattle.sok_board.specs.Area.{BoardView}
 use Rattle.sok_cert.specs.CertFault.{CertFault}
 use Rattle.sok_cert.specs.CertFault.TheVariants as cert
 use Rattle.sok_cert.specs.Claim.{Claim}
@@ -14,14 +14,14 @@ use Rattle.sok_book.specs.declared.fault.BookFault.TheVariants as book
 use Rattle.sok_book.specs.Faults.{of_certificate}
 use Rattle.sok_book.specs.Refusals.{IsNoProof}
 
-pub IsNoProof-text : (b : Numbered) (best : Option ℕ) (bytes : List ℕ) (fault : CertFault) → (fault ≡ cert.Memory) ⊎ GoesWrong bytes fault
+pub IsNoProof-text : (b : BoardView) (best : Option ℕ) (bytes : List ℕ) (fault : CertFault) → (fault ≡ cert.Memory) ⊎ GoesWrong bytes fault
     → (of_certificate fault ≡ book.Memory) ⊎ IsNoProof b best bytes (of_certificate fault)
 IsNoProof-text b best bytes fault (inl same) = inl (ap of_certificate same)
 IsNoProof-text b best bytes cert.Memory (inr wrong) = inl refl
 IsNoProof-text b best bytes fault (inr wrong) = inr ((λ e. cc), inl wrong)
 
 -- the certificate that the text spells is about the best
-pub IsNoProof-list : (b : Numbered) (best : Option ℕ) (bytes : List ℕ) (claim : Claim) (entries : List Entry) (fault : CertFault)
+pub IsNoProof-list : (b : BoardView) (best : Option ℕ) (bytes : List ℕ) (claim : Claim) (entries : List Entry) (fault : CertFault)
     → Spells bytes claim entries → Meets claim best → (fault ≡ cert.Memory) ⊎ IsUnshown b bytes fault
     → (of_certificate fault ≡ book.Memory) ⊎ IsNoProof b best bytes (of_certificate fault)
 IsNoProof-list b best bytes claim entries fault spelled meets (inl same) = inl (ap of_certificate same)

@@ -7,7 +7,7 @@ use Rattle.sok_rules.specs.declared.fault.PlayFault.TheVariants as play
 use Rattle.sok_rules.specs.Squares.{Rows}
 use Rattle.sok_rules.specs.Play.{AllOnGoals, Position, Solves, run, start}
 use Rattle.sok_rules.proofs.Outcomes.{blocked_not_legal}
-use Rattle.sok_board.specs.Area.{Numbered}
+use Rattle.sok_board.specs.Area.{BoardView}
 use Rattle.sok_board.proofs.OneRefusal.{IsAccepted-one, IsRefused-acceptable}
 use Rattle.sok_cert.specs.Claim.{Claim}
 use Rattle.sok_cert.specs.Claim.TheVariants as claim
@@ -92,19 +92,19 @@ differs claim.Unsolvable best book.ClaimDiffers meets some = some_none best meet
 differs c best fault meets other = absurd other
 
 -- another claim is not spelled
-claimed : (b : Numbered) (best : Option ℕ) (bytes : List ℕ) (c : Claim) (fault : BookFault) → IsShown b bytes c → Meets c best
+claimed : (b : BoardView) (best : Option ℕ) (bytes : List ℕ) (c : Claim) (fault : BookFault) → IsShown b bytes c → Meets c best
     → (other : Claim) × (entries : List Entry) × Spells bytes other entries × Differs other best fault → ⊥
 claimed b best bytes c fault is meets (other, entries, spelled, differ) =
     let same = (Spells-one bytes c other is.entries entries is.spelled spelled).0 in
     differs other best fault (subst (λ d. Meets d best) same meets) differ
 
 -- bytes that show a claim about the best are refused for nothing
-not_refused : (b : Numbered) (best : Option ℕ) (bytes : List ℕ) (c : Claim) (fault : CertFault) → IsShown b bytes c → IsVerdict b bytes (Err fault) → ⊥
+not_refused : (b : BoardView) (best : Option ℕ) (bytes : List ℕ) (c : Claim) (fault : CertFault) → IsShown b bytes c → IsVerdict b bytes (Err fault) → ⊥
 not_refused b best bytes c fault is other =
     let e : Ok c ≡ Err fault = IsVerdict-one b bytes (Ok c) (Err fault) is other in
     cc
 
-shown : (b : Numbered) (best : Option ℕ) (bytes : List ℕ) (c : Claim) (fault : BookFault) → IsShown b bytes c → Meets c best
+shown : (b : BoardView) (best : Option ℕ) (bytes : List ℕ) (c : Claim) (fault : BookFault) → IsShown b bytes c → Meets c best
     → IsNoProof b best bytes fault → ⊥
 shown b best bytes c (book.Certificate f) is meets (other, inl wrong) = not_refused b best bytes c f is (other, inl wrong)
 shown b best bytes c (book.Certificate f) is meets (other, inr unclosed) =

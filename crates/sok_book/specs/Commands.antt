@@ -5,7 +5,7 @@ use Rattle.sok_rules.specs.declared.cell.Dir.{Dir}
 use Rattle.sok_rules.specs.Limits.{letter_limit}
 use Rattle.sok_rules.specs.Squares.{Rows}
 use Rattle.sok_rules.specs.Play.{start, pushes, Solves}
-use Rattle.sok_board.specs.Area.{Numbered, IsAccepted}
+use Rattle.sok_board.specs.Area.{BoardView, IsAccepted}
 use Rattle.sok_board.specs.Refusals.{IsAcceptable}
 use Rattle.sok_cert.specs.Claim.{Claim}
 use Rattle.sok_cert.specs.Claim.TheVariants as claim
@@ -68,7 +68,7 @@ pub record Offers (book : Book) (id : ℕ) (letters : List Dir) (answer : Offer)
 
 -- the bytes are a certificate that is closed on the level's board, and shows the claim
 pub record IsCertificate (rows : Rows) (bytes : List ℕ) (claim : Claim) : Type 0 where
-  pub board : Numbered
+  pub board : BoardView
   pub rows_are : board.rows ≡ rows
   pub accepted : IsAccepted board
   pub shown : IsShown board bytes claim

@@ -7,7 +7,7 @@ use Rattle.sok_rules.specs.Play.{start, run, Solves}
 use Rattle.sok_rules.specs.Replay.{IsBlockedAt}
 use Rattle.sok_rules.specs.declared.fault.PlayFault.TheVariants.{Blocked, TooLong}
 use Rattle.sok_board.specs.declared.fault.BoardFault.TheVariants as board
-use Rattle.sok_board.specs.Area.{Numbered, IsAccepted}
+use Rattle.sok_board.specs.Area.{BoardView, IsAccepted}
 use Rattle.sok_board.specs.Refusals as level
 use Rattle.sok_cert.specs.Claim.{Claim}
 use Rattle.sok_cert.specs.Claim.TheVariants.{Pushes, Unsolvable}
@@ -48,7 +48,7 @@ Differs Unsolvable best ClaimDiffers = IsSome best
 Differs claim best _ = ⊥
 
 -- the bytes spell a certificate whose claim is about the best, and its list has this first fault
-pub record IsUnclosed (b : Numbered) (best : Option ℕ) (bytes : List ℕ) (fault : CertFault) : Type 0 where
+pub record IsUnclosed (b : BoardView) (best : Option ℕ) (bytes : List ℕ) (fault : CertFault) : Type 0 where
   pub claim : Claim
   pub entries : List Entry
   pub spelled : Spells bytes claim entries
@@ -56,13 +56,13 @@ pub record IsUnclosed (b : Numbered) (best : Option ℕ) (bytes : List ℕ) (fau
   pub refused : list.IsRefused b claim entries fault
 
 -- bytes prove nothing of a level with this best: they are no certificate; its claim is not about the best; or its list is not closed
-abbrev pub IsNoProof : Numbered → Option ℕ → List ℕ → BookFault → Type 0
+abbrev pub IsNoProof : BoardView → Option ℕ → List ℕ → BookFault → Type 0
 IsNoProof b best bytes (Certificate fault) = (fault ≢ cert.Memory) × (GoesWrong bytes fault ⊎ IsUnclosed b best bytes fault)
 IsNoProof b best bytes fault = (claim : Claim) × (entries : List Entry) × Spells bytes claim entries × Differs claim best fault
 
 -- so it is on the board of the level's rows
 abbrev pub IsUnproved : Page → List ℕ → BookFault → Type 0
-IsUnproved page bytes fault = (b : Numbered) × (b.rows ≡ page.level) × IsAccepted b × IsNoProof b (best_pushes page) bytes fault
+IsUnproved page bytes fault = (b : BoardView) × (b.rows ≡ page.level) × IsAccepted b × IsNoProof b (best_pushes page) bytes fault
 
 -- a verdict is not proved: there is no such level, or the bytes prove nothing of it
 abbrev pub IsNotProved : Book → ℕ → List ℕ → BookFault → Type 0

@@ -3,7 +3,7 @@ use Rattle.std.proofs.Common.{ℕ, ◌≤◌, ◌+◌, ◌-◌, arith, List, Opt
 use Rattle.sok_rules.specs.declared.cell.Dir.{Dir}
 use Rattle.sok_rules.specs.Play.{Position, SolvesFrom, pushes}
 use Rattle.sok_rules.specs.States.{Same}
-use Rattle.sok_board.specs.Area.{Numbered, IsAccepted, position_of}
+use Rattle.sok_board.specs.Area.{BoardView, IsAccepted, position_of}
 use Rattle.sok_region.specs.Regions.{IsPlaced}
 use Rattle.sok_bar.specs.declared.rest.Rest.{Rest}
 use Rattle.sok_bar.specs.Bars.{Barring, Bars}
@@ -15,12 +15,12 @@ use Rattle.sok_entry.specs.declared.entry.Entry.{Entry}
 use Rattle.sok_cert.specs.Closed.{IsBarredBy, IsPosition, barring, rest_of}
 
 -- by the law of reasons
-some_bars : (b : Numbered) → IsAccepted b → (player : ℕ) (boxes : List ℕ) (rest : Rest) → IsPlaced b boxes player → (reason : Option Barring)
+some_bars : (b : BoardView) → IsAccepted b → (player : ℕ) (boxes : List ℕ) (rest : Rest) → IsPlaced b boxes player → (reason : Option Barring)
     → IsSomeAnd reason (λ one. Bars b player boxes one rest) → IsBarred b player boxes rest
 some_bars b accepted player boxes rest placed None none = absurd none
 some_bars b accepted player boxes rest placed (Some reason) bars = reasons-bar b accepted player boxes reason rest placed bars
 
-pub IsBarred-entry : (b : Numbered) → IsAccepted b → (claim : Claim) (e : Entry) → IsPosition b e → IsBarredBy b claim e
+pub IsBarred-entry : (b : BoardView) → IsAccepted b → (claim : Claim) (e : Entry) → IsPosition b e → IsBarredBy b claim e
     → IsBarred b e.player e.boxes (rest_of claim e.depth)
 IsBarred-entry b accepted claim e position bars = some_bars b accepted e.player e.boxes (rest_of claim e.depth) position.placed (barring e.reason) bars
 
@@ -40,7 +40,7 @@ Agrees-deeper (Pushes k) near far n deeper agrees = omega (arith, deeper, agrees
 Agrees-deeper Unsolvable near far n deeper agrees = agrees
 
 -- from no position of a barred state does a list solve that goes against the claim
-pub Agrees-barred : (b : Numbered) (claim : Claim) (depth player : ℕ) (boxes : List ℕ) → IsBarred b player boxes (rest_of claim depth)
+pub Agrees-barred : (b : BoardView) (claim : Claim) (depth player : ℕ) (boxes : List ℕ) → IsBarred b player boxes (rest_of claim depth)
     → (x : Position) → Same b.rows (position_of b player boxes) x → (w : List Dir) → SolvesFrom b.rows x w → Agrees claim depth (pushes b.rows x w)
 Agrees-barred b (Pushes k) depth player boxes barred x same w solves = let bound : k - depth ≤ pushes b.rows x w = barred.each x same w solves in
     omega (arith, bound)

@@ -2,7 +2,7 @@
 use Rattle.std.proofs.Common.{◌≡◌, refl, sym, ap, List, Bool, true, false, true≢false, MatchBool, arith}
 use Rattle.std.proofs.Common.{Result, Ok, Err, IfOk, IfErr, IsOk, ◌↔◌}
 use Rattle.sok_rules.specs.Play.{AllOnGoals}
-use Rattle.sok_board.specs.Area.{Numbered}
+use Rattle.sok_board.specs.Area.{BoardView}
 use Rattle.sok_board.proofs.Lists.{All-at}
 use Rattle.sok_closed.specs.Rolls.{IsClosedAt}
 use Rattle.sok_closed.proofs.Fine.{chosen}
@@ -15,12 +15,12 @@ use Rattle.sok_cert.specs.Closed.{IsBarredBy, IsClosed, IsPosition, IsReasoned, 
 use Rattle.sok_cert.specs.Refusals.{IsRefused}
 
 -- what an entry is reasoned by, where it is known whether it is expanded
-pub reason-is : (b : Numbered) (claim : Claim) (e : Entry) (expanded : Bool) → is_expanded e.reason ≡ expanded → IsReasoned b claim e
+pub reason-is : (b : BoardView) (claim : Claim) (e : Entry) (expanded : Bool) → is_expanded e.reason ≡ expanded → IsReasoned b claim e
     → MatchBool expanded (AllOnGoals b.rows (entry_position b e) → ⊥) (IsBarredBy b claim e)
 reason-is b claim e expanded is reasoned = chosen (AllOnGoals b.rows (entry_position b e) → ⊥) (IsBarredBy b claim e) (is_expanded e.reason) expanded is reasoned
 
 -- a closed list is refused for want of memory alone
-pub closed-refused : (b : Numbered) (claim : Claim) (entries : List Entry) → IsClosed b claim entries → (f : CertFault) → IsRefused b claim entries f
+pub closed-refused : (b : BoardView) (claim : Claim) (entries : List Entry) → IsClosed b claim entries → (f : CertFault) → IsRefused b claim entries f
     → f ≡ fault.Memory
 closed-refused b claim entries closed (fault.BadEntry i) faulty = absurd (faulty.fault (All-at (IsPosition b) entries closed.rolled.positions i faulty.entry faulty.there))
 closed-refused b claim entries closed (fault.Duplicate i) faulty =
@@ -44,7 +44,7 @@ closed-refused b claim entries closed fault.Truncated none = absurd none
 closed-refused b claim entries closed fault.Memory none = refl
 
 -- an answer that names the first fault, or tells that the list is closed, tells exactly whether it is
-pub judged-exactly : {T : Type 0} (b : Numbered) (claim : Claim) (entries : List Entry) (r : Result T CertFault) → IfOk r (λ _. IsClosed b claim entries)
+pub judged-exactly : {T : Type 0} (b : BoardView) (claim : Claim) (entries : List Entry) (r : Result T CertFault) → IfOk r (λ _. IsClosed b claim entries)
     → IfErr r (IsRefused b claim entries)
     → (r ≡ Err fault.Memory → ⊥) → IsOk r ↔ IsClosed b claim entries
 judged-exactly b claim entries (Ok x) closed refused other = (λ _. closed, λ _. refl)

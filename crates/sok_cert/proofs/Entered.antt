@@ -1,9 +1,8 @@
 -- One entry more in the roll.
 use Rattle.std.proofs.Common.{ℕ, ◌≡◌, ◌∙◌, sym, subst, List, [], ◌∷◌, ◌++◌, Option, Some, None, is_some, true, true≢false, arith, Contains, length}
 use Rattle.std.specs.Map.{keys_of}
-use Rattle.sok_board.specs.Area.{Numbered, IsAccepted, boxes_of}
-use Rattle.sok_board.proofs.Lists.{slice_get-push}
-use Rattle.sok_region.proofs.Floods.{slice_get-append}
+use Rattle.sok_board.specs.Area.{BoardView, IsAccepted, boxes_of}
+use Rattle.sok_board.proofs.Lists.{slice_get-push, slice_get-append}
 use Rattle.sok_state.specs.Tables.{IsAt}
 use Rattle.sok_closed.specs.declared.placing.Located.{Located}
 use Rattle.sok_closed.specs.Lookup.{Rolled}
@@ -22,7 +21,7 @@ use Rattle.sok_cert.proofs.Longer.{IsRefused-append}
 
 -- ---- behind entries that are fine
 
-module _ (b : Numbered) (claim : Claim) (entries : List Entry) (roll : Rolled) (accepted : IsAccepted b) (known : AreEntered b claim entries roll) (e : Entry) where
+module _ (b : BoardView) (claim : Claim) (entries : List Entry) (roll : Rolled) (accepted : IsAccepted b) (known : AreEntered b claim entries roll) (e : Entry) where
   abbrev longer : List Entry
   longer = entries ++ e ∷ []
 
@@ -94,7 +93,7 @@ module _ (b : Numbered) (claim : Claim) (entries : List Entry) (roll : Rolled) (
       tells-found after place is Unreasoned told entries_are marks_are = tells-unreasoned after place is told
 
 -- behind the first fault nothing changes
-pub tells-behind : (b : Numbered) (claim : Claim) (entries more : List Entry) (roll : Rolled) (found : Option CertFault) → is_some found ≡ true
+pub tells-behind : (b : BoardView) (claim : Claim) (entries more : List Entry) (roll : Rolled) (found : Option CertFault) → is_some found ≡ true
     → TellsEntries b claim entries roll found → TellsEntries b claim (entries ++ more) roll found
 tells-behind b claim entries more roll None none told = absurd (true≢false (sym none))
 tells-behind b claim entries more roll (Some f) some (own, refused) = (own, IsRefused-append b claim entries more f own refused)

@@ -1,8 +1,8 @@
 -- A line that is too long for the first two of a certificate.
-use Rattle.std.proofs.Common.{ℕ, ◌≡◌, ◌⊎◌, ◌<◌, ◌≤◌, ◌+◌, ◌-◌, ◌==◌, ◌∙◌, refl, sym, ap, subst, List, [], ◌∷◌, ◌++◌, if◌then◌else◌, false, length, take, slice_index, inl, inr, arith, lit≤}
+use Rattle.std.proofs.Common.{ℕ, ◌≡◌, ◌⊎◌, ◌<◌, ◌≤◌, ◌+◌, ◌-◌, ◌∙◌, refl, sym, ap, subst, List, [], ◌∷◌, ◌++◌, false, length, inl, inr, arith, lit≤}
 use Rattle.std.proofs.lemmas.Bool.{cases_Bool, eqb-true}
 use Rattle.std.proofs.lemmas.Fmt.{length-decimal-le}
-use Rattle.std.proofs.lemmas.List.{append_assoc, append-nil, length-append, length-take}
+use Rattle.std.proofs.lemmas.List.{append_assoc, append-nil, length-append}
 use Rattle.std.proofs.lemmas.List.Elements.{All-append, All-cons, All-nil}
 use Rattle.std.specs.Prelude.{codes, decimal}
 use Rattle.std.specs.Str.Lines.{lines, strip_carriage_return}

@@ -1,8 +1,8 @@
 -- What is known of the entries of a list is known of them in a longer list.
 use Rattle.std.proofs.Common.{ℕ, ◌≤◌, List, ◌++◌, arith, length}
 use Rattle.std.proofs.lemmas.Option.{slice_get_within}
-use Rattle.sok_board.specs.Area.{Numbered, boxes_of}
-use Rattle.sok_region.proofs.Floods.{slice_get-append}
+use Rattle.sok_board.specs.Area.{BoardView, boxes_of}
+use Rattle.sok_board.proofs.Lists.{slice_get-append}
 use Rattle.sok_closed.proofs.Fine.{AreFine-append, IsNew-append}
 use Rattle.sok_entry.specs.declared.claim.Claim.{Claim}
 use Rattle.sok_entry.specs.declared.entry.Entry.{Entry}
@@ -12,7 +12,7 @@ use Rattle.sok_cert.specs.Closed.{IsBarredBy, IsPosition, node_of}
 use Rattle.sok_cert.specs.Refusals.{IsFaulty, IsRefused, IsRepeated, IsSolved, IsUnreasoned}
 use Rattle.sok_cert.specs.Rosters.{IsOwn}
 
-module _ (b : Numbered) (claim : Claim) (entries more : List Entry) where
+module _ (b : BoardView) (claim : Claim) (entries more : List Entry) where
   faulty-append : (P Q : Entry → Type 0) (i : ℕ) → ((e : Entry) → i ≤ length entries → P e → Q e) → IsFaulty b claim entries i P
       → IsFaulty b claim (entries ++ more) i Q
   faulty-append P Q i to faulty =

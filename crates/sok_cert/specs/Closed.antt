@@ -2,7 +2,7 @@
 use Rattle.std.specs.Prelude.{ℕ, ◌-◌, List, Bool, true, false, IsSomeAnd, length}
 use Rattle.sok_rules.specs.Squares.{Rows}
 use Rattle.sok_rules.specs.Play.{Position, start, AtLeast, IsUnsolvable}
-use Rattle.sok_board.specs.Area.{Numbered, boxes_of}
+use Rattle.sok_board.specs.Area.{BoardView, boxes_of}
 use Rattle.sok_closed.specs.Fine as fine
 use Rattle.sok_closed.specs.Rolls as roll
 use Rattle.sok_closed.specs.Rolls.{Node, node_position}
@@ -27,7 +27,7 @@ rest_of (Pushes k) depth = rest.AtLeast (k - depth)
 rest_of Unsolvable depth = rest.Never
 
 -- by what its reason says, an entry is barred by what rests of the claim at its depth
-abbrev pub IsBarredBy : Numbered → Claim → Entry → Type 0
+abbrev pub IsBarredBy : BoardView → Claim → Entry → Type 0
 IsBarredBy b claim e = IsSomeAnd (barring e.reason) (λ reason. Bars b e.player e.boxes reason (rest_of claim e.depth))
 
 abbrev pub is_expanded : Reason → Bool
@@ -38,25 +38,25 @@ is_expanded _ = false
 abbrev pub node_of : Entry → Node
 node_of e = record { depth = e.depth; player = e.player; boxes = e.boxes; expanded = is_expanded e.reason }
 
-abbrev pub entry_position : Numbered → Entry → Position
+abbrev pub entry_position : BoardView → Entry → Position
 entry_position b e = node_position b (node_of e)
 
 -- numbers of squares that make a position with all boxes of the area
-abbrev pub IsPosition : Numbered → Entry → Type 0
+abbrev pub IsPosition : BoardView → Entry → Type 0
 IsPosition b e = roll.IsPosition b (length (boxes_of b)) (node_of e)
 
 -- an entry of depth 0 of the start's state
-abbrev pub IsStarter : Numbered → List Entry → Entry → Type 0
+abbrev pub IsStarter : BoardView → List Entry → Entry → Type 0
 IsStarter b entries e = roll.IsStarter node_of b (start b.rows) entries e
 
 -- an expanded entry has a box off a goal, and each other one bars
-abbrev pub IsReasoned : Numbered → Claim → Entry → Type 0
+abbrev pub IsReasoned : BoardView → Claim → Entry → Type 0
 IsReasoned b claim e = fine.IsReasoned node_of b (IsBarredBy b claim) e
 
 -- the entries are closed under the pushes from those that are expanded, the start among them, and each other one bars
-abbrev pub IsClosed : Numbered → Claim → List Entry → Type 0
+abbrev pub IsClosed : BoardView → Claim → List Entry → Type 0
 IsClosed b claim entries = roll.IsClosed node_of b (length (boxes_of b)) (start b.rows) (IsBarredBy b claim) entries
 
 -- so a closed list shows its claim
-abbrev pub ShowsClaims : Numbered → Type 0
+abbrev pub ShowsClaims : BoardView → Type 0
 ShowsClaims b = (claim : Claim) (entries : List Entry) → IsClosed b claim entries → IsTrueOf b.rows claim

@@ -1,7 +1,7 @@
 -- What is found of one entry: that it is a position, and whether it may stand.
 use Rattle.std.specs.Prelude.{ℕ, ◌≡◌, Option, Some, None, false, IsTrue, length}
 use Rattle.sok_rules.specs.Play.{AllOnGoals}
-use Rattle.sok_board.specs.Area.{Numbered, boxes_of}
+use Rattle.sok_board.specs.Area.{BoardView, boxes_of}
 use Rattle.sok_closed.specs.Placing as placing
 use Rattle.sok_closed.specs.declared.placing.Located.{Located}
 use Rattle.sok_entry.specs.declared.claim.Claim.{Claim}
@@ -13,11 +13,11 @@ use Rattle.sok_cert.specs.declared.judging.Finding.TheVariants.{Fine, Solved, Un
 use Rattle.sok_cert.specs.Closed.{IsBarredBy, IsReasoned, is_expanded, node_of, entry_position}
 
 -- it is a position, with these boxes and of this state
-abbrev pub IsLocated : Numbered → Entry → Located → Type 0
+abbrev pub IsLocated : BoardView → Entry → Located → Type 0
 IsLocated b e found = placing.IsLocated b (length (boxes_of b)) (node_of e) found
 
 -- it may stand; it is expanded, with all boxes on goals; or it has another reason, which does not bar
-abbrev pub IsFinding : Numbered → Claim → Entry → Finding → Type 0
+abbrev pub IsFinding : BoardView → Claim → Entry → Finding → Type 0
 IsFinding b claim e Fine = IsReasoned b claim e
 IsFinding b claim e Solved = IsTrue (is_expanded e.reason) × AllOnGoals b.rows (entry_position b e)
 IsFinding b claim e Unreasoned = (is_expanded e.reason ≡ false) × (IsBarredBy b claim e → ⊥)

@@ -1,6 +1,6 @@
 -- What the parts of a stream are seen as, and what they keep to.
 use Rattle.std.specs.Prelude.{ℕ, ◌≡◌, ◌++◌, List, vec_len}
-use Rattle.sok_board.specs.Area.{Numbered}
+use Rattle.sok_board.specs.Area.{BoardView}
 use Rattle.sok_bar.specs.Memos.{KeepsClosed}
 use Rattle.sok_state.specs.Normalizers.{Normalizes}
 use Rattle.sok_cert.specs.declared.progress.Progress.{Progress}
@@ -12,7 +12,7 @@ abbrev pub rostered_of : Roster → Rostered
 rostered_of r = record { roll = r.roll; fault = r.fault }
 
 -- states of a board, positions of patterns that are closed on it, and what makes its keys
-pub record IsRosterOf (b : Numbered) (r : Roster) : Type 0 where
+pub record IsRosterOf (b : BoardView) (r : Roster) : Type 0 where
   pub roll : IsOfBoard b r.roll
   pub memo : KeepsClosed b r.memo
   pub normalizes : Normalizes b r.normalizer
@@ -21,7 +21,7 @@ abbrev pub progressed_of : Progress → Progressed
 progressed_of p = record { stage = p.stage; lines = vec_len p.ended; line = p.line.items; wrong = p.wrong; roster = rostered_of p.roster }
 
 -- the part of a piece before a rest of it is taken
-pub record IsTaken (b : Numbered) (old now : Progressed) (piece rest : List ℕ) : Type 0 where
+pub record IsTaken (b : BoardView) (old now : Progressed) (piece rest : List ℕ) : Type 0 where
   pub done : List ℕ
   pub whole : piece ≡ done ++ rest
   pub stands : (text : List ℕ) → StandsFor b text old → StandsFor b (text ++ done) now

@@ -2,7 +2,7 @@
 use Rattle.std.specs.Prelude.{ℕ, ◌≡◌, ◌<◌, List, Some, false, IsTrue, length, slice_get}
 use Rattle.sok_rules.specs.Play.{AllOnGoals}
 use Rattle.sok_rules.specs.States.{Same}
-use Rattle.sok_board.specs.Area.{Numbered, boxes_of}
+use Rattle.sok_board.specs.Area.{BoardView, boxes_of}
 use Rattle.sok_state.specs.declared.push.Push.{Push}
 use Rattle.sok_closed.specs.Fine as fine
 use Rattle.sok_closed.specs.Lookup as lookup
@@ -13,26 +13,26 @@ use Rattle.sok_entry.specs.declared.fault.CertFault.TheVariants as fault
 use Rattle.sok_cert.specs.Closed.{IsPosition, IsBarredBy, IsStarter, is_expanded, node_of, entry_position}
 
 -- no entry before a place is of the entry's state
-abbrev pub IsNew : Numbered → List Entry → ℕ → Entry → Type 0
+abbrev pub IsNew : BoardView → List Entry → ℕ → Entry → Type 0
 IsNew b entries i e = fine.IsNew node_of b entries i e
 
 -- an entry without a fault of its own
-abbrev pub IsFine : Numbered → Claim → List Entry → ℕ → Entry → Type 0
+abbrev pub IsFine : BoardView → Claim → List Entry → ℕ → Entry → Type 0
 IsFine b claim entries i e = fine.IsFine node_of b (length (boxes_of b)) (IsBarredBy b claim) entries i e
 
 -- so are all entries before a place
-abbrev pub AreFine : Numbered → Claim → List Entry → ℕ → Type 0
+abbrev pub AreFine : BoardView → Claim → List Entry → ℕ → Type 0
 AreFine b claim entries n = fine.AreFine node_of b (length (boxes_of b)) (IsBarredBy b claim) entries n
 
 -- the first entry with a fault of its own
-pub record IsFaulty (b : Numbered) (claim : Claim) (entries : List Entry) (i : ℕ) (Fault : Entry → Type 0) : Type 0 where
+pub record IsFaulty (b : BoardView) (claim : Claim) (entries : List Entry) (i : ℕ) (Fault : Entry → Type 0) : Type 0 where
   pub entry : Entry
   pub there : slice_get entries i ≡ Some entry
   pub before : AreFine b claim entries i
   pub fault : Fault entry
 
 -- an earlier entry of the entry's state
-pub record IsRepeated (b : Numbered) (entries : List Entry) (i : ℕ) (e : Entry) : Type 0 where
+pub record IsRepeated (b : BoardView) (entries : List Entry) (i : ℕ) (e : Entry) : Type 0 where
   pub position : IsPosition b e
   pub place : ℕ
   pub earlier : Entry
@@ -41,29 +41,29 @@ pub record IsRepeated (b : Numbered) (entries : List Entry) (i : ℕ) (e : Entry
   pub same : Same b.rows (entry_position b earlier) (entry_position b e)
 
 -- expanded, with all boxes on goals
-pub record IsSolved (b : Numbered) (entries : List Entry) (i : ℕ) (e : Entry) : Type 0 where
+pub record IsSolved (b : BoardView) (entries : List Entry) (i : ℕ) (e : Entry) : Type 0 where
   pub position : IsPosition b e
   pub new : IsNew b entries i e
   pub expanded : IsTrue (is_expanded e.reason)
   pub solved : AllOnGoals b.rows (entry_position b e)
 
 -- not expanded, with a reason that does not bar
-pub record IsUnreasoned (b : Numbered) (claim : Claim) (entries : List Entry) (i : ℕ) (e : Entry) : Type 0 where
+pub record IsUnreasoned (b : BoardView) (claim : Claim) (entries : List Entry) (i : ℕ) (e : Entry) : Type 0 where
   pub position : IsPosition b e
   pub new : IsNew b entries i e
   pub barring : is_expanded e.reason ≡ false
   pub fails : IsBarredBy b claim e → ⊥
 
 -- a push from an expanded entry leads to no entry at most one deeper
-abbrev pub IsOpen : Numbered → List Entry → Entry → Push → Type 0
+abbrev pub IsOpen : BoardView → List Entry → Entry → Push → Type 0
 IsOpen b entries e push = lookup.IsOpen node_of b entries e push
 
 -- the first such push
-abbrev pub IsFirstOpen : Numbered → List Entry → ℕ → Push → Type 0
+abbrev pub IsFirstOpen : BoardView → List Entry → ℕ → Push → Type 0
 IsFirstOpen b entries i push = lookup.IsFirstOpen node_of b entries i push
 
 -- the fault's cause holds, and no earlier one does
-abbrev pub IsRefused : Numbered → Claim → List Entry → CertFault → Type 0
+abbrev pub IsRefused : BoardView → Claim → List Entry → CertFault → Type 0
 IsRefused b claim entries (fault.BadEntry i) = IsFaulty b claim entries i (λ e. IsPosition b e → ⊥)
 IsRefused b claim entries (fault.Duplicate i) = IsFaulty b claim entries i (IsRepeated b entries i)
 IsRefused b claim entries (fault.SolvedEntry i) = IsFaulty b claim entries i (IsSolved b entries i)

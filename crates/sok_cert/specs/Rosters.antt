@@ -1,6 +1,6 @@
 -- The entries of a certificate, judged one by one.
 use Rattle.std.specs.Prelude.{List, Option, Some, None, length}
-use Rattle.sok_board.specs.Area.{Numbered, boxes_of}
+use Rattle.sok_board.specs.Area.{BoardView, boxes_of}
 use Rattle.sok_closed.specs.Fine as fine
 pub use Rattle.sok_closed.specs.Fine.{IsOfBoard}
 use Rattle.sok_closed.specs.Lookup.{Rolled}
@@ -17,7 +17,7 @@ pub record Rostered : Type 0 where
   pub fault : Option CertFault
 
 -- entries without a fault of their own, and the roll of their states
-abbrev pub AreEntered : Numbered → Claim → List Entry → Rolled → Type 0
+abbrev pub AreEntered : BoardView → Claim → List Entry → Rolled → Type 0
 AreEntered b claim entries roll = fine.AreEntered node_of b (length (boxes_of b)) (IsBarredBy b claim) entries roll
 
 -- the fault of an entry by itself
@@ -34,6 +34,6 @@ IsOwn (fault.OpenPush i square d) = ⊥
 IsOwn fault.Memory = ⊥
 
 -- the roll of entries that are fine, or the first fault that one has
-abbrev pub TellsEntries : Numbered → Claim → List Entry → Rolled → Option CertFault → Type 0
+abbrev pub TellsEntries : BoardView → Claim → List Entry → Rolled → Option CertFault → Type 0
 TellsEntries b claim entries roll None = AreEntered b claim entries roll
 TellsEntries b claim entries roll (Some f) = IsOwn f × IsRefused b claim entries f

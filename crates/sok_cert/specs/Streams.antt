@@ -1,6 +1,6 @@
 -- What a stream of a certificate's bytes has come to.
 use Rattle.std.specs.Prelude.{ℕ, ◌≡◌, ◌++◌, List, Option, Some, None, length}
-use Rattle.sok_board.specs.Area.{Numbered}
+use Rattle.sok_board.specs.Area.{BoardView}
 use Rattle.sok_entry.specs.declared.claim.Claim.{Claim}
 use Rattle.sok_entry.specs.declared.entry.Entry.{Entry}
 use Rattle.sok_entry.specs.declared.fault.CertFault.{CertFault}
@@ -20,34 +20,34 @@ pub record Progressed : Type 0 where
   pub roster : Rostered
 
 -- lines with entries bring a certificate to a stage, and each entry is judged
-pub record AreJudged (b : Numbered) (stage : Stage) (roster : Rostered) (ls : List (List ℕ)) (entries : List Entry) : Type 0 where
+pub record AreJudged (b : BoardView) (stage : Stage) (roster : Rostered) (ls : List (List ℕ)) (entries : List Entry) : Type 0 where
   pub at : IsStage ls entries stage
   pub tells : (claim : Claim) → MayClaim stage claim → TellsEntries b claim entries roster.roll roster.fault
 
 -- so do the lines of a text, up to the one that is not ended yet
-pub record IsReadSo (b : Numbered) (text : List ℕ) (p : Progressed) : Type 0 where
+pub record IsReadSo (b : BoardView) (text : List ℕ) (p : Progressed) : Type 0 where
   pub passed : List (List ℕ)
   pub entries : List Entry
   pub split : IsSplit text passed p.line
   pub count : length passed ≡ p.lines
   pub judged : AreJudged b p.stage p.roster passed entries
 
-abbrev pub StandsBy : Numbered → List ℕ → Progressed → Option CertFault → Type 0
+abbrev pub StandsBy : BoardView → List ℕ → Progressed → Option CertFault → Type 0
 StandsBy b text p None = IsReadSo b text p
 StandsBy b text p (Some fault) = (more : List ℕ) → GoesWrong (text ++ more) fault
 
 -- what was read is the text: its lines, entries and faults; or it goes wrong in this way, whatever comes behind it
-abbrev pub StandsFor : Numbered → List ℕ → Progressed → Type 0
+abbrev pub StandsFor : BoardView → List ℕ → Progressed → Type 0
 StandsFor b text p = StandsBy b text p p.wrong
 
 -- a stream, with the board that it judges by
 pub record Streamed : Type 0 where
-  pub board : Numbered
+  pub board : BoardView
   pub progress : Progressed
 
 -- the end of a stream
 pub record Ending : Type 0 where
-  pub board : Numbered
+  pub board : BoardView
   pub claim : Claim
   pub roster : Rostered
 
@@ -58,5 +58,5 @@ pub record EndsFor (text : List ℕ) (e : Ending) : Type 0 where
   pub tells : TellsEntries e.board e.claim entries e.roster.roll e.roster.fault
 
 -- the end of a stream that has come so far, with what is claimed
-abbrev pub ending_of : Numbered → Claim → Progressed → Ending
+abbrev pub ending_of : BoardView → Claim → Progressed → Ending
 ending_of b claim p = record { board = b; claim = claim; roster = p.roster }

@@ -1,6 +1,6 @@
 -- What the text of a certificate shows of a board.
 use Rattle.std.specs.Prelude.{ℕ, ◌≢◌, ◌⊎◌, List, Result, Ok, Err}
-use Rattle.sok_board.specs.Area.{Numbered}
+use Rattle.sok_board.specs.Area.{BoardView}
 use Rattle.sok_entry.specs.declared.claim.Claim.{Claim}
 use Rattle.sok_entry.specs.declared.entry.Entry.{Entry}
 use Rattle.sok_entry.specs.declared.fault.CertFault.{CertFault}
@@ -11,20 +11,20 @@ use Rattle.sok_cert.specs.Closed.{IsClosed, IsTrueOf}
 use Rattle.sok_cert.specs.Refusals.{IsRefused}
 
 -- the text is a certificate that is closed, and what it claims is true of the level
-pub record IsShown (b : Numbered) (text : List ℕ) (claim : Claim) : Type 0 where
+pub record IsShown (b : BoardView) (text : List ℕ) (claim : Claim) : Type 0 where
   pub entries : List Entry
   pub spelled : Spells text claim entries
   pub closed : IsClosed b claim entries
   pub true_claim : IsTrueOf b.rows claim
 
 -- the text is a certificate that is not closed, and this is its first fault
-pub record IsUnshown (b : Numbered) (text : List ℕ) (fault : CertFault) : Type 0 where
+pub record IsUnshown (b : BoardView) (text : List ℕ) (fault : CertFault) : Type 0 where
   pub claim : Claim
   pub entries : List Entry
   pub spelled : Spells text claim entries
   pub refused : IsRefused b claim entries fault
 
 -- a claim that the text shows, or the fault of the text or of the certificate that it spells
-abbrev pub IsVerdict : Numbered → List ℕ → Result Claim CertFault → Type 0
+abbrev pub IsVerdict : BoardView → List ℕ → Result Claim CertFault → Type 0
 IsVerdict b text (Ok claim) = IsShown b text claim
 IsVerdict b text (Err fault) = (fault ≢ Memory) × (GoesWrong text fault ⊎ IsUnshown b text fault)

@@ -11,11 +11,11 @@ ghost use Rattle.sok_entry.specs.declared.fault.CertFault.TheVariants as fault;
 use crate::accepted::Accepted;
 use crate::roster::Roster;
 use sok_board::board::Board;
+use sok_distance::distances::Distances;
+use sok_distance::setting::Setting;
 use sok_entry::claim::Claim;
 use sok_entry::entry::{Certificate, Entry};
 use sok_entry::fault::CertFault;
-use sok_push::setting::Setting;
-use sok_push::tables::Tables;
 use std::alloc::Global;
 
 /// Judges a certificate. It is accepted exactly where its entries are closed, and then its claim is
@@ -64,13 +64,13 @@ fn judge_entries(
     ensures { MatchResult result (λ _. IsClosed board.now claim entries.now)
         (IsRefused board.now claim entries.now) }
 {
-    let tables = Tables::new(alloc, board)?;
+    let distances = Distances::new(alloc, board)?;
     let mut roster = Roster::new(alloc, board);
     enter_all(
         alloc,
         &Setting {
             board,
-            tables: &tables,
+            distances: &distances,
         },
         claim,
         entries,

@@ -12,9 +12,9 @@ use sok_bar::reason::reason_holds;
 use sok_board::area::Sq;
 use sok_board::box_set::BoxSet;
 use sok_closed::solved::is_solved;
+use sok_distance::setting::Setting;
 use sok_entry::claim::Claim;
 use sok_entry::entry::Entry;
-use sok_push::setting::Setting;
 use sok_rules::fault::Memory;
 use std::alloc::Global;
 

@@ -1,7 +1,7 @@
 //! Laws of certificates and of their judgement.
 
 ghost use Rattle.std.specs.Prelude.{◌≡◌, ◌≢◌, ℕ, List, Result};
-ghost use Rattle.sok_board.specs.Area.{IsAccepted, Numbered};
+ghost use Rattle.sok_board.specs.Area.{IsAccepted, BoardView};
 ghost use Rattle.sok_cert.specs.Closed.{IsClosed, ShowsClaims};
 ghost use Rattle.sok_cert.specs.Refusals.{IsRefused};
 ghost use Rattle.sok_cert.specs.Verdicts.{IsVerdict};
@@ -12,10 +12,10 @@ ghost use Rattle.sok_entry.specs.declared.fault.CertFault.TheVariants.{Memory};
 
 /// A list of entries has one first fault at most, and a closed one has none.
 pub fn lists_have_one_judgement()
-    ensures one { (b : Numbered) (claim : Claim) (entries : List Entry) (f g : CertFault)
+    ensures one { (b : BoardView) (claim : Claim) (entries : List Entry) (f g : CertFault)
         → f ≢ Memory → g ≢ Memory → IsRefused b claim entries f → IsRefused b claim entries g
         → f ≡ g }
-    ensures closed { (b : Numbered) (claim : Claim) (entries : List Entry) (f : CertFault)
+    ensures closed { (b : BoardView) (claim : Claim) (entries : List Entry) (f : CertFault)
         → f ≢ Memory → IsClosed b claim entries → IsRefused b claim entries f → ⊥ }
 {}
 
@@ -24,11 +24,11 @@ pub fn lists_have_one_judgement()
 /// leads to one of them, at most one deeper. Then no text of letters solves the level with fewer
 /// pushes than are claimed, or none solves it at all.
 pub fn closed_certificates_are_true()
-    ensures { (b : Numbered) → IsAccepted b → ShowsClaims b }
+    ensures { (b : BoardView) → IsAccepted b → ShowsClaims b }
 {}
 
 /// The text of a certificate has one verdict on a board: a claim that it shows, or one first fault.
 pub fn texts_have_one_verdict()
-    ensures { (b : Numbered) (text : List ℕ) (v w : Result Claim CertFault)
+    ensures { (b : BoardView) (text : List ℕ) (v w : Result Claim CertFault)
         → IsVerdict b text v → IsVerdict b text w → v ≡ w }
 {}

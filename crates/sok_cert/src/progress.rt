@@ -3,7 +3,7 @@
 ghost use Rattle.std.specs.Prelude.{ℕ, ◌≡◌, ◌<◌, ◌^◌, ◌++◌, ◌∷◌, [], List, IfOk, IsTrue, MatchOption};
 ghost use Rattle.std.specs.Prelude.{MatchResult, OnOk, length};
 ghost use Rattle.sok_text.specs.Lines.{IsUnended};
-ghost use Rattle.sok_board.specs.Area.{IsAccepted, Numbered};
+ghost use Rattle.sok_board.specs.Area.{IsAccepted, BoardView};
 ghost use Rattle.sok_entry.specs.Reading.{GoesWrong};
 ghost use Rattle.sok_entry.specs.Stages.{AreWrong, IsRead, IsSplit, IsStage, MayClaim};
 ghost use Rattle.sok_entry.specs.declared.claim.Claim.{Claim};
@@ -16,12 +16,12 @@ ghost use Rattle.sok_cert.specs.Streams.{AreJudged, EndsFor, StandsFor, ending_o
 
 use crate::roster::Roster;
 use sok_board::board::Board;
+use sok_distance::setting::Setting;
 use sok_entry::claim::Claim;
 use sok_entry::entry::Reason;
 use sok_entry::fault::CertFault;
 use sok_entry::known::Known;
 use sok_entry::stage::{LineRead, Stage};
-use sok_push::setting::Setting;
 use sok_rules::fault::Memory;
 use sok_text::line::{cut_at_end, without_return};
 use std::alloc::{AllocError, Global};
@@ -86,7 +86,7 @@ impl Progress {
 
     /// What a text claims that ends here, or why it is no certificate. It takes no memory.
     pub(crate) fn ended(&self) -> Result<Claim, CertFault>
-        ensures { (b : Numbered) (text : List ℕ) → StandsFor b text (progressed_of self.now)
+        ensures { (b : BoardView) (text : List ℕ) → StandsFor b text (progressed_of self.now)
             → MatchResult result (λ claim. EndsFor text
             (ending_of b claim (progressed_of self.now))) (GoesWrong text) }
     {
@@ -165,7 +165,7 @@ impl Progress {
     /// than may stand there: once it is longer, the text goes wrong, whatever comes.
     fn keep(&mut self, part: &[u8]) -> Result<(), Memory>
         requires unended { IsUnended part.now }
-        ensures stands { (b : Numbered) (text : List ℕ) → StandsFor b text (progressed_of self.old)
+        ensures stands { (b : BoardView) (text : List ℕ) → StandsFor b text (progressed_of self.old)
             → OnOk result (StandsFor b (text ++ part.now) (progressed_of self.new)) }
         ensures roster { self.new.roster ≡ self.old.roster }
     {

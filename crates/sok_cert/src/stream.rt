@@ -16,10 +16,10 @@ use crate::accepted::Accepted;
 use crate::progress::Progress;
 use crate::roster::Roster;
 use sok_board::board::Board;
+use sok_distance::distances::Distances;
+use sok_distance::setting::Setting;
 use sok_entry::claim::Claim;
 use sok_entry::fault::CertFault;
-use sok_push::setting::Setting;
-use sok_push::tables::Tables;
 use sok_rules::fault::Memory;
 use std::alloc::Global;
 use std::marker::Model;
@@ -33,7 +33,7 @@ use std::marker::Model;
 pub struct Stream<'a> {
     alloc: Global,
     board: &'a Board,
-    tables: Tables,
+    distances: Distances,
     progress: Progress,
 }
 
@@ -51,7 +51,7 @@ impl<'a> Model for Stream<'a> {
     } };
 
     ghost invariant = { λ stream. IsAccepted stream.board.now
-        × (stream.tables.board ≡ stream.board.now)
+        × (stream.distances.board ≡ stream.board.now)
         × IsRosterOf stream.board.now stream.progress.roster
         × ((text : List ℕ) × StandsFor stream.board.now text (progressed_of stream.progress)) };
 }
@@ -94,12 +94,12 @@ impl<'a> Stream<'a> {
         ensures nothing { IfOk result (λ stream. StandsFor board.now [] stream.progress) }
         ensures board { IfOk result (λ stream. stream.board ≡ board.now) }
     {
-        let tables = Tables::new(alloc, board)?;
+        let distances = Distances::new(alloc, board)?;
         let progress = Progress::new(alloc, board);
         Ok(Stream {
             alloc,
             board,
-            tables,
+            distances,
             progress,
         })
     }
@@ -114,21 +114,21 @@ impl<'a> Stream<'a> {
         let Stream {
             alloc,
             board,
-            tables,
+            distances,
             mut progress,
         } = self;
         progress.take(
             alloc,
             &Setting {
                 board,
-                tables: &tables,
+                distances: &distances,
             },
             piece,
         )?;
         Ok(Stream {
             alloc,
             board,
-            tables,
+            distances,
             progress,
         })
     }
@@ -143,7 +143,7 @@ impl<'a> Stream<'a> {
         let Stream {
             alloc,
             board,
-            tables: _tables,
+            distances: _tables,
             progress,
         } = self;
         let claim = progress.ended();

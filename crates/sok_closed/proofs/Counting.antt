@@ -5,9 +5,8 @@ use Rattle.std.proofs.lemmas.List.{length_push, length-map}
 use Rattle.std.proofs.lemmas.Option.{none-some, same_Some, slice_get-get_or}
 use Rattle.sok_rules.specs.Play.{Position}
 use Rattle.sok_rules.specs.States.{MoreStatesFrom, ReachedFrom, Same}
-use Rattle.sok_board.specs.Area.{Numbered, IsAccepted}
-use Rattle.sok_board.proofs.Lists.{Contains-at}
-use Rattle.sok_region.proofs.Floods.{slice_get-push_cases}
+use Rattle.sok_board.specs.Area.{BoardView, IsAccepted}
+use Rattle.sok_board.proofs.Lists.{Contains-at, slice_get-push_cases}
 use Rattle.sok_state.specs.declared.key.Key.{Key}
 use Rattle.sok_state.specs.Keys.{IsKeyOf, key_position}
 use Rattle.sok_state.specs.Tables.{Entries, HasDistinctKeys, IsAt}
@@ -20,7 +19,7 @@ map_back f [] i y there = absurd (none-some y there)
 map_back f (x ∷ xs) zero y there = (x, refl, same_Some (f x) y there)
 map_back f (x ∷ xs) (suc i) y there = map_back f xs i y there
 
-module _ (b : Numbered) (accepted : IsAccepted b) (from : Position) where
+module _ (b : BoardView) (accepted : IsAccepted b) (from : Position) where
   -- the key of a state that is reached
   pub record IsOfReached (key : Key) : Type 0 where
     pub itself : IsKeyOf b (key_position b key) key

@@ -8,10 +8,9 @@ use Rattle.sok_rules.specs.Play.{Position}
 use Rattle.sok_rules.specs.States.{Same}
 use Rattle.sok_rules.proofs.Steps.{IsStanding}
 use Rattle.sok_rules.proofs.Walking.{boxes-Same}
-use Rattle.sok_board.specs.Area.{Numbered, IsAccepted, position_of}
+use Rattle.sok_board.specs.Area.{BoardView, IsAccepted, position_of}
 use Rattle.sok_board.specs.Limits.{box_limit}
-use Rattle.sok_board.proofs.Lists.{AllPairs-append, Contains-at, slice_get-push}
-use Rattle.sok_region.proofs.Floods.{slice_get-append, slice_get-push_cases}
+use Rattle.sok_board.proofs.Lists.{AllPairs-append, Contains-at, slice_get-push, slice_get-append, slice_get-push_cases}
 use Rattle.sok_state.specs.declared.key.Key.{Key}
 use Rattle.sok_state.specs.Keys.{IsKey, IsKeyOf}
 use Rattle.sok_state.specs.Tables.{Entries, IsAt}
@@ -22,7 +21,7 @@ use Rattle.sok_closed.specs.Lookup.{AreKeys, IsEntered, IsRolled, IsTableOf, Rol
 use Rattle.sok_closed.proofs.Looking.{entered-key, entry_at, slice_get-front}
 
 -- an entry whose key stands in the table has the state of the one there
-pub found-place : {E : Type 0} (node : E → Node) (b : Numbered) (entries : List E) (i : ℕ) (table : Entries) (x : Position) (key : Key) (place : ℕ)
+pub found-place : {E : Type 0} (node : E → Node) (b : BoardView) (entries : List E) (i : ℕ) (table : Entries) (x : Position) (key : Key) (place : ℕ)
     → IsStanding b.rows x → i ≤ length entries → IsTableOf node b entries i table → IsKeyOf b x key → IsAt table key place
     → (f : E) × (place < i) × (slice_get entries place ≡ Some f) × Same b.rows (node_position b (node f)) x
 found-place node b entries i table x key place stands exists entered is at =
@@ -35,7 +34,7 @@ found-place node b entries i table x key place stands exists entered is at =
     (f, within, there, Same-keys b (node_position b (node f)) x key stands f_is is)
 
 -- one whose key does not is of no earlier state
-pub absent-new : {E : Type 0} (node : E → Node) (b : Numbered) → IsAccepted b → (entries : List E) (i : ℕ) (table : Entries) (x : Position) (key : Key)
+pub absent-new : {E : Type 0} (node : E → Node) (b : BoardView) → IsAccepted b → (entries : List E) (i : ℕ) (table : Entries) (x : Position) (key : Key)
     → IsTableOf node b entries i table → IsKeyOf b x key → (Contains (keys_of table) key → ⊥)
     → (j : ℕ) (f : E) → j < i → slice_get entries j ≡ Some f → IsStanding b.rows (node_position b (node f)) → Same b.rows (node_position b (node f)) x → ⊥
 absent-new node b accepted entries i table x key entered is absent j f below there stands same =
@@ -49,7 +48,7 @@ pub before_more : {X : Type 0} (P : ℕ → X → Type 0) (xs : List X) (n : ℕ
 before_more {X} P xs n x there before here i y below at = below_more (λ k. (z : X) → slice_get xs k ≡ Some z → P k z) n
     (λ k k_below z z_at. before k z k_below z_at) (λ z z_at. subst (P n) (same_Some x z (sym there ∙ z_at)) here) i below y at
 
-entered-more : (b : Numbered) (table more : Entries) (i : ℕ) (n : Node) → IsEntered b table i n → IsEntered b (table ++ more) i n
+entered-more : (b : BoardView) (table more : Entries) (i : ℕ) (n : Node) → IsEntered b table i n → IsEntered b (table ++ more) i n
 entered-more b table more i n entry = record {
   key = entry.key;
   there = ap (λ keys. slice_get keys i) (map-append (λ (one : Key × ℕ). one.0) table more) ∙ slice_get-append (keys_of table) (keys_of more) i entry.key
@@ -65,7 +64,7 @@ differs table key absent = λ k d within n other_d n_within same.
     absent (k, within, get_or_default (keys_of table) k key d within ∙ same ∙ ap (λ m. get_or (key ∷ []) m other_d) first)
 
 -- the key of an entry goes last
-pub IsTableOf-more : {E : Type 0} (node : E → Node) (b : Numbered) (entries : List E) (i : ℕ) (table : Entries) (e : E) (key : Key)
+pub IsTableOf-more : {E : Type 0} (node : E → Node) (b : BoardView) (entries : List E) (i : ℕ) (table : Entries) (e : E) (key : Key)
     → slice_get entries i ≡ Some e → IsTableOf node b entries i table → IsKeyOf b (node_position b (node e)) key → (Contains (keys_of table) key → ⊥)
     → IsTableOf node b entries (i + 1) (table ++ (key, (node e).depth) ∷ [])
 IsTableOf-more node b entries i table e key there entered is absent =
@@ -96,7 +95,7 @@ IsTableOf-more node b entries i table e key there entered is absent =
     }
 
 -- and so does its mark
-pub IsRolled-more : {E : Type 0} (node : E → Node) (b : Numbered) (entries : List E) (i : ℕ) (roll after : Rolled) (e : E) (key : Key)
+pub IsRolled-more : {E : Type 0} (node : E → Node) (b : BoardView) (entries : List E) (i : ℕ) (roll after : Rolled) (e : E) (key : Key)
     → slice_get entries i ≡ Some e → IsRolled node b entries i roll → IsKeyOf b (node_position b (node e)) key → (Contains (keys_of roll.entries) key → ⊥)
     → after.entries ≡ roll.entries ++ (key, (node e).depth) ∷ [] → after.marks ≡ roll.marks ++ (node e).expanded ∷ []
     → IsRolled node b entries (i + 1) after
@@ -128,7 +127,7 @@ pub before-append : {X : Type 0} (P Q : ℕ → X → Type 0) (xs ys : List X) (
     → ((i : ℕ) (x : X) → i < n → slice_get xs i ≡ Some x → P i x) → (i : ℕ) (x : X) → i < n → slice_get (xs ++ ys) i ≡ Some x → Q i x
 before-append P Q xs ys n within to before i x below there = to i x below (before i x below (slice_get-front xs ys i x (omega arith) there))
 
-pub IsRolled-append : {E : Type 0} (node : E → Node) (b : Numbered) (entries more : List E) (n : ℕ) (roll : Rolled) → n ≤ length entries
+pub IsRolled-append : {E : Type 0} (node : E → Node) (b : BoardView) (entries more : List E) (n : ℕ) (roll : Rolled) → n ≤ length entries
     → IsRolled node b entries n roll → IsRolled node b (entries ++ more) n roll
 IsRolled-append {E} node b entries more n roll within rolled =
     let entered : ℕ → E → Type 0 = λ i e. IsEntered b roll.entries i (node e) in
@@ -144,7 +143,7 @@ IsRolled-append {E} node b entries more n roll within rolled =
     }
 
 -- a key of the board more
-pub AreKeys-more : (b : Numbered) (table : Entries) (key : Key) (depth : ℕ) → AreKeys b table → IsKey b key × (length key.boxes ≤ box_limit)
+pub AreKeys-more : (b : BoardView) (table : Entries) (key : Key) (depth : ℕ) → AreKeys b table → IsKey b key × (length key.boxes ≤ box_limit)
     → AreKeys b (table ++ (key, depth) ∷ [])
 AreKeys-more b table key depth keys is i one at =
     let entry : Key × ℕ = (key, depth) in
@@ -156,7 +155,7 @@ AreKeys-more b table key depth keys is i one at =
     ]
 
 -- the key of a position is of the board
-pub IsKey-position : (b : Numbered) → IsAccepted b → (count : ℕ) (n : Node) (key : Key) → count ≤ box_limit → IsPosition b count n
+pub IsKey-position : (b : BoardView) → IsAccepted b → (count : ℕ) (n : Node) (key : Key) → count ≤ box_limit → IsPosition b count n
     → IsKeyOf b (node_position b n) key → IsKey b key × (length key.boxes ≤ box_limit)
 IsKey-position b accepted count n key few position is =
     let boxes : key.boxes ≡ n.boxes = same_boxes b accepted.numbered key.least n.player key.boxes n.boxes is.placed position.placed

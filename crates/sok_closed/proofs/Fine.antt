@@ -8,10 +8,9 @@ use Rattle.std.proofs.lemmas.Option.{slice_get_within, slice_get-get_or}
 use Rattle.sok_rules.specs.Play.{AllOnGoals, Position}
 use Rattle.sok_rules.specs.States.{Same}
 use Rattle.sok_rules.proofs.Walking.{Same-sym}
-use Rattle.sok_board.specs.Area.{Numbered, IsAccepted}
+use Rattle.sok_board.specs.Area.{BoardView, IsAccepted}
 use Rattle.sok_board.specs.Limits.{box_limit}
-use Rattle.sok_board.proofs.Lists.{All-at, slice_get-push}
-use Rattle.sok_region.proofs.Floods.{slice_get-append}
+use Rattle.sok_board.proofs.Lists.{All-at, slice_get-push, slice_get-append}
 use Rattle.sok_state.specs.declared.key.Key.{Key}
 use Rattle.sok_state.specs.declared.push.Push.{Push}
 use Rattle.sok_state.specs.Keys.{IsKeyOf}
@@ -35,14 +34,14 @@ by_cases P Q true then other = then refl
 by_cases P Q false then other = other refl
 
 -- the place of a repeated entry's state
-pub record IsSeen {E : Type 0} (node : E → Node) (b : Numbered) (entries : List E) (i : ℕ) (e : E) : Type 0 where
+pub record IsSeen {E : Type 0} (node : E → Node) (b : BoardView) (entries : List E) (i : ℕ) (e : E) : Type 0 where
   pub place : ℕ
   pub earlier : E
   pub before : place < i
   pub there : slice_get entries place ≡ Some earlier
   pub same : Same b.rows (node_position b (node earlier)) (node_position b (node e))
 
-module _ {E : Type 0} (node : E → Node) (b : Numbered) (count : ℕ) (IsBarred : E → Type 0) where
+module _ {E : Type 0} (node : E → Node) (b : BoardView) (count : ℕ) (IsBarred : E → Type 0) where
   abbrev Fine : List E → ℕ → E → Type 0
   Fine entries i e = IsFine node b count IsBarred entries i e
 
@@ -194,7 +193,7 @@ module _ {E : Type 0} (node : E → Node) (b : Numbered) (count : ℕ) (IsBarred
           }
 
 -- a roll of a board stays one
-pub IsOfBoard-more : (b : Numbered) → IsAccepted b → (count : ℕ) → count ≤ box_limit → (roll after : Rolled) (n : Node) (found : Located)
+pub IsOfBoard-more : (b : BoardView) → IsAccepted b → (count : ℕ) → count ≤ box_limit → (roll after : Rolled) (n : Node) (found : Located)
     → IsLocated b count n found → IsOfBoard b roll → after.entries ≡ roll.entries ++ (found.key, n.depth) ∷ [] → after.room ≡ roll.room → IsOfBoard b after
 IsOfBoard-more b accepted count few roll after n found located of_board entries_are room_is = record {
   keys = subst (AreKeys b) (sym entries_are)

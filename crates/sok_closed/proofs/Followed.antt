@@ -11,11 +11,11 @@ use Rattle.sok_rules.specs.Play.{After, Position, step}
 use Rattle.sok_rules.specs.States.{Same}
 use Rattle.sok_rules.proofs.Steps.{IsStanding}
 use Rattle.sok_rules.proofs.Walking.{Same-sym, Same-trans}
-use Rattle.sok_board.specs.Area.{Numbered, InArea, IsAccepted, position_of}
+use Rattle.sok_board.specs.Area.{BoardView, InArea, IsAccepted, position_of}
 use Rattle.sok_board.proofs.AreaLaws.{InArea-spot_of}
 use Rattle.sok_board.proofs.Confined.{confines-play}
 use Rattle.sok_board.proofs.Lists.{Contains-at}
-use Rattle.sok_push.proofs.Pushes.{pushes-alone}
+use Rattle.sok_distance.proofs.Pushes.{pushes-alone}
 use Rattle.sok_region.specs.Regions.{IsPlaced}
 use Rattle.sok_state.specs.declared.key.Key.{Key}
 use Rattle.sok_state.specs.declared.push.Push.{Push}
@@ -47,19 +47,19 @@ precedes-before pushes in_order k j push other here there precedes =
       ]
     ]
 
-pub stands : {E : Type 0} (node : E → Node) (b : Numbered) (count : ℕ) (entries : List E) (table : Entries) → IsLooking node b count entries table → (e : E) → Contains entries e
+pub stands : {E : Type 0} (node : E → Node) (b : BoardView) (count : ℕ) (entries : List E) (table : Entries) → IsLooking node b count entries table → (e : E) → Contains entries e
     → IsStanding b.rows (node_position b (node e))
 stands node b count entries table looking e listed =
     node-stands b looking.accepted count (node e) (All-contains (λ one. IsPosition b count (node one)) entries e looking.positions listed)
 
 -- the key at an entry's place is that of its node
-pub key-at : {E : Type 0} (node : E → Node) (b : Numbered) (count : ℕ) (entries : List E) (table : Entries) → IsLooking node b count entries table → (i : ℕ) (e : E) (key : Key)
+pub key-at : {E : Type 0} (node : E → Node) (b : BoardView) (count : ℕ) (entries : List E) (table : Entries) → IsLooking node b count entries table → (i : ℕ) (e : E) (key : Key)
     → slice_get entries i ≡ Some e → IsAt table key i → IsKeyOf b (node_position b (node e)) key
 key-at node b count entries table looking i e key there at =
     entered-key b table i (node e) key (looking.entered.entered i e (slice_get_within entries i e there) there) at
 
 -- a push from a position of an entry's state leads on from its key
-leads-from : {E : Type 0} (node : E → Node) (b : Numbered) (count : ℕ) (entries : List E) (table : Entries) → IsLooking node b count entries table → (e : E) → Contains entries e → (key : Key)
+leads-from : {E : Type 0} (node : E → Node) (b : BoardView) (count : ℕ) (entries : List E) (table : Entries) → IsLooking node b count entries table → (e : E) → Contains entries e → (key : Key)
     → IsKeyOf b (node_position b (node e)) key
     → (x : Position) → Same b.rows (node_position b (node e)) x → Same b.rows (position_of b key.least key.boxes) x
 leads-from node b count entries table looking e listed key is x walked =
@@ -67,7 +67,7 @@ leads-from node b count entries table looking e listed key is x walked =
     Same-trans b.rows key_place (node_position b (node e)) x (Same-sym b.rows (node_position b (node e)) key_place (stands node b count entries table looking e listed) is.same) walked
 
 -- a state that is found is an entry's
-found-follower : {E : Type 0} (node : E → Node) (b : Numbered) (count : ℕ) (entries : List E) (table : Entries) → IsLooking node b count entries table → (e : E) (key : Key) (push : Push)
+found-follower : {E : Type 0} (node : E → Node) (b : BoardView) (count : ℕ) (entries : List E) (table : Entries) → IsLooking node b count entries table → (e : E) (key : Key) (push : Push)
     → IsFound b table key (node e).depth push
     → (after : Position) → LeadsTo b key push after → (f : E) × IsFollower node b entries (node e).depth after f
 found-follower node b count entries table looking e key push found after leads =
@@ -91,7 +91,7 @@ found-follower node b count entries table looking e key push found after leads =
     )
 
 -- a letter that pushes from a position of a state makes a push of it
-pub leads-pushed : (b : Numbered) → IsAccepted b → (key : Key) → IsPlaced b key.boxes key.least → (x : Position) (d : Dir) (after : After)
+pub leads-pushed : (b : BoardView) → IsAccepted b → (key : Key) → IsPlaced b key.boxes key.least → (x : Position) (d : Dir) (after : After)
     → Same b.rows (position_of b key.least key.boxes) x → step b.rows d x ≡ Some after → after.pushed ≡ true
     → (from : ℕ) × LeadsTo b key (record { from = from; dir = d }) after.position
 leads-pushed b accepted key placed x d after walked leads pushed =
@@ -110,7 +110,7 @@ leads-pushed b accepted key placed x d after walked leads pushed =
     )
 
 -- where each legal push is found, the entry is followed
-pub IsFollowed-found : {E : Type 0} (node : E → Node) (b : Numbered) (count : ℕ) (entries : List E) (table : Entries) → IsLooking node b count entries table → (e : E) → Contains entries e → (key : Key)
+pub IsFollowed-found : {E : Type 0} (node : E → Node) (b : BoardView) (count : ℕ) (entries : List E) (table : Entries) → IsLooking node b count entries table → (e : E) → Contains entries e → (key : Key)
     → IsKeyOf b (node_position b (node e)) key
     → TellsOpen b table key (node e).depth None → IsFollowed node b entries (node e)
 IsFollowed-found node b count entries table looking e listed key is found x d after walked leads pushed =
@@ -118,7 +118,7 @@ IsFollowed-found node b count entries table looking e listed key is found x d af
     let push : Push = record { from = from; dir = d } in
     found-follower node b count entries table looking e key push (found push (record { after = after.position; leads = on })) after.position on
 
-open-leads : {E : Type 0} (node : E → Node) (b : Numbered) (count : ℕ) (entries : List E) (table : Entries) → IsLooking node b count entries table → (e : E) → Contains entries e → (key : Key)
+open-leads : {E : Type 0} (node : E → Node) (b : BoardView) (count : ℕ) (entries : List E) (table : Entries) → IsLooking node b count entries table → (e : E) → Contains entries e → (key : Key)
     → IsKeyOf b (node_position b (node e)) key
     → (push : Push) → (open_push : IsOpen node b entries e push) → LeadsTo b key push open_push.after
 open-leads node b count entries table looking e listed key is push open_push = record {
@@ -130,7 +130,7 @@ open-leads node b count entries table looking e listed key is push open_push = r
 }
 
 -- a legal push that is found is not open
-closed-found : {E : Type 0} (node : E → Node) (b : Numbered) (count : ℕ) (entries : List E) (table : Entries) → IsLooking node b count entries table → (e : E) → Contains entries e → (key : Key)
+closed-found : {E : Type 0} (node : E → Node) (b : BoardView) (count : ℕ) (entries : List E) (table : Entries) → IsLooking node b count entries table → (e : E) → Contains entries e → (key : Key)
     → IsKeyOf b (node_position b (node e)) key
     → (push : Push) → (IsLegal b key push → IsFound b table key (node e).depth push) → IsOpen node b entries e push → ⊥
 closed-found node b count entries table looking e listed key is push found open_push =
@@ -139,7 +139,7 @@ closed-found node b count entries table looking e listed key is push found open_
     open_push.unfollowed f follower.listed follower.near follower.same
 
 -- and one that is missing is open
-IsOpen-missing : {E : Type 0} (node : E → Node) (b : Numbered) (count : ℕ) (entries : List E) (table : Entries) → IsLooking node b count entries table → (e : E) → Contains entries e → (key : Key)
+IsOpen-missing : {E : Type 0} (node : E → Node) (b : BoardView) (count : ℕ) (entries : List E) (table : Entries) → IsLooking node b count entries table → (e : E) → Contains entries e → (key : Key)
     → IsKeyOf b (node_position b (node e)) key
     → (push : Push) → IsTrue (node e).expanded → IsLegal b key push → IsMissing b table key (node e).depth push → IsOpen node b entries e push
 IsOpen-missing node b count entries table looking e listed key is push expanded legal missing =
@@ -163,7 +163,7 @@ IsOpen-missing node b count entries table looking e listed key is push expanded 
     }
 
 -- a followed entry has no open push
-pub followed-closed : {E : Type 0} (node : E → Node) (b : Numbered) (entries : List E) (e : E) (push : Push) → IsClosedAt node b entries e → IsOpen node b entries e push → ⊥
+pub followed-closed : {E : Type 0} (node : E → Node) (b : BoardView) (entries : List E) (e : E) (push : Push) → IsClosedAt node b entries e → IsOpen node b entries e push → ⊥
 followed-closed node b entries e push followed open_push =
     let (f, follower) = followed open_push.expanded open_push.before push.dir (record {
       position = open_push.after;
@@ -173,7 +173,7 @@ followed-closed node b entries e push followed open_push =
     open_push.unfollowed f follower.listed follower.near follower.same
 
 -- the first open push of all
-pub IsFirstOpen-missing : {E : Type 0} (node : E → Node) (b : Numbered) (count : ℕ) (entries : List E) (table : Entries) → IsLooking node b count entries table → (i : ℕ) (e : E)
+pub IsFirstOpen-missing : {E : Type 0} (node : E → Node) (b : BoardView) (count : ℕ) (entries : List E) (table : Entries) → IsLooking node b count entries table → (i : ℕ) (e : E)
     → slice_get entries i ≡ Some e → (key : Key) → IsAt table key i
     → (push : Push) → IsTrue (node e).expanded → TellsOpen b table key (node e).depth (Some push) →
     ((j : ℕ) (f : E) → j < i → slice_get entries j ≡ Some f → IsClosedAt node b entries f) → IsFirstOpen node b entries i push
@@ -189,7 +189,7 @@ IsFirstOpen-missing node b count entries table looking i e there key at push exp
     }
 
 -- of a list of the legal pushes, the first that is missing is the first of all
-pub TellsOpen-first : (b : Numbered) (table : Entries) (key : Key) (depth : ℕ) (pushes : List Push) (k : ℕ) (push : Push)
+pub TellsOpen-first : (b : BoardView) (table : Entries) (key : Key) (depth : ℕ) (pushes : List Push) (k : ℕ) (push : Push)
     → ((p : Push) → Contains pushes p ↔ IsLegal b key p) → AllPairs Precedes pushes
     → push ≡ get_or pushes k push → TellsFirst b table key depth pushes (Some k) → TellsOpen b table key depth (Some push)
 TellsOpen-first b table key depth pushes k push exact in_order here ((first, there, missing), earlier) =
@@ -202,7 +202,7 @@ TellsOpen-first b table key depth pushes k push exact in_order here ((first, the
           earlier j other (precedes-before pushes in_order k j push other at other_at precedes) other_at,
     )
 
-pub TellsOpen-none : (b : Numbered) (table : Entries) (key : Key) (depth : ℕ) (pushes : List Push) → ((p : Push) → Contains pushes p ↔ IsLegal b key p)
+pub TellsOpen-none : (b : BoardView) (table : Entries) (key : Key) (depth : ℕ) (pushes : List Push) → ((p : Push) → Contains pushes p ↔ IsLegal b key p)
     → TellsFirst b table key depth pushes None → TellsOpen b table key depth None
 TellsOpen-none b table key depth pushes exact all = λ push legal.
     let (j, within, same) = (exact push).1 legal in

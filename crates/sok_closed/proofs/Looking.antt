@@ -7,9 +7,8 @@ use Rattle.sok_rules.specs.declared.cell.Dir.TheVariants.{Left}
 use Rattle.sok_rules.specs.Play.{Position}
 use Rattle.sok_rules.proofs.Steps.{IsStanding, IsStanding-step}
 use Rattle.sok_rules.proofs.Walking.{Same-refl}
-use Rattle.sok_board.specs.Area.{Numbered, IsAccepted, IsArea}
-use Rattle.sok_board.proofs.Lists.{Contains-at}
-use Rattle.sok_region.proofs.Floods.{slice_get-append}
+use Rattle.sok_board.specs.Area.{BoardView, IsAccepted, IsArea}
+use Rattle.sok_board.proofs.Lists.{Contains-at, slice_get-append}
 use Rattle.sok_state.specs.declared.key.Key.{Key}
 use Rattle.sok_state.specs.declared.push.Push.{Push}
 use Rattle.sok_state.specs.Keys.{IsKeyOf}
@@ -37,12 +36,12 @@ pub same_key : (table : Entries) (i : ℕ) (first second : Key) → IsAt table f
 same_key table i first second at also = same_Some first second (sym at ∙ also)
 
 -- the key at a node's place is the node's
-pub entered-key : (b : Numbered) (table : Entries) (i : ℕ) (n : Node) (key : Key) → IsEntered b table i n → IsAt table key i
+pub entered-key : (b : BoardView) (table : Entries) (i : ℕ) (n : Node) (key : Key) → IsEntered b table i n → IsAt table key i
     → IsKeyOf b (node_position b n) key
 entered-key b table i n key entry at = subst (IsKeyOf b (node_position b n)) (same_key table i entry.key key entry.there at) entry.is
 
 -- the man of a node stands where he may
-pub node-stands : (b : Numbered) → IsAccepted b → (count : ℕ) (n : Node) → IsPosition b count n → IsStanding b.rows (node_position b n)
+pub node-stands : (b : BoardView) → IsAccepted b → (count : ℕ) (n : Node) → IsPosition b count n → IsStanding b.rows (node_position b n)
 node-stands b accepted count n position = IsStanding-placed b accepted.numbered accepted.proper n.player n.boxes position.placed
 
 -- a key stands at one index alone
@@ -61,24 +60,24 @@ same_index table distinct key i j first second =
     ]
 
 -- the man stands where he may after a push
-pub standing-after : (b : Numbered) (key : Key) (push : Push) (after : Position) → LeadsTo b key push after → IsStanding b.rows after
+pub standing-after : (b : BoardView) (key : Key) (push : Push) (after : Position) → LeadsTo b key push after → IsStanding b.rows after
 standing-after b key push after leads = IsStanding-step b.rows push.dir leads.before (record { position = after; pushed = true }) leads.steps
 
 -- the key of the state that a push leads to is one alone
-next-is : (b : Numbered) → IsArea b.rows b.area → (key : Key) (push : Push) (next other : Key)
+next-is : (b : BoardView) → IsArea b.rows b.area → (key : Key) (push : Push) (next other : Key)
     → ((after : Position) → LeadsTo b key push after → IsKeyOf b after next)
     → (after : Position) → LeadsTo b key push after → IsKeyOf b after other → other ≡ next
 next-is b area key push next other is after leads other_is =
     keys_equal b area after after other next (standing-after b key push after leads) other_is (is after leads) (Same-refl b.rows after)
 
-pub IsMissing-absent : (b : Numbered) → IsArea b.rows b.area → (table : Entries) (key : Key) (depth : ℕ) (push : Push) (next : Key)
+pub IsMissing-absent : (b : BoardView) → IsArea b.rows b.area → (table : Entries) (key : Key) (depth : ℕ) (push : Push) (next : Key)
     → ((after : Position) → LeadsTo b key push after → IsKeyOf b after next)
     → (Contains (keys_of table) next → ⊥) → IsMissing b table key depth push
 IsMissing-absent b area table key depth push next is absent after other index deep leads other_is there depth_is near =
     absent (subst (Contains (keys_of table)) (next-is b area key push next other is after leads other_is) (Contains-at (keys_of table) other index there))
 
 -- what the depth of a present state tells
-pub TellsFound-near : (b : Numbered) → IsArea b.rows b.area → (table : Entries) → HasDistinctKeys table → (key : Key) (depth : ℕ) (push : Push) (next : Key)
+pub TellsFound-near : (b : BoardView) → IsArea b.rows b.area → (table : Entries) → HasDistinctKeys table → (key : Key) (depth : ℕ) (push : Push) (next : Key)
     → ((after : Position) → LeadsTo b key push after → IsKeyOf b after next)
     → (index deep : ℕ) → IsAt table next index → slice_get (values_of table) index ≡ Some deep → (near : Bool) → (near ≡ true → deep ≤ depth + 1) →
     (near ≡ false → deep ≤ depth + 1 → ⊥) → TellsFound b table key depth push near

@@ -5,7 +5,7 @@ use Rattle.std.specs.Map.{values_of}
 use Rattle.std.proofs.lemmas.Option.{same_Some, slice_get_within, slice_get-get_or}
 use Rattle.sok_rules.specs.Play.{Position}
 use Rattle.sok_rules.proofs.Steps.{IsStanding}
-use Rattle.sok_board.specs.Area.{Numbered}
+use Rattle.sok_board.specs.Area.{BoardView}
 use Rattle.sok_board.proofs.Lists.{Contains-at}
 use Rattle.sok_state.specs.declared.key.Key.{Key}
 use Rattle.sok_state.specs.declared.push.Push.{Push}
@@ -20,14 +20,14 @@ use Rattle.sok_closed.proofs.Starting.{one-starts, starter-at}
 -- ---- along the marks
 
 -- a state that is not expanded
-pub followed-unmarked : (b : Numbered) (roll : Rolled) (i : ℕ) → slice_get roll.marks i ≡ Some false → AreFollowed b roll i → AreFollowed b roll (i + 1)
+pub followed-unmarked : (b : BoardView) (roll : Rolled) (i : ℕ) → slice_get roll.marks i ≡ Some false → AreFollowed b roll i → AreFollowed b roll (i + 1)
 followed-unmarked b roll i unmarked followed j key depth below marked = below_more
     (λ k. (one : Key) (deep : ℕ) → IsMarked roll k one deep → TellsOpen b roll.entries one deep None) i
     (λ k k_below one deep k_marked. followed k one deep k_below k_marked)
     (λ one deep here. absurd (true≢false (same_Some true false (sym here.expanded ∙ unmarked)))) j below key depth marked
 
 -- one whose pushes are found
-pub followed-more : (b : Numbered) (roll : Rolled) (i : ℕ) (key : Key) (depth : ℕ) → IsAt roll.entries key i
+pub followed-more : (b : BoardView) (roll : Rolled) (i : ℕ) (key : Key) (depth : ℕ) → IsAt roll.entries key i
     → slice_get (values_of roll.entries) i ≡ Some depth → TellsOpen b roll.entries key depth None → AreFollowed b roll i → AreFollowed b roll (i + 1)
 followed-more b roll i key depth at depth_is found followed j other deep below marked = below_more
     (λ k. (one : Key) (d : ℕ) → IsMarked roll k one d → TellsOpen b roll.entries one d None) i
@@ -38,7 +38,7 @@ followed-more b roll i key depth at depth_is found followed j other deep below m
 
 -- ---- of a list
 
-module _ {E : Type 0} (node : E → Node) (b : Numbered) (count : ℕ) (entries : List E) (roll : Rolled) (looking : IsLooking node b count entries roll.entries)
+module _ {E : Type 0} (node : E → Node) (b : BoardView) (count : ℕ) (entries : List E) (roll : Rolled) (looking : IsLooking node b count entries roll.entries)
   where
     module _ (rolled : IsRolled node b entries (length entries) roll) where
       -- an entry before a place to which all are followed

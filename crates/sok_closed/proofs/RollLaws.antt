@@ -7,12 +7,12 @@ use Rattle.sok_rules.specs.Play.{Position, After, step, pushes, AllOnGoals}
 use Rattle.sok_rules.specs.States.{Same}
 use Rattle.sok_rules.proofs.Steps.{IsStanding, IsStanding-step}
 use Rattle.sok_rules.proofs.Walking.{Same-step, Same-sym, Same-trans}
-use Rattle.sok_board.specs.Area.{Numbered}
+use Rattle.sok_board.specs.Area.{BoardView}
 use Rattle.sok_closed.specs.Rolls.{IsClosedAt, IsRoll, Node, node_position}
 use Rattle.sok_closed.proofs.KnownPositions.{AgreesBefore, AllAgree, LeadsOn, all-agree, solved-Same}
 
 -- an entry at most so deep, of the state of a position
-record IsListedAt {E : Type 0} (node : E → Node) (b : Numbered) (entries : List E) (depth : ℕ) (x : Position) : Type 0 where
+record IsListedAt {E : Type 0} (node : E → Node) (b : BoardView) (entries : List E) (depth : ℕ) (x : Position) : Type 0 where
   pub entry : E
   pub listed : Contains entries entry
   pub near : (node entry).depth ≤ depth
@@ -24,12 +24,12 @@ abbrev pub AgreesDeeper : (ℕ → ℕ → Type 0) → Type 0
 AgreesDeeper Agrees = (near far n : ℕ) → near ≤ far → Agrees near n → Agrees far n
 
 -- from each position of the state of an entry that is not expanded each list that solves agrees
-abbrev pub AreBarred : {E : Type 0} → (E → Node) → Numbered → List E → (ℕ → ℕ → Type 0) → Type 0
+abbrev pub AreBarred : {E : Type 0} → (E → Node) → BoardView → List E → (ℕ → ℕ → Type 0) → Type 0
 AreBarred {E} node b entries Agrees =
     (e : E) → Contains entries e → (node e).expanded ≡ false → (x : Position) → Same b.rows (node_position b (node e)) x
     → AllAgree b.rows Agrees (node e).depth x
 
-module _ {E : Type 0} (node : E → Node) (b : Numbered) (count : ℕ) (from : Position) (entries : List E) (roll : IsRoll node b count from entries)
+module _ {E : Type 0} (node : E → Node) (b : BoardView) (count : ℕ) (from : Position) (entries : List E) (roll : IsRoll node b count from entries)
     (Agrees : ℕ → ℕ → Type 0) (before : AgreesBefore Agrees) (deeper : AgreesDeeper Agrees) (barred : AreBarred node b entries Agrees) where
   module _ (depth : ℕ) (x : Position) (at : IsListedAt node b entries depth x) where
     -- a walk stays in the state

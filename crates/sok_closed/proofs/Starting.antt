@@ -5,7 +5,7 @@ use Rattle.std.proofs.lemmas.Option.{same_Some, slice_get_within, slice_get-get_
 use Rattle.std.proofs.lemmas.List.{length-map}
 use Rattle.sok_rules.specs.Play.{Position}
 use Rattle.sok_rules.proofs.Steps.{IsStanding}
-use Rattle.sok_board.specs.Area.{Numbered}
+use Rattle.sok_board.specs.Area.{BoardView}
 use Rattle.sok_board.proofs.Lists.{Contains-at}
 use Rattle.sok_state.specs.declared.key.Key.{Key}
 use Rattle.sok_state.specs.Keys.{IsKeyOf}
@@ -23,7 +23,7 @@ at-within table key index at =
     omega (arith, within, listed)
 
 -- a starter's key is that of the position
-pub starter-at : {E : Type 0} (node : E → Node) (b : Numbered) (count : ℕ) (entries : List E) (table : Entries) → IsLooking node b count entries table → (from : Position) → IsStanding b.rows from → (key : Key)
+pub starter-at : {E : Type 0} (node : E → Node) (b : BoardView) (count : ℕ) (entries : List E) (table : Entries) → IsLooking node b count entries table → (from : Position) → IsStanding b.rows from → (key : Key)
     → IsKeyOf b from key
     → (e : E) → IsStarter node b from entries e → (j : ℕ) × IsAt table key j × (slice_get (values_of table) j ≡ Some (node e).depth)
 starter-at node b count entries table looking from standing key is e starter =
@@ -35,7 +35,7 @@ starter-at node b count entries table looking from standing key is e starter =
     (j, subst (λ k. IsAt table k j) equal entry.there, entry.depth)
 
 -- where it stands, its entry starts at depth 0
-pub one-starts : {E : Type 0} (node : E → Node) (b : Numbered) (count : ℕ) (entries : List E) (table : Entries) → IsLooking node b count entries table → (from : Position) → IsStanding b.rows from → (key : Key)
+pub one-starts : {E : Type 0} (node : E → Node) (b : BoardView) (count : ℕ) (entries : List E) (table : Entries) → IsLooking node b count entries table → (from : Position) → IsStanding b.rows from → (key : Key)
     → IsKeyOf b from key
     → (index deep : ℕ) → IsAt table key index → slice_get (values_of table) index ≡ Some deep → deep ≡ 0 → (e : E) × IsStarter node b from entries e
 one-starts node b count entries table looking from standing key is index deep at depth_is zero_deep =

@@ -2,35 +2,35 @@
 use Rattle.std.specs.Prelude.{ℕ, ◌≡◌, ◌<◌, ◌≤◌, List, Some, MatchBool, length, slice_get}
 use Rattle.sok_rules.specs.Play.{AllOnGoals}
 use Rattle.sok_rules.specs.States.{Same}
-use Rattle.sok_board.specs.Area.{Numbered}
+use Rattle.sok_board.specs.Area.{BoardView}
 use Rattle.sok_closed.specs.Lookup.{AreKeys, IsRolled, Rolled}
 use Rattle.sok_closed.specs.Rolls.{IsPosition, Node, node_position}
 
 -- no entry before a place is of the entry's state
-abbrev pub IsNew : {E : Type 0} → (E → Node) → Numbered → List E → ℕ → E → Type 0
+abbrev pub IsNew : {E : Type 0} → (E → Node) → BoardView → List E → ℕ → E → Type 0
 IsNew {E} node b entries i e =
     (j : ℕ) (f : E) → j < i → slice_get entries j ≡ Some f → Same b.rows (node_position b (node f)) (node_position b (node e)) → ⊥
 
 -- an expanded entry has a box off a goal, and each other one is barred
-abbrev pub IsReasoned : {E : Type 0} → (E → Node) → Numbered → (E → Type 0) → E → Type 0
+abbrev pub IsReasoned : {E : Type 0} → (E → Node) → BoardView → (E → Type 0) → E → Type 0
 IsReasoned node b IsBarred e = MatchBool (node e).expanded (AllOnGoals b.rows (node_position b (node e)) → ⊥) (IsBarred e)
 
 -- an entry without a fault of its own
-pub record IsFine {E : Type 0} (node : E → Node) (b : Numbered) (count : ℕ) (IsBarred : E → Type 0) (entries : List E) (i : ℕ) (e : E) : Type 0 where
+pub record IsFine {E : Type 0} (node : E → Node) (b : BoardView) (count : ℕ) (IsBarred : E → Type 0) (entries : List E) (i : ℕ) (e : E) : Type 0 where
   pub position : IsPosition b count (node e)
   pub new : IsNew node b entries i e
   pub reasoned : IsReasoned node b IsBarred e
 
 -- so are all entries before a place
-abbrev pub AreFine : {E : Type 0} → (E → Node) → Numbered → ℕ → (E → Type 0) → List E → ℕ → Type 0
+abbrev pub AreFine : {E : Type 0} → (E → Node) → BoardView → ℕ → (E → Type 0) → List E → ℕ → Type 0
 AreFine {E} node b count IsBarred entries n = (i : ℕ) (e : E) → i < n → slice_get entries i ≡ Some e → IsFine node b count IsBarred entries i e
 
 -- entries without a fault of their own, and the roll of their states
-pub record AreEntered {E : Type 0} (node : E → Node) (b : Numbered) (count : ℕ) (IsBarred : E → Type 0) (entries : List E) (roll : Rolled) : Type 0 where
+pub record AreEntered {E : Type 0} (node : E → Node) (b : BoardView) (count : ℕ) (IsBarred : E → Type 0) (entries : List E) (roll : Rolled) : Type 0 where
   pub fine : AreFine node b count IsBarred entries (length entries)
   pub rolled : IsRolled node b entries (length entries) roll
 
 -- a roll of states of a board, with room for its squares
-pub record IsOfBoard (b : Numbered) (roll : Rolled) : Type 0 where
+pub record IsOfBoard (b : BoardView) (roll : Rolled) : Type 0 where
   pub keys : AreKeys b roll.entries
   pub wide : length b.area ≤ roll.room

@@ -4,7 +4,7 @@ use Rattle.std.specs.Prelude.{MatchBool}
 use Rattle.std.specs.Map.{keys_of, values_of}
 use Rattle.sok_rules.specs.Play.{Position, step}
 use Rattle.sok_rules.specs.States.{Same}
-use Rattle.sok_board.specs.Area.{Numbered, IsAccepted, spot_of}
+use Rattle.sok_board.specs.Area.{BoardView, IsAccepted, spot_of}
 use Rattle.sok_board.specs.Limits.{box_limit}
 use Rattle.sok_state.specs.declared.key.Key.{Key}
 use Rattle.sok_state.specs.declared.push.Push.{Push}
@@ -14,20 +14,20 @@ use Rattle.sok_state.specs.Tables as tables
 use Rattle.sok_closed.specs.Rolls.{Node, IsPosition, node_position}
 
 -- a node's key stands at a place, with its depth
-pub record IsEntered (b : Numbered) (table : tables.Entries) (i : ℕ) (n : Node) : Type 0 where
+pub record IsEntered (b : BoardView) (table : tables.Entries) (i : ℕ) (n : Node) : Type 0 where
   pub key : Key
   pub there : tables.IsAt table key i
   pub depth : slice_get (values_of table) i ≡ Some n.depth
   pub is : IsKeyOf b (node_position b n) key
 
 -- so it is of the first entries, and the table has nothing else
-pub record IsTableOf {E : Type 0} (node : E → Node) (b : Numbered) (entries : List E) (n : ℕ) (table : tables.Entries) : Type 0 where
+pub record IsTableOf {E : Type 0} (node : E → Node) (b : BoardView) (entries : List E) (n : ℕ) (table : tables.Entries) : Type 0 where
   pub count : length table ≡ n
   pub distinct : tables.HasDistinctKeys table
   pub entered : (i : ℕ) (e : E) → i < n → slice_get entries i ≡ Some e → IsEntered b table i (node e)
 
 -- the state that a push leads to is in the table, at most one deeper
-pub record IsFound (b : Numbered) (table : tables.Entries) (key : Key) (depth : ℕ) (push : Push) : Type 0 where
+pub record IsFound (b : BoardView) (table : tables.Entries) (key : Key) (depth : ℕ) (push : Push) : Type 0 where
   pub next : Key
   pub is : (after : Position) → LeadsTo b key push after → IsKeyOf b after next
   pub index : ℕ
@@ -37,24 +37,24 @@ pub record IsFound (b : Numbered) (table : tables.Entries) (key : Key) (depth : 
   pub near : deep ≤ depth + 1
 
 -- it is not
-abbrev pub IsMissing : Numbered → tables.Entries → Key → ℕ → Push → Type 0
+abbrev pub IsMissing : BoardView → tables.Entries → Key → ℕ → Push → Type 0
 IsMissing b table key depth push =
     (after : Position) (next : Key) (index deep : ℕ) → LeadsTo b key push after → IsKeyOf b after next → tables.IsAt table next index
     → slice_get (values_of table) index ≡ Some deep → deep ≤ depth + 1 → ⊥
 
-abbrev pub TellsFound : Numbered → tables.Entries → Key → ℕ → Push → Bool → Type 0
+abbrev pub TellsFound : BoardView → tables.Entries → Key → ℕ → Push → Bool → Type 0
 TellsFound b table key depth push true = IsFound b table key depth push
 TellsFound b table key depth push false = IsMissing b table key depth push
 
 -- the place of the first push that leads to no such state, if there is one
-abbrev pub TellsFirst : Numbered → tables.Entries → Key → ℕ → List Push → Option ℕ → Type 0
+abbrev pub TellsFirst : BoardView → tables.Entries → Key → ℕ → List Push → Option ℕ → Type 0
 TellsFirst b table key depth pushes None = (i : ℕ) (push : Push) → slice_get pushes i ≡ Some push → IsFound b table key depth push
 TellsFirst b table key depth pushes (Some k) =
     ((push : Push) × (slice_get pushes k ≡ Some push) × IsMissing b table key depth push)
     × ((i : ℕ) (push : Push) → i < k → slice_get pushes i ≡ Some push → IsFound b table key depth push)
 
 -- the first legal push that leads to no such state, if there is one
-abbrev pub TellsOpen : Numbered → tables.Entries → Key → ℕ → Option Push → Type 0
+abbrev pub TellsOpen : BoardView → tables.Entries → Key → ℕ → Option Push → Type 0
 TellsOpen b table key depth None = (push : Push) → IsLegal b key push → IsFound b table key depth push
 TellsOpen b table key depth (Some push) =
     (IsLegal b key push × IsMissing b table key depth push) × ((other : Push) → Precedes other push → IsLegal b key other → IsFound b table key depth other)
@@ -88,11 +88,11 @@ pub record IsMarked (roll : Rolled) (i : ℕ) (key : Key) (depth : ℕ) : Type 0
   pub depth_is : slice_get (values_of roll.entries) i ≡ Some depth
 
 -- each push from the expanded states before a place is found
-abbrev pub AreFollowed : Numbered → Rolled → ℕ → Type 0
+abbrev pub AreFollowed : BoardView → Rolled → ℕ → Type 0
 AreFollowed b roll n = (i : ℕ) (key : Key) (depth : ℕ) → i < n → IsMarked roll i key depth → TellsOpen b roll.entries key depth None
 
 -- the first push of an expanded state that is missing
-pub record IsMissed (b : Numbered) (roll : Rolled) (i : ℕ) (push : Push) : Type 0 where
+pub record IsMissed (b : BoardView) (roll : Rolled) (i : ℕ) (push : Push) : Type 0 where
   pub key : Key
   pub depth : ℕ
   pub marked : IsMarked roll i key depth
@@ -100,29 +100,29 @@ pub record IsMissed (b : Numbered) (roll : Rolled) (i : ℕ) (push : Push) : Typ
   pub before : AreFollowed b roll i
 
 -- the place of the first expanded state from which a push is missing, and the first such push, if there is one
-abbrev pub TellsMissed : Numbered → Rolled → Option (ℕ × Push) → Type 0
+abbrev pub TellsMissed : BoardView → Rolled → Option (ℕ × Push) → Type 0
 TellsMissed b roll None = AreFollowed b roll (length roll.marks)
 TellsMissed b roll (Some (i, push)) = IsMissed b roll i push
 
 -- each key is of the board, with few boxes
-abbrev pub AreKeys : Numbered → tables.Entries → Type 0
+abbrev pub AreKeys : BoardView → tables.Entries → Type 0
 AreKeys b table = (i : ℕ) (key : Key) → tables.IsAt table key i → IsKey b key × (length key.boxes ≤ box_limit)
 
 -- the table and the marks of the first entries
-pub record IsRolled {E : Type 0} (node : E → Node) (b : Numbered) (entries : List E) (n : ℕ) (roll : Rolled) : Type 0 where
+pub record IsRolled {E : Type 0} (node : E → Node) (b : BoardView) (entries : List E) (n : ℕ) (roll : Rolled) : Type 0 where
   pub table : IsTableOf node b entries n roll.entries
   pub as_many : length roll.marks ≡ n
   pub marks : (i : ℕ) (e : E) → i < n → slice_get entries i ≡ Some e → slice_get roll.marks i ≡ Some (node e).expanded
 
 -- what is known when all entries are entered
-pub record IsLooking {E : Type 0} (node : E → Node) (b : Numbered) (count : ℕ) (entries : List E) (table : tables.Entries) : Type 0 where
+pub record IsLooking {E : Type 0} (node : E → Node) (b : BoardView) (count : ℕ) (entries : List E) (table : tables.Entries) : Type 0 where
   pub accepted : IsAccepted b
   pub few : count ≤ box_limit
   pub positions : All (λ e. IsPosition b count (node e)) entries
   pub entered : IsTableOf node b entries (length entries) table
 
 -- a push that is legal from a position of an expanded entry's state, and leads to no entry at most one deeper
-pub record IsOpen {E : Type 0} (node : E → Node) (b : Numbered) (entries : List E) (e : E) (push : Push) : Type 0 where
+pub record IsOpen {E : Type 0} (node : E → Node) (b : BoardView) (entries : List E) (e : E) (push : Push) : Type 0 where
   pub expanded : IsTrue (node e).expanded
   pub exists : push.from < length b.area
   pub before : Position
@@ -133,7 +133,7 @@ pub record IsOpen {E : Type 0} (node : E → Node) (b : Numbered) (entries : Lis
   pub unfollowed : (f : E) → Contains entries f → (node f).depth ≤ (node e).depth + 1 → Same b.rows after (node_position b (node f)) → ⊥
 
 -- the first open push: none of an entry before, and none before it of the same entry
-pub record IsFirstOpen {E : Type 0} (node : E → Node) (b : Numbered) (entries : List E) (i : ℕ) (push : Push) : Type 0 where
+pub record IsFirstOpen {E : Type 0} (node : E → Node) (b : BoardView) (entries : List E) (i : ℕ) (push : Push) : Type 0 where
   pub entry : E
   pub there : slice_get entries i ≡ Some entry
   pub is_open : IsOpen node b entries entry push

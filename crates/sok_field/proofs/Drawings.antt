@@ -8,7 +8,7 @@ use Rattle.std.proofs.lemmas.Option.{same_Some, option_and_then_some}
 use Rattle.sok_rules.specs.declared.cell.Dir.{Dir}
 use Rattle.sok_rules.specs.declared.cell.Spot.{Spot}
 use Rattle.sok_rules.specs.Squares.{next}
-use Rattle.sok_board.specs.Area.{Numbered, IsAccepted, IsArea, Before, spot_of, number_of, beside}
+use Rattle.sok_board.specs.Area.{BoardView, IsAccepted, IsArea, Before, spot_of, number_of, beside}
 use Rattle.sok_board.proofs.Accepted.{HasPlace-spot_of}
 use Rattle.sok_board.proofs.AreaLaws.{origin, spot_of-at, spot_of-number_of, number_of-spot_of, same_number}
 use Rattle.sok_board.proofs.Inside.{if_some}
@@ -21,13 +21,13 @@ use Rattle.sok_field.specs.Ways.{way, Joined}
 use Rattle.sok_field.proofs.Ways.{way-one}
 
 -- what letters lead to over numbers
-record IsTraced (b : Numbered) (lets : ℕ → Bool) (m : ℕ) (w : List Dir) (t : Spot) : Type 0 where
+record IsTraced (b : BoardView) (lets : ℕ → Bool) (m : ℕ) (w : List Dir) (t : Spot) : Type 0 where
   pub end : ℕ
   pub leads : trail b lets m w ≡ Some end
   pub within : end < length b.area
   pub lies : spot_of b end ≡ t
 
-way-trail : (b : Numbered) (lets : ℕ → Bool) (free : List ℕ) → Draws b (λ n. lets n ≡ true) free → (w : List Dir) (m : ℕ) (t : Spot) → m < length b.area
+way-trail : (b : BoardView) (lets : ℕ → Bool) (free : List ℕ) → Draws b (λ n. lets n ≡ true) free → (w : List Dir) (m : ℕ) (t : Spot) → m < length b.area
     → way (has free) (spot_of b m) w ≡ Some t → IsTraced b lets m w t
 way-trail b lets free draws [] m t within leads = record { end = m; leads = refl; within = within; lies = same_Some (spot_of b m) t leads }
 way-trail b lets free draws (d ∷ w) m t within leads = option_and_then_some (λ u. if has free u then way (has free) u w else None) (next d (spot_of b m)) t
@@ -43,7 +43,7 @@ way-trail b lets free draws (d ∷ w) m t within leads = option_and_then_some (�
       lies = traced.lies;
     })
 
-trail-way : (b : Numbered) (lets : ℕ → Bool) (free : List ℕ) → Draws b (λ n. lets n ≡ true) free → (w : List Dir) (m n : ℕ) → trail b lets m w ≡ Some n
+trail-way : (b : BoardView) (lets : ℕ → Bool) (free : List ℕ) → Draws b (λ n. lets n ≡ true) free → (w : List Dir) (m n : ℕ) → trail b lets m w ≡ Some n
     → way (has free) (spot_of b m) w ≡ Some (spot_of b n)
 trail-way b lets free draws [] m n leads = ap (λ k. Some (spot_of b k)) (same_Some m n leads)
 trail-way b lets free draws (d ∷ w) m n leads = option_and_then_some (λ u. if lets u then trail b lets u w else None) (beside b m d) n leads (λ k on rest.
@@ -53,7 +53,7 @@ trail-way b lets free draws (d ∷ w) m n leads = option_and_then_some (λ u. if
     way-one (has free) (spot_of b m) u d w ahead ((draws u).1 (k, number, through)) ∙ ap (λ s. way (has free) s w) (sym there) ∙ trail-way b lets free
     draws w k n further))
 
-pub joins-numbers : (b : Numbered) → IsArea b.rows b.area → JoinsNumbers b
+pub joins-numbers : (b : BoardView) → IsArea b.rows b.area → JoinsNumbers b
 joins-numbers b area lets free draws m n m_within n_within = (
   λ (w, leads).
       let traced = way-trail b lets free draws w m (spot_of b n) m_within leads in
@@ -62,12 +62,12 @@ joins-numbers b area lets free draws m n m_within n_within = (
   λ (w, leads). (w, trail-way b lets free draws w m n leads),
 )
 
-pub joins-inside : (b : Numbered) → IsArea b.rows b.area → JoinsInside b
+pub joins-inside : (b : BoardView) → IsArea b.rows b.area → JoinsInside b
 joins-inside b area lets free draws m s within (w, leads) =
     let traced = way-trail b lets free draws w m s within leads in
     (traced.end, ap (number_of b) (sym traced.lies) ∙ number_of-spot_of b area traced.end traced.within)
 
-pub first-is-least : (b : Numbered) → IsArea b.rows b.area → FirstIsLeast b
+pub first-is-least : (b : BoardView) → IsArea b.rows b.area → FirstIsLeast b
 first-is-least b area test rows s draws first =
     let (n, number, passes) = (draws s).0 first.among in
     let (within, there) = spot_of-number_of b s n number in (
@@ -89,7 +89,7 @@ first-is-least b area test rows s draws first =
     )
 
 -- a flood over bit rows that draw what is let through draws the squares to which letters lead
-pub Draws-joined : (b : Numbered) → IsArea b.rows b.area → (lets : ℕ → Bool) (free seen : List ℕ) (m : ℕ) → m < length b.area
+pub Draws-joined : (b : BoardView) → IsArea b.rows b.area → (lets : ℕ → Bool) (free seen : List ℕ) (m : ℕ) → m < length b.area
     → Draws b (λ n. lets n ≡ true) free
     → ((s : Spot) → (has seen s ≡ true) ↔ Joined (has free) (spot_of b m) s) → Draws b (Leads b lets m) seen
 Draws-joined b area lets free seen m within draws joined s = (
@@ -103,7 +103,7 @@ Draws-joined b area lets free seen m within draws joined s = (
 )
 
 -- the square of a number lies in the rows and columns of a set
-pub in_field : (b : Numbered) → IsAccepted b → (n : ℕ) → n < length b.area → (s : Spot) → s ≡ spot_of b n → (s.row < 128) × (s.col < 128)
+pub in_field : (b : BoardView) → IsAccepted b → (n : ℕ) → n < length b.area → (s : Spot) → s ≡ spot_of b n → (s.row < 128) × (s.col < 128)
 in_field b accepted n exists s is =
     let place = HasPlace-spot_of b accepted n exists in
     let row = place.row in
@@ -111,7 +111,7 @@ in_field b accepted n exists s is =
     (omega (arith, row, ap (λ (t : Spot). t.row) is), omega (arith, col, ap (λ (t : Spot). t.col) is))
 
 -- one square less
-pub Draws-taken : (b : Numbered) → (old new boxes : List ℕ) (k : ℕ) → number_of b (spot_of b k) ≡ Some k
+pub Draws-taken : (b : BoardView) → (old new boxes : List ℕ) (k : ℕ) → number_of b (spot_of b k) ≡ Some k
     → ((s : Spot) → (has new s ≡ true) ↔ ((s ≡ spot_of b k → ⊥) × (has old s ≡ true)))
     → Draws b (λ n. Contains boxes n → ⊥) old → Draws b (λ n. Contains (boxes ++ k ∷ []) n → ⊥) new
 Draws-taken b old new boxes k numbered taken draws s = (

@@ -12,10 +12,10 @@ use Rattle.std.proofs.lemmas.Nat.Bits.{bit_at-lt, bit_at-zero, bit_at_above, bit
 use Rattle.std.proofs.lemmas.Nat.{pow_pos}
 use Rattle.std.proofs.Math.Nat.{mod-lt}
 use Rattle.sok_rules.specs.declared.cell.Spot.{Spot}
-use Rattle.sok_board.specs.declared.runs.Run.{Run}
+use Rattle.sok_board.specs.declared.spans.Span.{Span}
 use Rattle.sok_field.specs.Fields.{has, IsFirstSquare, IsHigh}
 use Rattle.sok_field.specs.Halves.{AreWords, beyond, halves, within}
-use Rattle.sok_field.specs.Runs.{LiesOn}
+use Rattle.sok_field.specs.Spans.{LiesOn}
 use Rattle.sok_field.proofs.Heights.{none-drop, none-past}
 use Rattle.sok_field.proofs.OneSquare.{same_place}
 use Rattle.sok_field.proofs.Parts.{masked}
@@ -117,7 +117,7 @@ has-alone low high words none = λ i s. elim (cases_lt s.col 64) as (λ _. has (
   | inr past ↦ has-upper low high s past ∙ none (within s) ∙ sym (none-beyond low words s past)
 ] i
 
--- a square, or a run, of the upper half by its column within it
+-- a square, or a span, of the upper half by its column within it
 pub put-within : (X : Type 0) (s spot p : Spot) → 64 ≤ s.col → 64 ≤ spot.col → p ≡ within spot → ((within s ≡ p) ⊎ X) ↔ ((s ≡ spot) ⊎ X)
 put-within X s spot p past there is = (
   λ one. elim one [ inl same ↦ inl (within-same s spot past there (same ∙ is)) | inr x ↦ inr x ],
@@ -131,12 +131,12 @@ taken-within X s spot p past there is = (
   λ (other, x). (λ same. other (within-same s spot past there (same ∙ is)), x),
 )
 
-pub lies-within : (run part : Run) (s : Spot) → 64 ≤ s.col → 64 ≤ run.first.col → part ≡ record run { first = within run.first }
-    → LiesOn part (within s) ↔ LiesOn run s
-lies-within run part s past there is =
-    let row = ap (λ (r : Run). r.first.row) is in
-    let col = ap (λ (r : Run). r.first.col) is in
-    let long = ap (λ (r : Run). r.length) is in (
+pub lies-within : (span part : Span) (s : Spot) → 64 ≤ s.col → 64 ≤ span.first.col → part ≡ record span { first = within span.first }
+    → LiesOn part (within s) ↔ LiesOn span s
+lies-within span part s past there is =
+    let row = ap (λ (r : Span). r.first.row) is in
+    let col = ap (λ (r : Span). r.first.col) is in
+    let long = ap (λ (r : Span). r.length) is in (
       λ (on, left, right). (on ∙ row, omega (arith, left, col, past, there), omega (arith, right, col, long, past, there)),
       λ (on, left, right). (on ∙ sym row, omega (arith, left, col, past, there), omega (arith, right, col, long, past, there)),
     )
@@ -158,8 +158,8 @@ put-elsewhere X s spot apart = (λ x. inr x, λ one. elim one [ inl same ↦ abs
 pub taken-elsewhere : (X : Type 0) (s spot : Spot) → (s ≡ spot → ⊥) → X ↔ ((s ≡ spot → ⊥) × X)
 taken-elsewhere X s spot apart = (λ x. (apart, x), λ (_, x). x)
 
-pub lies-elsewhere : (X : Type 0) (s : Spot) (run : Run) → (LiesOn run s → ⊥) → X ↔ (X ⊎ LiesOn run s)
-lies-elsewhere X s run apart = (λ x. inl x, λ one. elim one [ inl x ↦ x | inr on ↦ absurd (apart on) ])
+pub lies-elsewhere : (X : Type 0) (s : Spot) (span : Span) → (LiesOn span s → ⊥) → X ↔ (X ⊎ LiesOn span s)
+lies-elsewhere X s span apart = (λ x. inl x, λ one. elim one [ inl x ↦ x | inr on ↦ absurd (apart on) ])
 
 pub apart-col : (s t : Spot) → (s.col ≡ t.col → ⊥) → s ≡ t → ⊥
 apart-col s t apart same = apart (ap (λ (u : Spot). u.col) same)

@@ -1,7 +1,7 @@
 pub mod Flooding
 pub mod Lanes
 pub mod ByNumber
-pub mod ByRuns
+pub mod BySpans
 pub mod Closed
 pub mod Across
 pub mod Drawings

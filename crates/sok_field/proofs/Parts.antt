@@ -8,11 +8,11 @@ use Rattle.std.proofs.lemmas.Nat.{and_mask, pow_pos}
 use Rattle.std.proofs.Math.Nat.{mod-lt, div-add-mod, mul_comm}
 use Rattle.std.proofs.lemmas.Nat.Bits.{bit_at-lt, bit_at-zero, bit_at_and, bit_at_or, bit_at_ones, bit_at_above, bit_at_cat_low, bit_at_cat_high}
 use Rattle.sok_rules.specs.declared.cell.Spot.{Spot}
-use Rattle.sok_board.specs.Runs.{right_of}
-use Rattle.sok_board.specs.declared.runs.Run.{Run}
+use Rattle.sok_board.specs.Spans.{right_of}
+use Rattle.sok_board.specs.declared.spans.Span.{Span}
 use Rattle.sok_field.specs.Fields.{has}
 use Rattle.sok_field.specs.Numbers.{bit_of_number}
-use Rattle.sok_field.specs.Runs.{IsPut, StandsIn}
+use Rattle.sok_field.specs.Spans.{IsPut, StandsIn}
 use Rattle.sok_field.proofs.OneSquare.{set-same}
 use Rattle.sok_field.proofs.Spreading.{bit_of, has-on, on-has}
 
@@ -174,11 +174,11 @@ ones-exact length k some within =
           (λ on. absurd (omega (arith, on, is, off)), λ below. absurd (omega (arith, below, past)))
     ]
 
--- a word of a run's squares
-pub run-exact : (run : Run) (word : ℕ) → run.first.col + run.length ≤ 64 → ((k : ℕ) → (bit_at word k ≡ 1) ↔ (k < run.length)) → (c : ℕ)
-    → (bit_at (word * 2 ^ run.first.col % 2 ^ 64) c ≡ 1) ↔ ((run.first.col ≤ c) × (c < run.first.col + run.length))
-run-exact run word within exact c =
-    let col = run.first.col in
+-- a word of a span's squares
+pub span-exact : (span : Span) (word : ℕ) → span.first.col + span.length ≤ 64 → ((k : ℕ) → (bit_at word k ≡ 1) ↔ (k < span.length)) → (c : ℕ)
+    → (bit_at (word * 2 ^ span.first.col % 2 ^ 64) c ≡ 1) ↔ ((span.first.col ≤ c) × (c < span.first.col + span.length))
+span-exact span word within exact c =
+    let col = span.first.col in
     let x = word * 2 ^ col % 2 ^ 64 in
     elim (cases_lt c 64) [
       | inr past ↦
@@ -196,23 +196,23 @@ run-exact run word within exact c =
       ]
     ]
 
--- the squares of a run in a row's word
-pub cut-exact : (rows : List ℕ) (run : Run) (word k : ℕ) → ((k : ℕ) → (bit_at word k ≡ 1) ↔ (k < run.length))
-    → (bit_at (bit_and (get_or rows run.first.row 0 / 2 ^ run.first.col) word) k ≡ 1) ↔ ((k < run.length) × (has rows (right_of run.first k) ≡ true))
-cut-exact rows run word k exact =
-    let row = get_or rows run.first.row 0 in
-    let col = run.first.col in
+-- the squares of a span in a row's word
+pub cut-exact : (rows : List ℕ) (span : Span) (word k : ℕ) → ((k : ℕ) → (bit_at word k ≡ 1) ↔ (k < span.length))
+    → (bit_at (bit_and (get_or rows span.first.row 0 / 2 ^ span.first.col) word) k ≡ 1) ↔ ((k < span.length) × (has rows (right_of span.first k) ≡ true))
+cut-exact rows span word k exact =
+    let row = get_or rows span.first.row 0 in
+    let col = span.first.col in
     let both = bit_at_and (row / 2 ^ col) word k in
     let shifted = shr-bit row col k (pow_pos col) in
-    let place : bit_at row (k + col) ≡ bit_of rows run.first.row (col + k) = let n : k + col ≡ col + k = omega arith in ap (bit_at row) n in
+    let place : bit_at row (k + col) ≡ bit_of rows span.first.row (col + k) = let n : k + col ≡ col + k = omega arith in ap (bit_at row) n in
     let small = bit_at-lt word k in
     let small_row = bit_at-lt (row / 2 ^ col) k in (
       λ on.
           let one : bit_at word k ≡ 1 = omega (arith, on, both, small, small_row) in
           let there : bit_at (row / 2 ^ col) k ≡ 1 = omega (arith, on, both, small, small_row) in
-          ((exact k).0 one, on-has rows (right_of run.first k) (sym place ∙ sym shifted ∙ there)),
+          ((exact k).0 one, on-has rows (right_of span.first k) (sym place ∙ sym shifted ∙ there)),
       λ (below, e).
           let one = (exact k).1 below in
-          let there : bit_at (row / 2 ^ col) k ≡ 1 = shifted ∙ place ∙ has-on rows (right_of run.first k) e in
+          let there : bit_at (row / 2 ^ col) k ≡ 1 = shifted ∙ place ∙ has-on rows (right_of span.first k) e in
           omega (arith, both, one, there),
     )

@@ -2,7 +2,7 @@
 use Rattle.std.specs.Prelude.{ℕ, ◌<◌, ◌+◌, ◌-◌, ◌*◌, ◌%◌, ◌^◌, List, length, map, max, slice_index}
 use Rattle.std.specs.List.{range_with_len}
 use Rattle.sok_rules.specs.declared.cell.Spot.{Spot}
-use Rattle.sok_board.specs.Runs.{word_bits}
+use Rattle.sok_board.specs.Spans.{word_bits}
 
 -- the rows of both halves: a number each, the bits of the left half the lowest
 abbrev pub halves : List ℕ → List ℕ → List ℕ

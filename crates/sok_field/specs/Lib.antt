@@ -8,5 +8,5 @@ pub mod Ways
 -- Words of the proofs alone
 pub mod Crossings
 pub mod Floods
-pub mod Runs
+pub mod Spans
 pub mod Sweeps

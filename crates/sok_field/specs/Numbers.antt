@@ -1,30 +1,30 @@
 -- Bit rows and the numbers of a board's squares.
 use Rattle.std.specs.Prelude.{◌/◌, ◌%◌, ℕ, ◌≡◌, ◌<◌, ◌≤◌, ◌↔◌, List, Some, Bool, true, length}
 use Rattle.sok_rules.specs.declared.cell.Spot.{Spot}
-use Rattle.sok_board.specs.Area.{Numbered, spot_of, number_of}
-use Rattle.sok_board.specs.Runs.{word_bits}
+use Rattle.sok_board.specs.Area.{BoardView, spot_of, number_of}
+use Rattle.sok_board.specs.Spans.{word_bits}
 use Rattle.sok_field.specs.Fields.{has, IsFirstSquare}
 use Rattle.sok_field.specs.Trails.{Leads}
 use Rattle.sok_field.specs.Ways.{Joined}
 
 -- bit rows with the squares of a board of whose numbers something holds, and no others
-abbrev pub Draws : Numbered → (ℕ → Type 0) → List ℕ → Type 0
+abbrev pub Draws : BoardView → (ℕ → Type 0) → List ℕ → Type 0
 Draws b P rows = (s : Spot) → (has rows s ≡ true) ↔ ((n : ℕ) × (number_of b s ≡ Some n) × P n)
 
 -- squares are joined as their numbers are
-abbrev pub JoinsNumbers : Numbered → Type 0
+abbrev pub JoinsNumbers : BoardView → Type 0
 JoinsNumbers b =
     (lets : ℕ → Bool) (free : List ℕ) → Draws b (λ n. lets n ≡ true) free → (m n : ℕ) → m < length b.area → n < length b.area
     → Joined (has free) (spot_of b m) (spot_of b n) ↔ Leads b lets m n
 
 -- all that is joined to a square with a number has one
-abbrev pub JoinsInside : Numbered → Type 0
+abbrev pub JoinsInside : BoardView → Type 0
 JoinsInside b =
     (lets : ℕ → Bool) (free : List ℕ) → Draws b (λ n. lets n ≡ true) free → (m : ℕ) (s : Spot) → m < length b.area → Joined (has free) (spot_of b m) s
     → (n : ℕ) × (number_of b s ≡ Some n)
 
 -- the first square has the least number
-abbrev pub FirstIsLeast : Numbered → Type 0
+abbrev pub FirstIsLeast : BoardView → Type 0
 FirstIsLeast b =
     (test : ℕ → Bool) (rows : List ℕ) (s : Spot) → Draws b (λ n. test n ≡ true) rows → IsFirstSquare (has rows) s
     → (n : ℕ) × (number_of b s ≡ Some n) × (test n ≡ true) × ((k : ℕ) → k < length b.area → test k ≡ true → n ≤ k)

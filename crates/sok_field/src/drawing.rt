@@ -28,9 +28,9 @@ pub fn draw(field: &mut Field, board: &Board)
     ensures drawn { Draws board.now (λ n. n < length board.now.area) field.new }
     ensures accepted { IsAccepted board.now }
 {
-    let runs = board.runs();
-    for run in runs {
-        field.put_run(*run);
+    let spans = board.spans();
+    for span in spans {
+        field.put_span(*span);
     }
 }
 

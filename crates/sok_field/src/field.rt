@@ -3,14 +3,14 @@
 ghost use Rattle.std.specs.Prelude.{ℕ, ◌≡◌, ◌<◌, ◌≤◌, ◌+◌, ◌%◌, ◌↔◌, ◌⊎◌, MatchOption, IsTrue, false};
 ghost use Rattle.std.specs.Int.{bit_at};
 ghost use Rattle.sok_rules.specs.declared.cell.Spot.{Spot};
-ghost use Rattle.sok_board.specs.Runs.{right_of, word_bits};
+ghost use Rattle.sok_board.specs.Spans.{right_of, word_bits};
 ghost use Rattle.sok_field.specs.Fields.{has, IsFirstSquare};
 ghost use Rattle.sok_field.specs.Halves.{beyond, folded, within};
-ghost use Rattle.sok_field.specs.Runs.{LiesOn};
+ghost use Rattle.sok_field.specs.Spans.{LiesOn};
 ghost use Rattle.sok_field.specs.Ways.{Joined};
 
 use crate::half::{self, Half, flood_both};
-use sok_board::runs::Run;
+use sok_board::spans::Span;
 use sok_rules::cell::Spot;
 use std::marker::Model;
 
@@ -86,35 +86,35 @@ impl Field {
         }
     }
 
-    /// Puts the squares of a run into the set, which lie in one half.
-    pub(crate) fn put_run(&mut self, run: Run)
-        requires some { 0 < run.length }
-        requires row { run.first.row < ROWS }
-        requires col { run.first.col < COLUMNS }
-        requires columns { run.first.col % word_bits + run.length ≤ word_bits }
-        ensures { (s : Spot) → IsTrue (has self.new s) ↔ (IsTrue (has self.old s) ⊎ LiesOn run s) }
+    /// Puts the squares of a span into the set, which lie in one half.
+    pub(crate) fn put_span(&mut self, span: Span)
+        requires some { 0 < span.length }
+        requires row { span.first.row < ROWS }
+        requires col { span.first.col < COLUMNS }
+        requires columns { span.first.col % word_bits + span.length ≤ word_bits }
+        ensures { (s : Spot) → IsTrue (has self.new s) ↔ (IsTrue (has self.old s) ⊎ LiesOn span s) }
     {
-        if run.first.col < half::COLUMNS {
-            self.low.put_run(run);
+        if span.first.col < half::COLUMNS {
+            self.low.put_span(span);
         } else {
-            self.high.put_run(run_within(run));
+            self.high.put_span(span_within(span));
         }
     }
 
-    /// The squares of a run that are of the set, the leftmost one as the lowest bit. The run lies in
+    /// The squares of a span that are of the set, the leftmost one as the lowest bit. The span lies in
     /// one half.
-    pub(crate) fn cut(&self, run: Run) -> u64
-        requires some { 0 < run.length }
-        requires row { run.first.row < ROWS }
-        requires col { run.first.col < COLUMNS }
-        requires columns { run.first.col % word_bits + run.length ≤ word_bits }
+    pub(crate) fn cut(&self, span: Span) -> u64
+        requires some { 0 < span.length }
+        requires row { span.first.row < ROWS }
+        requires col { span.first.col < COLUMNS }
+        requires columns { span.first.col % word_bits + span.length ≤ word_bits }
         ensures { (k : ℕ) → (bit_at result k ≡ 1)
-            ↔ ((k < run.length) × IsTrue (has self.now (right_of run.first k))) }
+            ↔ ((k < span.length) × IsTrue (has self.now (right_of span.first k))) }
     {
-        if run.first.col < half::COLUMNS {
-            return self.low.cut(run);
+        if span.first.col < half::COLUMNS {
+            return self.low.cut(span);
         }
-        self.high.cut(run_within(run))
+        self.high.cut(span_within(span))
     }
 
     /// Takes a square out of the set.
@@ -223,14 +223,14 @@ fn beyond(spot: Spot) -> Spot
     }
 }
 
-/// A run of the upper half of the columns, by its columns within it.
-fn run_within(run: Run) -> Run
-    requires { word_bits ≤ run.first.col }
-    ensures { result ≡ record run { first = within run.first } }
+/// A span of the upper half of the columns, by its columns within it.
+fn span_within(span: Span) -> Span
+    requires { word_bits ≤ span.first.col }
+    ensures { result ≡ record span { first = within span.first } }
 {
-    Run {
-        first: within(run.first),
-        number: run.number,
-        length: run.length,
+    Span {
+        first: within(span.first),
+        number: span.number,
+        length: span.length,
     }
 }

@@ -3,17 +3,17 @@
 ghost use Rattle.std.specs.Prelude.{ℕ, ◌≡◌, ◌<◌, ◌≤◌, ◌+◌, ◌↔◌, ◌⊎◌, IfSome, MatchOption, IsTrue, false};
 ghost use Rattle.std.specs.Int.{bit_at};
 ghost use Rattle.sok_rules.specs.declared.cell.Spot.{Spot};
-ghost use Rattle.sok_board.specs.Runs.{right_of};
+ghost use Rattle.sok_board.specs.Spans.{right_of};
 ghost use Rattle.sok_field.specs.Fields.{has, IsFirstSquare};
 ghost use Rattle.sok_field.specs.Halves.{AreWords, halves};
-ghost use Rattle.sok_field.specs.Runs.{LiesOn};
+ghost use Rattle.sok_field.specs.Spans.{LiesOn};
 ghost use Rattle.sok_field.specs.Ways.{Joined};
 
 use crate::crossing::flood_halves;
 use crate::field::ROWS;
 use crate::flood::flood;
-use crate::{bits, runs};
-use sok_board::runs::Run;
+use crate::{bits, spans};
+use sok_board::spans::Span;
 use sok_rules::cell::Spot;
 use std::marker::Model;
 
@@ -76,26 +76,26 @@ impl Half {
         self.height = self.height.max(spot.row as usize + 1);
     }
 
-    /// Puts the squares of a run in.
-    pub(crate) fn put_run(&mut self, run: Run)
-        requires some { 0 < run.length }
-        requires row { run.first.row < ROWS }
-        requires columns { run.first.col + run.length ≤ COLUMNS }
-        ensures { (s : Spot) → IsTrue (has self.new s) ↔ (IsTrue (has self.old s) ⊎ LiesOn run s) }
+    /// Puts the squares of a span in.
+    pub(crate) fn put_span(&mut self, span: Span)
+        requires some { 0 < span.length }
+        requires row { span.first.row < ROWS }
+        requires columns { span.first.col + span.length ≤ COLUMNS }
+        ensures { (s : Spot) → IsTrue (has self.new s) ↔ (IsTrue (has self.old s) ⊎ LiesOn span s) }
     {
-        runs::put_run(&mut self.rows, run);
-        self.height = self.height.max(run.first.row as usize + 1);
+        spans::put_span(&mut self.rows, span);
+        self.height = self.height.max(span.first.row as usize + 1);
     }
 
-    /// The squares of a run that it has, the leftmost one as the lowest bit.
-    pub(crate) fn cut(&self, run: Run) -> u64
-        requires some { 0 < run.length }
-        requires row { run.first.row < ROWS }
-        requires columns { run.first.col + run.length ≤ COLUMNS }
+    /// The squares of a span that it has, the leftmost one as the lowest bit.
+    pub(crate) fn cut(&self, span: Span) -> u64
+        requires some { 0 < span.length }
+        requires row { span.first.row < ROWS }
+        requires columns { span.first.col + span.length ≤ COLUMNS }
         ensures { (k : ℕ) → (bit_at result k ≡ 1)
-            ↔ ((k < run.length) × IsTrue (has self.now (right_of run.first k))) }
+            ↔ ((k < span.length) × IsTrue (has self.now (right_of span.first k))) }
     {
-        runs::cut(&self.rows, run)
+        spans::cut(&self.rows, span)
     }
 
     /// Takes a square out.

@@ -10,7 +10,7 @@
 //! | `half` | half of a set: 64 columns in bit rows (private) |
 //! | `law` | bit rows and the numbers of a board |
 //! | `numbers` | sets of squares as bits by number |
-//! | `runs` | squares that lie side by side, as bits of a word |
+//! | `spans` | squares that lie side by side, as bits of a word |
 //! | `spread` | a round: the squares beside those of a set, all rows at once |
 //! | `sweep` | sweeps, by which a flood comes along rows and from row to row |
 #![tactic(auto)]
@@ -23,6 +23,6 @@ mod flood;
 mod half;
 pub mod law;
 pub mod numbers;
-mod runs;
+mod spans;
 pub mod spread;
 mod sweep;

@@ -8,7 +8,7 @@ ghost use Rattle.sok_field.specs.Numbers.{bit_of_number, has_number, IsLeast};
 
 use crate::bits;
 use crate::field::Field;
-use crate::runs::put_word;
+use crate::spans::put_word;
 use sok_board::area::Sq;
 use sok_board::board::Board;
 use sok_rules::cell::Spot;
@@ -70,8 +70,8 @@ pub fn write(words: &mut [u64], set: &Field, board: &Board)
         ↔ ((n < length board.now.area) × IsTrue (has set.now (spot_of board.now n))) }
 {
     bits::clear(words);
-    let runs = board.runs();
-    for run in runs {
-        put_word(words, set.cut(*run), run.number);
+    let spans = board.spans();
+    for span in spans {
+        put_word(words, set.cut(*span), span.number);
     }
 }

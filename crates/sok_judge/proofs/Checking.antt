@@ -5,7 +5,7 @@ use Rattle.sok_text.specs.Collections.{blocks_of, level_at}
 use Rattle.sok_rules.specs.declared.fault.LevelFault.{LevelFault}
 use Rattle.sok_rules.specs.Squares.{Rows}
 use Rattle.sok_rules.specs.declared.fault.LevelFault.TheVariants as level
-use Rattle.sok_board.specs.Area.{Numbered}
+use Rattle.sok_board.specs.Area.{BoardView}
 use Rattle.sok_board.specs.Refusals.{IsRefused}
 use Rattle.sok_board.specs.declared.fault.BoardFault.{BoardFault}
 use Rattle.sok_board.specs.declared.fault.BoardFault.TheVariants as board
@@ -24,7 +24,7 @@ use Rattle.sok_judge.specs.Verdicts.{verdict_answer}
 use Rattle.sok_cert.specs.Verdicts.{IsUnshown, IsVerdict}
 
 -- why a text shows nothing, unless memory was refused
-pub untold : (b : Numbered) (text : List ℕ) (fault : CertFault) (result : Result Claim CertFault) → result ≡ Err fault
+pub untold : (b : BoardView) (text : List ℕ) (fault : CertFault) (result : Result Claim CertFault) → result ≡ Err fault
     → (fault ≡ cert.Memory) ⊎ (GoesWrong text fault ⊎ IsUnshown b text fault)
     → (result ≡ Err cert.Memory) ⊎ IsVerdict b text result
 untold b text cert.Memory result is _ = inl is
@@ -32,7 +32,7 @@ untold b text fault result is (inl same) = inl (is ∙ ap Err same)
 untold b text fault result is (inr wrong) = inr (subst (IsVerdict b text) (sym is) ((λ same. cc), wrong))
 
 -- the answer that tells it
-pub tells : (b : Numbered) (text : List ℕ) (verdict : Result Claim CertFault) (answer : Answer) → answer ≡ verdict_answer verdict
+pub tells : (b : BoardView) (text : List ℕ) (verdict : Result Claim CertFault) (answer : Answer) → answer ≡ verdict_answer verdict
     → (verdict ≡ Err cert.Memory → ⊥) → (verdict ≡ Err cert.Memory) ⊎ IsVerdict b text verdict → TellsVerdict b text (Ok answer)
 tells b text verdict answer same kept (inl none) = absurd (kept none)
 tells b text verdict answer same kept (inr is) = (verdict, is, ap Ok same)
@@ -55,11 +55,11 @@ level_answers P level.Memory = tt
 level_answers P fault = refl
 
 -- no board is made, unless memory was refused
-board_answers : (P : Numbered → Answers) (rows : Rows) (fault : BoardFault) → IsRefused rows fault → IsFaultOf (OnBoard P rows) (of_board fault)
+board_answers : (P : BoardView → Answers) (rows : Rows) (fault : BoardFault) → IsRefused rows fault → IsFaultOf (OnBoard P rows) (of_board fault)
 board_answers P rows board.Memory is = tt
 board_answers P rows fault is = refused fault (λ same. cc) is refl
 
-LacksBoard-answers : (P : Numbered → Answers) (found : Result Rows LevelFault) (fault : ToolFault) → LacksBoard found fault
+LacksBoard-answers : (P : BoardView → Answers) (found : Result Rows LevelFault) (fault : ToolFault) → LacksBoard found fault
     → IsFaultOf (OnLevel (OnBoard P) found) fault
 LacksBoard-answers P found fault (faulty f is same) =
     subst (λ l. IsFaultOf (OnLevel (OnBoard P) l) fault) (sym is) (subst (IsFaultOf (OnLevel (OnBoard P) (Err f))) (sym same) (level_answers (OnBoard P) f))
@@ -83,7 +83,7 @@ Writes-no_board limit most n input cert held read fault all few none =
     (IsFaultOf-weaker (IsCheck most n text read) (IsCheckOf most n cert read) (λ f is. (text, told, is)) fault answers)
 
 -- a level with a board, on which the certificate was judged
-pub Writes-judged : (limit most n : ℕ) (input cert old new : Option (List ℕ)) (read : List ℕ) (b : Numbered) (result : Result ℕ ToolFault)
+pub Writes-judged : (limit most n : ℕ) (input cert old new : Option (List ℕ)) (read : List ℕ) (b : BoardView) (result : Result ℕ ToolFault)
     → IfSome input (λ bytes. read ≡ bytes) → length read ≤ limit → IsBoardOf (level_at (blocks_of read) n) b
     → Writes (OfReader cert (Within most (TellsVerdict b))) old new result
     → Writes (OfReader input (Within limit (IsCheckOf most n cert))) old new result

@@ -1,7 +1,7 @@
 -- The text of a certificate has one answer at most.
 use Rattle.std.proofs.Common.{ℕ, ◌∙◌, List, Ok, sym, ap}
 use Rattle.sok_text.specs.Collections.{blocks_of, level_at}
-use Rattle.sok_board.specs.Area.{Numbered}
+use Rattle.sok_board.specs.Area.{BoardView}
 use Rattle.sok_cert.proofs.Verdicts.{IsVerdict-one}
 use Rattle.sok_judge.specs.Checks.{TellsVerdict, TellsVerdictWithin, IsCheck}
 use Rattle.sok_judge.specs.Verdicts.{verdict_answer}
@@ -9,7 +9,7 @@ use Rattle.sok_engine.specs.Written.{HasOne}
 use Rattle.sok_engine.proofs.Unique.{OnLevel-one, Within-one}
 use Rattle.sok_judge.proofs.OneBoard.{OnBoard-one}
 
-TellsVerdict-one : (b : Numbered) (text : List ℕ) → HasOne (TellsVerdict b text)
+TellsVerdict-one : (b : BoardView) (text : List ℕ) → HasOne (TellsVerdict b text)
 TellsVerdict-one b text x y (v, is_v, x_is) (w, is_w, y_is) = x_is ∙ ap (λ verdict. Ok (verdict_answer verdict)) (IsVerdict-one b text v w is_v is_w) ∙ sym y_is
 
 pub IsCheck-one : (limit n : ℕ) (text bytes : List ℕ) → HasOne (IsCheck limit n text bytes)

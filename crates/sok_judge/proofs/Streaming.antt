@@ -3,19 +3,19 @@ use Rattle.std.proofs.Common.{ℕ, ◌≡◌, ◌+◌, ◌<◌, ◌≤◌, ◌�
 use Rattle.std.specs.Io.KnownBytes.{Consumes, IsAtEnd}
 use Rattle.std.proofs.lemmas.List.{append-nil}
 use Rattle.std.proofs.KnownBytes.{Consumes-nil, Consumes-trans}
-use Rattle.sok_board.specs.Area.{Numbered}
+use Rattle.sok_board.specs.Area.{BoardView}
 use Rattle.sok_cert.specs.Streams.{StandsFor, Streamed}
 use Rattle.sok_judge.specs.Streams.{IsStreamOf}
 
 -- the stream stands for the bytes that were read, which are so many
-pub record ReadSo (old now : Option (List ℕ)) (b : Numbered) (s : Streamed) (total : ℕ) : Type 0 where
+pub record ReadSo (old now : Option (List ℕ)) (b : BoardView) (s : Streamed) (total : ℕ) : Type 0 where
   pub text : List ℕ
   pub consumed : Consumes old now text
   pub count : total ≡ length text
   pub board : s.board ≡ b
   pub stands : StandsFor s.board text s.progress
 
-pub ReadSo-start : (known : Option (List ℕ)) (b : Numbered) (s : Streamed) → s.board ≡ b → StandsFor b [] s.progress → ReadSo known known b s 0
+pub ReadSo-start : (known : Option (List ℕ)) (b : BoardView) (s : Streamed) → s.board ≡ b → StandsFor b [] s.progress → ReadSo known known b s 0
 ReadSo-start known b s board stands = record {
   text = [];
   consumed = Consumes-nil known;
@@ -24,7 +24,7 @@ ReadSo-start known b s board stands = record {
   stands = subst (λ x. StandsFor x [] s.progress) (sym board) stands;
 }
 
-pub ReadSo-more : (old now next : Option (List ℕ)) (b : Numbered) (s t : Streamed) (total count : ℕ) (part : List ℕ) → ReadSo old now b s total
+pub ReadSo-more : (old now next : Option (List ℕ)) (b : BoardView) (s t : Streamed) (total count : ℕ) (part : List ℕ) → ReadSo old now b s total
     → Consumes now next part → length part ≡ count → t.board ≡ s.board
     → ((text : List ℕ) → StandsFor s.board text s.progress → StandsFor s.board (text ++ part) t.progress)
     → ReadSo old next b t (total + count)
@@ -42,7 +42,7 @@ longer None now limit text consumed many = tt
 longer (Some bytes) None limit text consumed many = absurd consumed
 longer (Some bytes) (Some rest) limit text consumed many = omega (arith, ap length consumed, length-append text rest)
 
-pub ReadSo-much : (old now : Option (List ℕ)) (limit : ℕ) (b : Numbered) (s : Streamed) (total : ℕ) → ReadSo old now b s total → limit < total
+pub ReadSo-much : (old now : Option (List ℕ)) (limit : ℕ) (b : BoardView) (s : Streamed) (total : ℕ) → ReadSo old now b s total → limit < total
     → IfSome old (λ input. limit < length input)
 ReadSo-much old now limit b s total so many = longer old now limit so.text so.consumed (let count = so.count in omega arith)
 
@@ -52,7 +52,7 @@ whole None now text consumed none = tt
 whole (Some bytes) None text consumed none = absurd consumed
 whole (Some bytes) (Some rest) text consumed none = sym (consumed ∙ ap (λ more. text ++ more) none ∙ append-nil text)
 
-pub ReadSo-end : (old now next : Option (List ℕ)) (limit : ℕ) (b : Numbered) (s : Streamed) (total : ℕ) → ReadSo old now b s total → Consumes now next []
+pub ReadSo-end : (old now next : Option (List ℕ)) (limit : ℕ) (b : BoardView) (s : Streamed) (total : ℕ) → ReadSo old now b s total → Consumes now next []
     → IsAtEnd next → total ≤ limit → IsStreamOf old limit b s
 ReadSo-end old now next limit b s total so nothing none few = record {
   text = so.text;

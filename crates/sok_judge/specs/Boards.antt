@@ -4,7 +4,7 @@ use Rattle.sok_rules.specs.declared.fault.LevelFault.{LevelFault}
 use Rattle.sok_rules.specs.Squares.{Rows}
 use Rattle.sok_board.specs.declared.fault.BoardFault.{BoardFault}
 use Rattle.sok_board.specs.declared.fault.BoardFault.TheVariants as board
-use Rattle.sok_board.specs.Area.{Numbered, IsAccepted}
+use Rattle.sok_board.specs.Area.{BoardView, IsAccepted}
 use Rattle.sok_board.specs.Refusals.{IsRefused}
 use Rattle.sok_engine.specs.declared.fault.ToolFault.{ToolFault}
 use Rattle.sok_engine.specs.declared.fault.ToolFault.TheVariants as tool
@@ -12,12 +12,12 @@ use Rattle.sok_engine.specs.Faults.{of_level, of_board}
 use Rattle.sok_engine.specs.Written.{Answer, Answers}
 
 -- why a level is not accepted, or the answers to its board
-pub data OnBoard (P : Numbered → Answers) (rows : Rows) (answer : Result Answer ToolFault) : Type 0 where
+pub data OnBoard (P : BoardView → Answers) (rows : Rows) (answer : Result Answer ToolFault) : Type 0 where
   refused : (fault : BoardFault) → fault ≢ board.Memory → IsRefused rows fault → answer ≡ Err (of_board fault) → OnBoard P rows answer
-  accepted : (b : Numbered) → b.rows ≡ rows → IsAccepted b → P b answer → OnBoard P rows answer
+  accepted : (b : BoardView) → b.rows ≡ rows → IsAccepted b → P b answer → OnBoard P rows answer
 
 -- the board of a level, if that is accepted
-pub record IsBoardOf (level : Result Rows LevelFault) (b : Numbered) : Type 0 where
+pub record IsBoardOf (level : Result Rows LevelFault) (b : BoardView) : Type 0 where
   pub rows : level ≡ Ok b.rows
   pub accepted : IsAccepted b
 

@@ -1,7 +1,7 @@
 -- What is answered to a certificate for a level of a collection.
 use Rattle.std.specs.Prelude.{ℕ, ◌≡◌, List, Option, Result, Ok}
 use Rattle.sok_text.specs.Collections.{blocks_of, level_at}
-use Rattle.sok_board.specs.Area.{Numbered}
+use Rattle.sok_board.specs.Area.{BoardView}
 use Rattle.sok_cert.specs.Claim.{Claim}
 use Rattle.sok_cert.specs.CertFault.{CertFault}
 use Rattle.sok_engine.specs.Inputs.{OfReader, OnLevel, Within}
@@ -11,11 +11,11 @@ use Rattle.sok_cert.specs.Verdicts.{IsVerdict}
 use Rattle.sok_judge.specs.Verdicts.{verdict_answer}
 
 -- the answer to a certificate's text on a board
-abbrev pub TellsVerdict : Numbered → List ℕ → Answers
+abbrev pub TellsVerdict : BoardView → List ℕ → Answers
 TellsVerdict b text answer = (verdict : Result Claim CertFault) × IsVerdict b text verdict × (answer ≡ Ok (verdict_answer verdict))
 
 -- the same, if the text is no longer than the limit
-abbrev pub TellsVerdictWithin : ℕ → List ℕ → Numbered → Answers
+abbrev pub TellsVerdictWithin : ℕ → List ℕ → BoardView → Answers
 TellsVerdictWithin limit text b = Within limit (TellsVerdict b) text
 
 -- the same for the n-th level of a collection, if that is accepted

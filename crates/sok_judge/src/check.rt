@@ -2,7 +2,7 @@
 
 ghost use Rattle.std.specs.Prelude.{◌≡◌, ◌⊎◌, ℕ, List, IfSome, MatchResult, Ok, Err};
 ghost use Rattle.sok_text.specs.Collections.{blocks_of, level_at};
-ghost use Rattle.sok_board.specs.Area.{Numbered};
+ghost use Rattle.sok_board.specs.Area.{BoardView};
 ghost use Rattle.sok_cert.specs.CertFault.TheVariants as cert;
 ghost use Rattle.sok_cert.specs.Streams.{StandsFor};
 ghost use Rattle.sok_engine.specs.Inputs.{OfReader, Within};
@@ -49,7 +49,7 @@ pub fn check_bytes<R: Read, C: Read, W: Write>(
 
     // The certificate is left alone, unless the level has a board.
     ensures in_turn { IfSome (R.remaining input.old) (λ bytes. (cert_input.new ≡ cert_input.old)
-        ⊎ ((b : Numbered) × IsBoardOf (level_at (blocks_of bytes) n) b)) }
+        ⊎ ((b : BoardView) × IsBoardOf (level_at (blocks_of bytes) n) b)) }
 {
     let bytes = read_input(alloc, input)?;
     let board = board_of(alloc, bytes.as_slice(), n)?;

@@ -2,16 +2,16 @@
 use Rattle.sok_price.proofs.Words.{ℕ, ◌≡◌, ◌≢◌, ◌<◌, ◌≤◌, ◌+◌, ◌-◌, ◌∙◌, inl, inr, refl, sym, ap, subst, List, AllPairs, Contains, Option, Some, None, Bool}
 use Rattle.sok_price.proofs.Words.{true, arith, length, get_or, map, drop, filter, range_with_len, cases_Bool, slice_get_within, get_or_from_slice_get}
 use Rattle.sok_price.proofs.Words.{get_or_default, get_or-drop, get_or-map, length-drop, length-map, All-from_get_or, get_or-range_with_len}
-use Rattle.sok_price.proofs.Words.{length-range_with_len, Numbered, goals_of, Contains-filter, Contains-from_filter, below-chosen, rising-chosen, goal_at}
+use Rattle.sok_price.proofs.Words.{length-range_with_len, BoardView, goals_of, Contains-filter, Contains-from_filter, below-chosen, rising-chosen, goal_at}
 use Rattle.sok_price.proofs.Words.{Chain, TellsDistance, Branch, TellCosts, Costing, low, IsCrowd, Growth, IsSeen, ReachesNoOther, branch_at, is_marked, is_met}
-use Rattle.sok_price.proofs.Words.{All, sum, sum_by-le, Match, Prices, Crowd, Search, ArePrices, HasPrices, IsMatch, AreFair, IsAssignment, Priced, IsReady}
+use Rattle.sok_price.proofs.Words.{All, sum, sum_by-le, Match, Prices, Crowd, PathSearch, ArePrices, HasPrices, IsMatch, AreFair, IsAssignment, Priced, IsReady}
 use Rattle.sok_price.proofs.Words.{members_of, Costs, cost_of, growth_of, HasWorth, IsWhole, square_limit}
 use Rattle.sok_price.proofs.{Branching.box-at, Branching.boxes_of, Branching.boxes-apart, Branching.branch-met, Branching.few-branches}
 use Rattle.sok_price.proofs.{Branching.length-boxes_of, Branching.met-branch, Branching.no_branch, Branching.price-at, Branching.member-within}
 use Rattle.sok_price.proofs.{CostRows.AreShort-costs, CostRows.short-some, Places.Contains-map, Places.pigeonhole, Places.listed, Places.prices_of-all}
 use Rattle.sok_price.proofs.{Places.sum-along, AssignmentLaws.IsCarrying-IsAssignment, CrowdLaws.Excludes-IsCrowd}
 
-chain-some : (b : Numbered) (goal square d : ℕ) (cost : Option ℕ) → TellsDistance b goal square cost → Chain b square goal d → (pushes : ℕ) ×
+chain-some : (b : BoardView) (goal square d : ℕ) (cost : Option ℕ) → TellsDistance b goal square cost → Chain b square goal d → (pushes : ℕ) ×
     (cost ≡ Some pushes)
 chain-some b goal square d None tells chain = absurd (tells d chain)
 chain-some b goal square d (Some pushes) tells chain = (pushes, refl)
@@ -77,7 +77,7 @@ module _ {cost : Costing} {members goals : ℕ} {g : Growth} (growing : IsSeen c
       omega (arith, most, long, length-tree_goals g.branches, few-branches g.goal_of g.branches members growing.tree growing.more, square, growing.tree.some)
 
   -- the boxes whose rows are in the tree, where each row of the tree is that of a box
-  pub IsCrowd-closed : (b : Numbered) (boxes : List ℕ) (row : ℕ → ℕ) → goals ≡ length (goals_of b) → TellCosts b boxes goals (λ i goal. cost (row i) goal)
+  pub IsCrowd-closed : (b : BoardView) (boxes : List ℕ) (row : ℕ → ℕ) → goals ≡ length (goals_of b) → TellCosts b boxes goals (λ i goal. cost (row i) goal)
       → ((at : ℕ) → at < length g.branches → (i : ℕ) × (i < length boxes) × (row i ≡ (branch_at g.branches at).member))
       → IsCrowd b boxes (filter (λ i. is_met g.branches (row i)) (range_with_len 0 (length boxes)))
   IsCrowd-closed b boxes row goals_are told own =
@@ -140,14 +140,14 @@ HasSums-ready {cost = cost} {g = g} ready all idle =
     record { distances = distances; whole = whole; exact = exact; sums = omega (arith, along, others) }
 
 -- a chain to a goal costs at least what is told
-pub fair-told : (b : Numbered) (goal square d price goal_price : ℕ) (cost : Option ℕ) → TellsDistance b goal square cost
+pub fair-told : (b : BoardView) (goal square d price goal_price : ℕ) (cost : Option ℕ) → TellsDistance b goal square cost
     → ((pushes : ℕ) → cost ≡ Some pushes → price ≤ goal_price + pushes) → Chain b square goal d → price ≤ goal_price + d
 fair-told b goal square d price goal_price None tells fair chain = absurd (tells d chain)
 fair-told b goal square d price goal_price (Some pushes) tells fair chain = let least = tells.1 d chain in let bound = fair pushes refl in
     omega (arith, least, bound)
 
 -- prices that are fair where costs are told bound the pushes
-pub Priced-told : (b : Numbered) (boxes : List ℕ) (goals : ℕ) (cost : Costing) (u v : List ℕ) (n : ℕ) → TellCosts b boxes goals cost
+pub Priced-told : (b : BoardView) (boxes : List ℕ) (goals : ℕ) (cost : Costing) (u v : List ℕ) (n : ℕ) → TellCosts b boxes goals cost
     → goals ≡ length (goals_of b) → length u ≡ length boxes → length v ≡ goals → AreFair cost u v → n + sum v ≤ sum u → Priced b boxes u v n
 Priced-told b boxes goals cost u v n told goals_are u_long v_long fair enough = record {
   a_price_a_box = u_long;
@@ -165,7 +165,7 @@ Priced-told b boxes goals cost u v n told goals_are u_long v_long fair enough = 
 }
 
 -- goals of their own at costs that are told are an assignment
-pub IsAssignment-told : (b : Numbered) (boxes : List ℕ) (goals : ℕ) (cost : Costing) (goal_of distances : List ℕ) → TellCosts b boxes goals cost
+pub IsAssignment-told : (b : BoardView) (boxes : List ℕ) (goals : ℕ) (cost : Costing) (goal_of distances : List ℕ) → TellCosts b boxes goals cost
     → goals ≡ length (goals_of b) → length goal_of ≡ length boxes → length distances ≡ length boxes → All (λ goal. goal < goals) goal_of
     → AllPairs ◌≢◌ goal_of → ((i : ℕ) → i < length boxes → cost i (get_or goal_of i 0) ≡ Some (get_or distances i 0)) → IsAssignment b boxes goal_of distances
 IsAssignment-told b boxes goals cost goal_of distances told goals_are goals_long distances_long exist apart way = record {
@@ -179,7 +179,7 @@ IsAssignment-told b boxes goals cost goal_of distances told goals_are goals_long
 }
 
 -- prices and goals of all boxes, on a board whose distances are told
-pub ArePrices-ready : (b : Numbered) (boxes : List ℕ) (goals : ℕ) (cost : Costing) (g : Growth) (total : ℕ) → TellCosts b boxes goals cost
+pub ArePrices-ready : (b : BoardView) (boxes : List ℕ) (goals : ℕ) (cost : Costing) (g : Growth) (total : ℕ) → TellCosts b boxes goals cost
     → goals ≡ length (goals_of b) → IsReady cost (length boxes) goals g
     → g.floor ≡ 0 → length boxes ≤ 128 → length g.goal_of ≡ length boxes → total + sum g.v ≡ sum g.u → ArePrices b boxes g.u g.v total g.goal_of
 ArePrices-ready b boxes goals cost g total told goals_are ready none few all equal =
@@ -201,7 +201,7 @@ ArePrices-ready b boxes goals cost g total told goals_are ready none few all equ
     }
 
 -- a matching of all rows has a worth
-pub HasWorth-sums : (costs : Costs) (rows : List ℕ) (search : Search) → IsWhole costs rows search
+pub HasWorth-sums : (costs : Costs) (rows : List ℕ) (search : PathSearch) → IsWhole costs rows search
     → HasSums (cost_of costs rows) search.u.items search.v.items search.goal_of.items → HasWorth search
 HasWorth-sums costs rows search whole has =
     let g = growth_of search in
@@ -220,13 +220,13 @@ HasWorth-sums costs rows search whole has =
     }
 
 -- the boxes of a tree that reaches no other goal are a crowd
-pub IsCrowd-members : (b : Numbered) (boxes : List ℕ) (goals : ℕ) (cost : Costing) (g : Growth) → TellCosts b boxes goals cost → goals ≡ length (goals_of b)
+pub IsCrowd-members : (b : BoardView) (boxes : List ℕ) (goals : ℕ) (cost : Costing) (g : Growth) → TellCosts b boxes goals cost → goals ≡ length (goals_of b)
     → IsSeen cost (length boxes) goals g → ReachesNoOther g → IsCrowd b boxes (members_of g.branches (length boxes))
 IsCrowd-members b boxes goals cost g told goals_are growing closed = IsCrowd-closed growing closed b boxes (λ i. i) goals_are told
     (λ at within. ((branch_at g.branches at).member, member-within g.goal_of g.branches (length boxes) growing.tree growing.more at within, refl))
 
 -- what holds of the lists of a search holds of the prices and goals that are answered
-pub IsMatch-prices : (b : Numbered) (boxes : List ℕ) (search : Search) (answer : Match) → HasPrices search answer
+pub IsMatch-prices : (b : BoardView) (boxes : List ℕ) (search : PathSearch) (answer : Match) → HasPrices search answer
     → ((total : ℕ) → total + sum search.v.items ≡ sum search.u.items → ArePrices b boxes search.u.items search.v.items total search.goal_of.items)
     → IsMatch b boxes answer
 IsMatch-prices b boxes search (Prices u v total goal_of) (u_is, v_is, goals_are, equal) prices =

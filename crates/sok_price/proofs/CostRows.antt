@@ -1,4 +1,4 @@
-use Rattle.sok_price.proofs.Words.{AreCosts, AreTold, IsRow, TellsCost, AreTabled, append_assoc, get_or_append_left, get_or-append_right, get_or_push, Numbered}
+use Rattle.sok_price.proofs.Words.{AreCosts, AreTold, IsRow, TellsCost, AreTabled, append_assoc, get_or_append_left, get_or-append_right, get_or_push, BoardView}
 use Rattle.sok_price.proofs.Words.{Costs, cost_in, cost_of, length, get_or, mul-le-mul_left, none-some, same_Some, length-append, length_push}
 use Rattle.sok_price.proofs.Words.{length-range_with_len, count_by-le-length, length-filter, holds, is_goal, goals_of, spot_of, range_with_len, common_steps}
 use Rattle.sok_price.proofs.Words.{get_or-replicate, length-replicate, ℕ, ◌≡◌, ◌<◌, ◌≤◌, ◌+◌, ◌*◌, ◌++◌, ◌∙◌, sym, ap, subst, List, Option, Some, None, arith}
@@ -16,7 +16,7 @@ unfolding cost_in
 AreShort-costs {costs = costs} {rows = rows} are member goal pushes there = are.small (get_or rows member 0 * costs.goals + goal) pushes there
 
 -- one goal more
-pub IsRow-more : {b : Numbered} {goals square : ℕ} {before after : List (Option ℕ)} {cost : Option ℕ} → IsRow b goals square before after
+pub IsRow-more : {b : BoardView} {goals square : ℕ} {before after : List (Option ℕ)} {cost : Option ℕ} → IsRow b goals square before after
     → TellsCost b goals square cost → IsRow b (goals + 1) square before (after ++ cost ∷ [])
 IsRow-more {b = b} {goals = goals} {square = square} {before = before} {cost = cost} is tells = record {
   row = is.row ++ cost ∷ [];
@@ -53,7 +53,7 @@ short-some None pushes short there = absurd (none-some pushes there)
 short-some (Some n) pushes short there = let same = same_Some n pushes there in omega (arith, short, same)
 
 -- one row more
-pub AreTold-more : {b : Numbered} {square_of : ℕ → ℕ} {goals members : ℕ} {entries after : List (Option ℕ)} → AreTold b square_of goals members entries
+pub AreTold-more : {b : BoardView} {square_of : ℕ → ℕ} {goals members : ℕ} {entries after : List (Option ℕ)} → AreTold b square_of goals members entries
     → IsRow b goals (square_of members) entries after → AreTold b square_of goals (members + 1) after
 AreTold-more {b = b} {square_of = square_of} {goals = goals} {members = members} {entries = entries} told is =
     subst (AreTold b square_of goals (members + 1)) (sym is.added) (record {
@@ -82,7 +82,7 @@ AreCosts-below costs end rows below few small room = record {
 }
 
 -- entries of all squares, and a last row that costs nothing
-pub AreTabled-spare : (b : Numbered) (goals : ℕ) (entries : List (Option ℕ)) → goals ≡ length (goals_of b)
+pub AreTabled-spare : (b : BoardView) (goals : ℕ) (entries : List (Option ℕ)) → goals ≡ length (goals_of b)
     → AreTold b (λ square. square) goals (length b.area) entries → AreTabled b goals (entries ++ replicate goals (Some 0))
 AreTabled-spare b goals entries goals_are told =
     let row : List (Option ℕ) = replicate goals (Some 0) in
@@ -104,7 +104,7 @@ AreRows-spare end goals = record {
 }
 
 -- a board has no more goals than squares
-pub goals-few : (b : Numbered) → length (goals_of b) ≤ length b.area
+pub goals-few : (b : BoardView) → length (goals_of b) ≤ length b.area
 goals-few b =
     let p = λ (n : ℕ). holds is_goal b.rows (spot_of b n) in
     let squares = range_with_len 0 (length b.area) in

@@ -1,16 +1,16 @@
 -- A crowd has no solution: each of its boxes would end on a goal of its own.
 use Rattle.sok_price.proofs.Words.{ℕ, ◌≡◌, ◌≢◌, ◌<◌, ◌∙◌, sym, subst, List, All, AllPairs, Contains, arith, length, get_or, map, get_or-map, length-map}
-use Rattle.sok_price.proofs.Words.{All-from_get_or, Contains-get_or, slice_get-get_or, Dir, holds, is_goal, Position, SolvesFrom, Numbered, IsArea, goals_of}
+use Rattle.sok_price.proofs.Words.{All-from_get_or, Contains-get_or, slice_get-get_or, Dir, holds, is_goal, Position, SolvesFrom, BoardView, IsArea, goals_of}
 use Rattle.sok_price.proofs.Words.{spot_of, rising-chosen, goal_at, IsCrowd}
 use Rattle.sok_price.proofs.{AssignmentLaws.IsCarrying, CarriedLaws.Stands, CarriedLaws.carried, Places.apart_from, Places.apart_rising, Places.pigeonhole}
 use Rattle.sok_price.proofs.{Places.same_place}
 
 -- the goals of a board are apart
-goals_apart : (b : Numbered) → AllPairs ◌≢◌ (goals_of b)
+goals_apart : (b : BoardView) → AllPairs ◌≢◌ (goals_of b)
 goals_apart b = apart_rising (goals_of b) (rising-chosen (λ n. holds is_goal b.rows (spot_of b n)) (length b.area))
 
 -- boxes that have a goal each have no crowd: its members would have as many goals as they are
-pub Excludes-IsCrowd : (b : Numbered) (boxes goal_of lengths members : List ℕ) → IsCarrying b boxes goal_of lengths → IsCrowd b boxes members → ⊥
+pub Excludes-IsCrowd : (b : BoardView) (boxes goal_of lengths members : List ℕ) → IsCarrying b boxes goal_of lengths → IsCrowd b boxes members → ⊥
 Excludes-IsCrowd b boxes goal_of lengths members carrying crowd =
     let end : ℕ → ℕ = λ i. goal_at b (get_or goal_of i 0) in
     let ends = map end members in
@@ -34,7 +34,7 @@ Excludes-IsCrowd b boxes goal_of lengths members carrying crowd =
     (Contains-get_or (goals_of b) (get_or goal_of i 0) 0 (exists k within)) (carrying.chain i (box k within)))) in
     omega (arith, pigeonhole ends crowd.goals apart each, crowd.fewer, long)
 
-pub Never-IsCrowd : (b : Numbered) → IsArea b.rows b.area → (x : Position) (boxes members : List ℕ) → Stands b x boxes → IsCrowd b boxes members
+pub Never-IsCrowd : (b : BoardView) → IsArea b.rows b.area → (x : Position) (boxes members : List ℕ) → Stands b x boxes → IsCrowd b boxes members
     → (w : List Dir) → SolvesFrom b.rows x w → ⊥
 Never-IsCrowd b area x boxes members stands crowd w solves =
     let ends = carried b area w x boxes stands solves in

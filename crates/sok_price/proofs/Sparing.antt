@@ -1,9 +1,9 @@
 -- What a matching with a row for each goal tells of its boxes: the spare rows fall away.
 use Rattle.sok_price.proofs.Words.{ℕ, ◌≡◌, ◌≢◌, ◌<◌, ◌≤◌, ◌+◌, ◌*◌, ◌-◌, ◌⊎◌, ◌∙◌, inl, inr, refl, sym, ap, subst, List, [], ◌∷◌, Some, None, All, range_with_len}
 use Rattle.sok_price.proofs.Words.{AllPairs, Contains, arith, filter, length, get_or, map, min, sum, zero, suc, cases_eq, cases_lt, same_Some, get_or_default}
-use Rattle.sok_price.proofs.Words.{get_or-map, length-map, All-from_get_or, sum_by-cons, sum-map, Numbered, goals_of, Costs, cost_in, cost_of, TellCosts}
+use Rattle.sok_price.proofs.Words.{get_or-map, length-map, All-from_get_or, sum_by-cons, sum-map, BoardView, goals_of, Costs, cost_in, cost_of, TellCosts}
 use Rattle.sok_price.proofs.Words.{All-head, All-tail, AreExactly, HasWorth, IsAssignment, IsMatchedTo, Priced, Serves}
-use Rattle.sok_price.proofs.Words.{TellsCost, AreKept, IsBounded, TellsLeast, Costing, Growth, IsReady, branch_at, is_met, IsWhole, Search, growth_of}
+use Rattle.sok_price.proofs.Words.{TellsCost, AreKept, IsBounded, TellsLeast, Costing, Growth, IsReady, branch_at, is_met, IsWhole, PathSearch, growth_of}
 use Rattle.sok_price.proofs.Words.{AreSet, Bool, Tells, true, false, get_or-range_with_len, length-range_with_len, AreOfBoxes, IsShaped, CanMove}
 use Rattle.sok_price.proofs.Words.{IsCopied, KeptMatching, IsCrowd, AreTabled, IsChange, AreMoved, AreRows, Holds, IsMoved, IsStrictlyIncreasing}
 use Rattle.sok_price.specs.Kept.{IsSettled}
@@ -14,7 +14,7 @@ use Rattle.sok_price.proofs.{Exchanging.AreRows-moved, Places.all_below, Places.
 use Rattle.sok_price.proofs.{Answering.HasWorth-sums, Places.ArePlaces, Places.same_place, Places.prices_of-all}
 
 -- a matching is sound with other rows, whether they are settled or not, and as many marks
-pub IsSound-set : {squares : ℕ} {costs : Costs} {rows others : List ℕ} {search new : Search} {matched settled : Bool} {trial : Search}
+pub IsSound-set : {squares : ℕ} {costs : Costs} {rows others : List ℕ} {search new : PathSearch} {matched settled : Bool} {trial : PathSearch}
     {trial_rows boxes : List ℕ} {marks other_marks : List Bool} → IsSound squares costs rows search matched trial trial_rows marks
     → AreSet squares costs rows others → IsShaped (length others) costs.goals new → (settled ≡ true → IsSettled squares boxes costs others new)
     → length other_marks ≡ length marks → IsSound squares costs others new settled trial trial_rows other_marks
@@ -39,7 +39,7 @@ sums-whole {goals = goals} {g = g} ready square all = HasSums-ready ready all (�
     absurd (all_below goals g.goal_of (all ∙ square) ready.matched.exist ready.matched.apart goal within none))
 
 -- the row of each box of a list, by its place; the other rows cost nothing
-pub record AreRowsOf (b : Numbered) (boxes : List ℕ) (costs : Costs) (rows places : List ℕ) : Type 0 where
+pub record AreRowsOf (b : BoardView) (boxes : List ℕ) (costs : Costs) (rows places : List ℕ) : Type 0 where
   pub goals_are : costs.goals ≡ length (goals_of b)
   pub square : length rows ≡ costs.goals
   pub whole : length places ≡ length boxes
@@ -49,7 +49,7 @@ pub record AreRowsOf (b : Numbered) (boxes : List ℕ) (costs : Costs) (rows pla
   pub owner : (k : ℕ) → k < length rows → ((i : ℕ) × (i < length boxes) × (get_or places i 0 ≡ k))
       ⊎ ((goal : ℕ) → goal < costs.goals → cost_of costs rows k goal ≡ Some 0)
 
-pub AreRowsOf-places : (b : Numbered) (costs : Costs) (rows boxes places : List ℕ) → AreKept b costs rows boxes → ArePlaces boxes rows places
+pub AreRowsOf-places : (b : BoardView) (costs : Costs) (rows boxes places : List ℕ) → AreKept b costs rows boxes → ArePlaces boxes rows places
     → AreRowsOf b boxes costs rows places
 AreRowsOf-places b costs rows boxes places kept are = record {
   goals_are = kept.tabled.goals_are;
@@ -79,7 +79,7 @@ AreRowsOf-places b costs rows boxes places kept are = record {
       ];
 }
 
-pub AreRowsOf-kept : (b : Numbered) (costs : Costs) (rows boxes : List ℕ) → AreKept b costs rows boxes → (places : List ℕ) × AreRowsOf b boxes costs rows places
+pub AreRowsOf-kept : (b : BoardView) (costs : Costs) (rows boxes : List ℕ) → AreKept b costs rows boxes → (places : List ℕ) × AreRowsOf b boxes costs rows places
 AreRowsOf-kept b costs rows boxes kept =
     let (places, are) = places_in boxes rows kept.exactly.each in (places, AreRowsOf-places b costs rows boxes places kept are)
 
@@ -131,7 +131,7 @@ floor-of u v square =
       },
     )
 
-module _ {b : Numbered} {boxes : List ℕ} {costs : Costs} {rows places : List ℕ} (is : AreRowsOf b boxes costs rows places) where
+module _ {b : BoardView} {boxes : List ℕ} {costs : Costs} {rows places : List ℕ} (is : AreRowsOf b boxes costs rows places) where
   -- a row of no box costs nothing
   spare-row : (k goal : ℕ) → k < length rows → (Contains places k → ⊥) → goal < costs.goals → cost_of costs rows k goal ≡ Some 0
   spare-row k goal within free inside = elim (is.owner k within) [
@@ -227,7 +227,7 @@ module _ {b : Numbered} {boxes : List ℕ} {costs : Costs} {rows places : List �
         )
 
 -- a matching of all rows tells the least total of its boxes
-pub TellsLeast-whole : (b : Numbered) (costs : Costs) (rows : List ℕ) (search : Search) (total : ℕ) (boxes : List ℕ) → AreKept b costs rows boxes
+pub TellsLeast-whole : (b : BoardView) (costs : Costs) (rows : List ℕ) (search : PathSearch) (total : ℕ) (boxes : List ℕ) → AreKept b costs rows boxes
     → IsWhole costs rows search → total + sum search.v.items ≡ sum search.u.items → TellsLeast b boxes (Some total)
 TellsLeast-whole b costs rows search total boxes kept is equal =
     let g = growth_of search in
@@ -240,20 +240,20 @@ TellsLeast-whole b costs rows search total boxes kept is equal =
     )
 
 -- a matching of all rows has a worth
-pub HasWorth-whole : {costs : Costs} {rows : List ℕ} {search : Search} → IsWhole costs rows search → length rows ≡ costs.goals → HasWorth search
+pub HasWorth-whole : {costs : Costs} {rows : List ℕ} {search : PathSearch} → IsWhole costs rows search → length rows ≡ costs.goals → HasWorth search
 HasWorth-whole {costs = costs} {rows = rows} {search = search} is square = HasWorth-sums costs rows search is (sums-whole is.ready square is.whole)
 
 -- a matching that keeps its costs serves the board as before
-pub Serves-same : {b : Numbered} {before after : KeptMatching}
+pub Serves-same : {b : BoardView} {before after : KeptMatching}
     → after ≡ record before { rows = after.rows; search = after.search; matched = after.matched } → Serves b before → Serves b after
 Serves-same {b = b} same serves = subst (Serves b) (sym same) (record { squares = serves.squares; tabled = serves.tabled })
 
 -- a matching of some boxes holds them, and its rows are kept for them
-pub Holds-matched : {b : Numbered} {boxes : List ℕ} {kept : KeptMatching} → Serves b kept → IsMatchedTo boxes kept → Holds b boxes kept
+pub Holds-matched : {b : BoardView} {boxes : List ℕ} {kept : KeptMatching} → Serves b kept → IsMatchedTo boxes kept → Holds b boxes kept
 Holds-matched {boxes = boxes} {kept = kept} serves is =
     record { serves = serves; matched = is.matched; exactly = subst (λ n. AreExactly n kept.rows boxes) serves.squares is.exactly }
 
-pub AreKept-matched : {b : Numbered} {boxes : List ℕ} {kept : KeptMatching} → Serves b kept → IsMatchedTo boxes kept
+pub AreKept-matched : {b : BoardView} {boxes : List ℕ} {kept : KeptMatching} → Serves b kept → IsMatchedTo boxes kept
     → AreKept b kept.costs kept.rows boxes
 AreKept-matched {boxes = boxes} {kept = kept} serves is = record {
   tabled = serves.tabled;
@@ -265,7 +265,7 @@ AreKept-matched {boxes = boxes} {kept = kept} serves is = record {
 }
 
 -- the boxes of a tree that reaches no other goal are a crowd
-pub IsBounded-closed : (b : Numbered) (costs : Costs) (rows : List ℕ) (search : Search) (boxes : List ℕ) {found : Bool} → AreKept b costs rows boxes
+pub IsBounded-closed : (b : BoardView) (costs : Costs) (rows : List ℕ) (search : PathSearch) (boxes : List ℕ) {found : Bool} → AreKept b costs rows boxes
     → Tells costs rows search found → found ≡ false → IsBounded b boxes None
 IsBounded-closed b costs rows search boxes kept tells none =
     let g = growth_of search in
@@ -281,7 +281,7 @@ IsBounded-closed b costs rows search boxes kept tells none =
     )
 
 -- a matching's prices and goals in other scratch lists
-pub IsWhole-copied : (costs : Costs) (rows : List ℕ) (search scratch copy : Search) → IsWhole costs rows search → IsShaped (length rows) costs.goals scratch
+pub IsWhole-copied : (costs : Costs) (rows : List ℕ) (search scratch copy : PathSearch) → IsWhole costs rows search → IsShaped (length rows) costs.goals scratch
     → IsCopied search scratch copy → IsWhole costs rows copy
 IsWhole-copied costs rows search scratch copy whole shaped is = record {
   shaped = whole.shaped;
@@ -305,7 +305,7 @@ IsChange-can kept row from to can inside =
     }
 
 -- rows of which that of a box that may be moved is exchanged
-pub AreKept-moved : (b : Numbered) (kept : KeptMatching) (boxes after changed : List ℕ) (row from to : ℕ) → AreRows kept.squares kept.rows
+pub AreKept-moved : (b : BoardView) (kept : KeptMatching) (boxes after changed : List ℕ) (row from to : ℕ) → AreRows kept.squares kept.rows
     → length kept.rows ≡ kept.costs.goals → Holds b boxes kept → CanMove kept from to → row < length kept.rows → get_or kept.rows row 0 ≡ from
     → AreMoved row to kept.rows changed → IsMoved boxes from to after → All (λ square. square < length b.area) after → IsStrictlyIncreasing after
     → AreKept b kept.costs changed after
@@ -322,7 +322,7 @@ AreKept-moved b kept boxes after changed row from to are square holds can inside
     }
 
 -- boxes that are more than the goals are a crowd
-pub IsCrowd-many : (b : Numbered) (boxes : List ℕ) → length (goals_of b) < length boxes → IsCrowd b boxes (range_with_len 0 (length boxes))
+pub IsCrowd-many : (b : BoardView) (boxes : List ℕ) → length (goals_of b) < length boxes → IsCrowd b boxes (range_with_len 0 (length boxes))
 IsCrowd-many b boxes more =
     let n = length boxes in
     let long = length-range_with_len 0 n in
@@ -337,7 +337,7 @@ IsCrowd-many b boxes more =
     }
 
 -- costs of rows that are the squares of boxes
-pub AreOfBoxes-rows : (b : Numbered) (boxes rows : List ℕ) (costs : Costs) → AreTabled b costs.goals costs.entries.items
+pub AreOfBoxes-rows : (b : BoardView) (boxes rows : List ℕ) (costs : Costs) → AreTabled b costs.goals costs.entries.items
     → All (λ square. square < length b.area) boxes → length rows ≡ length boxes
     → ((k : ℕ) → k < length boxes → get_or rows k 0 ≡ get_or boxes k 0) → AreOfBoxes b boxes costs rows
 AreOfBoxes-rows b boxes rows costs tabled exist whole each = record {

@@ -1,12 +1,12 @@
 -- What is read of a matching of all rows: the prices and goals of the boxes of its rows.
 use Rattle.sok_price.proofs.Words.{ℕ, ◌≡◌, ◌<◌, ◌≤◌, ◌+◌, ◌-◌, ◌++◌, ◌∙◌, sym, ap, subst, List, [], ◌∷◌, All, All-push, arith, get_or, get_or-map, length}
-use Rattle.sok_price.proofs.Words.{length-map, map, map-append, sum, Numbered, Costs, Search, AreKept, AreRead, ArePrices, IsWhole}
+use Rattle.sok_price.proofs.Words.{length-map, map, map-append, sum, BoardView, Costs, PathSearch, AreKept, AreRead, ArePrices, IsWhole}
 use Rattle.sok_price.proofs.Words.{growth_of}
 use Rattle.sok_price.proofs.{AssignmentLaws.IsCarrying-IsAssignment, CrowdLaws.Excludes-IsCrowd, Places.ArePlaces}
 use Rattle.sok_price.proofs.Sparing.{AreRowsOf, AreRowsOf-places, IsFloor, assigned-rows, less, of_boxes, priced-rows}
 
 -- nothing is read of no boxes
-pub AreRead-none : (amount : ℕ) (rows : List ℕ) (search : Search) {boxes u goal_of : List ℕ} → boxes ≡ [] → u ≡ [] → goal_of ≡ []
+pub AreRead-none : (amount : ℕ) (rows : List ℕ) (search : PathSearch) {boxes u goal_of : List ℕ} → boxes ≡ [] → u ≡ [] → goal_of ≡ []
     → AreRead amount rows search boxes u goal_of
 AreRead-none amount rows search no_boxes no_prices no_goals = record {
   places = [];
@@ -17,7 +17,7 @@ AreRead-none amount rows search no_boxes no_prices no_goals = record {
 }
 
 -- the price and the goal of one more box
-pub AreRead-more : {amount : ℕ} {rows : List ℕ} {search : Search} {boxes u goal_of more prices goals : List ℕ} (row : ℕ)
+pub AreRead-more : {amount : ℕ} {rows : List ℕ} {search : PathSearch} {boxes u goal_of more prices goals : List ℕ} (row : ℕ)
     → AreRead amount rows search boxes u goal_of → row < length rows → more ≡ boxes ++ get_or rows row 0 ∷ []
     → prices ≡ u ++ (get_or search.u.items row 0 - amount) ∷ [] → goals ≡ goal_of ++ get_or search.goal_of.items row 0 ∷ []
     → AreRead amount rows search more prices goals
@@ -33,7 +33,7 @@ AreRead-more {amount = amount} {rows = rows} {search = search} row are inside bo
     }
 
 -- the places of the rows are those of the boxes
-ArePlaces-read : {amount : ℕ} {rows : List ℕ} {search : Search} {boxes u goal_of : List ℕ} → (are : AreRead amount rows search boxes u goal_of)
+ArePlaces-read : {amount : ℕ} {rows : List ℕ} {search : PathSearch} {boxes u goal_of : List ℕ} → (are : AreRead amount rows search boxes u goal_of)
     → ArePlaces boxes rows are.places
 ArePlaces-read {rows = rows} {boxes = boxes} are =
     let row = λ (k : ℕ). get_or rows k 0 in
@@ -45,7 +45,7 @@ ArePlaces-read {rows = rows} {boxes = boxes} are =
     }
 
 -- prices that are not too high, less a floor, are an answer, with the goals
-ArePrices-rows : {b : Numbered} {boxes : List ℕ} {costs : Costs} {rows places : List ℕ} → AreRowsOf b boxes costs rows places → (search : Search) (total m : ℕ)
+ArePrices-rows : {b : BoardView} {boxes : List ℕ} {costs : Costs} {rows places : List ℕ} → AreRowsOf b boxes costs rows places → (search : PathSearch) (total m : ℕ)
     → IsWhole costs rows search → total + sum search.v.items ≡ sum search.u.items → IsFloor m search.u.items search.v.items
     → All (λ price. price ≤ 1000000) (map (λ k. get_or search.u.items k 0 - m) places) → All (λ price. price ≤ 1000000) (less m search.v.items)
     → ArePrices b boxes (map (λ k. get_or search.u.items k 0 - m) places) (less m search.v.items) total (of_boxes search.goal_of.items places)
@@ -66,7 +66,7 @@ ArePrices-rows {b = b} {boxes = boxes} {places = places} of search total m is eq
     }
 
 -- and so are those that are read
-pub ArePrices-read : {b : Numbered} {costs : Costs} {rows : List ℕ} {search : Search} {total m : ℕ} {boxes u v goal_of : List ℕ}
+pub ArePrices-read : {b : BoardView} {costs : Costs} {rows : List ℕ} {search : PathSearch} {total m : ℕ} {boxes u v goal_of : List ℕ}
     → AreKept b costs rows boxes → IsWhole costs rows search → total + sum search.v.items ≡ sum search.u.items
     → IsFloor m search.u.items search.v.items → AreRead m rows search boxes u goal_of → v ≡ less m search.v.items
     → All (λ price. price ≤ 1000000) u → All (λ price. price ≤ 1000000) v → ArePrices b boxes u v total goal_of

@@ -25,10 +25,10 @@ pub use Rattle.sok_rules.specs.{Squares.holds, Squares.is_goal, Squares.same_spo
 pub use Rattle.sok_board.proofs.{Accepted.decoration-outside, AreaLaws.InArea-next, AreaLaws.InArea-spot_of, AreaLaws.same_number, Confined.confines-play}
 pub use Rattle.sok_board.proofs.{Lists.AllPairs-head, Lists.AllPairs-tail, Lists.Contains-filter, Lists.Contains-from_filter, Numbering.Contains-goals_of}
 pub use Rattle.sok_board.proofs.{Numbering.below-chosen, Numbering.filter-range_more, Numbering.rising-chosen, Positions.among_numbers}
-pub use Rattle.sok_board.specs.Area.{InArea, IsArea, Numbered, goals_of, is_among, is_decoration, position_of, spot_of}
+pub use Rattle.sok_board.specs.Area.{InArea, IsArea, BoardView, goals_of, is_among, is_decoration, position_of, spot_of}
 pub use Rattle.sok_board.specs.{BoxSets.IsMoved, Limits.square_limit}
-pub use Rattle.sok_push.proofs.{PushingLaws.lone_push-push}
-pub use Rattle.sok_push.specs.{Distances.goal_at, Pushing.Chain, Pushing.TellsDistance, Pushing.lone_push, Pushing.lone_pushes}
+pub use Rattle.sok_distance.proofs.{PushingLaws.lone_push-push}
+pub use Rattle.sok_distance.specs.{Distances.goal_at, Pushing.Chain, Pushing.TellsDistance, Pushing.lone_push, Pushing.lone_pushes}
 unfoldable pub use Rattle.sok_price.specs.Costs.{cost_in}
 pub use Rattle.sok_price.specs.Costs.{AreCosts, AreOfBoxes, AreSmall, AreTold, IsRow, TellCosts, TellsCost, cost_of}
 unfoldable pub use Rattle.sok_price.specs.Exchanges.{moved_from}
@@ -43,5 +43,5 @@ pub use Rattle.sok_price.specs.Trees.{AreRaised, AreRises, AreTaken, GoesTight, 
 pub use Rattle.sok_price.specs.{Exchanges.AreMoved, Exchanges.IsWhole, Exchanges.Tells, Laws.ArePlaced, Matches.ArePrices, Matches.HasPrices, Matches.IsMatch}
 pub use Rattle.sok_price.specs.{Prices.IsAssignment, Prices.IsCrowd, Prices.Priced, Slacks.TellsNearest, Slacks.slack_at, Slacks.unreached}
 pub use Rattle.sok_price.specs.{declared.assign.Match.Match, declared.assign.Match.TheVariants.Crowd, declared.assign.Match.TheVariants.Prices}
-pub use Rattle.sok_price.specs.{declared.costs.Costs.Costs, declared.search.Branch.Branch, declared.search.Search.Search, declared.slacks.Near.Near}
+pub use Rattle.sok_price.specs.{declared.costs.Costs.Costs, declared.search.Branch.Branch, declared.search.PathSearch.PathSearch, declared.slacks.Near.Near}
 pub use Rattle.sok_price.specs.{declared.slacks.Slack.Slack}

@@ -1,9 +1,9 @@
 -- What it costs to bring each box to each goal, both by their indices from 0.
 use Rattle.std.specs.Prelude.{ℕ, ◌≡◌, ◌≤◌, ◌<◌, ◌+◌, ◌*◌, ◌++◌, List, Option, Some, None, IfSome, All, length, slice_index, slice_index_or}
-use Rattle.sok_board.specs.Area.{Numbered, goals_of}
+use Rattle.sok_board.specs.Area.{BoardView, goals_of}
 use Rattle.sok_board.specs.Limits.{square_limit}
-use Rattle.sok_push.specs.Distances.{goal_at}
-use Rattle.sok_push.specs.Pushing.{TellsDistance}
+use Rattle.sok_distance.specs.Distances.{goal_at}
+use Rattle.sok_distance.specs.Pushing.{TellsDistance}
 use Rattle.sok_price.specs.declared.costs.Costs.{Costs}
 use Rattle.sok_price.specs.Matchings.{Costing}
 
@@ -26,29 +26,29 @@ pub record AreCosts (costs : Costs) (rows : List ℕ) : Type 0 where
   pub small : AreSmall costs.entries.items
 
 -- the distance of a square to a goal, by the goal's index, which is not large
-pub record TellsCost (b : Numbered) (goal square : ℕ) (cost : Option ℕ) : Type 0 where
+pub record TellsCost (b : BoardView) (goal square : ℕ) (cost : Option ℕ) : Type 0 where
   pub exact : TellsDistance b (goal_at b goal) square cost
   pub short : IfSome cost (λ pushes. pushes ≤ square_limit)
 
 -- the costs of boxes are the distances of their squares
-abbrev pub TellCosts : Numbered → List ℕ → ℕ → Costing → Type 0
+abbrev pub TellCosts : BoardView → List ℕ → ℕ → Costing → Type 0
 TellCosts b boxes goals cost = (member goal : ℕ) → member < length boxes → goal < goals → TellsCost b goal (slice_index boxes member) (cost member goal)
 
 -- costs with a row for each box of a list, and an entry for each goal of a board
-pub record AreOfBoxes (b : Numbered) (boxes : List ℕ) (costs : Costs) (rows : List ℕ) : Type 0 where
+pub record AreOfBoxes (b : BoardView) (boxes : List ℕ) (costs : Costs) (rows : List ℕ) : Type 0 where
   pub members : length rows ≡ length boxes
   pub goals : costs.goals ≡ length (goals_of b)
   pub told : TellCosts b boxes costs.goals (cost_of costs rows)
 
 -- the distances of a square to the first goals follow
-pub record IsRow (b : Numbered) (goals square : ℕ) (before after : List (Option ℕ)) : Type 0 where
+pub record IsRow (b : BoardView) (goals square : ℕ) (before after : List (Option ℕ)) : Type 0 where
   pub row : List (Option ℕ)
   pub added : after ≡ before ++ row
   pub whole : length row ≡ goals
   pub told : (goal : ℕ) → goal < goals → TellsCost b goal square (slice_index_or row goal None)
 
 -- rows of entries for the first squares of some order
-pub record AreTold (b : Numbered) (square_of : ℕ → ℕ) (goals members : ℕ) (entries : List (Option ℕ)) : Type 0 where
+pub record AreTold (b : BoardView) (square_of : ℕ → ℕ) (goals members : ℕ) (entries : List (Option ℕ)) : Type 0 where
   pub whole : length entries ≡ members * goals
   pub told : (member goal : ℕ) → member < members → goal < goals → TellsCost b goal (square_of member) (cost_in goals entries member goal)
   pub small : AreSmall entries

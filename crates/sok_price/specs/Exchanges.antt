@@ -1,7 +1,7 @@
 -- A row that is exchanged for another: the last takes its place, and a new one is the last.
 use Rattle.std.specs.Prelude.{ℕ, ◌≡◌, ◌<◌, ◌≤◌, ◌+◌, ◌*◌, List, Bool, IsTrue, false, ◌==◌, if◌then◌else◌, length, slice_index}
 use Rattle.sok_price.specs.declared.costs.Costs.{Costs}
-use Rattle.sok_price.specs.declared.search.Search.{Search}
+use Rattle.sok_price.specs.declared.search.PathSearch.{PathSearch}
 use Rattle.sok_price.specs.Costs.{cost_of, AreCosts}
 use Rattle.sok_price.specs.Searches.{IsReady, IsSeen, ReachesNoOther, growth_of}
 
@@ -18,7 +18,7 @@ pub record AreMoved (row value : ℕ) (before after : List ℕ) : Type 0 where
   pub new : slice_index after last ≡ value
 
 -- a matching of all rows, ready for one of them to be exchanged
-pub record IsWhole (costs : Costs) (rows : List ℕ) (search : Search) : Type 0 where
+pub record IsWhole (costs : Costs) (rows : List ℕ) (search : PathSearch) : Type 0 where
   pub shaped : AreCosts costs rows
   pub ready : IsReady (cost_of costs rows) (length rows) costs.goals (growth_of search)
   pub whole : length search.goal_of.items ≡ length rows
@@ -29,7 +29,7 @@ pub record IsExchange (costs : Costs) (rows : List ℕ) (row entry : ℕ) : Type
   pub below : (entry + 1) * costs.goals ≤ length costs.entries.items
 
 -- how a search ends for all rows: with a goal for each, or with a tree of rows that reach too few
-pub record Tells (costs : Costs) (rows : List ℕ) (search : Search) (found : Bool) : Type 0 where
+pub record Tells (costs : Costs) (rows : List ℕ) (search : PathSearch) (found : Bool) : Type 0 where
   pub whole : IsTrue found → IsWhole costs rows search
   pub tree : found ≡ false → IsSeen (cost_of costs rows) (length rows) costs.goals (growth_of search)
   pub closed : found ≡ false → ReachesNoOther (growth_of search)

@@ -2,9 +2,9 @@
 use Rattle.std.specs.Prelude.{ℕ, ◌≡◌, ◌≢◌, ◌≤◌, ◌<◌, ◌+◌, ◌-◌, ◌*◌, List, Option, Some, None, Bool, true, false}
 use Rattle.std.specs.Prelude.{All, Contains, IsTrue, length, map, slice_index, slice_index_or, sum}
 use Rattle.std.specs.List.Sorted.{IsStrictlyIncreasing}
-use Rattle.sok_board.specs.Area.{Numbered, goals_of}
+use Rattle.sok_board.specs.Area.{BoardView, goals_of}
 use Rattle.sok_price.specs.declared.costs.Costs.{Costs}
-use Rattle.sok_price.specs.declared.search.Search.{Search}
+use Rattle.sok_price.specs.declared.search.PathSearch.{PathSearch}
 use Rattle.sok_price.specs.Costs.{cost_in, AreCosts, AreSmall, TellsCost}
 use Rattle.sok_price.specs.Exchanges.{IsWhole}
 use Rattle.sok_price.specs.Searches.{growth_of, HasRoom, IsRoomy}
@@ -13,7 +13,7 @@ use Rattle.sok_board.specs.BoxSets.{IsMoved}
 use Rattle.sok_price.specs.Prices.{Priced, IsAssignment, IsCrowd}
 
 -- entries for each square of a board, and a last row that costs nothing
-pub record AreTabled (b : Numbered) (goals : ℕ) (entries : List (Option ℕ)) : Type 0 where
+pub record AreTabled (b : BoardView) (goals : ℕ) (entries : List (Option ℕ)) : Type 0 where
   pub goals_are : goals ≡ length (goals_of b)
   pub whole : length entries ≡ (length b.area + 1) * goals
   pub told : (square goal : ℕ) → square < length b.area → goal < goals → TellsCost b goal square (cost_in goals entries square goal)
@@ -58,7 +58,7 @@ pub record AreSet (end : ℕ) (costs : Costs) (before rows : List ℕ) : Type 0 
   pub are_rows : AreRows end rows
 
 -- a row for each goal of a board, those of some boxes and spare rows
-pub record AreKept (b : Numbered) (costs : Costs) (rows boxes : List ℕ) : Type 0 where
+pub record AreKept (b : BoardView) (costs : Costs) (rows boxes : List ℕ) : Type 0 where
   pub tabled : AreTabled b costs.goals costs.entries.items
   pub square : length rows ≡ costs.goals
   pub are_rows : AreRows (length b.area) rows
@@ -67,14 +67,14 @@ pub record AreKept (b : Numbered) (costs : Costs) (rows boxes : List ℕ) : Type
   pub rising : IsStrictlyIncreasing boxes
 
 -- lists of prices and scratch lists with an entry for each row or goal, and room for a tree and the rows' goals
-pub record IsShaped (members goals : ℕ) (search : Search) : Type 0 where
+pub record IsShaped (members goals : ℕ) (search : PathSearch) : Type 0 where
   pub a_price_a_box : length search.u.items ≡ members
   pub a_price_a_goal : length search.v.items ≡ goals
   pub roomy : IsRoomy goals (growth_of search)
   pub room : HasRoom members search
 
 -- rows of a table with prices, a matching if it is said so, that are to be set to the boxes of a list
-pub record CanSettle (end : ℕ) (boxes : List ℕ) (matched : Bool) (marks : List Bool) (costs : Costs) (rows : List ℕ) (search : Search) : Type 0 where
+pub record CanSettle (end : ℕ) (boxes : List ℕ) (matched : Bool) (marks : List Bool) (costs : Costs) (rows : List ℕ) (search : PathSearch) : Type 0 where
   pub costs_are : AreCosts costs rows
   pub are_rows : AreRows end rows
   pub whole : IsTrue matched → IsWhole costs rows search
@@ -84,13 +84,13 @@ pub record CanSettle (end : ℕ) (boxes : List ℕ) (matched : Bool) (marks : Li
   pub exist : All (λ square. square < end) boxes
 
 -- a matching of the boxes of a list, whose prices are low enough for one more exchange
-pub record IsSettled (end : ℕ) (boxes : List ℕ) (costs : Costs) (rows : List ℕ) (search : Search) : Type 0 where
+pub record IsSettled (end : ℕ) (boxes : List ℕ) (costs : Costs) (rows : List ℕ) (search : PathSearch) : Type 0 where
   pub whole : IsWhole costs rows search
   pub low : search.floor ≤ kept_floor_limit
   pub exactly : AreExactly end rows boxes
 
 -- the prices of some boxes less one amount, and their goals, by the places of their rows
-pub record AreRead (amount : ℕ) (rows : List ℕ) (search : Search) (boxes u goal_of : List ℕ) : Type 0 where
+pub record AreRead (amount : ℕ) (rows : List ℕ) (search : PathSearch) (boxes u goal_of : List ℕ) : Type 0 where
   pub places : List ℕ
   pub within : All (λ k. k < length rows) places
   pub boxes_are : boxes ≡ map (λ k. slice_index rows k) places
@@ -98,12 +98,12 @@ pub record AreRead (amount : ℕ) (rows : List ℕ) (search : Search) (boxes u g
   pub goals_are : goal_of ≡ map (λ k. slice_index search.goal_of.items k) places
 
 -- what is told of boxes: a number that some prices prove, and None where there is a crowd
-abbrev pub IsBounded : Numbered → List ℕ → Option ℕ → Type 0
+abbrev pub IsBounded : BoardView → List ℕ → Option ℕ → Type 0
 IsBounded b boxes None = (members : List ℕ) × IsCrowd b boxes members
 IsBounded b boxes (Some n) = (u v : List ℕ) × Priced b boxes u v n
 
 -- an assignment of the boxes costs a number
-abbrev pub IsCost : Numbered → List ℕ → ℕ → Type 0
+abbrev pub IsCost : BoardView → List ℕ → ℕ → Type 0
 IsCost b boxes n = (goal_of distances : List ℕ) × IsAssignment b boxes goal_of distances × (sum distances ≡ n)
 
 -- a box of a list that has the rows' boxes is moved, by its row

@@ -1,10 +1,10 @@
 -- A matching that is kept, as it is seen from outside.
 use Rattle.std.specs.Prelude.{ℕ, ◌≡◌, ◌≤◌, ◌<◌, ◌+◌, ◌*◌, List, Option, Some, None, Bool, true, All, Contains, length, sum, ◌^◌}
 use Rattle.std.specs.List.Sorted.{IsStrictlyIncreasing}
-use Rattle.sok_board.specs.Area.{Numbered}
+use Rattle.sok_board.specs.Area.{BoardView}
 use Rattle.sok_board.specs.Limits.{square_limit}
 use Rattle.sok_price.specs.declared.costs.Costs.{Costs}
-use Rattle.sok_price.specs.declared.search.Search.{Search}
+use Rattle.sok_price.specs.declared.search.PathSearch.{PathSearch}
 use Rattle.sok_price.specs.Costs.{AreCosts}
 use Rattle.sok_price.specs.Exchanges.{IsWhole}
 use Rattle.sok_price.specs.Kept.{AreExactly, AreRows, AreTabled, IsBounded, IsCost, IsShaped}
@@ -16,11 +16,11 @@ pub record KeptMatching : Type 0 where
   pub squares : ℕ
   pub costs : Costs
   pub rows : List ℕ
-  pub search : Search
+  pub search : PathSearch
   pub matched : Bool
 
 -- what always holds of a matching: where all rows have goals, no price is near its limit
-pub record IsSound (squares : ℕ) (costs : Costs) (rows : List ℕ) (search : Search) (matched : Bool) (trial : Search) (trial_rows : List ℕ)
+pub record IsSound (squares : ℕ) (costs : Costs) (rows : List ℕ) (search : PathSearch) (matched : Bool) (trial : PathSearch) (trial_rows : List ℕ)
     (marks : List Bool) : Type 0 where
   pub shaped : AreCosts costs rows
   pub square : length rows ≡ costs.goals
@@ -35,12 +35,12 @@ pub record IsSound (squares : ℕ) (costs : Costs) (rows : List ℕ) (search : S
   pub low : matched ≡ true → search.floor ≤ kept_floor_limit
 
 -- a matching is for the boxes of a board
-pub record Serves (b : Numbered) (kept : KeptMatching) : Type 0 where
+pub record Serves (b : BoardView) (kept : KeptMatching) : Type 0 where
   pub squares : kept.squares ≡ length b.area
   pub tabled : AreTabled b kept.costs.goals kept.costs.entries.items
 
 -- a matching of some boxes of a board
-pub record Holds (b : Numbered) (boxes : List ℕ) (kept : KeptMatching) : Type 0 where
+pub record Holds (b : BoardView) (boxes : List ℕ) (kept : KeptMatching) : Type 0 where
   pub serves : Serves b kept
   pub matched : kept.matched ≡ true
   pub exactly : AreExactly (length b.area) kept.rows boxes
@@ -56,13 +56,13 @@ pub record IsMatchedTo (boxes : List ℕ) (kept : KeptMatching) : Type 0 where
   pub rising : IsStrictlyIncreasing boxes
 
 -- what is told of boxes: the least total, that prices prove and an assignment costs, and None where there is a crowd
-abbrev pub TellsLeast : Numbered → List ℕ → Option ℕ → Type 0
+abbrev pub TellsLeast : BoardView → List ℕ → Option ℕ → Type 0
 TellsLeast b boxes None = IsBounded b boxes None
 TellsLeast b boxes (Some total) = IsBounded b boxes (Some total) × IsCost b boxes total
 
 -- a box of a matching may be moved to a square where no box is
 pub record CanMove (kept : KeptMatching) (from to : ℕ) : Type 0 where
-  pub b : Numbered
+  pub b : BoardView
   pub boxes : List ℕ
   pub holds : Holds b boxes kept
   pub there : Contains boxes from
@@ -71,12 +71,12 @@ pub record CanMove (kept : KeptMatching) (from to : ℕ) : Type 0 where
   pub within : to < length b.area
 
 -- prices and goals of one search in another, which keeps its scratch lists
-pub record IsCopied (from before after : Search) : Type 0 where
+pub record IsCopied (from before after : PathSearch) : Type 0 where
   pub same : growth_of after ≡ record (growth_of before) { u = from.u.items; v = from.v.items; goal_of = from.goal_of.items; floor = from.floor }
   pub room : KeepsRoom before after
 
 -- prices whose sums fit, the rows' no less than the goals' and not far above
-pub record HasWorth (search : Search) : Type 0 where
+pub record HasWorth (search : PathSearch) : Type 0 where
   pub fits : sum search.u.items < 2 ^ 64
   pub covered : sum search.v.items ≤ sum search.u.items
   pub small : sum search.u.items < sum search.v.items + 2 ^ 32

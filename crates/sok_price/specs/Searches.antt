@@ -3,7 +3,7 @@ use Rattle.std.specs.Prelude.{vec_capacity, ℕ, ◌≡◌, ◌≢◌, ◌≤◌
 use Rattle.std.specs.Prelude.{Contains, length, replicate, slice_index, slice_set}
 use Rattle.sok_board.specs.Limits.{square_limit}
 use Rattle.sok_price.specs.declared.search.Branch.{Branch}
-use Rattle.sok_price.specs.declared.search.Search.{Search}
+use Rattle.sok_price.specs.declared.search.PathSearch.{PathSearch}
 use Rattle.sok_price.specs.declared.slacks.Slack.{Slack}
 use Rattle.sok_price.specs.declared.slacks.Near.{Near}
 use Rattle.sok_price.specs.Limits.{floor_limit}
@@ -22,7 +22,7 @@ pub record Growth : Type 0 where
   pub takers : List (Option ℕ)
   pub floor : ℕ
 
-abbrev pub growth_of : Search → Growth
+abbrev pub growth_of : PathSearch → Growth
 growth_of search = record {
   u = search.u.items;
   v = search.v.items;
@@ -35,12 +35,12 @@ growth_of search = record {
 }
 
 -- room for a tree of all boxes and for a goal for each
-pub record HasRoom (members : ℕ) (search : Search) : Type 0 where
+pub record HasRoom (members : ℕ) (search : PathSearch) : Type 0 where
   pub tree : members ≤ vec_capacity search.branches
   pub matching : members ≤ vec_capacity search.goal_of
 
 -- room that a search had is there still
-abbrev pub KeepsRoom : Search → Search → Type 0
+abbrev pub KeepsRoom : PathSearch → PathSearch → Type 0
 KeepsRoom before after = (members : ℕ) → HasRoom members before → HasRoom members after
 
 -- scratch lists with an entry for each goal

@@ -1,7 +1,7 @@
 //! The least assignment of goals to boxes.
 
 ghost use Rattle.std.specs.Prelude.{ℕ, List, ◌≡◌, ◌<◌, ◌≤◌, All, IfOk, length};
-ghost use Rattle.sok_board.specs.Area.{Numbered};
+ghost use Rattle.sok_board.specs.Area.{BoardView};
 ghost use Rattle.sok_board.specs.Limits.{box_limit, square_limit};
 ghost use Rattle.sok_price.specs.Costs.{AreCosts, AreOfBoxes};
 ghost use Rattle.sok_price.specs.Matched.{HasWorth};
@@ -9,9 +9,9 @@ ghost use Rattle.sok_price.specs.Matches.{IsMatch, HasPrices};
 ghost use Rattle.sok_price.specs.Trees.{is_met, members_of};
 
 use crate::costs::{Costs, places};
-use crate::search::{Branch, Search, match_anew, worth};
+use crate::search::{Branch, PathSearch, match_anew, worth};
 use sok_board::box_set::BoxSet;
-use sok_push::tables::Tables;
+use sok_distance::distances::Distances;
 use sok_rules::fault::Memory;
 use std::alloc::Global;
 
@@ -38,14 +38,14 @@ pub enum Match {
 /// prove it; or a crowd, where there is no such goal for each. It is the shortest augmenting path
 /// method for the assignment problem (Kuhn, Munkres), box by box, with prices from 0 that are fair
 /// everywhere, exact on matched pairs and 0 at unmatched goals; it takes at most boxes squared
-/// times goals steps. The boxes are on squares of the board of which the tables were made. It
+/// times goals steps. The boxes are on squares of the board of which the distances were made. It
 /// refuses only for want of memory.
-pub fn assign(alloc: Global, tables: &Tables, boxes: &BoxSet) -> Result<Match, Memory>
-    requires { All (λ square. square < length tables.now.board.area) boxes.now }
-    ensures { IfOk result (IsMatch tables.now.board boxes.now) }
+pub fn assign(alloc: Global, distances: &Distances, boxes: &BoxSet) -> Result<Match, Memory>
+    requires { All (λ square. square < length distances.now.board.area) boxes.now }
+    ensures { IfOk result (IsMatch distances.now.board boxes.now) }
 {
     let boxes = boxes.list();
-    let costs = Costs::of(alloc, tables, tables.goals(), boxes)?;
+    let costs = Costs::of(alloc, distances, distances.goals(), boxes)?;
     assign_rows(alloc, &costs, &places(alloc, boxes.len())?)
 }
 
@@ -74,10 +74,10 @@ fn members_in(alloc: Global, branches: &[Branch], end: usize) -> Result<Vec<u32>
 pub(crate) fn assign_rows(alloc: Global, costs: &Costs, rows: &[usize]) -> Result<Match, Memory>
     requires costs { AreCosts costs.now rows.now }
     requires few { length rows.now ≤ box_limit }
-    ensures { (b : Numbered) (boxes : List ℕ) → AreOfBoxes b boxes costs.now rows.now
+    ensures { (b : BoardView) (boxes : List ℕ) → AreOfBoxes b boxes costs.now rows.now
         → IfOk result (IsMatch b boxes) }
 {
-    let mut search = Search::new(alloc, rows.len(), costs.goals)?;
+    let mut search = PathSearch::new(alloc, rows.len(), costs.goals)?;
     if match_anew(costs, rows, &mut search) {
         return Ok(priced(search));
     }
@@ -87,12 +87,12 @@ pub(crate) fn assign_rows(alloc: Global, costs: &Costs, rows: &[usize]) -> Resul
 }
 
 /// The prices and goals of a search that has a goal for each box.
-fn priced(search: Search) -> Match
+fn priced(search: PathSearch) -> Match
     requires { HasWorth search }
     ensures { HasPrices search result }
 {
     let total = worth(&search);
-    let Search {
+    let PathSearch {
         u,
         v,
         goal_of,

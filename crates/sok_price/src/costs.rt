@@ -18,7 +18,7 @@ ghost use Rattle.sok_price.specs.Kept.{AreTabled};
 ghost use Rattle.sok_price.specs.Costs.{cost_of, AreCosts, AreTold, IsRow};
 
 use sok_board::area::Sq;
-use sok_push::tables::Tables;
+use sok_distance::distances::Distances;
 use sok_rules::fault::Memory;
 use std::alloc::Global;
 
@@ -34,20 +34,20 @@ impl Costs {
     /// The distances of boxes on some squares to each goal of a board.
     pub(crate) fn of(
         alloc: Global,
-        tables: &Tables,
+        distances: &Distances,
         goals: usize,
         boxes: &[Sq],
     ) -> Result<Costs, Memory>
-        requires accepted { IsAccepted tables.now.board }
-        requires goals { goals ≡ length (goals_of tables.now.board) }
-        requires exist { All (λ square. square < length tables.now.board.area) boxes.now }
+        requires accepted { IsAccepted distances.now.board }
+        requires goals { goals ≡ length (goals_of distances.now.board) }
+        requires exist { All (λ square. square < length distances.now.board.area) boxes.now }
         ensures goals { IfOk result (λ costs. costs.goals ≡ goals) }
-        ensures told { IfOk result (λ costs. AreTold tables.now.board
+        ensures told { IfOk result (λ costs. AreTold distances.now.board
             (λ k. slice_index boxes.now k) costs.goals (length boxes.now) costs.entries.items) }
     {
         let mut entries = Vec::new(alloc);
         for square in boxes {
-            entries = with_row(tables, goals, *square, entries)?;
+            entries = with_row(distances, goals, *square, entries)?;
         }
         Ok(Costs { goals, entries })
     }
@@ -55,20 +55,20 @@ impl Costs {
     /// The distances of each square of a board to each goal, and a last row that costs nothing.
     pub(crate) fn tabled(
         alloc: Global,
-        tables: &Tables,
+        distances: &Distances,
         goals: usize,
         squares: usize,
     ) -> Result<Costs, Memory>
-        requires accepted { IsAccepted tables.now.board }
-        requires goals { goals ≡ length (goals_of tables.now.board) }
-        requires squares { squares ≡ length tables.now.board.area }
+        requires accepted { IsAccepted distances.now.board }
+        requires goals { goals ≡ length (goals_of distances.now.board) }
+        requires squares { squares ≡ length distances.now.board.area }
         ensures goals { IfOk result (λ costs. costs.goals ≡ goals) }
         ensures tabled { IfOk result
-            (λ costs. AreTabled tables.now.board costs.goals costs.entries.items) }
+            (λ costs. AreTabled distances.now.board costs.goals costs.entries.items) }
     {
         let mut entries = Vec::new(alloc);
         for square in 0..squares {
-            entries = with_row(tables, goals, square as Sq, entries)?;
+            entries = with_row(distances, goals, square as Sq, entries)?;
         }
         entries.extend_from_slice(&vec![in alloc; Some(0); goals]?)?;
         Ok(Costs { goals, entries })
@@ -98,18 +98,18 @@ pub(crate) fn places(alloc: Global, count: usize) -> Result<Vec<usize>, Memory>
 
 /// The entries with the distances of one more square.
 fn with_row(
-    tables: &Tables,
+    distances: &Distances,
     goals: usize,
     square: Sq,
     mut entries: Vec<Option<u16>>,
 ) -> Result<Vec<Option<u16>>, Memory>
-    requires accepted { IsAccepted tables.now.board }
-    requires goals { goals ≡ length (goals_of tables.now.board) }
-    requires exists { square < length tables.now.board.area }
-    ensures { IfOk result (λ after. IsRow tables.now.board goals square entries.items after.items) }
+    requires accepted { IsAccepted distances.now.board }
+    requires goals { goals ≡ length (goals_of distances.now.board) }
+    requires exists { square < length distances.now.board.area }
+    ensures { IfOk result (λ after. IsRow distances.now.board goals square entries.items after.items) }
 {
     for goal in 0..goals {
-        entries.push(tables.dist(goal, square))?;
+        entries.push(distances.dist(goal, square))?;
     }
     Ok(entries)
 }

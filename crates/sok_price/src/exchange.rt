@@ -18,7 +18,7 @@ ghost use Rattle.sok_price.specs.Limits.{kept_floor_limit};
 ghost use Rattle.sok_price.specs.Searches.{growth_of, HasRoom, IsReady, KeepsRoom};
 
 use crate::costs::Costs;
-use crate::search::{Search, match_all};
+use crate::search::{PathSearch, match_all};
 
 /// Exchanges a row: the last one takes its place, and a new one is the last.
 #[tactic(auto, using(crate::proofs::Exchanging::moved_set))]
@@ -74,7 +74,7 @@ pub(crate) fn highest(floor: u32, prices: &[u32]) -> u32
 
 /// Exchanges a row of a matching, which has no goal yet. The floor rises to the highest price of a
 /// goal, since the goal that the old row had keeps its price.
-fn open_row(row: usize, entry: usize, costs: &Costs, rows: &mut Vec<usize>, search: &mut Search)
+fn open_row(row: usize, entry: usize, costs: &Costs, rows: &mut Vec<usize>, search: &mut PathSearch)
     requires whole { IsWhole costs.now rows.old.items search.old }
     requires exchange { IsExchange costs.now rows.old.items row entry }
     requires low { search.old.floor ≤ kept_floor_limit }
@@ -98,7 +98,7 @@ pub(crate) fn exchange(
     entry: usize,
     costs: &Costs,
     rows: &mut Vec<usize>,
-    search: &mut Search,
+    search: &mut PathSearch,
 ) -> bool
     requires whole { IsWhole costs.now rows.old.items search.old }
     requires room { HasRoom (length rows.old.items) search.old }

@@ -18,7 +18,7 @@ ghost use Rattle.std.specs.Prelude.{
   slice_index,
 };
 ghost use Rattle.std.specs.List.Sorted.{IsStrictlyIncreasing};
-ghost use Rattle.sok_board.specs.Area.{Numbered};
+ghost use Rattle.sok_board.specs.Area.{BoardView};
 ghost use Rattle.sok_board.specs.BoxSets.{IsMoved};
 ghost use Rattle.sok_board.specs.Limits.{box_limit};
 ghost use Rattle.sok_price.specs.Kept.{IsBounded};
@@ -36,11 +36,11 @@ use crate::assign::{Match, assign_rows};
 use crate::costs::Costs;
 use crate::exchange::exchange;
 use crate::reading::{read, row_of};
-use crate::search::{Search, worth};
+use crate::search::{PathSearch, worth};
 use crate::settle::match_boxes;
 use sok_board::area::Sq;
 use sok_board::box_set::BoxSet;
-use sok_push::setting::Setting;
+use sok_distance::setting::Setting;
 use sok_rules::fault::Memory;
 use std::alloc::Global;
 use std::marker::Model;
@@ -53,9 +53,9 @@ pub struct Matching {
     squares: usize,
     costs: Costs,
     rows: Vec<usize>,
-    search: Search,
+    search: PathSearch,
     matched: bool,
-    trial: Search,
+    trial: PathSearch,
     trial_rows: Vec<usize>,
     marks: Vec<bool>,
 }
@@ -82,15 +82,15 @@ impl Matching {
     pub fn new(alloc: Global, setting: &Setting<'_>) -> Result<Matching, Memory>
         ensures serves { IfOk result (Serves setting.now.board.now) }
     {
-        let goals = setting.tables.goals();
+        let goals = setting.distances.goals();
         let squares = setting.board.squares();
         Ok(Matching {
             squares,
-            costs: Costs::tabled(alloc, setting.tables, goals, squares)?,
+            costs: Costs::tabled(alloc, setting.distances, goals, squares)?,
             rows: spare_rows(alloc, goals, squares)?,
-            search: Search::new(alloc, goals, goals)?,
+            search: PathSearch::new(alloc, goals, goals)?,
             matched: false,
-            trial: Search::new(alloc, goals, goals)?,
+            trial: PathSearch::new(alloc, goals, goals)?,
             trial_rows: vec![in alloc; squares; goals]?,
             marks: vec![in alloc; false; squares]?,
         })
@@ -101,9 +101,9 @@ impl Matching {
     /// path is looked for for each of the others.
     pub fn set(&mut self, boxes: &BoxSet) -> Option<u32>
         requires exist { All (λ square. square < self.old.squares) boxes.now }
-        ensures serves { (b : Numbered) → Serves b self.old → Serves b self.new }
-        ensures least { (b : Numbered) → Serves b self.old → TellsLeast b boxes.now result }
-        ensures holds { (b : Numbered) → Serves b self.old
+        ensures serves { (b : BoardView) → Serves b self.old → Serves b self.new }
+        ensures least { (b : BoardView) → Serves b self.old → TellsLeast b boxes.now result }
+        ensures holds { (b : BoardView) → Serves b self.old
             → IfSome result (λ _. Holds b boxes.now self.new) }
     {
         if !self.match_to(boxes.list()) {
@@ -117,7 +117,7 @@ impl Matching {
     pub fn bound_after(&mut self, from: Sq, to: Sq) -> Option<u32>
         requires moves { CanMove self.old from to }
         ensures same { self.new ≡ self.old }
-        ensures least { (b : Numbered) (boxes after : List ℕ) → Holds b boxes self.old
+        ensures least { (b : BoardView) (boxes after : List ℕ) → Holds b boxes self.old
             → IsMoved boxes from to after → All (λ square. square < length b.area) after
             → IsStrictlyIncreasing after → TellsLeast b after result }
     {
@@ -138,8 +138,8 @@ impl Matching {
     /// from nothing. It refuses only for want of memory.
     pub fn assign(&mut self, alloc: Global, boxes: &BoxSet) -> Result<Match, Memory>
         requires exist { All (λ square. square < self.old.squares) boxes.now }
-        ensures serves { (b : Numbered) → Serves b self.old → Serves b self.new }
-        ensures least { (b : Numbered) → Serves b self.old → IfOk result (IsMatch b boxes.now) }
+        ensures serves { (b : BoardView) → Serves b self.old → Serves b self.new }
+        ensures least { (b : BoardView) → Serves b self.old → IfOk result (IsMatch b boxes.now) }
     {
         let boxes = boxes.list();
         if !self.match_to(boxes) {
@@ -161,7 +161,7 @@ impl Matching {
           matched = self.new.matched;
         } }
         ensures matched { IsTrue result → IsMatchedTo boxes.now self.new }
-        ensures crowd { result ≡ false → (b : Numbered) → Serves b self.old
+        ensures crowd { result ≡ false → (b : BoardView) → Serves b self.old
             → IsBounded b boxes.now None }
     {
         if boxes.len() > self.rows.len() {
@@ -183,7 +183,7 @@ impl Matching {
     fn assign_anew(&self, alloc: Global, boxes: &[Sq]) -> Result<Match, Memory>
         requires exist { All (λ square. square < self.now.squares) boxes.now }
         requires few { length boxes.now ≤ box_limit }
-        ensures { (b : Numbered) → Serves b self.now → IfOk result (IsMatch b boxes.now) }
+        ensures { (b : BoardView) → Serves b self.now → IfOk result (IsMatch b boxes.now) }
     {
         assign_rows(alloc, &self.costs, &rows_of(alloc, boxes)?)
     }
@@ -206,7 +206,7 @@ fn rows_of(alloc: Global, boxes: &[Sq]) -> Result<Vec<usize>, Memory>
 }
 
 /// Copies goals and prices to another search.
-fn copy_matching(from: &Search, to: &mut Search)
+fn copy_matching(from: &PathSearch, to: &mut PathSearch)
     requires boxes { length to.old.u.items ≡ length from.now.u.items }
     requires goals { length to.old.v.items ≡ length from.now.v.items }
     requires room { length from.now.goal_of.items ≤ vec_capacity to.old.goal_of }

@@ -14,7 +14,7 @@ ghost use Rattle.std.specs.Prelude.{
   map,
   slice_index,
 };
-ghost use Rattle.sok_board.specs.Area.{Numbered};
+ghost use Rattle.sok_board.specs.Area.{BoardView};
 ghost use Rattle.sok_price.specs.declared.costs.Costs.{Costs};
 ghost use Rattle.sok_price.specs.Exchanges.{IsWhole};
 ghost use Rattle.sok_price.specs.Kept.{AreKept, AreRead};
@@ -22,7 +22,7 @@ ghost use Rattle.sok_price.specs.Matches.{IsMatch};
 
 use crate::assign::Match;
 use crate::exchange::highest;
-use crate::search::{Search, worth};
+use crate::search::{PathSearch, worth};
 use sok_board::area::Sq;
 use sok_rules::fault::Memory;
 use std::alloc::Global;
@@ -74,7 +74,7 @@ fn read_boxes(
     alloc: Global,
     amount: u32,
     rows: &[usize],
-    search: &Search,
+    search: &PathSearch,
     boxes: &[Sq],
 ) -> Result<(Vec<u32>, Vec<usize>), Memory>
     requires prices { length search.now.u.items ≡ length rows.now }
@@ -98,13 +98,13 @@ fn read_boxes(
 pub(crate) fn read(
     alloc: Global,
     rows: &[usize],
-    search: &Search,
+    search: &PathSearch,
     boxes: &[Sq],
 ) -> Result<Option<Match>, Memory>
     requires whole { (costs : Costs) × IsWhole costs rows.now search.now
         × (length rows.now ≡ costs.goals) }
     requires rows { All (Contains rows.now) boxes.now }
-    ensures { (b : Numbered) (costs : Costs) → AreKept b costs rows.now boxes.now
+    ensures { (b : BoardView) (costs : Costs) → AreKept b costs rows.now boxes.now
         → IsWhole costs rows.now search.now
         → IfOk result (λ found. IfSome found (IsMatch b boxes.now)) }
 {

@@ -67,7 +67,7 @@ const UNSEEN: Slack = Slack {
 /// box: a tree of boxes, whether each goal is had by a box of it, the slacks of the other goals,
 /// and which box has a goal. No goal without a box costs more than a floor.
 #[derive(Drop)]
-pub(crate) struct Search {
+pub(crate) struct PathSearch {
     pub(crate) u: Vec<u32>,
     pub(crate) v: Vec<u32>,
     pub(crate) goal_of: Vec<usize>,
@@ -78,12 +78,12 @@ pub(crate) struct Search {
     pub(crate) floor: u32,
 }
 
-impl Search {
+impl PathSearch {
     /// Room for a search over some boxes and goals.
-    pub(crate) fn new(alloc: Global, members: usize, goals: usize) -> Result<Search, Memory>
+    pub(crate) fn new(alloc: Global, members: usize, goals: usize) -> Result<PathSearch, Memory>
         ensures { IfOk result (IsShaped members goals) }
     {
-        Ok(Search {
+        Ok(PathSearch {
             u: vec![in alloc; 0; members]?,
             v: vec![in alloc; 0; goals]?,
             goal_of: Vec::with_capacity(alloc, members)?,
@@ -158,7 +158,7 @@ fn append<T: Drop>(list: &mut Vec<T>, item: T)
 }
 
 /// Begins a search for a goal for the next box, which is the root of its tree.
-pub(crate) fn begin(search: &mut Search)
+pub(crate) fn begin(search: &mut PathSearch)
     requires exist { All (λ goal. goal < length search.old.takers.items) search.old.goal_of.items }
     requires room { 0 < vec_capacity search.old.branches }
     ensures begun { IsBegun (growth_of search.old) (growth_of search.new) }
@@ -182,7 +182,7 @@ pub(crate) fn begin(search: &mut Search)
 
 /// Looks on from the box that joined the tree last, and tells the goal outside the tree that it
 /// reaches next. None where it reaches none.
-fn look_on(costs: &Costs, rows: &[usize], search: &mut Search) -> Option<Near>
+fn look_on(costs: &Costs, rows: &[usize], search: &mut PathSearch) -> Option<Near>
     requires costs { AreCosts costs.now rows.now }
     requires growing { IsAhead (cost_of costs.now rows.now) (length rows.now) costs.now.goals
         (growth_of search.old) }
@@ -207,7 +207,7 @@ fn look_on(costs: &Costs, rows: &[usize], search: &mut Search) -> Option<Near>
 
 /// Takes a goal that was reached, and the box that has it, into the tree.
 #[tactic(auto, unfolding(crate::specs::Searches::joined))]
-fn join(near: Near, member: usize, search: &mut Search)
+fn join(near: Near, member: usize, search: &mut PathSearch)
     requires goal { near.goal < length search.old.taken.items }
     requires room { length search.old.branches.items < vec_capacity search.old.branches }
     ensures joined { growth_of search.new ≡ joined near member (growth_of search.old) }
@@ -227,7 +227,7 @@ fn join(near: Near, member: usize, search: &mut Search)
 
 /// Grows the tree goal by goal until it reaches one that no box has, and says which. None where
 /// its boxes reach no goal but those that its other boxes have. Prices stay.
-pub(crate) fn grow(costs: &Costs, rows: &[usize], search: &mut Search) -> Option<Near>
+pub(crate) fn grow(costs: &Costs, rows: &[usize], search: &mut PathSearch) -> Option<Near>
     requires costs { AreCosts costs.now rows.now }
     requires growing { IsAhead (cost_of costs.now rows.now) (length rows.now) costs.now.goals
         (growth_of search.old) }
@@ -251,7 +251,7 @@ pub(crate) fn grow(costs: &Costs, rows: &[usize], search: &mut Search) -> Option
 }
 
 /// Raises the prices of the tree until a goal lies at an exact price from its box.
-pub(crate) fn raise(near: Near, costs: &Costs, rows: &[usize], search: &mut Search)
+pub(crate) fn raise(near: Near, costs: &Costs, rows: &[usize], search: &mut PathSearch)
     requires costs { AreCosts costs.now rows.now }
     requires growing { IsSeen (cost_of costs.now rows.now) (length rows.now) costs.now.goals
         (growth_of search.old) }
@@ -268,7 +268,7 @@ pub(crate) fn raise(near: Near, costs: &Costs, rows: &[usize], search: &mut Sear
 
 /// Gives the goal that was reached to the box from which it was reached, that box's goal to the
 /// one before, and so on back to the root (an augmenting path).
-pub(crate) fn rematch(near: Near, search: &mut Search)
+pub(crate) fn rematch(near: Near, search: &mut PathSearch)
     requires tree { IsTree search.old.goal_of.items search.old.branches.items }
     requires from { near.slack.from < length search.old.branches.items }
     requires room { length search.old.goal_of.items < vec_capacity search.old.goal_of }
@@ -290,7 +290,7 @@ pub(crate) fn rematch(near: Near, search: &mut Search)
 /// A goal of its own for each box that has none yet, by the shortest augmenting path method, box by
 /// box. False where there is none: then the tree is one of boxes that reach no goals but those that
 /// the others of them have.
-pub(crate) fn match_all(costs: &Costs, rows: &[usize], search: &mut Search) -> bool
+pub(crate) fn match_all(costs: &Costs, rows: &[usize], search: &mut PathSearch) -> bool
     requires costs { AreCosts costs.now rows.now }
     requires ready { IsReady (cost_of costs.now rows.now) (length rows.now) costs.now.goals
         (growth_of search.old) }
@@ -314,7 +314,7 @@ pub(crate) fn match_all(costs: &Costs, rows: &[usize], search: &mut Search) -> b
 }
 
 /// Forgets the goals of all boxes, and all prices.
-fn clear(search: &mut Search)
+fn clear(search: &mut PathSearch)
     ensures cleared { growth_of search.new ≡ record (growth_of search.old) {
       u = replicate (length search.old.u.items) 0;
       v = replicate (length search.old.v.items) 0;
@@ -331,7 +331,7 @@ fn clear(search: &mut Search)
 
 /// A goal of its own for each box, found from nothing, for `assign` and where a matching begins
 /// anew. False where there is none, as for `match_all`.
-pub(crate) fn match_anew(costs: &Costs, rows: &[usize], search: &mut Search) -> bool
+pub(crate) fn match_anew(costs: &Costs, rows: &[usize], search: &mut PathSearch) -> bool
     requires costs { AreCosts costs.now rows.now }
     requires shaped { IsShaped (length rows.now) costs.now.goals search.old }
     ensures tells { Tells costs.now rows.now search.new result }
@@ -351,7 +351,7 @@ fn sum_of(prices: &[u32]) -> u64
 }
 
 /// What the boxes cost less what the goals cost.
-pub(crate) fn worth(search: &Search) -> u32
+pub(crate) fn worth(search: &PathSearch) -> u32
     requires { HasWorth search.now }
     ensures { result + sum search.now.v.items ≡ sum search.now.u.items }
 {

@@ -13,7 +13,7 @@ ghost use Rattle.std.specs.Prelude.{
   length,
 };
 ghost use Rattle.std.specs.List.Sorted.{IsStrictlyIncreasing};
-ghost use Rattle.sok_board.specs.Area.{Numbered};
+ghost use Rattle.sok_board.specs.Area.{BoardView};
 ghost use Rattle.sok_price.specs.Kept.{
   AreExactly,
   AreListed,
@@ -30,7 +30,7 @@ ghost use Rattle.sok_price.specs.Kept.{
 
 use crate::costs::Costs;
 use crate::exchange::exchange;
-use crate::search::{Search, match_anew};
+use crate::search::{PathSearch, match_anew};
 use sok_board::area::Sq;
 
 /// The highest floor from which a row is exchanged.
@@ -143,7 +143,7 @@ fn settle(
     marks: &mut [bool],
     costs: &Costs,
     rows: &mut Vec<usize>,
-    search: &mut Search,
+    search: &mut PathSearch,
 ) -> bool
     requires { CanSettle squares boxes.now matched marks.old costs.now rows.old.items search.old }
     ensures kept { AreSet squares costs.now rows.old.items rows.new.items }
@@ -180,7 +180,7 @@ pub(crate) fn match_boxes(
     marks: &mut [bool],
     costs: &Costs,
     rows: &mut Vec<usize>,
-    search: &mut Search,
+    search: &mut PathSearch,
 ) -> bool
     requires can { CanSettle squares boxes.now matched marks.old costs.now rows.old.items
         search.old }
@@ -191,7 +191,7 @@ pub(crate) fn match_boxes(
     ensures shaped { IsShaped (length rows.new.items) costs.now.goals search.new }
     ensures settled { IsTrue result
         → IsSettled squares boxes.now costs.now rows.new.items search.new }
-    ensures crowd { result ≡ false → (b : Numbered) → length b.area ≡ squares
+    ensures crowd { result ≡ false → (b : BoardView) → length b.area ≡ squares
         → AreTabled b costs.now.goals costs.now.entries.items → IsBounded b boxes.now None }
 {
     if settle(squares, boxes, matched, marks, costs, rows, search) {

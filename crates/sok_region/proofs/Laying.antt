@@ -8,7 +8,7 @@ use Rattle.std.proofs.lemmas.List.{get_or-map, length-map}
 use Rattle.std.proofs.lemmas.List.Elements.{Contains-append_left, Contains-get_or, Contains-push, Contains-push_cases}
 use Rattle.std.proofs.lemmas.Option.{same_Some}
 use Rattle.sok_rules.specs.declared.cell.Spot.{Spot}
-use Rattle.sok_board.specs.Area.{Numbered, number_of, spot_of}
+use Rattle.sok_board.specs.Area.{BoardView, number_of, spot_of}
 use Rattle.sok_board.proofs.AreaLaws.{spot_of-number_of}
 use Rattle.sok_field.specs.Fields.{has}
 use Rattle.sok_field.specs.Numbers.{Draws}
@@ -16,11 +16,11 @@ use Rattle.sok_board.specs.BoxSets.{IsMoved}
 use Rattle.sok_region.specs.Layouts.{IsLaidOut, Laid, replaced}
 
 -- a square drawn with its number has that number
-number_is : (b : Numbered) (s : Spot) (n k : ℕ) → number_of b s ≡ Some n → number_of b (spot_of b k) ≡ Some k → s ≡ spot_of b k → n ≡ k
+number_is : (b : BoardView) (s : Spot) (n k : ℕ) → number_of b s ≡ Some n → number_of b (spot_of b k) ≡ Some k → s ≡ spot_of b k → n ≡ k
 number_is b s n k number numbered same = same_Some n k (sym number ∙ ap (number_of b) same ∙ numbered)
 
 -- one box more is drawn
-pub Draws-boxed : (b : Numbered) (old new boxes : List ℕ) (k : ℕ) → number_of b (spot_of b k) ≡ Some k
+pub Draws-boxed : (b : BoardView) (old new boxes : List ℕ) (k : ℕ) → number_of b (spot_of b k) ≡ Some k
     → ((s : Spot) → (has new s ≡ true) ↔ ((s ≡ spot_of b k) ⊎ (has old s ≡ true)))
     → Draws b (Contains boxes) old → Draws b (Contains (boxes ++ k ∷ [])) new
 Draws-boxed b old new boxes k numbered put draws s = (
@@ -43,7 +43,7 @@ from_mapped f xs y (k, inside, is) =
     let within : k < length xs = omega (arith, inside, length-map xs f) in
     (get_or xs k 0, Contains-get_or xs k 0 within, sym (get_or-map f xs k 0 y within) ∙ is)
 
-module _ (b : Numbered) (boxes after : List ℕ) (from to : ℕ) (old new : Laid) (free_mid boxed_mid : List ℕ)
+module _ (b : BoardView) (boxes after : List ℕ) (from to : ℕ) (old new : Laid) (free_mid boxed_mid : List ℕ)
     (from_number : number_of b (spot_of b from) ≡ Some from) (to_number : number_of b (spot_of b to) ≡ Some to) (to_within : to < length b.area)
     (laid : IsLaidOut b boxes old) (among : Contains boxes from) (clear : Contains boxes to → ⊥) (moves : IsMoved boxes from to after) where
   apart : from ≡ to → ⊥

@@ -1,4 +1,3 @@
-pub mod Floods
 pub mod Laying
 pub mod Paths
 pub mod Regions

@@ -11,13 +11,13 @@ use Rattle.sok_rules.specs.Play.{Position}
 use Rattle.sok_rules.specs.States.{Same}
 use Rattle.sok_rules.proofs.Steps.{IsStanding}
 use Rattle.sok_rules.proofs.Walking.{IsStanding-Same, Same-refl, Same-sym, Same-trans}
-use Rattle.sok_board.specs.Area.{Numbered, IsArea, number_of, position_of, spot_of}
+use Rattle.sok_board.specs.Area.{BoardView, IsArea, number_of, position_of, spot_of}
 use Rattle.sok_board.proofs.AreaLaws.{same_number, number_of-spot_of, spot_of-number_of}
 use Rattle.sok_board.proofs.Lists.{Contains-filter, Contains-from_filter}
 use Rattle.sok_board.proofs.Numbering.{Contains-range, rising-chosen}
 use Rattle.sok_region.specs.Regions.{IsPlaced, IsRegion, IsWalkBetween, HasSquare, squares_of}
 use Rattle.sok_field.specs.Fields.{has}
-use Rattle.sok_board.specs.Runs.{word_bits}
+use Rattle.sok_board.specs.Spans.{word_bits}
 use Rattle.sok_field.specs.Numbers.{Draws, bit_of_number, has_number}
 use Rattle.sok_field.specs.Trails.{trail, Leads}
 use Rattle.sok_field.proofs.OneSquare.{has-within}
@@ -40,28 +40,28 @@ pub squares_of-rising : (words : List ℕ) → IsStrictlyIncreasing (squares_of 
 unfolding squares_of
 squares_of-rising words = rising-chosen (has_number words) (word_bits * length words)
 
-pub placed_boxes : (b : Numbered) (boxes : List ℕ) (player : ℕ) → IsProper b.rows → IsArea b.rows b.area → IsPlaced b boxes player → AreBoxes b boxes
+pub placed_boxes : (b : BoardView) (boxes : List ℕ) (player : ℕ) → IsProper b.rows → IsArea b.rows b.area → IsPlaced b boxes player → AreBoxes b boxes
 placed_boxes b boxes player proper area placed = record { proper = proper; area = area; exist = placed.boxes_exist }
 
 -- the player stands where he may
-pub IsStanding-placed : (b : Numbered) → IsArea b.rows b.area → IsProper b.rows → (player : ℕ) (boxes : List ℕ) → IsPlaced b boxes player
+pub IsStanding-placed : (b : BoardView) → IsArea b.rows b.area → IsProper b.rows → (player : ℕ) (boxes : List ℕ) → IsPlaced b boxes player
     → IsStanding b.rows (position_of b player boxes)
 IsStanding-placed b area proper player boxes placed = standing b boxes (placed_boxes b boxes player proper area placed) player placed.player_exists placed.free
 
 -- positions with the same boxes and player have the same player's number
-pub same_player : (b : Numbered) (boxes : List ℕ) → IsArea b.rows b.area → (s t : ℕ) → s < length b.area → t < length b.area
+pub same_player : (b : BoardView) (boxes : List ℕ) → IsArea b.rows b.area → (s t : ℕ) → s < length b.area → t < length b.area
     → position_of b s boxes ≡ position_of b t boxes → s ≡ t
 same_player b boxes area s t s_within t_within is = same_number b area s t s_within t_within (ap (λ (x : Position). x.man) is)
 
 -- what bit rows without the boxes let through, by number
-Draws-through : (b : Numbered) → IsArea b.rows b.area → (boxes free : List ℕ) → Draws b (λ n. Contains boxes n → ⊥) free
+Draws-through : (b : BoardView) → IsArea b.rows b.area → (boxes free : List ℕ) → Draws b (λ n. Contains boxes n → ⊥) free
     → Draws b (λ n. has free (spot_of b n) ≡ true) free
 Draws-through b area boxes free drawn s = (
   λ e. let (n, number, out) = (drawn s).0 e in (n, number, ap (has free) (spot_of-number_of b s n number).1 ∙ e),
   λ (n, number, through). ap (has free) (sym (spot_of-number_of b s n number).1) ∙ through,
 )
 
-pub through-exact : (b : Numbered) → IsArea b.rows b.area → (boxes free : List ℕ) → Draws b (λ n. Contains boxes n → ⊥) free
+pub through-exact : (b : BoardView) → IsArea b.rows b.area → (boxes free : List ℕ) → Draws b (λ n. Contains boxes n → ⊥) free
     → (n : ℕ) → n < length b.area → (has free (spot_of b n) ≡ true) ↔ (Contains boxes n → ⊥)
 through-exact b area boxes free drawn n within =
     let numbered = number_of-spot_of b area n within in (
@@ -72,7 +72,7 @@ through-exact b area boxes free drawn n within =
     )
 
 -- letters over the squares without boxes lead to those of the same state
-module _ (b : Numbered) (boxes : List ℕ) (player : ℕ) (proper : IsProper b.rows) (area : IsArea b.rows b.area) (placed : IsPlaced b boxes player)
+module _ (b : BoardView) (boxes : List ℕ) (player : ℕ) (proper : IsProper b.rows) (area : IsArea b.rows b.area) (placed : IsPlaced b boxes player)
     (lets : ℕ → Bool) (through : (n : ℕ) → n < length b.area → (lets n ≡ true) ↔ (Contains boxes n → ⊥)) where
   pub Leads-same : (s : ℕ) → s < length b.area → Leads b lets player s ↔ Same b.rows (position_of b player boxes) (position_of b s boxes)
   Leads-same s within =
@@ -90,7 +90,7 @@ module _ (b : Numbered) (boxes : List ℕ) (player : ℕ) (proper : IsProper b.r
       )
 
 -- a flood over the squares without boxes draws those of the same state
-module _ (b : Numbered) (boxes : List ℕ) (player : ℕ) (free seen : List ℕ) (proper : IsProper b.rows) (area : IsArea b.rows b.area)
+module _ (b : BoardView) (boxes : List ℕ) (player : ℕ) (free seen : List ℕ) (proper : IsProper b.rows) (area : IsArea b.rows b.area)
     (placed : IsPlaced b boxes player) (drawn : Draws b (λ n. Contains boxes n → ⊥) free)
     (flooded : (lets : ℕ → Bool) → Draws b (λ n. lets n ≡ true) free → Draws b (Leads b lets player) seen) where
   abbrev lets : ℕ → Bool
@@ -129,12 +129,12 @@ module _ (b : Numbered) (boxes : List ℕ) (player : ℕ) (free seen : List ℕ)
   }
 
 -- a region has the player's square
-pub HasSquare-region : (b : Numbered) (boxes : List ℕ) (player : ℕ) (words : List ℕ) → IsRegion b boxes player (squares_of words) → HasSquare words
+pub HasSquare-region : (b : BoardView) (boxes : List ℕ) (player : ℕ) (words : List ℕ) → IsRegion b boxes player (squares_of words) → HasSquare words
 HasSquare-region b boxes player words region =
     (player, (Contains-squares_of words player).0 ((region.exact player).1 (region.placed.player_exists, Same-refl b.rows (position_of b player boxes))))
 
 -- letters over squares of a region are legal, and none of them pushes
-pub IsWalkBetween-trail : (b : Numbered) (boxes : List ℕ) (player : ℕ) (words : List ℕ) → IsProper b.rows → IsArea b.rows b.area
+pub IsWalkBetween-trail : (b : BoardView) (boxes : List ℕ) (player : ℕ) (words : List ℕ) → IsProper b.rows → IsArea b.rows b.area
     → IsRegion b boxes player (squares_of words)
     → (w : List Dir) (from to : ℕ) → trail b (has_number words) from w ≡ Some to → IsWalkBetween b boxes from to w
 IsWalkBetween-trail b boxes player words proper area region w from to leads =
@@ -147,7 +147,7 @@ IsWalkBetween-trail b boxes player words proper area region w from to leads =
     record { leads = legal; quiet = quiet }
 
 -- letters over a region lead from each of its squares to each other
-pub Leads-region : (b : Numbered) (boxes : List ℕ) (player : ℕ) (words : List ℕ) → IsProper b.rows → IsArea b.rows b.area
+pub Leads-region : (b : BoardView) (boxes : List ℕ) (player : ℕ) (words : List ℕ) → IsProper b.rows → IsArea b.rows b.area
     → IsRegion b boxes player (squares_of words)
     → (from to : ℕ) → Contains (squares_of words) from → Contains (squares_of words) to → Leads b (has_number words) from to
 Leads-region b boxes player words proper area region from to from_there to_there =
@@ -166,7 +166,7 @@ Leads-region b boxes player words proper area region from to from_there to_there
     (same.0, arrives.leads ∙ ap Some (sym is))
 
 -- the shortest letters over squares of a region lead from each to each, and to no other
-pub walks-exactly : {A : Type 0} (b : Numbered) (boxes : List ℕ) (player : ℕ) (words : List ℕ) → IsProper b.rows → IsArea b.rows b.area
+pub walks-exactly : {A : Type 0} (b : BoardView) (boxes : List ℕ) (player : ℕ) (words : List ℕ) → IsProper b.rows → IsArea b.rows b.area
     → IsRegion b boxes player (squares_of words) → (from to : ℕ) → Contains (squares_of words) from → (walk : Option (Vec Dir A))
     → TellsLetters (paths b (has_number words) from) to walk → IsSome walk ↔ (Contains (squares_of words) from × Contains (squares_of words) to)
 walks-exactly b boxes player words proper area region from to here None none = (
@@ -185,7 +185,7 @@ walks-exactly b boxes player words proper area region from to here (Some w) shor
 )
 
 -- and are a walk
-pub walks-legally : {A : Type 0} (b : Numbered) (boxes : List ℕ) (player : ℕ) (words : List ℕ) → IsProper b.rows → IsArea b.rows b.area
+pub walks-legally : {A : Type 0} (b : BoardView) (boxes : List ℕ) (player : ℕ) (words : List ℕ) → IsProper b.rows → IsArea b.rows b.area
     → IsRegion b boxes player (squares_of words) → (from to : ℕ) (walk : Option (Vec Dir A)) → TellsLetters (paths b (has_number words) from) to walk
     → IfSome walk (λ w. IsWalkBetween b boxes from to w.items)
 walks-legally b boxes player words proper area region from to None none = tt

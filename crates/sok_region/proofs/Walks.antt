@@ -10,7 +10,7 @@ use Rattle.sok_rules.specs.Play.{Position, After, one_if, pushes, run, step}
 use Rattle.sok_rules.specs.States.{Same}
 use Rattle.sok_rules.proofs.Steps.{IsStanding, step-walk, walk_step}
 use Rattle.sok_rules.proofs.Walking.{Same-step, Same-trans, quiet_step}
-use Rattle.sok_board.specs.Area.{Numbered, IsArea, InArea, beside, number_of, spot_of, position_of}
+use Rattle.sok_board.specs.Area.{BoardView, IsArea, InArea, beside, number_of, spot_of, position_of}
 use Rattle.sok_board.proofs.AreaLaws.{InArea-next, InArea-spot_of, number-InArea, spot_of-number_of}
 use Rattle.sok_board.proofs.Beside.{beside-is, beside-within}
 use Rattle.sok_board.proofs.Inside.{InArea-open, if_some}
@@ -19,23 +19,23 @@ use Rattle.sok_field.specs.Trails.{trail}
 use Rattle.sok_field.proofs.Trails.{trail-one}
 
 -- boxes on squares of a proper level's area
-pub record AreBoxes (b : Numbered) (boxes : List ℕ) : Type 0 where
+pub record AreBoxes (b : BoardView) (boxes : List ℕ) : Type 0 where
   pub proper : IsProper b.rows
   pub area : IsArea b.rows b.area
   pub exist : All (λ n. n < length b.area) boxes
 
-pub standing : (b : Numbered) (boxes : List ℕ) → AreBoxes b boxes → (n : ℕ) → n < length b.area → (Contains boxes n → ⊥)
+pub standing : (b : BoardView) (boxes : List ℕ) → AreBoxes b boxes → (n : ℕ) → n < length b.area → (Contains boxes n → ⊥)
     → IsStanding b.rows (position_of b n boxes)
 standing b boxes are n within out = record {
   on_open = InArea-open b.rows are.proper (spot_of b n) (InArea-spot_of b are.area n within);
   no_box = no_box b are.area n boxes are.exist n within out;
 }
 
-pub not_listed : (b : Numbered) (boxes : List ℕ) (n : ℕ) → IsStanding b.rows (position_of b n boxes) → Contains boxes n → ⊥
+pub not_listed : (b : BoardView) (boxes : List ℕ) (n : ℕ) → IsStanding b.rows (position_of b n boxes) → Contains boxes n → ⊥
 not_listed b boxes n stands among = true≢false (sym (listed_box b n boxes n among) ∙ stands.no_box)
 
 -- the player goes on to the square beside
-pub step-beside : (b : Numbered) (boxes : List ℕ) → AreBoxes b boxes → (d : Dir) (s u : ℕ) → beside b s d ≡ Some u → u < length b.area → (Contains boxes u → ⊥)
+pub step-beside : (b : BoardView) (boxes : List ℕ) → AreBoxes b boxes → (d : Dir) (s u : ℕ) → beside b s d ≡ Some u → u < length b.area → (Contains boxes u → ⊥)
     → step b.rows d (position_of b s boxes) ≡ Some (record { position = position_of b u boxes; pushed = false })
 step-beside b boxes are d s u on within out =
     let x = position_of b s boxes in
@@ -47,7 +47,7 @@ step-beside b boxes are d s u on within out =
     step-walk b.rows d x q ahead opened free ∙ (λ i. Some (record { position = record { man = sym there i; boxes = x.boxes }; pushed = false })))
 
 -- letters over squares without a box are legal, and none of them pushes
-pub run-trail : (b : Numbered) (boxes : List ℕ) → AreBoxes b boxes → (lets : ℕ → Bool) → ((n : ℕ) → n < length b.area → lets n ≡ true → Contains boxes n → ⊥)
+pub run-trail : (b : BoardView) (boxes : List ℕ) → AreBoxes b boxes → (lets : ℕ → Bool) → ((n : ℕ) → n < length b.area → lets n ≡ true → Contains boxes n → ⊥)
     → (w : List Dir) (s t : ℕ) → trail b lets s w ≡ Some t → (run b.rows (position_of b s boxes) w ≡ Some (position_of b t boxes)) × (pushes b.rows
     (position_of b s boxes) w ≡ 0)
 run-trail b boxes are lets free [] s t leads = (ap (λ n. Some (position_of b n boxes)) (same_Some s t leads), refl)
@@ -61,14 +61,14 @@ run-trail b boxes are lets free (d ∷ w) s t leads = option_and_then_some (λ u
     ))
 
 -- where legal letters without a push lead
-pub record Arrives (b : Numbered) (boxes : List ℕ) (lets : ℕ → Bool) (s : ℕ) (w : List Dir) (y : Position) : Type 0 where
+pub record Arrives (b : BoardView) (boxes : List ℕ) (lets : ℕ → Bool) (s : ℕ) (w : List Dir) (y : Position) : Type 0 where
   pub to : ℕ
   pub within : to < length b.area
   pub leads : trail b lets s w ≡ Some to
   pub is : y ≡ position_of b to boxes
 
 -- legal letters without a push go over squares from which the position is the same state
-pub trail-run : (b : Numbered) (boxes : List ℕ) → AreBoxes b boxes → (lets : ℕ → Bool) → (w : List Dir) (s : ℕ) (y : Position) → s < length b.area
+pub trail-run : (b : BoardView) (boxes : List ℕ) → AreBoxes b boxes → (lets : ℕ → Bool) → (w : List Dir) (s : ℕ) (y : Position) → s < length b.area
     → ((n : ℕ) → n < length b.area → Same b.rows (position_of b s boxes) (position_of b n boxes) → lets n ≡ true)
     → run b.rows (position_of b s boxes) w ≡ Some y → pushes b.rows (position_of b s boxes) w ≡ 0 → Arrives b boxes lets s w y
 trail-run b boxes are lets [] s y within through e z = record { to = s; within = within; leads = refl; is = sym (same_Some (position_of b s boxes) y e) }
@@ -87,7 +87,7 @@ trail-run b boxes are lets (d ∷ w) s y within through e z =
     record { to = rest.to; within = rest.within; leads = trail-one b lets s u d w on (through u u_within same) ∙ rest.leads; is = rest.is })
 
 -- what each letter keeps, a trail keeps
-pub trail-keeps : (b : Numbered) (lets : ℕ → Bool) (P : ℕ → Type 0)
+pub trail-keeps : (b : BoardView) (lets : ℕ → Bool) (P : ℕ → Type 0)
     → ((s : ℕ) (d : Dir) (t : ℕ) → P s → beside b s d ≡ Some t → lets t ≡ true → P t)
     → (w : List Dir) (s t : ℕ) → P s → trail b lets s w ≡ Some t → P t
 trail-keeps b lets P keeps [] s t holds leads = subst P (same_Some s t leads) holds
@@ -96,5 +96,5 @@ trail-keeps b lets P keeps (d ∷ w) s t holds leads =
     let (through, further) = if_some (lets u) (trail b lets u w) t rest in trail-keeps b lets P keeps w u t (keeps s d u holds on through) further)
 
 -- a square that is let through at the start is let through at the end
-pub trail-lets : (b : Numbered) (lets : ℕ → Bool) (w : List Dir) (s t : ℕ) → lets s ≡ true → trail b lets s w ≡ Some t → lets t ≡ true
+pub trail-lets : (b : BoardView) (lets : ℕ → Bool) (w : List Dir) (s t : ℕ) → lets s ≡ true → trail b lets s w ≡ Some t → lets t ≡ true
 trail-lets b lets = trail-keeps b lets (λ n. lets n ≡ true) (λ s d t _ _ through. through)

@@ -1,6 +1,6 @@
 -- The boxes of a state, laid out over the squares of the area.
 use Rattle.std.specs.Prelude.{ℕ, ◌<◌, ◌↔◌, ◌==◌, List, All, Contains, if◌then◌else◌, length, map}
-use Rattle.sok_board.specs.Area.{Numbered}
+use Rattle.sok_board.specs.Area.{BoardView}
 use Rattle.sok_field.specs.Numbers.{Draws}
 
 -- bit rows with the area, with what boxes leave of it and with the boxes, and a list of the boxes
@@ -11,7 +11,7 @@ pub record Laid : Type 0 where
   pub boxes : List ℕ
 
 -- these are some boxes on squares of the area, in any order
-pub record IsLaidOut (b : Numbered) (boxes : List ℕ) (laid : Laid) : Type 0 where
+pub record IsLaidOut (b : BoardView) (boxes : List ℕ) (laid : Laid) : Type 0 where
   pub area : Draws b (λ n. n < length b.area) laid.area
   pub free : Draws b (λ n. Contains boxes n → ⊥) laid.free
   pub boxed : Draws b (Contains boxes) laid.boxed

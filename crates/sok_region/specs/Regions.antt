@@ -5,31 +5,31 @@ use Rattle.std.specs.List.Sorted.{IsStrictlyIncreasing}
 use Rattle.sok_rules.specs.declared.cell.Dir.{Dir}
 use Rattle.sok_rules.specs.Play.{run, pushes}
 use Rattle.sok_rules.specs.States.{Same}
-use Rattle.sok_board.specs.Area.{Numbered, position_of}
-use Rattle.sok_board.specs.Runs.{word_bits}
+use Rattle.sok_board.specs.Area.{BoardView, position_of}
+use Rattle.sok_board.specs.Spans.{word_bits}
 use Rattle.sok_field.specs.Numbers.{has_number}
 
 -- numbers of squares that make a position: boxes rising, and the player on none of them
-pub record IsPlaced (b : Numbered) (boxes : List ℕ) (player : ℕ) : Type 0 where
+pub record IsPlaced (b : BoardView) (boxes : List ℕ) (player : ℕ) : Type 0 where
   pub rising : IsStrictlyIncreasing boxes
   pub boxes_exist : All (λ n. n < length b.area) boxes
   pub player_exists : player < length b.area
   pub free : Contains boxes player → ⊥
 
 -- the squares from which the position is the same state, rising
-pub record IsRegion (b : Numbered) (boxes : List ℕ) (player : ℕ) (region : List ℕ) : Type 0 where
+pub record IsRegion (b : BoardView) (boxes : List ℕ) (player : ℕ) (region : List ℕ) : Type 0 where
   pub placed : IsPlaced b boxes player
   pub rising : IsStrictlyIncreasing region
   pub exact : (s : ℕ) → Contains region s ↔ ((s < length b.area) × Same b.rows (position_of b player boxes) (position_of b s boxes))
 
 -- the region of some player among some boxes
-pub record IsRegionOf (b : Numbered) (region : List ℕ) : Type 0 where
+pub record IsRegionOf (b : BoardView) (region : List ℕ) : Type 0 where
   pub boxes : List ℕ
   pub player : ℕ
   pub is : IsRegion b boxes player region
 
 -- letters without a push that lead from one square to another
-pub record IsWalkBetween (b : Numbered) (boxes : List ℕ) (from to : ℕ) (w : List Dir) : Type 0 where
+pub record IsWalkBetween (b : BoardView) (boxes : List ℕ) (from to : ℕ) (w : List Dir) : Type 0 where
   pub leads : run b.rows (position_of b from boxes) w ≡ Some (position_of b to boxes)
   pub quiet : pushes b.rows (position_of b from boxes) w ≡ 0
 

@@ -4,7 +4,7 @@ use Rattle.sok_rules.specs.declared.cell.Dir.{Dir}
 use Rattle.sok_rules.specs.Squares.{Rows}
 use Rattle.sok_rules.specs.Play.{Position, run, pushes}
 use Rattle.sok_rules.specs.States.{Same}
-use Rattle.sok_board.specs.Area.{Numbered, InArea, position_of}
+use Rattle.sok_board.specs.Area.{BoardView, InArea, position_of}
 use Rattle.sok_region.specs.Regions.{IsPlaced}
 
 abbrev pub IsReflexive : Rows → Type 0
@@ -21,7 +21,7 @@ abbrev pub KeepsBoxes : Rows → Type 0
 KeepsBoxes rows = (x y : Position) (w : List Dir) → run rows x w ≡ Some y → pushes rows x w ≡ 0 → y.boxes ≡ x.boxes
 
 -- the player stays in the area, on a square with a number
-abbrev pub KeepsNumbers : Numbered → Type 0
+abbrev pub KeepsNumbers : BoardView → Type 0
 KeepsNumbers b =
     (boxes : List ℕ) (player : ℕ) (y : Position) → IsPlaced b boxes player → Same b.rows (position_of b player boxes) y
     → (square : ℕ) × IsPlaced b boxes square × (y ≡ position_of b square boxes)

@@ -2,7 +2,7 @@
 
 ghost use Rattle.sok_rules.specs.Squares.{Rows};
 ghost use Rattle.sok_rules.specs.Levels.{IsProper};
-ghost use Rattle.sok_board.specs.Area.{Numbered, IsArea};
+ghost use Rattle.sok_board.specs.Area.{BoardView, IsArea};
 ghost use Rattle.sok_region.specs.States.{IsReflexive, IsTransitive, IsSymmetric, KeepsBoxes};
 ghost use Rattle.sok_region.specs.States.{KeepsNumbers};
 
@@ -21,5 +21,5 @@ pub fn walks_keep_boxes()
 
 /// Letters without a push keep the player on squares of the area without a box.
 pub fn walks_keep_numbers()
-    ensures { (b : Numbered) → IsProper b.rows → IsArea b.rows b.area → KeepsNumbers b }
+    ensures { (b : BoardView) → IsProper b.rows → IsArea b.rows b.area → KeepsNumbers b }
 {}

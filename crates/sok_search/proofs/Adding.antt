@@ -3,7 +3,7 @@ use Rattle.std.proofs.Common.{ℕ, ◌≡◌, ◌<◌, ◌≤◌, ◌+◌, ◌�
 use Rattle.std.specs.Map.{keys_of, values_of}
 use Rattle.std.proofs.lemmas.List.{map-append}
 use Rattle.std.proofs.lemmas.Option.{none-some}
-use Rattle.sok_board.specs.Area.{Numbered, IsAccepted}
+use Rattle.sok_board.specs.Area.{BoardView, IsAccepted}
 use Rattle.sok_state.specs.declared.key.Key.{Key}
 use Rattle.sok_state.specs.declared.push.Push.{Push}
 use Rattle.sok_state.specs.declared.scene.Scene.{Scene}
@@ -13,7 +13,7 @@ use Rattle.sok_state.specs.Tables.{Entries, Enters, GoesLast, IsAt}
 use Rattle.sok_search.specs.declared.note.Note.{Note}
 use Rattle.sok_search.specs.Searches.{Frame, Progress, IsNoted, IsSearch}
 use Rattle.sok_search.specs.Steps.{IsAdded, IsListed, Queues, holding}
-use Rattle.sok_search.proofs.Knowing.{key-within, noted-at}
+use Rattle.sok_search.proofs.StatesByIndex.{key-within, noted-at}
 
 -- a state that went last into the table, and is noted, is added
 pub added-made : (p : Progress) (frame : Frame) (table : Entries) (q : Progress) (key : Key) (depth index : ℕ) (note : Note) → frame ≡ p.frame
@@ -36,23 +36,23 @@ first-last old new key depth index true none last = subst (λ es. GoesLast es ke
 first-last old new key depth index false none stays = absurd (none-some key (subst (λ es. IsAt es key index) none stays.there))
 
 -- the state that was taken
-pub record IsTaken (b : Numbered) (p : Progress) (index : ℕ) (key : Key) (depth : ℕ) : Type 0 where
+pub record IsTaken (b : BoardView) (p : Progress) (index : ℕ) (key : Key) (depth : ℕ) : Type 0 where
   pub note : Note
   pub note_is : slice_get p.notes index ≡ Some note
   pub noted : IsNoted b (holding index p) index key depth note
 
-pub taken : (b : Numbered) (limit index : ℕ) (p : Progress) (key : Key) (depth : ℕ) → IsSearch b limit (holding index p) → IsAt p.table key index
+pub taken : (b : BoardView) (limit index : ℕ) (p : Progress) (key : Key) (depth : ℕ) → IsSearch b limit (holding index p) → IsAt p.table key index
     → slice_get (values_of p.table) index ≡ Some depth → IsTaken b p index key depth
 taken b limit index p key depth search there depth_is =
     let (note, note_is, noted) = noted-at b limit (holding index p) search index key depth there depth_is in
     record { note = note; note_is = note_is; noted = noted }
 
-pub taken-key : (b : Numbered) (limit index : ℕ) (p : Progress) (key : Key) (depth : ℕ) → IsSearch b limit (holding index p) → IsAt p.table key index
+pub taken-key : (b : BoardView) (limit index : ℕ) (p : Progress) (key : Key) (depth : ℕ) → IsSearch b limit (holding index p) → IsAt p.table key index
     → slice_get (values_of p.table) index ≡ Some depth → IsKey b key
 taken-key b limit index p key depth search there depth_is = (taken b limit index p key depth search there depth_is).noted.state
 
 -- so a push from it can be made
-pub taken-pushable : (b : Numbered) → IsAccepted b → (limit index : ℕ) (p : Progress) (key : Key) (depth : ℕ) → IsSearch b limit (holding index p)
+pub taken-pushable : (b : BoardView) → IsAccepted b → (limit index : ℕ) (p : Progress) (key : Key) (depth : ℕ) → IsSearch b limit (holding index p)
     → IsAt p.table key index → slice_get (values_of p.table) index ≡ Some depth → (push : Push) → IsLegal b key push → (scene : Scene)
     → IsOpened b key scene → IsPushable b push scene key
 taken-pushable b accepted limit index p key depth search there depth_is push legal scene opened =
@@ -62,7 +62,7 @@ taken-pushable b accepted limit index p key depth search there depth_is push leg
     record { state = one.noted.state; few = omega (arith, as_many, few); legal = legal; opened = opened }
 
 -- its depth is below the limit
-pub taken-deep : (b : Numbered) (limit index : ℕ) (p : Progress) (key : Key) (depth : ℕ) → IsSearch b limit (holding index p) → IsAt p.table key index
+pub taken-deep : (b : BoardView) (limit index : ℕ) (p : Progress) (key : Key) (depth : ℕ) → IsSearch b limit (holding index p) → IsAt p.table key index
     → slice_get (values_of p.table) index ≡ Some depth → depth + 1 ≤ limit
 taken-deep b limit index p key depth search there depth_is =
     let shallow = (taken b limit index p key depth search there depth_is).noted.shallow in
@@ -71,7 +71,7 @@ taken-deep b limit index p key depth search there depth_is =
     omega (arith, shallow, within, few)
 
 -- where a key stands, a note stands
-pub note-within : (b : Numbered) (limit index : ℕ) (p : Progress) → IsSearch b limit (holding index p) → (at : ℕ) (key : Key) → IsAt p.table key at
+pub note-within : (b : BoardView) (limit index : ℕ) (p : Progress) → IsSearch b limit (holding index p) → (at : ℕ) (key : Key) → IsAt p.table key at
     → at < length p.notes
 note-within b limit index p search at key there =
     let within = key-within p at key there in

@@ -3,7 +3,7 @@ use Rattle.std.proofs.Common.{ℕ, ◌≡◌, sym, subst, List, Option, None, So
 use Rattle.std.specs.Option.{is_some}
 use Rattle.sok_rules.specs.Play.{Position}
 use Rattle.sok_rules.specs.States.{Same}
-use Rattle.sok_board.specs.Area.{Numbered, IsAccepted, beside}
+use Rattle.sok_board.specs.Area.{BoardView, IsAccepted, beside}
 use Rattle.sok_board.specs.BoxSets.{put_in_order}
 use Rattle.sok_board.proofs.Moves.{IsMoved-put}
 use Rattle.sok_region.specs.Regions.{IsPlaced}
@@ -26,12 +26,12 @@ use Rattle.sok_search.proofs.LeavingOut.{lost-nowhere}
 use Rattle.sok_search.proofs.Pushing.{pushed-knowing}
 use Rattle.sok_state.proofs.Stepped.{ComesNext, next-made, next_of, placed-after}
 
-pub tells-knowing : (b : Numbered) (limit : ℕ) (p : Progress) (losses : Losses) (index : ℕ) (key : Key) (depth : ℕ) (push : Push) (q : Progress) (r : Reached)
+pub tells-knowing : (b : BoardView) (limit : ℕ) (p : Progress) (losses : Losses) (index : ℕ) (key : Key) (depth : ℕ) (push : Push) (q : Progress) (r : Reached)
     → TellsReached b limit (knowing losses p) index key depth push q r → TellsReached b limit p index key depth push q r
 tells-knowing b limit p losses index key depth push q On pushed = pushed-knowing b limit (holding index p) losses key depth push (holding index q) pushed
 tells-knowing b limit p losses index key depth push q Full more = more
 
-module _ (b : Numbered) (accepted : IsAccepted b) (key : Key) (push : Push) (to : ℕ) (scene : Scene) (can : IsPushable b push scene key)
+module _ (b : BoardView) (accepted : IsAccepted b) (key : Key) (push : Push) (to : ℕ) (scene : Scene) (can : IsPushable b push scene key)
     (ahead : beside b push.from push.dir ≡ Some to) where
   abbrev after : List ℕ
   after = put_in_order push.from to key.boxes

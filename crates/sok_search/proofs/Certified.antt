@@ -4,12 +4,12 @@ use Rattle.std.proofs.Common.{Contains, arith, length, slice_get}
 use Rattle.std.proofs.lemmas.List.{length-append}
 use Rattle.std.proofs.lemmas.List.Elements.{All-append, All-cons, All-push, All-weaker}
 use Rattle.std.proofs.lemmas.Option.{same_Some, slice_get_within}
-use Rattle.sok_board.specs.Area.{Numbered, IsAccepted}
+use Rattle.sok_board.specs.Area.{BoardView, IsAccepted}
 use Rattle.sok_cert.specs.Claim.{Claim}
 use Rattle.sok_cert.specs.Claim.TheVariants.{Pushes}
 use Rattle.sok_cert.specs.Entry.{Entry}
 use Rattle.sok_cert.specs.Text.{FitsEntry, FitsReason, IsSmall, numbers_of_position, numbers_of_reason}
-use Rattle.sok_region.proofs.Floods.{slice_get-push_cases}
+use Rattle.sok_board.proofs.Lists.{slice_get-push_cases}
 use Rattle.sok_state.specs.declared.key.Key.{Key}
 use Rattle.sok_alone.specs.Losses.{losses_of}
 use Rattle.sok_search.specs.declared.note.Note.{Note}
@@ -19,7 +19,7 @@ use Rattle.sok_search.specs.Finished.{AreDone, AreFirstEntries, AreTaken, HasTex
 use Rattle.sok_search.specs.Halted.{IsLeastOpen}
 use Rattle.sok_search.specs.Limits.{state_limit}
 use Rattle.sok_search.specs.Searches.{Progress, IsBeaten, IsSearch, IsState, Stands}
-use Rattle.sok_search.proofs.Knowing.{key-within}
+use Rattle.sok_search.proofs.StatesByIndex.{key-within}
 
 none_waits : (queue : List ℕ) (i : ℕ) → queue ≡ [] → Contains queue i → ⊥
 none_waits queue i none (k, within, is) = let empty = ap length none in omega (arith, empty, within)
@@ -29,7 +29,7 @@ beaten-at_most None n none = none
 beaten-at_most (Some k) n beaten = beaten
 
 -- where nothing waits, each state is done with
-stands-done : (b : Numbered) (p : Progress) (i : ℕ) (key : Key) (depth : ℕ) → p.queue ≡ [] → (s : Standing) → Stands b p i key depth s
+stands-done : (b : BoardView) (p : Progress) (i : ℕ) (key : Key) (depth : ℕ) → p.queue ≡ [] → (s : Standing) → Stands b p i key depth s
     → IsDone b (claim_of p.best) (losses_of p.frame.losses) key.least key.boxes depth s
 stands-done b p i key depth none (Open bound) (prices, inl waits) = absurd (none_waits p.queue i none waits)
 stands-done b p i key depth none (Open bound) (prices, inr beaten) = (bound, prices, beaten-at_most p.best (depth + bound) beaten)
@@ -37,14 +37,14 @@ stands-done b p i key depth none (Expanded bound) stands = tt
 stands-done b p i key depth none Dead dead = dead
 stands-done b p i key depth none (Lost place) lost = lost
 
-pub done-finished : (b : Numbered) (limit : ℕ) (p : Progress) (claim : Claim) → IsSearch b limit p → p.queue ≡ [] → claim ≡ claim_of p.best
+pub done-finished : (b : BoardView) (limit : ℕ) (p : Progress) (claim : Claim) → IsSearch b limit p → p.queue ≡ [] → claim ≡ claim_of p.best
     → AreDone b claim p
 done-finished b limit p claim search none is i key depth note state =
     subst (λ c. IsDone b c (losses_of p.frame.losses) key.least key.boxes depth note.standing) (sym is)
     (stands-done b p i key depth none note.standing (search.noted i key depth note state).stands)
 
 -- so it is for what no open state needs less of
-stands-least : (b : Numbered) (p : Progress) (i : ℕ) (key : Key) (depth least : ℕ) (s : Standing)
+stands-least : (b : BoardView) (p : Progress) (i : ℕ) (key : Key) (depth least : ℕ) (s : Standing)
     → ((bound : ℕ) → s ≡ Open bound → least ≤ depth + bound) → Stands b p i key depth s
     → IsDone b (Pushes least) (losses_of p.frame.losses) key.least key.boxes depth s
 stands-least b p i key depth least (Open bound) enough (prices, stands) = (bound, prices, enough bound refl)
@@ -52,14 +52,14 @@ stands-least b p i key depth least (Expanded bound) enough stands = tt
 stands-least b p i key depth least Dead enough dead = dead
 stands-least b p i key depth least (Lost place) enough lost = lost
 
-pub done-least : (b : Numbered) (limit : ℕ) (p : Progress) (least : ℕ) → IsSearch b limit p → IsLeastOpen p least → AreDone b (Pushes least) p
+pub done-least : (b : BoardView) (limit : ℕ) (p : Progress) (least : ℕ) → IsSearch b limit p → IsLeastOpen p least → AreDone b (Pushes least) p
 done-least b limit p least search of_all i key depth note state =
     stands-least b p i key depth least note.standing (λ bound is. of_all.below i (depth + bound) (key-within p i key state.there)
     (record { key = key; depth = depth; note = note; state = state; bound = bound; is_open = is; needs = refl }))
     (search.noted i key depth note state).stands
 
 -- it has a text
-pub entry-fits : (b : Numbered) → IsAccepted b → (limit : ℕ) (p : Progress) (i : ℕ) (key : Key) (depth : ℕ) (note : Note) (e : Entry) → IsSearch b limit p
+pub entry-fits : (b : BoardView) → IsAccepted b → (limit : ℕ) (p : Progress) (i : ℕ) (key : Key) (depth : ℕ) (note : Note) (e : Entry) → IsSearch b limit p
     → limit ≤ state_limit → IsState p i key depth note → e.depth ≡ depth
     → e.player ≡ key.least → e.boxes ≡ key.boxes → HasText key.boxes e.reason → FitsEntry e
 entry-fits b accepted limit p i key depth note e search small state depth_is player_is boxes_are text =
@@ -86,7 +86,7 @@ entry-fits b accepted limit p i key depth note e search small state depth_is pla
     }
 
 -- what stands at an index is one state alone
-pub entry-at : (b : Numbered) (claim : Claim) (p : Progress) (i : ℕ) (key : Key) (depth : ℕ) (note : Note) (e : Entry) → IsState p i key depth note
+pub entry-at : (b : BoardView) (claim : Claim) (p : Progress) (i : ℕ) (key : Key) (depth : ℕ) (note : Note) (e : Entry) → IsState p i key depth note
     → IsEntryOf b claim key depth note e → IsEntryAt b claim p i e
 entry-at b claim p i key depth note e state entry other deep noted also =
     let keys = same_Some key other (sym state.there ∙ also.there) in
@@ -96,13 +96,13 @@ entry-at b claim p i key depth note e state entry other deep noted also =
     (subst (λ d. IsEntryOf b claim key d noted e) depths (subst (λ n. IsEntryOf b claim key depth n e) notes entry))
 
 -- no entries, and one more
-first-none : (b : Numbered) (claim : Claim) (p : Progress) → AreFirstEntries b claim p 0 []
+first-none : (b : BoardView) (claim : Claim) (p : Progress) → AreFirstEntries b claim p 0 []
 first-none b claim p = record { as_many = refl; each = λ i key depth note e state there. absurd (empty i e there) }
   where
     empty : (i : ℕ) (e : Entry) → slice_get [] i ≡ Some e → ⊥
     empty i e there = let within = slice_get_within [] i e there in omega (arith, within)
 
-first-more : (b : Numbered) (claim : Claim) (p : Progress) (n : ℕ) (entries : List Entry) (e : Entry) → AreFirstEntries b claim p n entries
+first-more : (b : BoardView) (claim : Claim) (p : Progress) (n : ℕ) (entries : List Entry) (e : Entry) → AreFirstEntries b claim p n entries
     → IsEntryAt b claim p n e → AreFirstEntries b claim p (n + 1) (entries ++ e ∷ [])
 first-more b claim p n entries e are one = record {
   as_many = let longer = length-append entries (e ∷ []) in let long = are.as_many in omega (arith, longer, long);
@@ -115,11 +115,11 @@ first-more b claim p n entries e are one = record {
 }
 
 -- none were taken, and one more
-pub taken-none : (Took : List Entry → Type 0) (b : Numbered) (claim : Claim) (p : Progress) → Took [] → AreTaken Took b claim p 0
+pub taken-none : (Took : List Entry → Type 0) (b : BoardView) (claim : Claim) (p : Progress) → Took [] → AreTaken Took b claim p 0
 taken-none Took b claim p took =
     record { entries = []; took = took; first = first-none b claim p; fit = λ k d within. absurd (omega (arith, within)) }
 
-pub taken-more : (Took Takes : List Entry → Type 0) (b : Numbered) (claim : Claim) (p : Progress) (n : ℕ) → AreTaken Took b claim p n
+pub taken-more : (Took Takes : List Entry → Type 0) (b : BoardView) (claim : Claim) (p : Progress) (n : ℕ) → AreTaken Took b claim p n
     → TakesEntry Took Takes b claim p n → AreTaken Takes b claim p (n + 1)
 taken-more Took Takes b claim p n taken more = record {
   entries = taken.entries ++ more.entry ∷ [];

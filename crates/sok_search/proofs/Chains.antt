@@ -8,7 +8,7 @@ use Rattle.sok_rules.specs.Play.{After, Position, one_if, pushes, run, start, st
 use Rattle.sok_rules.specs.States.{Same}
 use Rattle.sok_rules.proofs.Runs.{pushes-append, run-append}
 use Rattle.sok_rules.proofs.Walking.{Same-trans}
-use Rattle.sok_board.specs.Area.{Numbered}
+use Rattle.sok_board.specs.Area.{BoardView}
 use Rattle.sok_state.specs.declared.key.Key.{Key}
 use Rattle.sok_state.specs.declared.push.Push.{Push}
 use Rattle.sok_state.specs.Keys.{IsKeyOf, key_position}
@@ -16,10 +16,10 @@ use Rattle.sok_state.specs.Pushes.{LeadsTo}
 use Rattle.sok_state.specs.Tables.{IsAt}
 use Rattle.sok_search.specs.declared.note.Origin.{Origin}
 use Rattle.sok_search.specs.Searches.{Progress, IsCome, IsSearch}
-use Rattle.sok_search.proofs.Knowing.{noted-at}
+use Rattle.sok_search.proofs.StatesByIndex.{noted-at}
 
 -- a list of letters from the start that comes to a position of the state, with at most so many pushes
-pub record IsReached (b : Numbered) (key : Key) (n : ℕ) : Type 0 where
+pub record IsReached (b : BoardView) (key : Key) (n : ℕ) : Type 0 where
   pub letters : List Dir
   pub to : Position
   pub leads : run b.rows (start b.rows) letters ≡ Some to
@@ -41,7 +41,7 @@ pushes-push rows x y z d same steps =
     pushes-append rows same.0 (d ∷ []) x y same.1 ∙ omega (arith, one, quiet)
 
 -- one push more
-pub reached-more : (b : Numbered) (key next : Key) (n : ℕ) (push : Push) (after : Position) → IsReached b key n → LeadsTo b key push after
+pub reached-more : (b : BoardView) (key next : Key) (n : ℕ) (push : Push) (after : Position) → IsReached b key n → LeadsTo b key push after
     → IsKeyOf b after next → IsReached b next (n + 1)
 reached-more b key next n push after reached leads is =
     let walk : Same b.rows reached.to leads.before = Same-trans b.rows reached.to (key_position b key) leads.before reached.is.same leads.same in
@@ -58,19 +58,19 @@ reached-more b key next n push after reached leads is =
       few = omega (arith, sum, one, few);
     }
 
-reached-deeper : (b : Numbered) (key : Key) (n m : ℕ) → n ≤ m → IsReached b key n → IsReached b key m
+reached-deeper : (b : BoardView) (key : Key) (n m : ℕ) → n ≤ m → IsReached b key n → IsReached b key m
 reached-deeper b key n m less reached =
     let few = reached.few in
     record { letters = reached.letters; to = reached.to; leads = reached.leads; is = reached.is; few = omega (arith, few, less) }
 
-reached-start : (b : Numbered) (key : Key) (n : ℕ) → IsKeyOf b (start b.rows) key → IsReached b key n
+reached-start : (b : BoardView) (key : Key) (n : ℕ) → IsKeyOf b (start b.rows) key → IsReached b key n
 reached-start b key n is = record { letters = []; to = start b.rows; leads = refl; is = is; few = omega arith }
 
 -- by the origins, as the depths fall
-abbrev AllReached : Numbered → Progress → ℕ → Type 0
+abbrev AllReached : BoardView → Progress → ℕ → Type 0
 AllReached b p n = (i : ℕ) (key : Key) (depth : ℕ) → IsAt p.table key i → slice_get (values_of p.table) i ≡ Some depth → depth ≤ n → IsReached b key depth
 
-reached-come : (b : Numbered) (p : Progress) (n : ℕ) → AllReached b p n → (key : Key) (depth : ℕ) → depth ≤ n + 1 → (origin : Option Origin)
+reached-come : (b : BoardView) (p : Progress) (n : ℕ) → AllReached b p n → (key : Key) (depth : ℕ) → depth ≤ n + 1 → (origin : Option Origin)
     → IsCome b p key depth origin → IsReached b key depth
 reached-come b p n all key depth near None is = reached-start b key depth is
 reached-come b p n all key depth near (Some origin) from =
@@ -80,19 +80,19 @@ reached-come b p n all key depth near (Some origin) from =
     (reached-more b from.parent key from.deep origin.push from.after before from.leads from.is)
 
 -- nothing is come to at depth 0 but the start
-reached-first : (b : Numbered) (p : Progress) (key : Key) (depth : ℕ) → depth ≤ 0 → (origin : Option Origin) → IsCome b p key depth origin
+reached-first : (b : BoardView) (p : Progress) (key : Key) (depth : ℕ) → depth ≤ 0 → (origin : Option Origin) → IsCome b p key depth origin
     → IsReached b key depth
 reached-first b p key depth near None is = reached-start b key depth is
 reached-first b p key depth near (Some origin) from = let nearer = from.nearer in absurd (omega (arith, nearer, near))
 
 -- the note at the index of a key
-come-at : (b : Numbered) (limit : ℕ) (p : Progress) → IsSearch b limit p → (i : ℕ) (key : Key) (depth : ℕ) → IsAt p.table key i
+come-at : (b : BoardView) (limit : ℕ) (p : Progress) → IsSearch b limit p → (i : ℕ) (key : Key) (depth : ℕ) → IsAt p.table key i
     → slice_get (values_of p.table) i ≡ Some depth → (origin : Option Origin) × IsCome b p key depth origin
 come-at b limit p search i key depth there depth_is =
     let (note, note_is, noted) = noted-at b limit p search i key depth there depth_is in
     (note.origin, noted.come)
 
-all-reached : (b : Numbered) (limit : ℕ) (p : Progress) → IsSearch b limit p → (n : ℕ) → AllReached b p n
+all-reached : (b : BoardView) (limit : ℕ) (p : Progress) → IsSearch b limit p → (n : ℕ) → AllReached b p n
 all-reached b limit p search zero i key depth there depth_is near =
     let (origin, come) = come-at b limit p search i key depth there depth_is in
     reached-first b p key depth near origin come
@@ -101,6 +101,6 @@ all-reached b limit p search (suc n) i key depth there depth_is near =
     reached-come b p n (all-reached b limit p search n) key depth (omega (arith, near)) origin come
 
 -- each known state is reached with no more pushes than it is deep
-pub state-reached : (b : Numbered) (limit : ℕ) (p : Progress) → IsSearch b limit p → (i : ℕ) (key : Key) (depth : ℕ) → IsAt p.table key i
+pub state-reached : (b : BoardView) (limit : ℕ) (p : Progress) → IsSearch b limit p → (i : ℕ) (key : Key) (depth : ℕ) → IsAt p.table key i
     → slice_get (values_of p.table) i ≡ Some depth → IsReached b key depth
 state-reached b limit p search i key depth there depth_is = all-reached b limit p search depth i key depth there depth_is (omega arith)

@@ -6,9 +6,8 @@ use Rattle.std.specs.Map.{keys_of, values_of}
 use Rattle.std.proofs.lemmas.Option.{none-some, same_Some, slice_get_within}
 use Rattle.std.proofs.lemmas.Bool.{cases_eq}
 use Rattle.std.proofs.lemmas.List.{get_or_default, length-append, length-map, length-set}
-use Rattle.sok_board.specs.Area.{Numbered, boxes_of}
-use Rattle.sok_board.proofs.Lists.{AllPairs-append}
-use Rattle.sok_region.proofs.Floods.{slice_get-append, slice_get-push_cases}
+use Rattle.sok_board.specs.Area.{BoardView, boxes_of}
+use Rattle.sok_board.proofs.Lists.{AllPairs-append, slice_get-append, slice_get-push_cases}
 use Rattle.sok_state.specs.Keys.{IsKey}
 use Rattle.sok_state.specs.declared.key.Key.{Key}
 use Rattle.sok_state.specs.Tables.{Entries, HasDistinctKeys}
@@ -17,8 +16,8 @@ use Rattle.sok_search.specs.declared.note.Standing.{Standing}
 use Rattle.sok_search.specs.declared.note.Standing.TheVariants.{Open, Expanded, Dead, Lost}
 use Rattle.sok_search.specs.Searches.{Progress, IsBeaten, IsCome, IsNoted, IsSearch, IsSolvedIn, IsState, Stands}
 use Rattle.sok_search.specs.Steps.{Grows, IsAdded, IsChanged, IsJudgedIn, Queues}
-use Rattle.sok_search.proofs.Knowing.{key-within}
-use Rattle.sok_search.proofs.Keeping.{come-along, IsUnchanged, best-along, keeps, later-same}
+use Rattle.sok_search.proofs.StatesByIndex.{key-within}
+use Rattle.sok_search.proofs.Invariant.{come-along, IsUnchanged, best-along, keeps, later-same}
 
 -- an element of a list that has another at one place
 pub set_cases : {X : Type 0} (xs : List X) (j : ℕ) (y : X) (i : ℕ) (x : X) → slice_get (set xs j y) i ≡ Some x
@@ -67,7 +66,7 @@ queues-cases Dead index old new queues i waits = inr (subst (λ queue. Contains 
 queues-cases (Lost place) index old new queues i waits = inr (subst (λ queue. Contains queue i) queues waits)
 
 -- a state that is judged stands, once it waits
-pub stands-judged : (b : Numbered) (q : Progress) (old : List ℕ) (i : ℕ) (key : Key) (depth : ℕ) (s : Standing)
+pub stands-judged : (b : BoardView) (q : Progress) (old : List ℕ) (i : ℕ) (key : Key) (depth : ℕ) (s : Standing)
     → IsJudgedIn b q.frame key s → Queues s i old q.queue → Stands b q i key depth s
 stands-judged b q old i key depth (Open bound) prices queues = (prices, inl ((queues.exact i).1 (inl refl)))
 stands-judged b q old i key depth (Expanded bound) none queues = absurd none
@@ -75,14 +74,14 @@ stands-judged b q old i key depth Dead dead queues = dead
 stands-judged b q old i key depth (Lost place) lost queues = lost
 
 -- a new state, before it is added
-pub record IsFit (b : Numbered) (p : Progress) (i : ℕ) (key : Key) (depth : ℕ) (note : Note) : Type 0 where
+pub record IsFit (b : BoardView) (p : Progress) (i : ℕ) (key : Key) (depth : ℕ) (note : Note) : Type 0 where
   pub state : IsKey b key
   pub as_many : length key.boxes ≡ length (boxes_of b)
   pub shallow : depth ≤ i
   pub come : IsCome b p key depth note.origin
   pub judged : IsJudgedIn b p.frame key note.standing
 
-fit-noted : (b : Numbered) (p q : Progress) (i : ℕ) (key : Key) (depth : ℕ) (note : Note) → q.frame ≡ p.frame → Grows p.table q.table
+fit-noted : (b : BoardView) (p q : Progress) (i : ℕ) (key : Key) (depth : ℕ) (note : Note) → q.frame ≡ p.frame → Grows p.table q.table
     → Queues note.standing i p.queue q.queue
     → IsFit b p i key depth note → IsNoted b q i key depth note
 fit-noted b p q i key depth note same grows queues fit = record {
@@ -93,10 +92,10 @@ fit-noted b p q i key depth note same grows queues fit = record {
   stands = stands-judged b q p.queue i key depth note.standing (subst (λ frame. IsJudgedIn b frame key note.standing) (sym same) fit.judged) queues;
 }
 
-same_best : (b : Numbered) (p q : Progress) → q.best ≡ p.best → (n : ℕ) → IsBeaten p.best n → IsBeaten q.best n
+same_best : (b : BoardView) (p q : Progress) → q.best ≡ p.best → (n : ℕ) → IsBeaten p.best n → IsBeaten q.best n
 same_best b p q same n beaten = subst (λ best. IsBeaten best n) (sym same) beaten
 
-best-of : (b : Numbered) (p q : Progress) → Grows p.table q.table → q.best ≡ p.best → IfSome p.best (IsSolvedIn b p) → IfSome q.best (IsSolvedIn b q)
+best-of : (b : BoardView) (p q : Progress) → Grows p.table q.table → q.best ≡ p.best → IfSome p.best (IsSolvedIn b p) → IfSome q.best (IsSolvedIn b q)
 best-of b p q grows same best = subst (λ o. IfSome o (IsSolvedIn b q)) (sym same) (best-along b p q grows p.best best)
 
 differs : (keys : List Key) (key : Key) → (Contains keys key → ⊥) → All (λ k. All (λ other. k ≢ other) (key ∷ [])) keys
@@ -111,7 +110,7 @@ key_count table = length-map table (λ (entry : Key × ℕ). entry.0)
 pub depth_count : (table : Entries) → length (values_of table) ≡ length table
 depth_count table = length-map table (λ (entry : Key × ℕ). entry.1)
 
-module _ (b : Numbered) (limit : ℕ) (p q : Progress) (key : Key) (depth : ℕ) (note : Note) (search : IsSearch b limit p)
+module _ (b : BoardView) (limit : ℕ) (p q : Progress) (key : Key) (depth : ℕ) (note : Note) (search : IsSearch b limit p)
     (added : IsAdded p key depth note q) where
   pub added-grows : Grows p.table q.table
   added-grows = record {
@@ -190,7 +189,7 @@ module _ (b : Numbered) (limit : ℕ) (p q : Progress) (key : Key) (depth : ℕ)
         each = added-cases fit;
       })
 
-module _ (b : Numbered) (limit : ℕ) (p q : Progress) (index : ℕ) (key : Key) (old depth : ℕ) (was note : Note) (search : IsSearch b limit p)
+module _ (b : BoardView) (limit : ℕ) (p q : Progress) (index : ℕ) (key : Key) (old depth : ℕ) (was note : Note) (search : IsSearch b limit p)
     (state : IsState p index key old was) (lower : depth ≤ old) (changed : IsChanged p index depth note q) where
   pub changed-grows : Grows p.table q.table
   changed-grows = record {

@@ -4,7 +4,7 @@ use Rattle.sok_rules.specs.declared.cell.Dir.{Dir}
 use Rattle.sok_rules.specs.Play.{AtLeast, IsUnsolvable}
 use Rattle.sok_rules.specs.States.{MoreStatesThan}
 use Rattle.sok_rules.specs.Squares.{Rows}
-use Rattle.sok_board.specs.Area.{Numbered, IsAccepted}
+use Rattle.sok_board.specs.Area.{BoardView, IsAccepted}
 use Rattle.sok_board.proofs.OneRefusal.{IsAccepted-one}
 use Rattle.sok_cert.specs.Claim.{Claim}
 use Rattle.sok_cert.specs.Claim.TheVariants as claim
@@ -18,40 +18,40 @@ use Rattle.sok_search.specs.Halted.{IsLeastOpen}
 use Rattle.sok_search.specs.Limits.{state_limit}
 use Rattle.sok_search.specs.Outcomes.{Certifies, OfClaim, HasSearched, IsCutShort, IsLeastSolution, IsShownSolved, IsShownUnsolvable, ShowsLeast}
 use Rattle.sok_search.specs.Searches.{Progress, IsSearch}
-use Rattle.sok_search.specs.Trails.{IsSolvedAt, IsSolvedWith, IsSolvedWithin, IsSolvingTrace, TracesBack}
+use Rattle.sok_search.specs.Walkthroughs.{IsSolvedAt, IsSolvedWith, IsSolvedWithin, IsSolvingTrace, TracesBack}
 use Rattle.sok_search.proofs.Certified.{done-finished, done-least}
 use Rattle.sok_search.proofs.Finishing.{entries-closed}
-use Rattle.sok_search.proofs.Knowing.{key-within, noted-at}
-use Rattle.sok_search.proofs.Showing.{shows}
+use Rattle.sok_search.proofs.StatesByIndex.{key-within, noted-at}
+use Rattle.sok_search.proofs.Shown.{shows}
 
 -- a search that has come to its end
-pub searched : (b : Numbered) (limit : ℕ) (p : Progress) (best : Option ℕ) → IsSearch b limit p → p.queue ≡ [] → p.best ≡ best
+pub searched : (b : BoardView) (limit : ℕ) (p : Progress) (best : Option ℕ) → IsSearch b limit p → p.queue ≡ [] → p.best ≡ best
     → HasSearched b.rows limit best
 searched b limit p best search finished is =
     record { board = b; rows_are = refl; known = p; search = search; finished = finished; best_is = is }
 
 -- the index of a solved state is one of the notes
-pub solved-noted : (b : Numbered) (limit : ℕ) (p : Progress) (k index : ℕ) → IsSearch b limit p → IsSolvedAt b p k index → index < length p.notes
+pub solved-noted : (b : BoardView) (limit : ℕ) (p : Progress) (k index : ℕ) → IsSearch b limit p → IsSolvedAt b p k index → index < length p.notes
 solved-noted b limit p k index search solved =
     let within = key-within p index solved.key solved.there in
     let notes = search.a_note_each in
     omega (arith, within, notes)
 
-pub solving-trace : (b : Numbered) (limit : ℕ) (p : Progress) (k index : ℕ) (trace : List Push) → IsSearch b limit p → IsSolvedAt b p k index
+pub solving-trace : (b : BoardView) (limit : ℕ) (p : Progress) (k index : ℕ) (trace : List Push) → IsSearch b limit p → IsSolvedAt b p k index
     → TracesBack p index trace → IsSolvingTrace b trace
 solving-trace b limit p k index trace search solved traces =
     let one = traces b limit solved.key solved.depth search solved.there solved.depth_is in
     record { from = one.from; is = one.is; to = solved.key; lead = one.lead; solved = solved.solved }
 
 -- a state is less deep than there are states
-less-deep : (b : Numbered) (limit : ℕ) (p : Progress) (k index : ℕ) → IsSearch b limit p → (solved : IsSolvedAt b p k index) → solved.depth < length p.table
+less-deep : (b : BoardView) (limit : ℕ) (p : Progress) (k index : ℕ) → IsSearch b limit p → (solved : IsSolvedAt b p k index) → solved.depth < length p.table
 less-deep b limit p k index search solved =
     let within = key-within p index solved.key solved.there in
     let (note, note_is, noted) = noted-at b limit p search index solved.key solved.depth solved.there solved.depth_is in
     let shallow = noted.shallow in
     omega (arith, shallow, within)
 
-pub solved-within : (b : Numbered) (limit : ℕ) (p : Progress) (k index : ℕ) (trace : List Push) (w : List Dir) → IsSearch b limit p → IsSolvedAt b p k index
+pub solved-within : (b : BoardView) (limit : ℕ) (p : Progress) (k index : ℕ) (trace : List Push) (w : List Dir) → IsSearch b limit p → IsSolvedAt b p k index
     → TracesBack p index trace → IsSolvedWith b (length trace) w
     → IsSolvedWithin b (length p.table) k w
 solved-within b limit p k index trace w search solved traces with_pushes =
@@ -60,7 +60,7 @@ solved-within b limit p k index trace w search solved traces with_pushes =
     let less = less-deep b limit p k index search solved in
     record { n = length trace; solved = with_pushes; near = omega (arith, few, shallow); small = omega (arith, few, less) }
 
-module _ (b : Numbered) (accepted : IsAccepted b) (limit : ℕ) (p : Progress) (search : IsSearch b limit p) where
+module _ (b : BoardView) (accepted : IsAccepted b) (limit : ℕ) (p : Progress) (search : IsSearch b limit p) where
   -- a whole search gives a closed list
   certifies : p.frame.whole ≡ true → (shown : Claim) (entries : List Entry) → FitsClaim shown → AreFirstEntries b shown p (length p.table) entries
       → All FitsEntry entries → Certifies b.rows limit shown entries

@@ -4,7 +4,7 @@ use Rattle.std.specs.Map.{keys_of}
 use Rattle.sok_rules.specs.Play.{Position, start}
 use Rattle.sok_rules.specs.States.{MoreStatesThan}
 use Rattle.sok_rules.proofs.Reaching.{reached-walk}
-use Rattle.sok_board.specs.Area.{Numbered, IsAccepted}
+use Rattle.sok_board.specs.Area.{BoardView, IsAccepted}
 use Rattle.sok_state.specs.declared.key.Key.{Key}
 use Rattle.sok_state.specs.declared.push.Push.{Push}
 use Rattle.sok_state.specs.Keys.{IsKeyOf, key_position}
@@ -14,17 +14,17 @@ use Rattle.sok_state.proofs.States.{IsKeyOf-Same, key-of-itself}
 use Rattle.sok_closed.proofs.Counting.{IsOfReached, one-more}
 use Rattle.sok_closed.proofs.Looking.{standing-after}
 use Rattle.sok_search.specs.Searches.{Progress, IsSearch}
-use Rattle.sok_search.proofs.Knowing.{known-key}
+use Rattle.sok_search.proofs.StatesByIndex.{known-key}
 use Rattle.sok_search.proofs.Chains.{IsReached, reached-more, state-reached}
 
-of-reached : (b : Numbered) (accepted : IsAccepted b) (key : Key) (depth : ℕ) → IsKeyOf b (key_position b key) key → IsReached b key depth
+of-reached : (b : BoardView) (accepted : IsAccepted b) (key : Key) (depth : ℕ) → IsKeyOf b (key_position b key) key → IsReached b key depth
     → IsOfReached b accepted (start b.rows) key
 of-reached b accepted key depth itself reached = record {
   itself = itself;
   reached = reached-walk b.rows (start b.rows) reached.to (key_position b key) (reached.letters, reached.leads) reached.is.same;
 }
 
-pub full-more : (b : Numbered) → IsAccepted b
+pub full-more : (b : BoardView) → IsAccepted b
     → (limit : ℕ) (p : Progress) (i : ℕ) (key next : Key) (push : Push) (after : Position) → IsSearch b limit p
     → limit ≤ length p.table → IsAt p.table key i → LeadsTo b key push after → IsKeyOf b after next → (Contains (keys_of p.table) next → ⊥)
     → MoreStatesThan b.rows limit

@@ -6,7 +6,7 @@ use Rattle.std.proofs.lemmas.Option.{slice_get_within, slice_get-get_or}
 use Rattle.sok_rules.specs.Play.{AllOnGoals, start}
 use Rattle.sok_rules.specs.States.{Same}
 use Rattle.sok_rules.proofs.Man.{IsStanding-start}
-use Rattle.sok_board.specs.Area.{Numbered, IsAccepted, boxes_of, position_of}
+use Rattle.sok_board.specs.Area.{BoardView, IsAccepted, boxes_of, position_of}
 use Rattle.sok_board.proofs.Lists.{Contains-at}
 use Rattle.sok_region.specs.Regions.{IsPlaced}
 use Rattle.sok_cert.specs.Claim.{Claim}
@@ -30,10 +30,10 @@ use Rattle.sok_search.specs.declared.note.Standing.{Standing}
 use Rattle.sok_search.specs.declared.note.Standing.TheVariants as standing
 use Rattle.sok_search.specs.Searches.{Progress, IsMet, IsState, IsSearch, IsNoted, Stands}
 use Rattle.sok_search.specs.Finished.{AreFirstEntries, IsEntryOf, IsReasonOf, ReasonBars}
-use Rattle.sok_search.proofs.Knowing.{known-at}
+use Rattle.sok_search.proofs.StatesByIndex.{known-at}
 
 -- an entry and the state of which it is made
-record Made (b : Numbered) (claim : Claim) (p : Progress) (i : ℕ) (e : Entry) : Type 0 where
+record Made (b : BoardView) (claim : Claim) (p : Progress) (i : ℕ) (e : Entry) : Type 0 where
   pub key : Key
   pub depth : ℕ
   pub note : Note
@@ -41,7 +41,7 @@ record Made (b : Numbered) (claim : Claim) (p : Progress) (i : ℕ) (e : Entry) 
   pub noted : IsNoted b p i key depth note
   pub entry : IsEntryOf b claim key depth note e
 
-made-at : (b : Numbered) (limit : ℕ) (claim : Claim) (p : Progress) (entries : List Entry) → IsSearch b limit p
+made-at : (b : BoardView) (limit : ℕ) (claim : Claim) (p : Progress) (entries : List Entry) → IsSearch b limit p
     → AreFirstEntries b claim p (length p.table) entries → (i : ℕ) (e : Entry) → slice_get entries i ≡ Some e → Made b claim p i e
 made-at b limit claim p entries search are i e there =
     let within = slice_get_within entries i e there in
@@ -60,23 +60,23 @@ made-at b limit claim p entries search are i e there =
 all-at : {X : Type 0} (P : X → Type 0) (xs : List X) → ((i : ℕ) (x : X) → slice_get xs i ≡ Some x → P x) → All P xs
 all-at P xs each = λ k d within. each k (get_or xs k d) (slice_get-get_or xs k d within)
 
-position-made : (b : Numbered) (claim : Claim) (p : Progress) (i : ℕ) (e : Entry) → Made b claim p i e → IsPosition b e
+position-made : (b : BoardView) (claim : Claim) (p : Progress) (i : ℕ) (e : Entry) → Made b claim p i e → IsPosition b e
 position-made b claim p i e made = record {
   placed = subst (λ boxes. IsPlaced b boxes e.player) (sym made.entry.boxes_are)
       (subst (IsPlaced b made.key.boxes) (sym made.entry.player_is) made.noted.state.is.placed);
   as_many = ap length made.entry.boxes_are ∙ made.noted.as_many;
 }
 
-place-made : (b : Numbered) (claim : Claim) (p : Progress) (i : ℕ) (e : Entry) → (made : Made b claim p i e) → key_position b made.key ≡ entry_position b e
+place-made : (b : BoardView) (claim : Claim) (p : Progress) (i : ℕ) (e : Entry) → (made : Made b claim p i e) → key_position b made.key ≡ entry_position b e
 place-made b claim p i e made = λ k. position_of b (sym made.entry.player_is k) (sym made.entry.boxes_are k)
 
 -- the key of the state is that of the entry
-key-made : (b : Numbered) → IsAccepted b → (claim : Claim) (p : Progress) (i : ℕ) (e : Entry) → (made : Made b claim p i e)
+key-made : (b : BoardView) → IsAccepted b → (claim : Claim) (p : Progress) (i : ℕ) (e : Entry) → (made : Made b claim p i e)
     → IsKeyOf b (entry_position b e) made.key
 key-made b accepted claim p i e made = subst (λ x. IsKeyOf b x made.key) (place-made b claim p i e made)
     (key-of-itself b accepted made.key made.noted.state)
 
-entered-made : (b : Numbered) → IsAccepted b → (claim : Claim) (p : Progress) (i : ℕ) (e : Entry) → Made b claim p i e
+entered-made : (b : BoardView) → IsAccepted b → (claim : Claim) (p : Progress) (i : ℕ) (e : Entry) → Made b claim p i e
     → IsEntered b p.table i (node_of e)
 entered-made b accepted claim p i e made = record {
   key = made.key;
@@ -86,7 +86,7 @@ entered-made b accepted claim p i e made = record {
 }
 
 -- the states are a table of the entries
-pub looking-made : (b : Numbered) → IsAccepted b → (limit : ℕ) (claim : Claim) (p : Progress) (entries : List Entry)
+pub looking-made : (b : BoardView) → IsAccepted b → (limit : ℕ) (claim : Claim) (p : Progress) (entries : List Entry)
     → IsSearch b limit p → AreFirstEntries b claim p (length p.table) entries → IsLooking node_of b (length (boxes_of b)) entries p.table
 looking-made b accepted limit claim p entries search are = record {
   accepted = accepted;
@@ -100,7 +100,7 @@ looking-made b accepted limit claim p entries search are = record {
 }
 
 -- what is expanded bars nothing
-barred : (b : Numbered) (player : ℕ) (boxes : List ℕ) (claim : Claim) (depth : ℕ) (why : Reason) → is_expanded why ≡ true
+barred : (b : BoardView) (player : ℕ) (boxes : List ℕ) (claim : Claim) (depth : ℕ) (why : Reason) → is_expanded why ≡ true
     → ReasonBars b player boxes why (rest_of claim depth) → ⊥
 barred b player boxes claim depth reason.Expanded is bars = bars
 barred b player boxes claim depth reason.Spent is bars = true≢false (sym is)
@@ -109,17 +109,17 @@ barred b player boxes claim depth (reason.Crowd members) is bars = true≢false 
 barred b player boxes claim depth (reason.Frozen members) is bars = true≢false (sym is)
 barred b player boxes claim depth (reason.Pattern members inner) is bars = true≢false (sym is)
 
-abbrev reasoned_as : Numbered → Claim → Entry → Bool → Type 0
+abbrev reasoned_as : BoardView → Claim → Entry → Bool → Type 0
 reasoned_as b claim e t = MatchBool t (AllOnGoals b.rows (entry_position b e) → ⊥) (IsBarredBy b claim e)
 
-reasoned-bars : (b : Numbered) (claim : Claim) (e : Entry) → ReasonBars b e.player e.boxes e.reason (rest_of claim e.depth) → IsReasoned b claim e
+reasoned-bars : (b : BoardView) (claim : Claim) (e : Entry) → ReasonBars b e.player e.boxes e.reason (rest_of claim e.depth) → IsReasoned b claim e
 reasoned-bars b claim e bars = elim (cases_Bool (is_expanded e.reason)) [
   | inl expanded ↦ absurd (barred b e.player e.boxes claim e.depth e.reason expanded bars)
   | inr other ↦ subst (reasoned_as b claim e) (sym other) bars
 ]
 
 -- the reason is of the entry's own position and depth
-bars-made : (b : Numbered) (claim : Claim) (p : Progress) (i : ℕ) (e : Entry) → (made : Made b claim p i e)
+bars-made : (b : BoardView) (claim : Claim) (p : Progress) (i : ℕ) (e : Entry) → (made : Made b claim p i e)
     → ReasonBars b made.key.least made.key.boxes e.reason (rest_of claim made.depth) → ReasonBars b e.player e.boxes e.reason (rest_of claim e.depth)
 bars-made b claim p i e made bars =
     subst (λ player. ReasonBars b player e.boxes e.reason (rest_of claim e.depth)) (sym made.entry.player_is)
@@ -127,7 +127,7 @@ bars-made b claim p i e made bars =
     (subst (λ depth. ReasonBars b made.key.least made.key.boxes e.reason (rest_of claim depth)) (sym made.entry.depth_is) bars))
 
 -- by the standing of the state
-reasoned-standing : (b : Numbered) (claim : Claim) (p : Progress) (i : ℕ) (e : Entry) (made : Made b claim p i e) (s : Standing)
+reasoned-standing : (b : BoardView) (claim : Claim) (p : Progress) (i : ℕ) (e : Entry) (made : Made b claim p i e) (s : Standing)
     → Stands b p i made.key made.depth s → IsReasonOf b claim made.key.least made.key.boxes made.depth s e.reason → IsReasoned b claim e
 reasoned-standing b claim p i e made (standing.Expanded bound) (prices, unsolved, met) why =
     let off : AllOnGoals b.rows (entry_position b e) → ⊥ = subst (λ x. AllOnGoals b.rows x → ⊥) (place-made b claim p i e made) unsolved in
@@ -137,12 +137,12 @@ reasoned-standing b claim p i e made standing.Dead stands why = reasoned-bars b 
 reasoned-standing b claim p i e made (standing.Lost place) stands why = reasoned-bars b claim e (bars-made b claim p i e made why)
 
 -- a whole search leaves no push out
-found-whole : (b : Numbered) (p : Progress) → p.frame.whole ≡ true → (key : Key) (depth : ℕ) (push : Push) → IsMet b p key depth push
+found-whole : (b : BoardView) (p : Progress) → p.frame.whole ≡ true → (key : Key) (depth : ℕ) (push : Push) → IsMet b p key depth push
     → IsFound b p.table key depth push
 found-whole b p whole key depth push (inl found) = found
 found-whole b p whole key depth push (inr left) = absurd (true≢false (sym whole ∙ left.part))
 
-followed-standing : (b : Numbered) → IsAccepted b → (claim : Claim) (p : Progress) → p.frame.whole ≡ true → (entries : List Entry)
+followed-standing : (b : BoardView) → IsAccepted b → (claim : Claim) (p : Progress) → p.frame.whole ≡ true → (entries : List Entry)
     → IsLooking node_of b (length (boxes_of b)) entries p.table → (i : ℕ) (e : Entry) → Contains entries e
     → (made : Made b claim p i e) (s : Standing) → Stands b p i made.key made.depth s → IsReasonOf b claim made.key.least made.key.boxes made.depth s e.reason
     → IsTrue (is_expanded e.reason) → IsFollowed node_of b entries (node_of e)
@@ -158,7 +158,7 @@ followed-standing b accepted claim p whole entries looking i e listed made (stan
     (barred b e.player e.boxes claim e.depth e.reason expanded (bars-made b claim p i e made why))
 
 -- no two entries are one state, since the keys are distinct
-apart-made : (b : Numbered) → IsAccepted b → (claim : Claim) (p : Progress) → HasDistinctKeys p.table → (i j : ℕ) (e f : Entry)
+apart-made : (b : BoardView) → IsAccepted b → (claim : Claim) (p : Progress) → HasDistinctKeys p.table → (i j : ℕ) (e f : Entry)
     → Made b claim p i e → Made b claim p j f → Same b.rows (entry_position b e) (entry_position b f) → i ≡ j
 apart-made b accepted claim p distinct i j e f of_e of_f same =
     let e_is = key-made b accepted claim p i e of_e in
@@ -169,7 +169,7 @@ apart-made b accepted claim p distinct i j e f of_e of_f same =
     same_index p.table distinct of_f.key i j (subst (λ k. IsAt p.table k i) equal of_e.state.there) of_f.state.there
 
 -- the law
-pub entries-closed : (b : Numbered) → IsAccepted b → (limit : ℕ) (claim : Claim) (p : Progress) (entries : List Entry)
+pub entries-closed : (b : BoardView) → IsAccepted b → (limit : ℕ) (claim : Claim) (p : Progress) (entries : List Entry)
     → IsSearch b limit p → p.frame.whole ≡ true
     → AreFirstEntries b claim p (length p.table) entries → IsClosed b claim entries
 entries-closed b accepted limit claim p entries search whole are =

@@ -4,12 +4,12 @@ use Rattle.std.proofs.Math.Nat.{min-eq_left, min-eq_right, min-le_left, min-le_r
 use Rattle.std.proofs.lemmas.Bool.{cases_eq, cases_lt}
 use Rattle.std.proofs.lemmas.Option.{same_Some}
 use Rattle.std.specs.Map.{values_of}
-use Rattle.sok_board.specs.Area.{Numbered}
+use Rattle.sok_board.specs.Area.{BoardView}
 use Rattle.sok_search.specs.declared.note.Note.{Note}
 use Rattle.sok_search.specs.declared.note.Standing.TheVariants.{Open}
 use Rattle.sok_search.specs.Halted.{IsLeastOfFirst, IsOpenAt}
 use Rattle.sok_search.specs.Searches.{IsSearch, Progress}
-use Rattle.sok_search.proofs.Knowing.{known-at}
+use Rattle.sok_search.proofs.StatesByIndex.{known-at}
 
 same_bound : (a b : ℕ) → Open a ≡ Open b → a ≡ b
 same_bound a b e = cc
@@ -25,7 +25,7 @@ open-one p i m n one other =
     omega (arith, first, second, depths, bounds)
 
 -- the note at an index tells whether the state is open
-pub open-at : (b : Numbered) (limit : ℕ) (p : Progress) → IsSearch b limit p → (i depth bound : ℕ) (note : Note) → i < length p.table
+pub open-at : (b : BoardView) (limit : ℕ) (p : Progress) → IsSearch b limit p → (i depth bound : ℕ) (note : Note) → i < length p.table
     → slice_get (values_of p.table) i ≡ Some depth → slice_get p.notes i ≡ Some note → note.standing ≡ Open bound → IsOpenAt p i (depth + bound)
 open-at b limit p search i depth bound note within depth_is note_is is =
     let (key, known) = known-at b limit p search i within in

@@ -1,11 +1,11 @@
 -- A push that brings a box to where it reaches no goal, or is lost with one or two others: nothing solves after it, so it may be left out.
 use Rattle.std.proofs.Common.{ℕ, ◌≡◌, ◌∙◌, inl, inr, refl, sym, ap, subst, true, Some, arith}
 use Rattle.sok_rules.specs.Play.{NeverFrom, Position}
-use Rattle.sok_board.specs.Area.{Numbered, InArea, IsAccepted, beside, position_of, spot_of}
+use Rattle.sok_board.specs.Area.{BoardView, InArea, IsAccepted, beside, position_of, spot_of}
 use Rattle.sok_board.proofs.AreaLaws.{InArea-spot_of}
 use Rattle.sok_board.proofs.Beside.{beside-within}
 use Rattle.sok_board.proofs.Positions.{listed_box}
-use Rattle.sok_push.specs.Pushing.{IsStuck}
+use Rattle.sok_distance.specs.Pushing.{IsStuck}
 use Rattle.sok_board.specs.BoxSets.{put_in_order}
 use Rattle.sok_board.proofs.Moves.{IsMoved-put}
 use Rattle.sok_bar.proofs.Kept.{never_stuck}
@@ -16,10 +16,10 @@ use Rattle.sok_state.specs.Pushes.{IsLegal}
 use Rattle.sok_state.proofs.LegalPushes.{LeadsTo-position}
 use Rattle.sok_search.specs.Searches.{Progress, IsLeftOut, IsSearch, LeadsNowhere}
 use Rattle.sok_search.specs.Steps.{IsPushed, holding}
-use Rattle.sok_search.proofs.Keeping.{Grows-refl}
+use Rattle.sok_search.proofs.Invariant.{Grows-refl}
 
 -- nothing solves once a box stands where it reaches no goal
-pub leads-nowhere : (b : Numbered) → IsAccepted b → (key : Key) → IsKey b key → (push : Push) → IsLegal b key push → (to : ℕ)
+pub leads-nowhere : (b : BoardView) → IsAccepted b → (key : Key) → IsKey b key → (push : Push) → IsLegal b key push → (to : ℕ)
     → beside b push.from push.dir ≡ Some to → IsStuck b to → LeadsNowhere b key push
 leads-nowhere b accepted key state push legal to ahead stuck after leads w =
     let area = accepted.numbered in
@@ -32,7 +32,7 @@ leads-nowhere b accepted key state push legal to ahead stuck after leads w =
     (beside-within b push.dir push.from to ahead) there stuck
 
 -- nor where nothing solves the boxes that it leaves
-pub lost-nowhere : (b : Numbered) → IsAccepted b → (key : Key) → IsKey b key → (push : Push) → (to : ℕ) → beside b push.from push.dir ≡ Some to
+pub lost-nowhere : (b : BoardView) → IsAccepted b → (key : Key) → IsKey b key → (push : Push) → (to : ℕ) → beside b push.from push.dir ≡ Some to
     → NeverFrom b.rows (position_of b push.from (put_in_order push.from to key.boxes)) → LeadsNowhere b key push
 lost-nowhere b accepted key state push to ahead never after leads =
     subst (NeverFrom b.rows)
@@ -40,7 +40,7 @@ lost-nowhere b accepted key state push to ahead never after leads =
     never
 
 -- so it may be left out
-pub pushed-left_out : (b : Numbered) (limit index : ℕ) (p : Progress) → IsSearch b limit (holding index p) → (key : Key) (depth : ℕ) (push : Push)
+pub pushed-left_out : (b : BoardView) (limit index : ℕ) (p : Progress) → IsSearch b limit (holding index p) → (key : Key) (depth : ℕ) (push : Push)
     → IsLeftOut b p.frame.whole key push → IsPushed b limit (holding index p) key depth push (holding index p)
 pushed-left_out b limit index p search key depth push left = record {
   search = search;

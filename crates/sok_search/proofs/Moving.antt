@@ -2,7 +2,7 @@
 use Rattle.std.proofs.Common.{ℕ, ◌≡◌, ◌≤◌, ◌∙◌, sym, ap, subst, Some, length}
 use Rattle.sok_rules.specs.Play.{Position}
 use Rattle.sok_rules.proofs.Walking.{boxes-Same}
-use Rattle.sok_board.specs.Area.{Numbered, IsAccepted, beside, position_of}
+use Rattle.sok_board.specs.Area.{BoardView, IsAccepted, beside, position_of}
 use Rattle.sok_board.proofs.Beside.{beside-within}
 use Rattle.sok_board.specs.BoxSets.{IsMoved, put_in_order}
 use Rattle.sok_board.proofs.Moves.{IsMoved-put, IsBoxList-put}
@@ -12,9 +12,9 @@ use Rattle.sok_state.specs.Keys.{IsKey, IsKeyOf}
 use Rattle.sok_state.specs.Pushes.{IsLegal, LeadsTo}
 use Rattle.sok_state.proofs.LegalPushes.{IsPlaced-after, LeadsTo-position, clear-legal, clear_ahead}
 use Rattle.sok_state.proofs.Placed.{same_boxes}
-use Rattle.sok_search.specs.Trials.{AreMoved}
+use Rattle.sok_search.specs.PushScratches.{AreMoved}
 
-pub moved-next : (b : Numbered) → IsAccepted b → (key next : Key) (push : Push) (to : ℕ) → IsKey b key → length key.boxes ≤ 128 → IsKey b next
+pub moved-next : (b : BoardView) → IsAccepted b → (key next : Key) (push : Push) (to : ℕ) → IsKey b key → length key.boxes ≤ 128 → IsKey b next
     → IsLegal b key push → ((after : Position) → LeadsTo b key push after → IsKeyOf b after next) → beside b push.from push.dir ≡ Some to
     → AreMoved b key.boxes push.from to next.boxes
 moved-next b accepted key next push to state few next_state legal exact ahead =

@@ -3,7 +3,7 @@ use Rattle.std.proofs.Common.{ℕ, ◌≡◌, ◌≢◌, ◌<◌, ◌≤◌, ◌
 use Rattle.std.specs.Option.{IfSome}
 use Rattle.std.proofs.lemmas.Option.{same_Some, slice_get_within}
 use Rattle.sok_rules.specs.Play.{start}
-use Rattle.sok_board.specs.Area.{Numbered, boxes_of}
+use Rattle.sok_board.specs.Area.{BoardView, boxes_of}
 use Rattle.sok_state.specs.declared.key.Key.{Key}
 use Rattle.sok_state.specs.Keys.{IsKey, IsKeyOf}
 use Rattle.sok_alone.specs.Losses.{KeepsLosses}
@@ -22,7 +22,7 @@ only x i y there =
     let first : i ≡ 0 = omega (arith, within) in
     (first, same_Some x y (ap (slice_get (x ∷ [])) (sym first) ∙ there))
 
-module _ (b : Numbered) (limit : ℕ) (frame : Frame) (positive : 0 < limit) (wide : length b.area ≤ frame.room)
+module _ (b : BoardView) (limit : ℕ) (frame : Frame) (positive : 0 < limit) (wide : length b.area ≤ frame.room)
     (losses : KeepsLosses b frame.losses) (key : Key) (note : Note) (q : Progress)
     (added : IsAdded (nothing frame) key 0 note q)
     (state : IsKey b key) (is : IsKeyOf b (start b.rows) key) (as_many : length key.boxes ≡ length (boxes_of b))

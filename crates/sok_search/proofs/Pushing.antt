@@ -3,9 +3,8 @@ use Rattle.std.proofs.Common.{ℕ, ◌≡◌, ◌<◌, ◌≤◌, ◌+◌, ◌�
 use Rattle.std.specs.Map.{keys_of, values_of}
 use Rattle.std.proofs.lemmas.Option.{same_Some, slice_get_within}
 use Rattle.sok_rules.specs.Play.{Position}
-use Rattle.sok_board.specs.Area.{Numbered, boxes_of}
-use Rattle.sok_board.proofs.Lists.{slice_get-push}
-use Rattle.sok_region.proofs.Floods.{slice_get-append}
+use Rattle.sok_board.specs.Area.{BoardView, boxes_of}
+use Rattle.sok_board.proofs.Lists.{slice_get-push, slice_get-append}
 use Rattle.sok_state.specs.declared.key.Key.{Key}
 use Rattle.sok_state.specs.declared.push.Push.{Push}
 use Rattle.sok_state.specs.Keys.{IsKey, IsKeyOf}
@@ -17,13 +16,13 @@ use Rattle.sok_search.specs.declared.note.Standing.{Standing}
 use Rattle.sok_search.specs.declared.note.Standing.TheVariants.{Open, Expanded, Dead, Lost}
 use Rattle.sok_search.specs.Searches.{Frame, Progress, IsCome, IsFrom, IsNoted, IsSearch, IsState, Stands}
 use Rattle.sok_search.specs.Steps.{IsAdded, IsChanged, IsJudgedIn, IsPushed, Nears, holding, knowing, reopened}
-use Rattle.sok_search.proofs.Doing.{added-holding, changed-holding, work-added, work-changed}
+use Rattle.sok_search.proofs.TakenIndices.{added-holding, changed-holding, work-added, work-changed}
 use Rattle.sok_search.proofs.Changing.{added-grows, changed-grows, depth_count, keeps-added, keeps-changed, key_count, set_other, set_same}
-use Rattle.sok_search.proofs.Keeping.{Grows-refl}
-use Rattle.sok_search.proofs.Knowing.{key-within, noted-at}
+use Rattle.sok_search.proofs.Invariant.{Grows-refl}
+use Rattle.sok_search.proofs.StatesByIndex.{key-within, noted-at}
 
 -- more was known of boxes taken alone before it was followed
-pub pushed-knowing : (b : Numbered) (limit : ℕ) (p : Progress) (losses : Losses) (key : Key) (depth : ℕ) (push : Push) (q : Progress)
+pub pushed-knowing : (b : BoardView) (limit : ℕ) (p : Progress) (losses : Losses) (key : Key) (depth : ℕ) (push : Push) (q : Progress)
     → IsPushed b limit (knowing losses p) key depth push q → IsPushed b limit p key depth push q
 pushed-knowing b limit p losses key depth push q pushed = record {
   search = pushed.search;
@@ -36,14 +35,14 @@ pushed-knowing b limit p losses key depth push q pushed = record {
 }
 
 -- what is open again is judged as before
-judged-reopened : (b : Numbered) (p : Progress) (i : ℕ) (key : Key) (depth : ℕ) (s : Standing) → Stands b p i key depth s
+judged-reopened : (b : BoardView) (p : Progress) (i : ℕ) (key : Key) (depth : ℕ) (s : Standing) → Stands b p i key depth s
     → IsJudgedIn b p.frame key (reopened s)
 judged-reopened b p i key depth (Open bound) (prices, waits) = prices
 judged-reopened b p i key depth (Expanded bound) (prices, unsolved, met) = prices
 judged-reopened b p i key depth Dead dead = dead
 judged-reopened b p i key depth (Lost place) lost = lost
 
-module _ (b : Numbered) (limit index : ℕ) (p : Progress) (search : IsSearch b limit (holding index p)) (key : Key) (depth : ℕ)
+module _ (b : BoardView) (limit index : ℕ) (p : Progress) (search : IsSearch b limit (holding index p)) (key : Key) (depth : ℕ)
     (there : IsAt p.table key index)
     (depth_is : slice_get (values_of p.table) index ≡ Some depth) (was : Note) (note_is : slice_get p.notes index ≡ Some was) (push : Push)
     (legal : IsLegal b key push) (next : Key) (is : (after : Position) → LeadsTo b key push after → IsKeyOf b after next) (next_state : IsKey b next)

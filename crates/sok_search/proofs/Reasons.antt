@@ -3,12 +3,12 @@ use Rattle.std.proofs.Common.{ℕ, ◌≡◌, ◌<◌, ◌≤◌, ◌+◌, ◌�
 use Rattle.std.proofs.Common.{arith, ap, get_or, length, slice_get, subst, sym}
 use Rattle.std.proofs.lemmas.List.Elements.{All-append, All-nil, All-weaker}
 use Rattle.std.proofs.lemmas.Option.{same_Some, slice_get-get_or, slice_get_within}
-use Rattle.sok_board.specs.Area.{Numbered}
+use Rattle.sok_board.specs.Area.{BoardView}
 use Rattle.sok_board.specs.Limits.{box_limit}
 use Rattle.sok_price.specs.Limits.{price_limit}
 use Rattle.sok_price.specs.Matches.{ArePrices}
 use Rattle.sok_price.specs.Prices.{AreMembers, IsCrowd, Priced}
-use Rattle.sok_push.specs.Pushing.{Chain, IsStuck}
+use Rattle.sok_distance.specs.Pushing.{Chain, IsStuck}
 use Rattle.sok_price.proofs.AssignmentLaws.{AtLeast-IsAssignment}
 use Rattle.sok_bar.specs.declared.rest.Rest.{Rest}
 use Rattle.sok_bar.specs.declared.rest.Rest.TheVariants.{Never}
@@ -25,7 +25,7 @@ use Rattle.sok_search.specs.Finished.{CostsEnough, HasText, IsAssigned, IsLoneCr
 use Rattle.sok_search.specs.Searches.{IsDead}
 
 -- prices of a bound that is enough
-bound-priced : (b : Numbered) (boxes u v : List ℕ) (n depth k : ℕ) → Priced b boxes u v n → k ≤ depth + n
+bound-priced : (b : BoardView) (boxes u v : List ℕ) (n depth k : ℕ) → Priced b boxes u v n → k ≤ depth + n
     → (player : ℕ) → Bars b player boxes (Barring.bound u v) (rest_of (Pushes k) depth)
 bound-priced b boxes u v n depth k priced near player =
     let enough = priced.enough in
@@ -37,7 +37,7 @@ bound-priced b boxes u v n depth k priced near player =
     }
 
 -- prices that are found again bound as far as any did
-bound-again : (b : Numbered) (boxes u v goal_of : List ℕ) (total depth : ℕ) (claim : Claim) → CostsEnough b claim boxes depth
+bound-again : (b : BoardView) (boxes u v goal_of : List ℕ) (total depth : ℕ) (claim : Claim) → CostsEnough b claim boxes depth
     → ArePrices b boxes u v total goal_of
     → (player : ℕ) → Bars b player boxes (Barring.bound u v) (rest_of claim depth)
 bound-again b boxes u v goal_of total depth Unsolvable (bound, prices, none) are = absurd none
@@ -46,7 +46,7 @@ bound-again b boxes u v goal_of total depth (Pushes k) (bound, ((us, vs, priced)
     let cost = are.cost in
     bound-priced b boxes u v total depth k are.priced (omega (arith, least, cost, near))
 
-pub assigned-again : (b : Numbered) (boxes : List ℕ) (depth : ℕ) (claim : Claim) → CostsEnough b claim boxes depth → (why : Reason) → IsAssigned b boxes why
+pub assigned-again : (b : BoardView) (boxes : List ℕ) (depth : ℕ) (claim : Claim) → CostsEnough b claim boxes depth → (why : Reason) → IsAssigned b boxes why
     → (player : ℕ) → ReasonBars b player boxes why (rest_of claim depth)
 assigned-again b boxes depth claim enough reason.Expanded none = absurd none
 assigned-again b boxes depth claim enough reason.Spent none = absurd none
@@ -56,7 +56,7 @@ assigned-again b boxes depth claim enough (reason.Frozen members) none = absurd 
 assigned-again b boxes depth claim enough (reason.Pattern members inner) none = absurd none
 
 -- a dead state without a jam has a crowd, which is found
-pub crowd-again : (b : Numbered) (boxes : List ℕ) → ((members : List ℕ) → IsJam b boxes members → ⊥) → IsDead b boxes → (why : Reason)
+pub crowd-again : (b : BoardView) (boxes : List ℕ) → ((members : List ℕ) → IsJam b boxes members → ⊥) → IsDead b boxes → (why : Reason)
     → IsAssigned b boxes why → (player : ℕ) (rest : Rest) → ReasonBars b player boxes why rest
 crowd-again b boxes none dead reason.Expanded assigned rest = absurd assigned
 crowd-again b boxes none dead reason.Spent assigned rest = absurd assigned
@@ -75,7 +75,7 @@ pub none-inside : All FitsInner []
 none-inside = All-nil FitsInner
 
 -- prices that are found have a text
-pub prices-fit : (b : Numbered) (boxes u v goal_of : List ℕ) (total : ℕ) → ArePrices b boxes u v total goal_of
+pub prices-fit : (b : BoardView) (boxes u v goal_of : List ℕ) (total : ℕ) → ArePrices b boxes u v total goal_of
     → (length u ≡ length boxes) × All IsSmall (u ++ v) × All FitsInner []
 prices-fit b boxes u v goal_of total are = (
   are.priced.a_price_a_box,
@@ -92,7 +92,7 @@ members-fit boxes members few are zero d within = let some = few-rising members 
 members-fit boxes members few are (suc k) d within = let exists = are.within k d (omega (arith, within)) in omega (arith, exists, few)
 
 -- a box that reaches no goal is a crowd by itself
-pub stuck-crowd : (b : Numbered) (boxes : List ℕ) (place : ℕ) → IsStuckAt b boxes place → IsCrowd b boxes (place ∷ [])
+pub stuck-crowd : (b : BoardView) (boxes : List ℕ) (place : ℕ) → IsStuckAt b boxes place → IsCrowd b boxes (place ∷ [])
 stuck-crowd b boxes place (square, there, stuck) = record {
   listed = record { rising = λ k within. absurd (omega (arith, within)); within = λ k d below. first k d (omega (arith, below)) };
   goals = [];
@@ -110,11 +110,11 @@ stuck-crowd b boxes place (square, there, stuck) = record {
     only k i same at = subst (λ j. get_or (place ∷ []) j i ≡ i) same at
 
 -- among boxes
-pub stuck-among : (b : Numbered) (boxes : List ℕ) (square : ℕ) → Contains boxes square → IsStuck b square → (place : ℕ) × IsStuckAt b boxes place
+pub stuck-among : (b : BoardView) (boxes : List ℕ) (square : ℕ) → Contains boxes square → IsStuck b square → (place : ℕ) × IsStuckAt b boxes place
 stuck-among b boxes square (k, within, is) stuck = (k, (square, slice_get-get_or boxes k square within ∙ ap Some is, stuck))
 
 -- it bars, whatever is to be shown, and has a text
-module _ (b : Numbered) (boxes : List ℕ) (place : ℕ) (at : IsStuckAt b boxes place) (why : Reason) (is : IsLoneCrowd place why) where
+module _ (b : BoardView) (boxes : List ℕ) (place : ℕ) (at : IsStuckAt b boxes place) (why : Reason) (is : IsLoneCrowd place why) where
   pub lone-bars : (player : ℕ) (rest : Rest) → ReasonBars b player boxes why rest
   lone-bars player rest = subst (λ r. ReasonBars b player boxes r rest) (sym is) (stuck-crowd b boxes place at)
 

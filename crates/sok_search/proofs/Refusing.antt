@@ -6,7 +6,7 @@ use Rattle.std.proofs.lemmas.Bool.{cases_lt}
 use Rattle.sok_rules.specs.Squares.{Rows}
 use Rattle.sok_board.specs.declared.fault.BoardFault.{BoardFault}
 use Rattle.sok_board.specs.declared.fault.BoardFault.TheVariants as board
-use Rattle.sok_board.specs.Area.{Numbered, IsAccepted}
+use Rattle.sok_board.specs.Area.{BoardView, IsAccepted}
 use Rattle.sok_board.specs.Refusals.{IsRefused}
 use Rattle.sok_board.proofs.OneRefusal.{IsRefused-acceptable}
 use Rattle.sok_search.specs.declared.fault.SolveFault.{SolveFault}
@@ -96,12 +96,12 @@ told-alike A B rows limit one other tells = record {
 }
 
 -- a limit within the range is not refused
-pub good-within : (rows : Rows) (limit : ℕ) (b : Numbered) → IsAcceptedWithin rows limit b → IsBadLimit limit → ⊥
+pub good-within : (rows : Rows) (limit : ℕ) (b : BoardView) → IsAcceptedWithin rows limit b → IsBadLimit limit → ⊥
 good-within rows limit b within (inl zero) = let positive = within.positive in omega (arith, positive, zero)
 good-within rows limit b within (inr above) = let small = within.small in omega (arith, small, above)
 
 -- what is told where there is an answer
-pub told-answer : {A : Type 0} (rows : Rows) (limit : ℕ) (b : Numbered) (answer : A) → IsAcceptedWithin rows limit b → TellsFault rows limit (Ok answer)
+pub told-answer : {A : Type 0} (rows : Rows) (limit : ℕ) (b : BoardView) (answer : A) → IsAcceptedWithin rows limit b → TellsFault rows limit (Ok answer)
 told-answer {A} rows limit b answer within = record {
   bad_limit = (λ e. absurd (no-fault answer _ e), λ bad. absurd (good-within rows limit b within bad));
   refused = tt;

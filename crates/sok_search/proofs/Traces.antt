@@ -4,24 +4,24 @@ use Rattle.std.specs.Map.{values_of}
 use Rattle.std.specs.Option.{IfSome}
 use Rattle.std.proofs.lemmas.List.{length-append}
 use Rattle.std.proofs.lemmas.Option.{same_Some, slice_get_within, get_or_from_slice_get}
-use Rattle.sok_board.specs.Area.{Numbered}
+use Rattle.sok_board.specs.Area.{BoardView}
 use Rattle.sok_state.specs.declared.key.Key.{Key}
 use Rattle.sok_state.specs.declared.push.Push.{Push}
 use Rattle.sok_state.specs.Tables.{IsAt}
 use Rattle.sok_search.specs.declared.note.Note.{Note}
 use Rattle.sok_search.specs.declared.note.Origin.{Origin}
 use Rattle.sok_search.specs.Searches.{Progress, IsCome, IsFrom, IsSearch, IsSolved, IsSolvedIn}
-use Rattle.sok_search.specs.Trails.{GoesBack, IsSolvedAt, LeadBy, TracesBack}
-use Rattle.sok_search.proofs.Knowing.{key-within, known-at}
+use Rattle.sok_search.specs.Walkthroughs.{GoesBack, IsSolvedAt, LeadBy, TracesBack}
+use Rattle.sok_search.proofs.StatesByIndex.{key-within, known-at}
 
 -- one chain after another
-LeadBy-append : (b : Numbered) (from key to : Key) (later earlier : List Push) → LeadBy b from earlier key → LeadBy b key later to
+LeadBy-append : (b : BoardView) (from key to : Key) (later earlier : List Push) → LeadBy b from earlier key → LeadBy b key later to
     → LeadBy b from (later ++ earlier) to
 LeadBy-append b from key to [] earlier first is = subst (LeadBy b from earlier) is first
 LeadBy-append b from key to (push ∷ later) earlier first (before, lead, leads) = (before, LeadBy-append b from key before later earlier first lead, leads)
 
 -- pushes lead from the state at one index to that at another, each to one that is deeper
-pub record TracesTo (b : Numbered) (p : Progress) (key : Key) (depth at : ℕ) (trace : List Push) : Type 0 where
+pub record TracesTo (b : BoardView) (p : Progress) (key : Key) (depth at : ℕ) (trace : List Push) : Type 0 where
   pub from : Key
   pub there : IsAt p.table from at
   pub deep : ℕ
@@ -32,7 +32,7 @@ pub record TracesTo (b : Numbered) (p : Progress) (key : Key) (depth at : ℕ) (
 -- what holds on the way back
 pub record IsTracing (p : Progress) (index at : ℕ) (trace : List Push) : Type 0 where
   pub within : at < length p.notes
-  pub traces : (b : Numbered) (limit : ℕ) (key : Key) (depth : ℕ) → IsSearch b limit p → IsAt p.table key index
+  pub traces : (b : BoardView) (limit : ℕ) (key : Key) (depth : ℕ) → IsSearch b limit p → IsAt p.table key index
       → slice_get (values_of p.table) index ≡ Some depth
       → TracesTo b p key depth at trace
 
@@ -43,7 +43,7 @@ tracing-none p index trace within none = subst (IsTracing p index index) (sym no
 })
 
 -- by what is noted of a state
-come-of : (b : Numbered) (limit : ℕ) (p : Progress) (i : ℕ) (key : Key) (depth : ℕ) (note : Note) (o : Option Origin) → IsSearch b limit p
+come-of : (b : BoardView) (limit : ℕ) (p : Progress) (i : ℕ) (key : Key) (depth : ℕ) (note : Note) (o : Option Origin) → IsSearch b limit p
     → IsAt p.table key i → slice_get (values_of p.table) i ≡ Some depth
     → slice_get p.notes i ≡ Some note → note.origin ≡ o → IsCome b p key depth o
 come-of b limit p i key depth note o search there depth_is note_is is =
@@ -84,7 +84,7 @@ tracing-all p index at trace note note_is is tracing b limit key depth search th
     }
 
 -- a search goes back
-pub goes-back : (b : Numbered) (limit : ℕ) (p : Progress) → IsSearch b limit p → GoesBack p
+pub goes-back : (b : BoardView) (limit : ℕ) (p : Progress) → IsSearch b limit p → GoesBack p
 goes-back b limit p search i note origin note_is is =
     let within = slice_get_within p.notes i note note_is in
     let count = search.a_note_each in
@@ -98,7 +98,7 @@ goes-back b limit p search i note origin note_is is =
     (omega (arith, parent, count), omega (arith, here, before, nearer))
 
 -- a solved state that is at most as deep as the best stands among the states
-pub best-at : (b : Numbered) (p : Progress) (k : ℕ) → IfSome p.best (IsSolvedIn b p) → p.best ≡ Some k → (i : ℕ) × (i < length p.table) × IsSolvedAt b p k i
+pub best-at : (b : BoardView) (p : Progress) (k : ℕ) → IfSome p.best (IsSolvedIn b p) → p.best ≡ Some k → (i : ℕ) × (i < length p.table) × IsSolvedAt b p k i
 best-at b p k found is =
     let one : IsSolvedIn b p k = subst (λ (o : Option ℕ). IfSome o (IsSolvedIn b p)) is found in (
       one.index,
@@ -107,11 +107,11 @@ best-at b p k found is =
     )
 
 -- what stands at an index is as deep, and solved, as told
-pub solved-shallow : (b : Numbered) (p : Progress) (k i depth : ℕ) → slice_get (values_of p.table) i ≡ Some depth → IsSolvedAt b p k i → depth ≤ k
+pub solved-shallow : (b : BoardView) (p : Progress) (k i depth : ℕ) → slice_get (values_of p.table) i ≡ Some depth → IsSolvedAt b p k i → depth ≤ k
 solved-shallow b p k i depth depth_is solved =
     let same = same_Some depth solved.depth (sym depth_is ∙ solved.depth_is) in
     let shallow = solved.shallow in
     omega (arith, same, shallow)
 
-pub solved-key : (b : Numbered) (p : Progress) (k i : ℕ) (key : Key) → IsAt p.table key i → IsSolvedAt b p k i → IsSolved b key
+pub solved-key : (b : BoardView) (p : Progress) (k i : ℕ) (key : Key) → IsAt p.table key i → IsSolvedAt b p k i → IsSolved b key
 solved-key b p k i key there solved = subst (IsSolved b) (same_Some solved.key key (sym solved.there ∙ there)) solved.solved

@@ -4,7 +4,7 @@ use Rattle.std.proofs.Common.{length, set, slice_get, sum_by}
 use Rattle.std.specs.Map.{values_of}
 use Rattle.std.proofs.lemmas.Bool.{cases_lt}
 use Rattle.std.proofs.lemmas.Option.{same_Some}
-use Rattle.sok_board.specs.Area.{Numbered}
+use Rattle.sok_board.specs.Area.{BoardView}
 use Rattle.sok_board.proofs.Lists.{Contains-cons, Contains-cons_cases}
 use Rattle.sok_state.specs.declared.key.Key.{Key}
 use Rattle.sok_state.specs.Pushes.{IsLegal}
@@ -16,15 +16,15 @@ use Rattle.sok_search.specs.declared.note.Standing.TheVariants.{Open, Expanded, 
 use Rattle.sok_search.specs.Searches.{Progress, IsBeaten, IsSearch, IsSolved, IsState, Stands}
 use Rattle.sok_search.specs.Steps.{HasOneMore, Queues, done, holding, work}
 use Rattle.sok_search.specs.Views.{HasFollowed, IsCutOff, IsTurned, TellsTurned}
-use Rattle.sok_search.proofs.Doing.{keeps-dropped, keeps-expanded, keeps-solved}
-use Rattle.sok_search.proofs.Keeping.{keeps-queue}
-use Rattle.sok_search.proofs.Knowing.{known-at}
+use Rattle.sok_search.proofs.TakenIndices.{keeps-dropped, keeps-expanded, keeps-solved}
+use Rattle.sok_search.proofs.Invariant.{keeps-queue}
+use Rattle.sok_search.proofs.StatesByIndex.{known-at}
 
 -- an index that is held is one of the table
-pub held-within : (b : Numbered) (limit index : ℕ) (p : Progress) → IsSearch b limit (holding index p) → index < length p.table
+pub held-within : (b : BoardView) (limit index : ℕ) (p : Progress) → IsSearch b limit (holding index p) → index < length p.table
 held-within b limit index p search = search.queued index (0, omega arith, refl)
 
-pub held-noted : (b : Numbered) (limit index : ℕ) (p : Progress) → IsSearch b limit (holding index p) → index < length p.notes
+pub held-noted : (b : BoardView) (limit index : ℕ) (p : Progress) → IsSearch b limit (holding index p) → index < length p.notes
 held-noted b limit index p search =
     let within = held-within b limit index p search in
     let notes = search.a_note_each in
@@ -42,7 +42,7 @@ work-held limit index p = one_less ((limit - length p.table) * (2 * limit + 2)) 
     (length (index ∷ p.queue)) (omega arith)
 
 -- an index that was taken out is held
-pub held-search : (b : Numbered) (limit index : ℕ) (p : Progress) (rest : List ℕ) → IsSearch b limit p → HasOneMore rest index p.queue
+pub held-search : (b : BoardView) (limit index : ℕ) (p : Progress) (rest : List ℕ) → IsSearch b limit p → HasOneMore rest index p.queue
     → IsSearch b limit (holding index (record p { queue = rest }))
 held-search b limit index p rest search taken =
     let member : (i : ℕ) → Contains p.queue i → Contains (index ∷ rest) i = λ i waits. elim ((taken.exact i).0 waits) [
@@ -55,7 +55,7 @@ held-search b limit index p rest search taken =
     ]) (λ i key depth note state. inl (member i))
 
 -- an index that is held waits again
-pub waits-still : (b : Numbered) (limit index : ℕ) (p : Progress) (queue : List ℕ) → IsSearch b limit (holding index p) → HasOneMore p.queue index queue
+pub waits-still : (b : BoardView) (limit index : ℕ) (p : Progress) (queue : List ℕ) → IsSearch b limit (holding index p) → HasOneMore p.queue index queue
     → IsSearch b limit (record p { queue = queue })
 waits-still b limit index p queue search more =
     keeps-queue b limit (holding index p) queue search (λ i waits. elim ((more.exact i).0 waits) [
@@ -67,7 +67,7 @@ waits-still b limit index p queue search more =
     ]))
 
 -- so a search that is cut off waits for no index less
-pub cut-waits : (b : Numbered) (limit index bound : ℕ) (whole : Bool) (p : Progress) (queue : List ℕ) (s : Standing) → s ≡ Open bound
+pub cut-waits : (b : BoardView) (limit index bound : ℕ) (whole : Bool) (p : Progress) (queue : List ℕ) (s : Standing) → s ≡ Open bound
     → IsCutOff b limit whole (holding index p) → Queues s index p.queue queue → IsCutOff b limit whole (record p { queue = queue })
 cut-waits b limit index bound whole p queue s is cut queues =
     record {
@@ -84,7 +84,7 @@ work-taken limit index p rest taken =
     as_much ((limit - length p.table) * (2 * limit + 2)) (sum_by (λ d. d) (values_of p.table)) (length (index ∷ rest)) (length p.queue) (omega (arith, longer))
 
 -- a turn of an index that was taken out is one of the whole search
-pub turned-taken : (b : Numbered) (limit index : ℕ) (p q : Progress) (rest : List ℕ) (reached : Reached) → HasOneMore rest index p.queue
+pub turned-taken : (b : BoardView) (limit index : ℕ) (p q : Progress) (rest : List ℕ) (reached : Reached) → HasOneMore rest index p.queue
     → TellsTurned b limit (holding index (record p { queue = rest })) q reached → reached ≡ On → IsTurned b limit p q
 turned-taken b limit index p q rest reached taken tells on =
     let held : Progress = holding index (record p { queue = rest }) in
@@ -92,7 +92,7 @@ turned-taken b limit index p q rest reached taken tells on =
     record { search = told.search; whole = told.whole; less = subst (λ n. work limit q < n) (work-taken limit index p rest taken) told.less }
 
 -- what is not open stands without waiting
-pub let-go : (b : Numbered) (limit index : ℕ) (p : Progress) (note : Note) → IsSearch b limit (holding index p) → slice_get p.notes index ≡ Some note
+pub let-go : (b : BoardView) (limit index : ℕ) (p : Progress) (note : Note) → IsSearch b limit (holding index p) → slice_get p.notes index ≡ Some note
     → ((key : Key) (depth : ℕ) → slice_get (values_of p.table) index ≡ Some depth → Stands b (holding index p) index key depth note.standing
     → Stands b p index key depth note.standing) → IsTurned b limit (holding index p) p
 let-go b limit index p note search note_is stands =
@@ -107,28 +107,28 @@ let-go b limit index p note search note_is stands =
       less = work-held limit index p;
     }
 
-pub go-expanded : (b : Numbered) (limit index bound : ℕ) (p : Progress) (note : Note) → IsSearch b limit (holding index p)
+pub go-expanded : (b : BoardView) (limit index bound : ℕ) (p : Progress) (note : Note) → IsSearch b limit (holding index p)
     → slice_get p.notes index ≡ Some note → note.standing ≡ Expanded bound → IsTurned b limit (holding index p) p
 go-expanded b limit index bound p note search note_is is =
     let-go b limit index p note search note_is (λ key depth depth_is stood.
     let was : Stands b (holding index p) index key depth (Expanded bound) = subst (Stands b (holding index p) index key depth) is stood in
     subst (Stands b p index key depth) (sym is) was)
 
-pub go-dead : (b : Numbered) (limit index : ℕ) (p : Progress) (note : Note) → IsSearch b limit (holding index p) → slice_get p.notes index ≡ Some note
+pub go-dead : (b : BoardView) (limit index : ℕ) (p : Progress) (note : Note) → IsSearch b limit (holding index p) → slice_get p.notes index ≡ Some note
     → note.standing ≡ Dead → IsTurned b limit (holding index p) p
 go-dead b limit index p note search note_is is =
     let-go b limit index p note search note_is (λ key depth depth_is stood.
     let was : Stands b (holding index p) index key depth Dead = subst (Stands b (holding index p) index key depth) is stood in
     subst (Stands b p index key depth) (sym is) was)
 
-pub go-lost : (b : Numbered) (limit index place : ℕ) (p : Progress) (note : Note) → IsSearch b limit (holding index p)
+pub go-lost : (b : BoardView) (limit index place : ℕ) (p : Progress) (note : Note) → IsSearch b limit (holding index p)
     → slice_get p.notes index ≡ Some note → note.standing ≡ Lost place → IsTurned b limit (holding index p) p
 go-lost b limit index place p note search note_is is =
     let-go b limit index p note search note_is (λ key depth depth_is stood.
     let was : Stands b (holding index p) index key depth (Lost place) = subst (Stands b (holding index p) index key depth) is stood in
     subst (Stands b p index key depth) (sym is) was)
 
-pub go-beaten : (b : Numbered) (limit index bound depth : ℕ) (p : Progress) (note : Note) → IsSearch b limit (holding index p)
+pub go-beaten : (b : BoardView) (limit index bound depth : ℕ) (p : Progress) (note : Note) → IsSearch b limit (holding index p)
     → slice_get p.notes index ≡ Some note → note.standing ≡ Open bound → slice_get (values_of p.table) index ≡ Some depth → IsBeaten p.best (depth + bound)
     → IsTurned b limit (holding index p) p
 go-beaten b limit index bound deep p note search note_is is deep_is beaten =
@@ -142,7 +142,7 @@ unbeaten : (best : Option ℕ) (depth bound : ℕ) → (IsBeaten best (depth + b
 unbeaten None depth bound far n beaten = absurd beaten
 unbeaten (Some k) depth bound far n beaten = elim (cases_lt (depth + bound) k) [ inl above ↦ omega (arith, above, beaten) | inr near ↦ absurd (far near) ]
 
-pub go-solved : (b : Numbered) (limit index bound depth : ℕ) (key : Key) (p : Progress) (note : Note) → IsSearch b limit (holding index p)
+pub go-solved : (b : BoardView) (limit index bound depth : ℕ) (key : Key) (p : Progress) (note : Note) → IsSearch b limit (holding index p)
     → IsState p index key depth note → note.standing ≡ Open bound → IsSolved b key → (IsBeaten p.best (depth + bound) → ⊥)
     → IsTurned b limit (holding index p) (done p p.notes (Some depth))
 go-solved b limit index bound depth key p note search state is solved far =
@@ -152,7 +152,7 @@ go-solved b limit index bound depth key p note search state is solved far =
       less = work-held limit index p;
     }
 
-pub go-on : (b : Numbered) (limit index bound depth : ℕ) (key : Key) (p q : Progress) (note : Note) → IsState p index key depth note
+pub go-on : (b : BoardView) (limit index bound depth : ℕ) (key : Key) (p q : Progress) (note : Note) → IsState p index key depth note
     → note.standing ≡ Open bound → (IsSolved b key → ⊥) → HasFollowed b limit p index key depth (IsLegal b key) q → (r : Progress)
     → r ≡ done q (set q.notes index (record { origin = note.origin; standing = Expanded bound })) q.best
     → IsTurned b limit (holding index p) r

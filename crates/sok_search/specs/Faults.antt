@@ -1,7 +1,7 @@
 -- Why a level is not solved, and how these faults are printed: their numbers, and their names with their arguments.
 use Rattle.std.specs.Prelude.{ℕ, ◌≡◌, ◌≢◌, ◌<◌, ◌≤◌, ◌↔◌, ◌⊎◌, List, Result, Err, IfErr, IsOk, codes}
 use Rattle.sok_rules.specs.Squares.{Rows}
-use Rattle.sok_board.specs.Area.{Numbered, IsAccepted}
+use Rattle.sok_board.specs.Area.{BoardView, IsAccepted}
 use Rattle.sok_board.specs.declared.fault.BoardFault.{BoardFault}
 use Rattle.sok_board.specs.declared.fault.BoardFault.TheVariants as board
 use Rattle.sok_board.specs.Faults.{board_fault_number, board_fault_words}
@@ -26,7 +26,7 @@ IsRefusal rows limit (solve.Level fault) = (fault ≢ board.Memory) × IsRefused
 IsRefusal rows limit solve.Memory = Unit {0}
 
 -- the board of a level, within a limit that is not bad
-pub record IsAcceptedWithin (rows : Rows) (limit : ℕ) (b : Numbered) : Type 0 where
+pub record IsAcceptedWithin (rows : Rows) (limit : ℕ) (b : BoardView) : Type 0 where
   pub rows_are : b.rows ≡ rows
   pub accepted : IsAccepted b
   pub positive : 0 < limit

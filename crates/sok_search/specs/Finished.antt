@@ -1,13 +1,13 @@
 -- What a search shows, finished or cut off, where each of its states is done with for what is claimed.
 use Rattle.std.specs.Prelude.{ℕ, ◌≡◌, ◌≤◌, ◌+◌, List, [], ◌∷◌, ◌++◌, Option, Some, None, IsSomeAnd, All, length, slice_get}
-use Rattle.sok_board.specs.Area.{Numbered}
+use Rattle.sok_board.specs.Area.{BoardView}
 use Rattle.sok_cert.specs.Claim.{Claim}
 use Rattle.sok_cert.specs.Claim.TheVariants.{Pushes, Unsolvable}
 use Rattle.sok_cert.specs.Entry.{Entry}
 use Rattle.sok_cert.specs.Reason.{Reason}
 use Rattle.sok_cert.specs.Reason.TheVariants as reason
 use Rattle.sok_cert.specs.Text.{FitsEntry, FitsReason}
-use Rattle.sok_push.specs.Pushing.{IsStuck}
+use Rattle.sok_distance.specs.Pushing.{IsStuck}
 use Rattle.sok_price.specs.Matches.{ArePrices}
 use Rattle.sok_price.specs.Prices.{IsCrowd}
 use Rattle.sok_bar.specs.declared.rest.Rest.{Rest}
@@ -27,42 +27,42 @@ claim_of None = Unsolvable
 claim_of (Some k) = Pushes k
 
 -- what a reason says of a position; an expanded one gives none
-abbrev pub ReasonBars : Numbered → ℕ → List ℕ → Reason → Rest → Type 0
+abbrev pub ReasonBars : BoardView → ℕ → List ℕ → Reason → Rest → Type 0
 ReasonBars b player boxes why rest = IsSomeAnd (barring why) (λ reason. Bars b player boxes reason rest)
 
 -- an expanded state is expanded in the list, and each other one is barred
-abbrev pub IsReasonOf : Numbered → Claim → ℕ → List ℕ → ℕ → Standing → Reason → Type 0
+abbrev pub IsReasonOf : BoardView → Claim → ℕ → List ℕ → ℕ → Standing → Reason → Type 0
 IsReasonOf b claim player boxes depth (standing.Expanded bound) why = why ≡ reason.Expanded
 IsReasonOf b claim player boxes depth (standing.Open bound) why = ReasonBars b player boxes why (rest_of claim depth)
 IsReasonOf b claim player boxes depth standing.Dead why = ReasonBars b player boxes why (rest_of claim depth)
 IsReasonOf b claim player boxes depth (standing.Lost place) why = ReasonBars b player boxes why (rest_of claim depth)
 
 -- an entry made of a state
-pub record IsEntryOf (b : Numbered) (claim : Claim) (key : Key) (depth : ℕ) (note : Note) (e : Entry) : Type 0 where
+pub record IsEntryOf (b : BoardView) (claim : Claim) (key : Key) (depth : ℕ) (note : Note) (e : Entry) : Type 0 where
   pub depth_is : e.depth ≡ depth
   pub player_is : e.player ≡ key.least
   pub boxes_are : e.boxes ≡ key.boxes
   pub reason_is : IsReasonOf b claim key.least key.boxes depth note.standing e.reason
 
 -- entries of the first states
-pub record AreFirstEntries (b : Numbered) (claim : Claim) (p : Progress) (n : ℕ) (entries : List Entry) : Type 0 where
+pub record AreFirstEntries (b : BoardView) (claim : Claim) (p : Progress) (n : ℕ) (entries : List Entry) : Type 0 where
   pub as_many : length entries ≡ n
   pub each : (i : ℕ) (key : Key) (depth : ℕ) (note : Note) (e : Entry) → IsState p i key depth note → slice_get entries i ≡ Some e
       → IsEntryOf b claim key depth note e
 
 -- these entries were taken, each with a text, of the first states
-pub record AreTaken (Took : List Entry → Type 0) (b : Numbered) (claim : Claim) (p : Progress) (n : ℕ) : Type 0 where
+pub record AreTaken (Took : List Entry → Type 0) (b : BoardView) (claim : Claim) (p : Progress) (n : ℕ) : Type 0 where
   pub entries : List Entry
   pub took : Took entries
   pub first : AreFirstEntries b claim p n entries
   pub fit : All FitsEntry entries
 
 -- an entry of the state at an index
-abbrev pub IsEntryAt : Numbered → Claim → Progress → ℕ → Entry → Type 0
+abbrev pub IsEntryAt : BoardView → Claim → Progress → ℕ → Entry → Type 0
 IsEntryAt b claim p index e = (key : Key) (depth : ℕ) (note : Note) → IsState p index key depth note → IsEntryOf b claim key depth note e
 
 -- one entry more was taken, that of the state at an index, which has a text
-pub record TakesEntry (Took Takes : List Entry → Type 0) (b : Numbered) (claim : Claim) (p : Progress) (index : ℕ) : Type 0 where
+pub record TakesEntry (Took Takes : List Entry → Type 0) (b : BoardView) (claim : Claim) (p : Progress) (index : ℕ) : Type 0 where
   pub entry : Entry
   pub is : IsEntryAt b claim p index entry
   pub fits : FitsEntry entry
@@ -74,23 +74,23 @@ IsAtMost (Pushes k) n = k ≤ n
 IsAtMost Unsolvable n = ⊥
 
 -- there are as many pushes as claimed, by a bound
-abbrev pub CostsEnough : Numbered → Claim → List ℕ → ℕ → Type 0
+abbrev pub CostsEnough : BoardView → Claim → List ℕ → ℕ → Type 0
 CostsEnough b claim boxes depth = (bound : ℕ) × HasBound b boxes bound × IsAtMost claim (depth + bound)
 
 -- a state that needs no more looking at: it bars what is claimed
-abbrev pub IsDone : Numbered → Claim → List Loss → ℕ → List ℕ → ℕ → Standing → Type 0
+abbrev pub IsDone : BoardView → Claim → List Loss → ℕ → List ℕ → ℕ → Standing → Type 0
 IsDone b claim losses player boxes depth (standing.Open bound) = CostsEnough b claim boxes depth
 IsDone b claim losses player boxes depth (standing.Expanded bound) = Unit {0}
 IsDone b claim losses player boxes depth standing.Dead = IsDead b boxes
 IsDone b claim losses player boxes depth (standing.Lost place) = IsLostBy b player boxes losses place
 
 -- each state that is known is done with
-abbrev pub AreDone : Numbered → Claim → Progress → Type 0
+abbrev pub AreDone : BoardView → Claim → Progress → Type 0
 AreDone b claim p = (i : ℕ) (key : Key) (depth : ℕ) (note : Note) → IsState p i key depth note
     → IsDone b claim (losses_of p.frame.losses) key.least key.boxes depth note.standing
 
 -- the box at a place reaches no goal
-abbrev pub IsStuckAt : Numbered → List ℕ → ℕ → Type 0
+abbrev pub IsStuckAt : BoardView → List ℕ → ℕ → Type 0
 IsStuckAt b boxes place = (square : ℕ) × (slice_get boxes place ≡ Some square) × IsStuck b square
 
 -- a crowd of the box at a place alone
@@ -98,7 +98,7 @@ abbrev pub IsLoneCrowd : ℕ → Reason → Type 0
 IsLoneCrowd place why = why ≡ reason.Crowd (place ∷ [])
 
 -- prices of a least assignment, or a crowd
-abbrev pub IsAssigned : Numbered → List ℕ → Reason → Type 0
+abbrev pub IsAssigned : BoardView → List ℕ → Reason → Type 0
 IsAssigned b boxes (reason.Bound u v) = (total : ℕ) × (goal_of : List ℕ) × ArePrices b boxes u v total goal_of
 IsAssigned b boxes (reason.Crowd members) = IsCrowd b boxes members
 IsAssigned b boxes _ = ⊥

@@ -8,6 +8,6 @@ pub mod Finished
 pub mod Halted
 pub mod Searches
 pub mod Steps
-pub mod Trails
-pub mod Trials
+pub mod Walkthroughs
+pub mod PushScratches
 pub mod Views

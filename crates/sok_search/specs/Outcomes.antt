@@ -4,7 +4,7 @@ use Rattle.sok_rules.specs.declared.cell.Dir.{Dir}
 use Rattle.sok_rules.specs.Squares.{Rows}
 use Rattle.sok_rules.specs.Play.{start, pushes, Solves, AtLeast, IsFewest, IsUnsolvable}
 use Rattle.sok_rules.specs.States.{MoreStatesThan}
-use Rattle.sok_board.specs.Area.{Numbered, IsAccepted}
+use Rattle.sok_board.specs.Area.{BoardView, IsAccepted}
 use Rattle.sok_cert.specs.Claim.{Claim}
 use Rattle.sok_cert.specs.Claim.TheVariants as claim
 use Rattle.sok_cert.specs.Certificate.{Certificate}
@@ -39,7 +39,7 @@ pub record IsLeastSolution (rows : Rows) (w : List Dir) (n : ℕ) : Type 0 where
 -- a certificate that has a text, is closed for a claim of a level, and has at most so many entries
 pub record Certifies (rows : Rows) (limit : ℕ) (shown : Claim) (entries : List Entry) : Type 0 where
   pub fits : Fits shown entries
-  pub closed : (b : Numbered) → b.rows ≡ rows → IsAccepted b → IsClosed b shown entries
+  pub closed : (b : BoardView) → b.rows ≡ rows → IsAccepted b → IsClosed b shown entries
   pub few : length entries ≤ limit
 
 -- no list solves, and a certificate shows it
@@ -60,7 +60,7 @@ pub record IsPastLimit (rows : Rows) (limit states : ℕ) : Type 0 where
 -- A search of the level that knows at most so many states has come to its end: none of them waits, and this is the least depth of one that is solved, if one
 -- is. So each push of a state that it has expanded leads to one of them, or to where nothing solves.
 pub record HasSearched (rows : Rows) (limit : ℕ) (best : Option ℕ) : Type 0 where
-  pub board : Numbered
+  pub board : BoardView
   pub rows_are : board.rows ≡ rows
   pub known : Progress
   pub search : IsSearch board limit known
@@ -70,7 +70,7 @@ pub record HasSearched (rows : Rows) (limit : ℕ) (best : Option ℕ) : Type 0 
 -- A search of the level that knows as many states as the limit was cut off, and so many pushes, at the least, are needed in one of its open states: those
 -- that were made, and those that its bound says are to come.
 pub record HasHalted (rows : Rows) (limit least : ℕ) : Type 0 where
-  pub board : Numbered
+  pub board : BoardView
   pub rows_are : board.rows ≡ rows
   pub known : Progress
   pub search : IsSearch board limit known

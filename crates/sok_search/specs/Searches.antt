@@ -2,7 +2,7 @@
 use Rattle.std.specs.Prelude.{ℕ, ◌≡◌, ◌<◌, ◌≤◌, ◌+◌, ◌⊎◌, Bool, false, List, Option, Some, None, IfSome, IsSomeAnd, Contains, length, slice_get}
 use Rattle.std.specs.Map.{values_of}
 use Rattle.sok_rules.specs.Play.{Position, AllOnGoals, NeverFrom, start}
-use Rattle.sok_board.specs.Area.{Numbered, position_of, boxes_of}
+use Rattle.sok_board.specs.Area.{BoardView, position_of, boxes_of}
 use Rattle.sok_price.specs.Matched.{TellsLeast}
 use Rattle.sok_bar.specs.declared.rest.Rest.{Rest}
 use Rattle.sok_bar.specs.Bars.{Barring, Bars, IsOfBoxes}
@@ -27,7 +27,7 @@ pub record Frame : Type 0 where
   pub losses : Losses
 
 -- the same, but that more may be known of boxes taken alone
-pub record IsLater (b : Numbered) (old new : Frame) : Type 0 where
+pub record IsLater (b : BoardView) (old new : Frame) : Type 0 where
   pub room : new.room ≡ old.room
   pub whole : new.whole ≡ old.whole
   pub kept : KeepsPlaces (losses_of old.losses) (losses_of new.losses)
@@ -48,7 +48,7 @@ pub record IsState (p : Progress) (i : ℕ) (key : Key) (depth : ℕ) (note : No
   pub note_is : slice_get p.notes i ≡ Some note
 
 -- a push leads to it from a state that is less deep
-pub record IsFrom (b : Numbered) (p : Progress) (key : Key) (depth : ℕ) (origin : Origin) : Type 0 where
+pub record IsFrom (b : BoardView) (p : Progress) (key : Key) (depth : ℕ) (origin : Origin) : Type 0 where
   pub parent : Key
   pub there : IsAt p.table parent origin.parent
   pub deep : ℕ
@@ -59,19 +59,19 @@ pub record IsFrom (b : Numbered) (p : Progress) (key : Key) (depth : ℕ) (origi
   pub is : IsKeyOf b after key
 
 -- by its origin, or it is the start
-abbrev pub IsCome : Numbered → Progress → Key → ℕ → Option Origin → Type 0
+abbrev pub IsCome : BoardView → Progress → Key → ℕ → Option Origin → Type 0
 IsCome b p key depth None = IsKeyOf b (start b.rows) key
 IsCome b p key depth (Some origin) = IsFrom b p key depth origin
 
-abbrev pub IsSolved : Numbered → Key → Type 0
+abbrev pub IsSolved : BoardView → Key → Type 0
 IsSolved b key = AllOnGoals b.rows (position_of b key.least key.boxes)
 
 -- the least total of giving each box a goal of its own: an assignment costs it, and prices bound the pushes by it, wherever the player stands
-abbrev pub HasBound : Numbered → List ℕ → ℕ → Type 0
+abbrev pub HasBound : BoardView → List ℕ → ℕ → Type 0
 HasBound b boxes n = TellsLeast b boxes (Some n)
 
 -- a reason bars boxes, wherever the player stands and whatever is to be shown
-abbrev pub IsDead : Numbered → List ℕ → Type 0
+abbrev pub IsDead : BoardView → List ℕ → Type 0
 IsDead b boxes = (why : Barring) × IsOfBoxes why × ((player : ℕ) (rest : Rest) → Bars b player boxes why rest)
 
 -- a solution with no more pushes is known
@@ -79,20 +79,20 @@ abbrev pub IsBeaten : Option ℕ → ℕ → Type 0
 IsBeaten best n = IsSomeAnd best (λ k. k ≤ n)
 
 -- nothing solves from where a push leads
-abbrev pub LeadsNowhere : Numbered → Key → Push → Type 0
+abbrev pub LeadsNowhere : BoardView → Key → Push → Type 0
 LeadsNowhere b key push = (after : Position) → LeadsTo b key push after → NeverFrom b.rows after
 
 -- a push is left out, since nothing solves from where it leads, and not each state is kept
-pub record IsLeftOut (b : Numbered) (whole : Bool) (key : Key) (push : Push) : Type 0 where
+pub record IsLeftOut (b : BoardView) (whole : Bool) (key : Key) (push : Push) : Type 0 where
   pub part : whole ≡ false
   pub nowhere : LeadsNowhere b key push
 
 -- the state that a push leads to is known, at most one deeper, or the push is left out
-abbrev pub IsMet : Numbered → Progress → Key → ℕ → Push → Type 0
+abbrev pub IsMet : BoardView → Progress → Key → ℕ → Push → Type 0
 IsMet b p key depth push = IsFound b p.table key depth push ⊎ IsLeftOut b p.frame.whole key push
 
 -- why it may stand as it does
-abbrev pub Stands : Numbered → Progress → ℕ → Key → ℕ → Standing → Type 0
+abbrev pub Stands : BoardView → Progress → ℕ → Key → ℕ → Standing → Type 0
 Stands b p i key depth (Open bound) = HasBound b key.boxes bound × (Contains p.queue i ⊎ IsBeaten p.best (depth + bound))
 Stands b p i key depth (Expanded bound) =
     HasBound b key.boxes bound × (IsSolved b key → ⊥) × ((push : Push) → IsLegal b key push → IsMet b p key depth push)
@@ -100,7 +100,7 @@ Stands b p i key depth Dead = IsDead b key.boxes
 Stands b p i key depth (Lost place) = IsLostBy b key.least key.boxes (losses_of p.frame.losses) place
 
 -- a state of the board, no deeper than its index, which was come to and may stand as it does
-pub record IsNoted (b : Numbered) (p : Progress) (i : ℕ) (key : Key) (depth : ℕ) (note : Note) : Type 0 where
+pub record IsNoted (b : BoardView) (p : Progress) (i : ℕ) (key : Key) (depth : ℕ) (note : Note) : Type 0 where
   pub state : IsKey b key
   pub as_many : length key.boxes ≡ length (boxes_of b)
   pub shallow : depth ≤ i
@@ -108,14 +108,14 @@ pub record IsNoted (b : Numbered) (p : Progress) (i : ℕ) (key : Key) (depth : 
   pub stands : Stands b p i key depth note.standing
 
 -- the start stands first, at depth 0
-pub record IsBegun (b : Numbered) (p : Progress) : Type 0 where
+pub record IsBegun (b : BoardView) (p : Progress) : Type 0 where
   pub key : Key
   pub there : IsAt p.table key 0
   pub depth_is : slice_get (values_of p.table) 0 ≡ Some 0
   pub is : IsKeyOf b (start b.rows) key
 
 -- a solved state at most so deep is known
-pub record IsSolvedIn (b : Numbered) (p : Progress) (k : ℕ) : Type 0 where
+pub record IsSolvedIn (b : BoardView) (p : Progress) (k : ℕ) : Type 0 where
   pub index : ℕ
   pub key : Key
   pub there : IsAt p.table key index
@@ -125,7 +125,7 @@ pub record IsSolvedIn (b : Numbered) (p : Progress) (k : ℕ) : Type 0 where
   pub solved : IsSolved b key
 
 -- all that is known
-pub record IsSearch (b : Numbered) (limit : ℕ) (p : Progress) : Type 0 where
+pub record IsSearch (b : BoardView) (limit : ℕ) (p : Progress) : Type 0 where
   pub wide : length b.area ≤ p.frame.room
   pub losses : KeepsLosses b p.frame.losses
   pub distinct : HasDistinctKeys p.table
@@ -137,8 +137,8 @@ pub record IsSearch (b : Numbered) (limit : ℕ) (p : Progress) : Type 0 where
   pub best : IfSome p.best (IsSolvedIn b p)
 
 -- within some limit, and within one that a certificate allows
-abbrev pub IsSearching : Numbered → Progress → Type 0
+abbrev pub IsSearching : BoardView → Progress → Type 0
 IsSearching b p = (limit : ℕ) × IsSearch b limit p
 
-abbrev pub IsSmallSearch : Numbered → Progress → Type 0
+abbrev pub IsSmallSearch : BoardView → Progress → Type 0
 IsSmallSearch b p = (limit : ℕ) × IsSearch b limit p × (limit ≤ state_limit)

@@ -1,7 +1,7 @@
 -- What a search does: a state is added, or comes nearer, or is expanded.
 use Rattle.std.specs.Prelude.{ℕ, ◌≡◌, ◌<◌, ◌≤◌, ◌+◌, ◌-◌, ◌*◌, ◌⊎◌, ◌↔◌, List, [], ◌∷◌, ◌++◌, Option, Some, MatchOption, Contains, length, slice_get, slice_set, sum_by}
 use Rattle.std.specs.Map.{keys_of, values_of}
-use Rattle.sok_board.specs.Area.{Numbered}
+use Rattle.sok_board.specs.Area.{BoardView}
 use Rattle.sok_state.specs.declared.key.Key.{Key}
 use Rattle.sok_state.specs.declared.push.Push.{Push}
 use Rattle.sok_state.specs.Tables.{Entries, IsAt}
@@ -101,14 +101,14 @@ abbrev pub done : Progress → List Note → Option ℕ → Progress
 done p notes best = record { frame = p.frame; table = p.table; notes = notes; queue = p.queue; best = best }
 
 -- what is found of a new state, given by the player and the boxes, with the losses that are known
-abbrev pub IsJudged : Numbered → List Loss → ℕ → List ℕ → Standing → Type 0
+abbrev pub IsJudged : BoardView → List Loss → ℕ → List ℕ → Standing → Type 0
 IsJudged b losses player boxes (Open bound) = HasBound b boxes bound
 IsJudged b losses player boxes (Expanded bound) = ⊥
 IsJudged b losses player boxes Dead = IsDead b boxes
 IsJudged b losses player boxes (Lost place) = IsLostBy b player boxes losses place
 
 -- with the losses that a frame knows
-abbrev pub IsJudgedIn : Numbered → Frame → Key → Standing → Type 0
+abbrev pub IsJudgedIn : BoardView → Frame → Key → Standing → Type 0
 IsJudgedIn b frame key standing = IsJudged b (losses_of frame.losses) key.least key.boxes standing
 
 -- the work that remains: room in the table, depths to be lowered, indices that wait
@@ -116,7 +116,7 @@ abbrev pub work : ℕ → Progress → ℕ
 work limit p = (limit - length p.table) * (2 * limit + 2) + (2 * sum_by (λ depth. depth) (values_of p.table) + length p.queue)
 
 -- what a push that was followed leaves: all that is known holds, states that are no deeper stay, the push is met, and no work was added
-pub record IsPushed (b : Numbered) (limit : ℕ) (p : Progress) (key : Key) (depth : ℕ) (push : Push) (q : Progress) : Type 0 where
+pub record IsPushed (b : BoardView) (limit : ℕ) (p : Progress) (key : Key) (depth : ℕ) (push : Push) (q : Progress) : Type 0 where
   pub search : IsSearch b limit q
   pub whole : q.frame.whole ≡ p.frame.whole
   pub grows : Grows p.table q.table

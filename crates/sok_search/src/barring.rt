@@ -2,7 +2,7 @@
 
 ghost use Rattle.std.specs.Prelude.{ℕ, ◌<◌, ◌↔◌, IfOk, IfSome, IsTrue, All, length};
 ghost use Rattle.sok_alone.specs.Losses.{IsLostBy, losses_of};
-ghost use Rattle.sok_board.specs.Area.{Numbered};
+ghost use Rattle.sok_board.specs.Area.{BoardView};
 ghost use Rattle.sok_price.specs.Matched.{Serves};
 ghost use Rattle.sok_bar.specs.declared.rest.Rest.{Rest};
 ghost use Rattle.sok_cert.specs.Closed.{rest_of};
@@ -19,10 +19,10 @@ use sok_board::board::Board;
 use sok_board::box_set::BoxSet;
 use sok_cert::claim::Claim;
 use sok_cert::entry::{Numbers, Reason};
+use sok_distance::distances::Distances;
+use sok_distance::setting::Setting;
 use sok_price::assign::Match;
 use sok_price::matching::Matching;
-use sok_push::setting::Setting;
-use sok_push::tables::Tables;
 use sok_rules::fault::Memory;
 use std::alloc::Global;
 
@@ -107,7 +107,7 @@ fn dead_reason(
     ensures fits { IfOk result (HasText boxes.now) }
 {
     // The list tells as well that there are few boxes, so that their indices have a text.
-    if let Some(place) = stuck_place(setting.tables, boxes.list()) {
+    if let Some(place) = stuck_place(setting.distances, boxes.list()) {
         return stuck_reason(alloc, place as u32);
     }
     match find_jam(alloc, setting, boxes)? {
@@ -120,12 +120,12 @@ fn dead_reason(
 }
 
 /// The place of the first box that reaches no goal from its square, wherever the others are.
-fn stuck_place(tables: &Tables, squares: &[Sq]) -> Option<usize>
-    requires { All (λ square. square < length tables.now.board.area) squares.now }
-    ensures { IfSome result (IsStuckAt tables.now.board squares.now) }
+fn stuck_place(distances: &Distances, squares: &[Sq]) -> Option<usize>
+    requires { All (λ square. square < length distances.now.board.area) squares.now }
+    ensures { IfSome result (IsStuckAt distances.now.board squares.now) }
 {
     for (place, square) in squares.iter().enumerate() {
-        if tables.stuck(*square) {
+        if distances.stuck(*square) {
             return Some(place);
         }
     }
@@ -144,9 +144,9 @@ fn stuck_reason(alloc: Global, place: u32) -> Result<Reason, Memory>
 
 /// The reason why nothing solves from a lost state: the loss at a place, as a pattern of its boxes.
 fn lost_reason(alloc: Global, losses: &Losses, boxes: &BoxSet, place: u32) -> Result<Reason, Memory>
-    requires lost { (b : Numbered) × (player : ℕ)
+    requires lost { (b : BoardView) × (player : ℕ)
         × IsLostBy b player boxes.now (losses_of losses.now) place }
-    ensures bars { (b : Numbered) (player : ℕ)
+    ensures bars { (b : BoardView) (player : ℕ)
         → IsLostBy b player boxes.now (losses_of losses.now) place
         → IfOk result (λ why. (rest : Rest) → ReasonBars b player boxes.now why rest) }
     ensures fits { IfOk result (HasText boxes.now) }

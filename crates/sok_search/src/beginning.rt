@@ -10,7 +10,7 @@ use crate::queue::Queue;
 use crate::search::{Search, add};
 use sok_alone::losses::Losses;
 use sok_board::board::Board;
-use sok_push::setting::Setting;
+use sok_distance::setting::Setting;
 use sok_rules::fault::Memory;
 use sok_state::key::Key;
 use sok_state::table::Table;

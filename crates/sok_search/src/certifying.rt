@@ -1,7 +1,7 @@
 //! The certificate of a search whose states are all done with.
 
 ghost use Rattle.std.specs.Prelude.{◌≡◌, ◌<◌, [], IfOk, OnOk, length};
-ghost use Rattle.sok_board.specs.Area.{IsAccepted, Numbered};
+ghost use Rattle.sok_board.specs.Area.{IsAccepted, BoardView};
 ghost use Rattle.sok_price.specs.Matched.{Serves};
 ghost use Rattle.sok_search.specs.Finished.{AreDone, AreTaken, TakesEntry};
 ghost use Rattle.sok_search.specs.Searches.{IsSearching, IsSmallSearch, IsState};
@@ -13,8 +13,8 @@ use crate::note::Note;
 use crate::search::Search;
 use sok_board::area::Sq;
 use sok_cert::claim::Claim;
+use sok_distance::setting::Setting;
 use sok_price::matching::Matching;
-use sok_push::setting::Setting;
 use sok_rules::fault::Memory;
 use sok_state::key::Key;
 use std::alloc::Global;
@@ -111,7 +111,7 @@ fn state_at(
     squares: &mut Vec<Sq>,
     index: usize,
 ) -> Result<(Key, u32, Note), Memory>
-    requires search { (b : Numbered) × IsAccepted b × IsSearching b (progress_of search.now) }
+    requires search { (b : BoardView) × IsAccepted b × IsSearching b (progress_of search.now) }
     requires within { index < length search.now.table.entries }
     ensures { IfOk result
         (λ told. IsState (progress_of search.now) index told.0 told.1 told.2) }

@@ -7,17 +7,17 @@ ghost use Rattle.sok_region.specs.Layouts.{IsLaidOut};
 ghost use Rattle.sok_state.specs.Keys.{IsKey};
 ghost use Rattle.sok_state.specs.declared.push.Push.{Push};
 ghost use Rattle.sok_state.specs.Pushes.{IsLegal, IsOpened};
-ghost use Rattle.sok_search.specs.Trials.{IsReady, IsTrial};
+ghost use Rattle.sok_search.specs.PushScratches.{IsReady, IsPushScratch};
 ghost use Rattle.sok_search.specs.Views.{progress_of, HoldsState, TellsFollowed, TellsExpanded};
 
 use crate::note::Origin;
+use crate::push_scratch::PushScratch;
 use crate::reaching::{Reached, reach};
 use crate::search::Search;
-use crate::trial::Trial;
 use sok_board::area::Sq;
 use sok_board::board::Board;
+use sok_distance::setting::Setting;
 use sok_price::matching::Matching;
-use sok_push::setting::Setting;
 use sok_rules::fault::Memory;
 use sok_state::key::Key;
 use sok_state::legal::list_pushes;
@@ -32,7 +32,7 @@ pub(crate) struct Scratch {
     last: Option<Key>,
     index: u32,
     pushes: Vec<Push>,
-    pub(crate) trial: Trial,
+    pub(crate) push_scratch: PushScratch,
     pub(crate) squares: Vec<Sq>,
 }
 
@@ -41,7 +41,7 @@ impl Scratch {
     pub(crate) fn new(alloc: Global, setting: &Setting<'_>) -> Result<Scratch, Memory>
         ensures { IfOk result (IsReady setting.now.board.now) }
     {
-        let trial = Trial {
+        let push_scratch = PushScratch {
             scene: Scene::new(alloc, setting.board),
             matching: Matching::new(alloc, setting)?,
             matched: false,
@@ -50,7 +50,7 @@ impl Scratch {
             last: None,
             index: 0,
             pushes: Vec::new(alloc),
-            trial,
+            push_scratch,
             squares: Vec::new(alloc),
         })
     }
@@ -68,18 +68,18 @@ impl Scratch {
         requires accepted { IsAccepted board.now }
         requires state { IsKey board.now key.now }
         requires ready { IsReady board.now self.old }
-        ensures serves { OnOk result (Serves board.now self.new.trial.matching) }
-        ensures matched { self.new.trial.matched ≡ self.old.trial.matched }
+        ensures serves { OnOk result (Serves board.now self.new.push_scratch.matching) }
+        ensures matched { self.new.push_scratch.matched ≡ self.old.push_scratch.matched }
         ensures last { OnOk result (self.new.last ≡ Some key.now) }
-        ensures opened { OnOk result (IsOpened board.now key.now self.new.trial.scene) }
+        ensures opened { OnOk result (IsOpened board.now key.now self.new.push_scratch.scene) }
         ensures legal { OnOk result (All (IsLegal board.now key.now) self.new.pushes.items) }
         ensures whole { OnOk result ((push : Push)
             → IsLegal board.now key.now push → Contains self.new.pushes.items push) }
     {
         if !self.follow_last(alloc, board, key, origin)? {
-            self.trial.scene.open(board, key)?;
+            self.push_scratch.scene.open(board, key)?;
         }
-        list_pushes(board, key, &self.trial.scene, &mut self.pushes)?;
+        list_pushes(board, key, &self.push_scratch.scene, &mut self.pushes)?;
         self.last = Some(key.copy(alloc)?);
         self.index = index;
         Ok(())
@@ -96,12 +96,12 @@ impl Scratch {
     ) -> Result<bool, Memory>
         requires accepted { IsAccepted board.now }
         requires ready { IsReady board.now self.old }
-        ensures matching { self.new.trial.matching ≡ self.old.trial.matching }
-        ensures matched { self.new.trial.matched ≡ self.old.trial.matched }
+        ensures matching { self.new.push_scratch.matching ≡ self.old.push_scratch.matching }
+        ensures matched { self.new.push_scratch.matched ≡ self.old.push_scratch.matched }
         ensures laid { OnOk result
-            ((boxes : List ℕ) × IsLaidOut board.now boxes self.new.trial.scene.layout) }
+            ((boxes : List ℕ) × IsLaidOut board.now boxes self.new.push_scratch.scene.layout) }
         ensures followed { IfOk result
-            (λ came. IsTrue came → IsOpened board.now key.now self.new.trial.scene) }
+            (λ came. IsTrue came → IsOpened board.now key.now self.new.push_scratch.scene) }
     {
         let Some(origin) = origin else {
             return Ok(false);
@@ -112,7 +112,10 @@ impl Scratch {
         if origin.parent != self.index || !is_listed(&self.pushes, origin.push) {
             return Ok(false);
         }
-        let next = self.trial.scene.follow(alloc, board, last, origin.push)?;
+        let next = self
+            .push_scratch
+            .scene
+            .follow(alloc, board, last, origin.push)?;
         Ok(next == *key)
     }
 }
@@ -135,27 +138,35 @@ fn follow(
     setting: &Setting<'_>,
     limit: u32,
     search: &mut Search,
-    trial: &mut Trial,
+    push_scratch: &mut PushScratch,
     index: usize,
     key: &Key,
     depth: u32,
     pushes: &[Push],
 ) -> Result<Reached, Memory>
     requires state { HoldsState setting.now.board.now limit index key.now depth search.old }
-    requires trial { IsTrial setting.now.board.now key.now.boxes trial.old.matching
-        trial.old.matched }
-    requires opened { IsOpened setting.now.board.now key.now trial.old.scene }
+    requires push_scratch { IsPushScratch setting.now.board.now key.now.boxes push_scratch.old.matching
+        push_scratch.old.matched }
+    requires opened { IsOpened setting.now.board.now key.now push_scratch.old.scene }
     requires legal { All (IsLegal setting.now.board.now key.now) pushes.now }
-    ensures trial { OnOk result
-        (IsTrial setting.now.board.now key.now.boxes trial.new.matching trial.new.matched) }
-    ensures opened { OnOk result (IsOpened setting.now.board.now key.now trial.new.scene) }
+    ensures push_scratch { OnOk result
+        (IsPushScratch setting.now.board.now key.now.boxes push_scratch.new.matching push_scratch.new.matched) }
+    ensures opened { OnOk result (IsOpened setting.now.board.now key.now push_scratch.new.scene) }
     ensures tells { IfOk result (TellsFollowed setting.now.board.now limit
         (progress_of search.old) index
         key.now depth pushes.now (progress_of search.new)) }
 {
     for push in pushes {
         match reach(
-            alloc, setting, limit, search, trial, index, key, depth, *push,
+            alloc,
+            setting,
+            limit,
+            search,
+            push_scratch,
+            index,
+            key,
+            depth,
+            *push,
         )? {
             Reached::On => {}
             Reached::Full => return Ok(Reached::Full),
@@ -183,14 +194,14 @@ pub(crate) fn expand(
         (progress_of search.old) index
         key.now depth (progress_of search.new)) }
 {
-    scratch.trial.matched = false;
+    scratch.push_scratch.matched = false;
     scratch.open(alloc, setting.board, index as u32, key, origin)?;
     follow(
         alloc,
         setting,
         limit,
         search,
-        &mut scratch.trial,
+        &mut scratch.push_scratch,
         index,
         key,
         depth,

@@ -8,8 +8,8 @@ ghost use Rattle.sok_search.specs.Steps.{IsJudged};
 use crate::note::Standing;
 use sok_alone::losses::Losses;
 use sok_bar::frozen::find_jam;
+use sok_distance::setting::Setting;
 use sok_price::assign::{Match, assign};
-use sok_push::setting::Setting;
 use sok_rules::fault::Memory;
 use sok_state::key::Key;
 use std::alloc::Global;
@@ -31,7 +31,7 @@ pub(crate) fn judge(
     if let Some(_jam) = find_jam(alloc, setting, &key.boxes)? {
         return Ok(Standing::Dead);
     }
-    let total = match assign(alloc, setting.tables, &key.boxes)? {
+    let total = match assign(alloc, setting.distances, &key.boxes)? {
         Match::Prices { total, .. } => total,
         Match::Crowd { .. } => return Ok(Standing::Dead),
     };

@@ -16,13 +16,13 @@
 //! | `halted` | what a search shows that was cut off (private) |
 //! | `judging` | how a new state stands, and whether a state is solved (private) |
 //! | `note` | what a search notes of a state (private) |
+//! | `push_scratch` | how a new state stands that a push leads to (private) |
 //! | `queue` | states that wait, by the pushes that they need at least (private) |
 //! | `reaching` | a push is followed (private) |
 //! | `running` | one state is taken after another (private) |
 //! | `search` | what a search knows (private) |
 //! | `tracing` | the pushes that lead to a solved state (private) |
-//! | `trail` | the letters that make pushes one after another (private) |
-//! | `trial` | how a new state stands that a push leads to (private) |
+//! | `walkthrough` | the letters that make pushes one after another (private) |
 #![tactic(auto)]
 
 mod barring;
@@ -37,11 +37,11 @@ mod halted;
 mod judging;
 mod note;
 pub mod outcome;
+mod push_scratch;
 mod queue;
 mod reaching;
 mod running;
 mod search;
 pub mod solve;
 mod tracing;
-mod trail;
-mod trial;
+mod walkthrough;

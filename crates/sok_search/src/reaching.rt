@@ -7,16 +7,16 @@ ghost use Rattle.sok_board.specs.BoxSets.{put_in_order};
 ghost use Rattle.sok_state.specs.Keys.{IsKey};
 ghost use Rattle.sok_state.specs.Pushes.{IsLegal, IsOpened};
 ghost use Rattle.sok_search.specs.Steps.{Nears, reopened};
-ghost use Rattle.sok_search.specs.Trials.{IsTrial};
+ghost use Rattle.sok_search.specs.PushScratches.{IsPushScratch};
 ghost use Rattle.sok_search.specs.Views.{progress_of, HoldsState, TellsReached};
 
 use crate::note::{Note, Origin, Standing};
+use crate::push_scratch::{PushScratch, judge_after};
 use crate::search::{Search, add, lower};
-use crate::trial::{Trial, judge_after};
 use sok_alone::losses::Losses;
 use sok_board::area::Sq;
 use sok_board::board::Board;
-use sok_push::setting::Setting;
+use sok_distance::setting::Setting;
 use sok_rules::fault::Memory;
 use sok_state::key::Key;
 use sok_state::push::Push;
@@ -85,7 +85,7 @@ fn ask(
     ensures lost { IfOk result (λ found. IfSome found (IsLostBy setting.now.board.now push.from
         (put_in_order push.from to key.now.boxes) (losses_of losses.new))) }
 {
-    if setting.tables.stuck(to) {
+    if setting.distances.stuck(to) {
         return Ok(None);
     }
     losses.loss_after(alloc, setting, known, &key.boxes, push.from, push.dir, to)
@@ -99,26 +99,26 @@ pub(crate) fn reach(
     setting: &Setting<'_>,
     limit: u32,
     search: &mut Search,
-    trial: &mut Trial,
+    push_scratch: &mut PushScratch,
     index: usize,
     key: &Key,
     depth: u32,
     push: Push,
 ) -> Result<Reached, Memory>
     requires state { HoldsState setting.now.board.now limit index key.now depth search.old }
-    requires trial { IsTrial setting.now.board.now key.now.boxes trial.old.matching
-        trial.old.matched }
-    requires opened { IsOpened setting.now.board.now key.now trial.old.scene }
+    requires push_scratch { IsPushScratch setting.now.board.now key.now.boxes push_scratch.old.matching
+        push_scratch.old.matched }
+    requires opened { IsOpened setting.now.board.now key.now push_scratch.old.scene }
     requires legal { IsLegal setting.now.board.now key.now push }
-    ensures trial { OnOk result
-        (IsTrial setting.now.board.now key.now.boxes trial.new.matching trial.new.matched) }
-    ensures opened { OnOk result (IsOpened setting.now.board.now key.now trial.new.scene) }
+    ensures push_scratch { OnOk result
+        (IsPushScratch setting.now.board.now key.now.boxes push_scratch.new.matching push_scratch.new.matched) }
+    ensures opened { OnOk result (IsOpened setting.now.board.now key.now push_scratch.new.scene) }
     ensures tells { IfOk result (TellsReached setting.now.board.now limit
         (progress_of search.old) index
         key.now depth push (progress_of search.new)) }
 {
     let to = square_ahead(setting.board, push);
-    if !search.whole && setting.tables.stuck(to) {
+    if !search.whole && setting.distances.stuck(to) {
         return Ok(Reached::On);
     }
     let known = search.table.len();
@@ -128,7 +128,17 @@ pub(crate) fn reach(
         return Ok(Reached::On);
     }
     arrive(
-        alloc, setting, limit, search, trial, index, key, depth, push, to, lost,
+        alloc,
+        setting,
+        limit,
+        search,
+        push_scratch,
+        index,
+        key,
+        depth,
+        push,
+        to,
+        lost,
     )
 }
 
@@ -174,7 +184,7 @@ fn arrive(
     setting: &Setting<'_>,
     limit: u32,
     search: &mut Search,
-    trial: &mut Trial,
+    push_scratch: &mut PushScratch,
     index: usize,
     key: &Key,
     depth: u32,
@@ -183,22 +193,22 @@ fn arrive(
     lost: Option<u32>,
 ) -> Result<Reached, Memory>
     requires state { HoldsState setting.now.board.now limit index key.now depth search.old }
-    requires trial { IsTrial setting.now.board.now key.now.boxes trial.old.matching
-        trial.old.matched }
-    requires opened { IsOpened setting.now.board.now key.now trial.old.scene }
+    requires push_scratch { IsPushScratch setting.now.board.now key.now.boxes push_scratch.old.matching
+        push_scratch.old.matched }
+    requires opened { IsOpened setting.now.board.now key.now push_scratch.old.scene }
     requires legal { IsLegal setting.now.board.now key.now push }
     requires ahead { beside setting.now.board.now push.from push.dir ≡ Some to }
     requires lost { IfSome lost (IsLostBy setting.now.board.now push.from
         (put_in_order push.from to key.now.boxes) (losses_of search.old.losses)) }
-    ensures trial { OnOk result
-        (IsTrial setting.now.board.now key.now.boxes trial.new.matching trial.new.matched) }
-    ensures opened { OnOk result (IsOpened setting.now.board.now key.now trial.new.scene) }
+    ensures push_scratch { OnOk result
+        (IsPushScratch setting.now.board.now key.now.boxes push_scratch.new.matching push_scratch.new.matched) }
+    ensures opened { OnOk result (IsOpened setting.now.board.now key.now push_scratch.new.scene) }
     ensures tells { IfOk result (TellsReached setting.now.board.now limit
         (progress_of search.old) index
         key.now depth push (progress_of search.new)) }
 {
     if search.table.len() >= limit as usize {
-        let scene = &mut trial.scene;
+        let scene = &mut push_scratch.scene;
         return arrive_full(
             alloc,
             setting.board,
@@ -212,7 +222,7 @@ fn arrive(
         );
     }
     let from = push.from;
-    let least = trial.scene.step(setting.board, key, push, to);
+    let least = push_scratch.scene.step(setting.board, key, push, to);
     let origin = Some(Origin {
         parent: index as u32,
         push,
@@ -223,7 +233,7 @@ fn arrive(
         approach(search, at, deeper, origin)?;
         return Ok(Reached::On);
     }
-    let standing = judge_after(alloc, setting, trial, &key.boxes, from, to, lost)?;
+    let standing = judge_after(alloc, setting, push_scratch, &key.boxes, from, to, lost)?;
     add(search, at, deeper, Note { origin, standing })?;
     Ok(Reached::On)
 }

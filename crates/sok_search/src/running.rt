@@ -4,7 +4,7 @@ ghost use Rattle.std.specs.Prelude.{◌≡◌, ◌<◌, ◌+◌, ◌↔◌, IfOk
 ghost use Rattle.std.specs.Prelude.{length, slice_get, slice_set};
 ghost use Rattle.sok_search.specs.Searches.{IsBeaten};
 ghost use Rattle.sok_search.specs.Steps.{done, holding};
-ghost use Rattle.sok_search.specs.Trials.{IsReady};
+ghost use Rattle.sok_search.specs.PushScratches.{IsReady};
 ghost use Rattle.sok_search.specs.Views.{progress_of, IsRunning, TellsTurned, TellsFinished};
 ghost use Rattle.sok_search.specs.declared.note.Standing.TheVariants.{Open};
 
@@ -13,7 +13,7 @@ use crate::note::{Note, Standing};
 use crate::reaching::Reached;
 use crate::search::{Search, wait};
 use sok_closed::solved::is_solved;
-use sok_push::setting::Setting;
+use sok_distance::setting::Setting;
 use sok_rules::fault::Memory;
 use std::alloc::Global;
 
@@ -114,7 +114,7 @@ fn turn(
 }
 
 /// Takes one index after another, until none waits or a new state has no place in the table.
-pub(crate) fn run(
+pub(crate) fn search_on(
     alloc: Global,
     setting: &Setting<'_>,
     limit: u32,

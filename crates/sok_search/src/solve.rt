@@ -7,7 +7,7 @@ ghost use Rattle.sok_search.specs.Faults.{IsAcceptedWithin, IsBadLimit, TellsFau
 ghost use Rattle.sok_search.specs.Limits.{state_limit};
 ghost use Rattle.sok_search.specs.Outcomes.{IsAnswer, IsBounded, IsFound, IsOutcome, IsShown};
 ghost use Rattle.sok_search.specs.Searches.{IsSearch, IsSearching, IsSmallSearch};
-ghost use Rattle.sok_search.specs.Trails.{IsSolvedWithin};
+ghost use Rattle.sok_search.specs.Walkthroughs.{IsSolvedWithin};
 ghost use Rattle.sok_search.specs.Views.{progress_of, IsCutOff, IsEmpty, IsRunning, TellsFinished};
 ghost use Rattle.sok_search.specs.Views.{TellsSearched};
 
@@ -20,15 +20,15 @@ use crate::found::Found;
 use crate::halted::least_open;
 use crate::outcome::Outcome;
 use crate::reaching::Reached;
-use crate::running::run;
+use crate::running::search_on;
 use crate::search::{Search, let_go};
 use crate::tracing::{find_solved, trace};
-use crate::trail::letters;
+use crate::walkthrough::letters;
 use sok_board::board::Board;
 use sok_cert::claim::Claim;
 use sok_cert::entry::{Certificate, Entry};
-use sok_push::setting::Setting;
-use sok_push::tables::Tables;
+use sok_distance::distances::Distances;
+use sok_distance::setting::Setting;
 use sok_rules::cell::Dir;
 use sok_rules::fault::Memory;
 use sok_rules::level::Level;
@@ -201,10 +201,10 @@ fn answer_by<C: Entries>(
     ensures { IfOk result
         (IsShown (λ taken. C.took taken entries.new) board.now.rows limit wanted) }
 {
-    let tables = Tables::new(alloc, board)?;
+    let distances = Distances::new(alloc, board)?;
     let setting = Setting {
         board,
-        tables: &tables,
+        distances: &distances,
     };
     match search_all(alloc, &setting, limit, search)? {
         Reached::On => conclude(alloc, &setting, search, entries),
@@ -232,10 +232,10 @@ fn find_by(alloc: Global, board: &Board, limit: u32, search: &mut Search) -> Res
     requires empty { IsEmpty board.now search.old }
     ensures { IfOk result (IsFound board.now.rows limit) }
 {
-    let tables = Tables::new(alloc, board)?;
+    let distances = Distances::new(alloc, board)?;
     let setting = Setting {
         board,
-        tables: &tables,
+        distances: &distances,
     };
     match search_all(alloc, &setting, limit, search)? {
         Reached::On => find_in(alloc, board, search),
@@ -303,7 +303,7 @@ fn finish(
         (progress_of search.new)) }
 {
     let mut scratch = Scratch::new(alloc, setting)?;
-    let reached = run(alloc, setting, limit, search, &mut scratch);
+    let reached = search_on(alloc, setting, limit, search, &mut scratch);
     // As one value: field by field takes five times as long to prove.
     drop(scratch);
     reached

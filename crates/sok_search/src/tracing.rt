@@ -3,7 +3,7 @@
 ghost use Rattle.std.specs.Prelude.{◌≡◌, ◌<◌, ◌↔◌, IfOk, IsTrue, Some, length};
 ghost use Rattle.sok_board.specs.Area.{IsAccepted};
 ghost use Rattle.sok_search.specs.Searches.{IsSearching};
-ghost use Rattle.sok_search.specs.Trails.{GoesBack, IsSolvedAt, TracesBack};
+ghost use Rattle.sok_search.specs.Walkthroughs.{GoesBack, IsSolvedAt, TracesBack};
 ghost use Rattle.sok_search.specs.Views.{progress_of};
 
 use crate::search::Search;

@@ -1,7 +1,7 @@
 -- What the answer of a search shows of the level.
 use Rattle.std.proofs.Common.{ℕ, refl, subst, List}
 use Rattle.sok_rules.specs.Squares.{Rows}
-use Rattle.sok_board.specs.Area.{Numbered}
+use Rattle.sok_board.specs.Area.{BoardView}
 use Rattle.sok_board.specs.Refusals.{IsAcceptable}
 use Rattle.sok_cert.specs.Claim.{Claim}
 use Rattle.sok_cert.specs.Entry.{Entry}
@@ -14,7 +14,7 @@ use Rattle.sok_store.specs.Known.{IsCertified}
 pub certified : (rows : Rows) (limit : ℕ) (claim : Claim) (entries : List Entry) → IsAcceptable rows → Certifies rows limit claim entries
     → IsCertified rows claim
 certified rows limit claim entries (area, accepted) it =
-    let board : Numbered = record { rows = rows; area = area } in
+    let board : BoardView = record { rows = rows; area = area } in
     let closed = it.closed board refl accepted in (
       text_of claim entries,
       record {

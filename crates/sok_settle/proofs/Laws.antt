@@ -19,7 +19,7 @@ use Rattle.sok_store.specs.Known.{ProvesKnown}
 use Rattle.sok_store.proofs.Found.{page_there}
 use Rattle.sok_settle.specs.Going.{more, none}
 use Rattle.sok_settle.specs.Keeping.{IsKept, Keeping}
-use Rattle.sok_settle.specs.Settles.{IsTried, LeavesLevel, SettlesBy, SettlesFirst, SettlesLevel, is_passed, is_past_limit, is_settled, is_too_long, is_too_much, level_leave, level_step}
+use Rattle.sok_settle.specs.Settles.{IsTried, EndsLevel, SettlesBy, SettlesFirst, SettlesLevel, is_passed, is_past_limit, is_settled, is_too_long, is_too_much, level_leave, level_step}
 use Rattle.sok_settle.specs.Laws.{SettledHaveCerts, SettledHaveVerdicts, SettlingsAreSome, SettlingsFold, SettlingsKeepTruth, SettlingsKeepVerdicts}
 use Rattle.sok_settle.proofs.Levels.{best_untested}
 use Rattle.sok_settle.proofs.Settling.{else_offered, else_settled, first_stays, stays}
@@ -54,7 +54,7 @@ level_made keeping limit from id book before after line settled made (is_too_lon
     subst (IsMadeOf book) (sym same) made
 level_made keeping limit from id book before after line settled made (is_too_much page tried unkept says is same) = subst (IsMadeOf book) (sym same) made
 
-left_made : (from id : ℤ) (book before after : Book) → IsMadeOf book before → LeavesLevel from id before after → IsMadeOf book after
+left_made : (from id : ℤ) (book before after : Book) → IsMadeOf book before → EndsLevel from id before after → IsMadeOf book after
 left_made from id book before after made (inl same) = subst (IsMadeOf book) (sym same) made
 left_made from id book before after made (inr (page, tried, letters, answer, offered)) =
     histories.more before after made (offer (id_number id) letters answer offered)
@@ -111,7 +111,7 @@ first_kept keeping limit from book _ _ _ _ id page none there kept = there
 first_kept keeping limit from book _ _ _ _ id page (more n text line all settled before after first level) there kept =
     level_kept keeping limit from n before after line settled id page level (first_kept keeping limit from book n text all before id page first there kept) kept
 
-left_kept : (from : ℤ) (n : ℕ) (book after : Book) (id : ℕ) (page : Page) → LeavesLevel from (pos (n + 1)) book after → page_at book id ≡ Some page
+left_kept : (from : ℤ) (n : ℕ) (book after : Book) (id : ℕ) (page : Page) → EndsLevel from (pos (n + 1)) book after → page_at book id ≡ Some page
     → IsKeptAsIs from id page → page_at after id ≡ Some page
 left_kept from n book after id page (inl same) there kept = ap (λ (b : Book). page_at b id) same ∙ there
 left_kept from n book after id page (inr (other, tried, letters, answer, offered)) there kept =
@@ -264,7 +264,7 @@ module _ (keeping : Keeping) (limit : ℕ) (from : ℤ) where
       ]
 
   left_cert : (book : Book) (n : ℕ) (text : List ℕ) (all : Bool) (before after : Book) (id : ℕ) (page new : Page)
-      → SettlesFirst keeping limit from book n text all before → LeavesLevel from (pos (n + 1)) before after → page_at book id ≡ Some page
+      → SettlesFirst keeping limit from book n text all before → EndsLevel from (pos (n + 1)) before after → page_at book id ≡ Some page
       → page_at after id ≡ Some new → page.verdict ≡ Untested → new.verdict ≢ Untested → HasCert id page new
   left_cert book n text all before after id page new first (inl same) there then_there untested tested =
       first_cert book n text all before id page new first there (ap (λ (b : Book). page_at b id) (sym same) ∙ then_there) untested tested

@@ -31,7 +31,7 @@ use Rattle.sok_keep.proofs.Ending.{caused_more}
 use Rattle.sok_settle.specs.Going.{MayStep}
 use Rattle.sok_settle.specs.Keeping.{IsUnkept, Keeping, TellsKept}
 use Rattle.sok_settle.specs.Lines.{TellsFault, TellsLine, TellsUnkept, fault_line}
-use Rattle.sok_settle.specs.Settles.{IsTried, LeavesLevel, SettlesBy, SettlesLevel, is_past_limit, is_settled, is_too_long, is_too_much, leave_of_level, limit_line, optimal_line, too_long, unsolvable_line}
+use Rattle.sok_settle.specs.Settles.{IsTried, EndsLevel, SettlesBy, SettlesLevel, is_past_limit, is_settled, is_too_long, is_too_much, leave_of_level, limit_line, optimal_line, too_long, unsolvable_line}
 use Rattle.sok_settle.specs.Steps.{GoesBy, GoesThrough, IsTriedAs, leave_of_kept}
 use Rattle.sok_settle.proofs.Going.{changes_leads, left_steps, memory_goes, same_leads, step_other, told_goes, unwritten_goes}
 use Rattle.sok_settle.proofs.Levels.{HasLeast, best_stays, best_told, never_differs, never_refused, never_solved, offered_best}
@@ -143,7 +143,7 @@ module _ (from id : ℤ) (rows : Rows) where
     abbrev IsOffered : Book → Book → Type 0
     IsOffered book after = (told : Standing) × OffersTelling book (id_number id) letters told after
 
-    left : (book after : Book) → IsTriedAs from id rows book → IsOffered book after → LeavesLevel from id book after
+    left : (book after : Book) → IsTriedAs from id rows book → IsOffered book after → EndsLevel from id book after
     left book after (page, is, same) (told, tells) = inr (page, is, letters, told.offer, tells.offered)
 
     offer_stops : Stops old mid (May (claim.Pushes pushes))

@@ -83,15 +83,15 @@ pub data SettlesLevel (keeping : Keeping) (limit : ℕ) (from id : ℤ) (book : 
       → settled ≡ false → after ≡ book → SettlesLevel keeping limit from id book line settled after
 
 -- the call ended at the level with an id: it is as it was, or letters that solve it were offered
-abbrev pub LeavesLevel : ℤ → ℤ → Book → Book → Type 0
-LeavesLevel from id book after =
+abbrev pub EndsLevel : ℤ → ℤ → Book → Book → Type 0
+EndsLevel from id book after =
     (after ≡ book)
     ⊎ ((page : Page) × IsTried from id book page × (letters : List Dir) × (offer : Offer) × Offers book (id_number id) letters offer after)
 
 -- so it may end there; or its certificate can't be written
 abbrev pub leave_of_level : Keeping → ℕ → ℤ → ℤ → Leave
 leave_of_level keeping limit from id = record {
-  leaves = LeavesLevel from id;
+  leaves = EndsLevel from id;
   unwritten = λ book. (page : Page) × IsTried from id book page × IsUnkept keeping limit id page.level tool.WriteFailed;
 }
 

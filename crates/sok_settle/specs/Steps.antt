@@ -9,7 +9,7 @@ use Rattle.sok_engine.specs.declared.fault.ToolFault.{ToolFault}
 use Rattle.sok_store.specs.Calls.{id_number}
 use Rattle.sok_settle.specs.Going.{GoesStep, Leave, MayStep, StepsOnce}
 use Rattle.sok_settle.specs.Keeping.{Keeping}
-use Rattle.sok_settle.specs.Settles.{IsTried, LeavesLevel, SettlesBy, SettlesLevel, leave_of_level}
+use Rattle.sok_settle.specs.Settles.{IsTried, EndsLevel, SettlesBy, SettlesLevel, leave_of_level}
 
 -- a level was gone through, and its line was written, or a front of it; or the call ends at it, with nothing written
 abbrev pub StepsLevel : Keeping → ℕ → ℤ → ℤ → Book → Book → Option (List ℕ) → Option (List ℕ) → Result Bool ToolFault → Type 0
@@ -29,7 +29,7 @@ IsTriedAs from id rows book = (page : Page) × IsTried from id book page × (pag
 
 -- how the call may end at a level of which a certificate is kept
 abbrev pub leave_of_kept : ℤ → ℤ → Leave
-leave_of_kept from id = record { leaves = LeavesLevel from id; unwritten = λ book. ⊥ }
+leave_of_kept from id = record { leaves = EndsLevel from id; unwritten = λ book. ⊥ }
 
 -- how a call treats the connection that settles such a level by its claim
 abbrev pub GoesBy : ℤ → ℤ → Rows → Claim → State → State → Option (List ℕ) → Option (List ℕ) → Result Bool ToolFault → Type 0

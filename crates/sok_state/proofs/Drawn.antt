@@ -1,7 +1,7 @@
 -- Which pushes are legal, over the squares that the boxes leave free and those to which the man comes.
 use Rattle.std.proofs.Common.{ℕ, List, Contains}
 use Rattle.sok_rules.specs.Squares.{opposite}
-use Rattle.sok_board.specs.Area.{Numbered, IsAccepted}
+use Rattle.sok_board.specs.Area.{BoardView, IsAccepted}
 use Rattle.sok_board.proofs.Beside.{beside-within}
 use Rattle.sok_region.proofs.Regions.{through-exact}
 use Rattle.sok_state.specs.declared.key.Key.{Key}
@@ -10,7 +10,7 @@ use Rattle.sok_state.specs.Listing.{HasBeside, IsDrawn}
 use Rattle.sok_state.specs.Pushes.{IsLegal}
 use Rattle.sok_state.proofs.LegalPushes.{free-legal, legal-free}
 
-module _ (b : Numbered) (accepted : IsAccepted b) (key : Key) (free seen : List ℕ) (drawn : IsDrawn b key free seen) (push : Push) where
+module _ (b : BoardView) (accepted : IsAccepted b) (key : Key) (free seen : List ℕ) (drawn : IsDrawn b key free seen) (push : Push) where
   pub legal-drawn : Contains key.boxes push.from → HasBeside b seen push.from (opposite push.dir) → HasBeside b free push.from push.dir → IsLegal b key push
   legal-drawn among behind ahead =
       legal-free b accepted.numbered accepted.proper key drawn.placed push among (record {

@@ -11,7 +11,7 @@ use Rattle.sok_rules.specs.States.{Same}
 use Rattle.sok_rules.proofs.Spots.{next-opposite, opposite-twice, apart_next, same_spot-refl}
 use Rattle.sok_rules.proofs.Steps.{IsPush, push_step, step-box}
 use Rattle.sok_rules.proofs.Walking.{boxes-Same}
-use Rattle.sok_board.specs.Area.{Numbered, IsArea, InArea, spot_of, number_of, position_of, beside}
+use Rattle.sok_board.specs.Area.{BoardView, IsArea, InArea, spot_of, number_of, position_of, beside}
 use Rattle.sok_board.proofs.AreaLaws.{InArea-next, InArea-spot_of, number-InArea, spot_of-number_of}
 use Rattle.sok_board.proofs.Beside.{beside-is, beside-within}
 use Rattle.sok_board.proofs.Confined.{confines-play}
@@ -27,24 +27,24 @@ use Rattle.sok_state.specs.Pushes.{IsLegal, LeadsTo}
 use Rattle.sok_state.proofs.Moves.{boxes_moved, IsPlaced-moved}
 
 -- the square beside a numbered one
-pub beside-next : (b : Numbered) (d : Dir) (n m : ℕ) → beside b n d ≡ Some m → next d (spot_of b n) ≡ Some (spot_of b m)
+pub beside-next : (b : BoardView) (d : Dir) (n m : ℕ) → beside b n d ≡ Some m → next d (spot_of b n) ≡ Some (spot_of b m)
 beside-next b d n m is = option_and_then_some (number_of b) (next d (spot_of b n)) m is
     (λ s ahead number. ahead ∙ ap Some (sym (spot_of-number_of b s m number).1))
 
 -- a number beside a square, and one that is beside it
-pub next_behind : (b : Numbered) (d : Dir) (n m : ℕ) → beside b n (opposite d) ≡ Some m → next d (spot_of b m) ≡ Some (spot_of b n)
+pub next_behind : (b : BoardView) (d : Dir) (n m : ℕ) → beside b n (opposite d) ≡ Some m → next d (spot_of b m) ≡ Some (spot_of b n)
 next_behind b d n m is = ap (λ e. next e (spot_of b m)) (sym (opposite-twice d)) ∙ next-opposite (opposite d) (spot_of b n) (spot_of b m)
     (beside-next b (opposite d) n m is)
 
 -- the man comes behind the box, and it can go ahead
-pub record IsFree (b : Numbered) (key : Key) (push : Push) : Type 0 where
+pub record IsFree (b : BoardView) (key : Key) (push : Push) : Type 0 where
   pub behind : ℕ
   pub behind_is : beside b push.from (opposite push.dir) ≡ Some behind
   pub comes : Same b.rows (key_position b key) (position_of b behind key.boxes)
   pub onward : IsClear b key push
 
 -- such a push of a box is legal
-pub legal-free : (b : Numbered) → IsArea b.rows b.area → IsProper b.rows → (key : Key) → IsPlaced b key.boxes key.least → (push : Push)
+pub legal-free : (b : BoardView) → IsArea b.rows b.area → IsProper b.rows → (key : Key) → IsPlaced b key.boxes key.least → (push : Push)
     → Contains key.boxes push.from
     → IsFree b key push → IsLegal b key push
 legal-free b area proper key placed push among free =
@@ -68,7 +68,7 @@ legal-free b area proper key placed push among free =
     }
 
 -- a push is a letter that pushes, from the square of its box, and the boxes are those of the key
-pushes_box : (b : Numbered) (key : Key) (push : Push) (after : Position) → (leads : LeadsTo b key push after)
+pushes_box : (b : BoardView) (key : Key) (push : Push) (after : Position) → (leads : LeadsTo b key push after)
     → (pushed : IsPush b.rows push.dir leads.before (record { position = after; pushed = true })) × (pushed.from ≡ spot_of b push.from)
     × (leads.before.boxes ≡ (key_position b key).boxes)
 pushes_box b key push after leads =
@@ -79,7 +79,7 @@ pushes_box b key push after leads =
     )
 
 -- a legal push is one of a box that can go ahead
-pub clear-legal : (b : Numbered) → IsArea b.rows b.area → (key : Key) → IsPlaced b key.boxes key.least → (push : Push) → IsLegal b key push
+pub clear-legal : (b : BoardView) → IsArea b.rows b.area → (key : Key) → IsPlaced b key.boxes key.least → (push : Push) → IsLegal b key push
     → Contains key.boxes push.from × IsClear b key push
 clear-legal b area key placed push legal =
     let leads = legal.leads in
@@ -98,7 +98,7 @@ clear-legal b area key placed push legal =
     )
 
 -- and the man comes behind it
-pub free-legal : (b : Numbered) → IsArea b.rows b.area → (key : Key) → IsPlaced b key.boxes key.least → (push : Push) → IsLegal b key push → IsFree b key push
+pub free-legal : (b : BoardView) → IsArea b.rows b.area → (key : Key) → IsPlaced b key.boxes key.least → (push : Push) → IsLegal b key push → IsFree b key push
 free-legal b area key placed push legal =
     let leads = legal.leads in
     let (pushed, from_is, kept) = pushes_box b key push legal.after leads in
@@ -115,7 +115,7 @@ free-legal b area key placed push legal =
     }
 
 -- the position to which a push leads, by the numbers of its boxes
-pub LeadsTo-position : (b : Numbered) → IsArea b.rows b.area → (key : Key) (push : Push) (ahead : ℕ) (boxes : List ℕ) (after : Position)
+pub LeadsTo-position : (b : BoardView) → IsArea b.rows b.area → (key : Key) (push : Push) (ahead : ℕ) (boxes : List ℕ) (after : Position)
     → IsPlaced b key.boxes key.least
     → beside b push.from push.dir ≡ Some ahead → IsMoved key.boxes push.from ahead boxes → LeadsTo b key push after → position_of b push.from boxes ≡ after
 LeadsTo-position b area key push ahead boxes after placed ahead_is moves leads =
@@ -130,18 +130,18 @@ LeadsTo-position b area key push ahead boxes after placed ahead_is moves leads =
     λ i. record { man = sym leads.man i; boxes = sym (came ∙ new) i }
 
 -- a square and the one beside it have different numbers
-pub beside-apart : (b : Numbered) (d : Dir) (n m : ℕ) → beside b n d ≡ Some m → n ≡ m → ⊥
+pub beside-apart : (b : BoardView) (d : Dir) (n m : ℕ) → beside b n d ≡ Some m → n ≡ m → ⊥
 beside-apart b d n m is same =
     let apart = apart_next d (spot_of b n) (spot_of b m) (beside-next b d n m is) in
     true≢false (sym (same_spot-refl (spot_of b n)) ∙ ap (λ k. same_spot (spot_of b n) (spot_of b k)) same ∙ apart)
 
 -- the square ahead is the one that is clear
-pub clear_ahead : (b : Numbered) (key : Key) (push : Push) → IsClear b key push → (ahead : ℕ) → beside b push.from push.dir ≡ Some ahead
+pub clear_ahead : (b : BoardView) (key : Key) (push : Push) → IsClear b key push → (ahead : ℕ) → beside b push.from push.dir ≡ Some ahead
     → Contains key.boxes ahead → ⊥
 clear_ahead b key push clear ahead is = subst (λ n. Contains key.boxes n → ⊥) (same_Some clear.ahead ahead (sym clear.ahead_is ∙ is)) clear.clear
 
 -- after a legal push the man stands where the box stood, and the boxes are one rising list
-pub IsPlaced-after : (b : Numbered) → IsArea b.rows b.area → (key : Key) → IsPlaced b key.boxes key.least → (push : Push) (ahead : ℕ) (boxes : List ℕ)
+pub IsPlaced-after : (b : BoardView) → IsArea b.rows b.area → (key : Key) → IsPlaced b key.boxes key.least → (push : Push) (ahead : ℕ) (boxes : List ℕ)
     → IsLegal b key push
     → beside b push.from push.dir ≡ Some ahead → IsMoved key.boxes push.from ahead boxes → IsStrictlyIncreasing boxes → IsPlaced b boxes push.from
 IsPlaced-after b area key placed push ahead boxes legal ahead_is moves rising =
@@ -150,6 +150,6 @@ IsPlaced-after b area key placed push ahead boxes legal ahead_is moves rising =
     (beside-apart b push.dir push.from ahead ahead_is) rising
 
 -- the key of the position with these numbers is that of a position to which the push leads
-pub key_after : (b : Numbered) (next : Key) (push : Push) (boxes : List ℕ) (after : Position) → position_of b push.from boxes ≡ after
+pub key_after : (b : BoardView) (next : Key) (push : Push) (boxes : List ℕ) (after : Position) → position_of b push.from boxes ≡ after
     → IsKeyOf b (position_of b push.from boxes) next → IsKeyOf b after next
 key_after b next push boxes after is of_numbers = subst (λ x. IsKeyOf b x next) is of_numbers

@@ -5,7 +5,7 @@ use Rattle.std.specs.List.Sorted.{IsStrictlyIncreasing}
 use Rattle.std.proofs.lemmas.Bool.{cases_lt}
 use Rattle.std.proofs.lemmas.List.Elements.{Contains-append_left, Contains-push, Contains-push_cases, Contains-get_or}
 use Rattle.std.proofs.lemmas.List.Kept.{AllPairs-from_increasing}
-use Rattle.sok_board.specs.Area.{Numbered, IsArea}
+use Rattle.sok_board.specs.Area.{BoardView, IsArea}
 use Rattle.sok_board.proofs.Lists.{AllPairs-append}
 use Rattle.sok_region.specs.Regions.{IsPlaced}
 use Rattle.sok_state.specs.declared.key.Key.{Key}
@@ -16,7 +16,7 @@ use Rattle.sok_state.proofs.LegalPushes.{clear-legal}
 use Rattle.sok_state.proofs.Order.{Precedes-place, rank_below, same_place}
 
 -- where no legal push has a place in between
-pub Lists-raise : (b : Numbered) (key : Key) (bound higher : ℕ) (pushes : List Push) → bound ≤ higher
+pub Lists-raise : (b : BoardView) (key : Key) (bound higher : ℕ) (pushes : List Push) → bound ≤ higher
     → ((push : Push) → IsLegal b key push → place push < higher → place push < bound) → Lists b key bound pushes → Lists b key higher pushes
 Lists-raise b key bound higher pushes up none lists = record {
   exact = λ push. (
@@ -27,7 +27,7 @@ Lists-raise b key bound higher pushes up none lists = record {
 }
 
 -- a push that is not legal is not listed
-pub Lists-illegal : (b : Numbered) (key : Key) (push : Push) (pushes : List Push) → (IsLegal b key push → ⊥) → Lists b key (place push) pushes
+pub Lists-illegal : (b : BoardView) (key : Key) (push : Push) (pushes : List Push) → (IsLegal b key push → ⊥) → Lists b key (place push) pushes
     → Lists b key (place push + 1) pushes
 Lists-illegal b key push pushes illegal lists = Lists-raise b key (place push) (place push + 1) pushes (omega arith)
     (λ p legal below. elim (cases_lt (place p) (place push)) [
@@ -36,7 +36,7 @@ Lists-illegal b key push pushes illegal lists = Lists-raise b key (place push) (
     ]) lists
 
 -- a legal push goes last
-pub Lists-legal : (b : Numbered) (key : Key) (push : Push) (pushes : List Push) → IsLegal b key push → Lists b key (place push) pushes
+pub Lists-legal : (b : BoardView) (key : Key) (push : Push) (pushes : List Push) → IsLegal b key push → Lists b key (place push) pushes
     → Lists b key (place push + 1) (pushes ++ push ∷ [])
 Lists-legal b key push pushes legal lists = record {
   exact = λ p. (
@@ -59,7 +59,7 @@ Lists-legal b key push pushes legal lists = record {
     elim_last (suc j) e last p below = absurd (omega (arith, last))
 
 -- the pushes of the first boxes are listed
-pub record IsListing (b : Numbered) (key : Key) (done : ℕ) (pushes : List Push) : Type 0 where
+pub record IsListing (b : BoardView) (key : Key) (done : ℕ) (pushes : List Push) : Type 0 where
   pub bound : ℕ
   pub lists : Lists b key bound pushes
   pub past : (k : ℕ) → k < done → slice_index key.boxes k * 4 + 4 ≤ bound
@@ -69,7 +69,7 @@ rising_at : (xs : List ℕ) → IsStrictlyIncreasing xs → (i j : ℕ) → i < 
 rising_at xs rising i j below within = AllPairs-from_increasing xs rising i j 0 below within
 
 -- where the box of a legal push stands in the list
-box_index : (b : Numbered) → IsArea b.rows b.area → (key : Key) → IsPlaced b key.boxes key.least → (push : Push) → IsLegal b key push
+box_index : (b : BoardView) → IsArea b.rows b.area → (key : Key) → IsPlaced b key.boxes key.least → (push : Push) → IsLegal b key push
     → (k : ℕ) × (k < length key.boxes) × (slice_index key.boxes k ≡ push.from)
 box_index b area key placed push legal =
     let (k, within, is) = (clear-legal b area key placed push legal).0 in (k, within, read key.boxes k push.from within is)
@@ -80,7 +80,7 @@ box_index b area key placed push legal =
     read (x ∷ xs) (suc k) n within is = read xs k n (omega (arith, within)) is
 
 -- before the next box nothing is to be listed
-pub Lists-next : (b : Numbered) → IsArea b.rows b.area → (key : Key) → IsPlaced b key.boxes key.least → (done : ℕ) (pushes : List Push)
+pub Lists-next : (b : BoardView) → IsArea b.rows b.area → (key : Key) → IsPlaced b key.boxes key.least → (done : ℕ) (pushes : List Push)
     → done < length key.boxes → IsListing b key done pushes → Lists b key (slice_index key.boxes done * 4) pushes
 Lists-next b area key placed done pushes within listing = Lists-raise b key listing.bound (slice_index key.boxes done * 4) pushes up nothing_between
     listing.lists
@@ -101,7 +101,7 @@ Lists-next b area key placed done pushes within listing = Lists-raise b key list
         ]
 
 -- once its pushes are listed, one more box is done
-pub IsListing-more : (b : Numbered) (key : Key) → IsPlaced b key.boxes key.least → (done : ℕ) (pushes after : List Push) → done < length key.boxes
+pub IsListing-more : (b : BoardView) (key : Key) → IsPlaced b key.boxes key.least → (done : ℕ) (pushes after : List Push) → done < length key.boxes
     → IsListing b key done pushes
     → Lists b key (slice_index key.boxes done * 4 + 4) after → IsListing b key (done + 1) after
 IsListing-more b key placed done pushes after within listing lists = record {
@@ -115,11 +115,11 @@ IsListing-more b key placed done pushes after within listing lists = record {
 }
 
 -- what is listed is legal
-pub listed_legal : (b : Numbered) (key : Key) (done : ℕ) (pushes : List Push) → IsListing b key done pushes → All (IsLegal b key) pushes
+pub listed_legal : (b : BoardView) (key : Key) (done : ℕ) (pushes : List Push) → IsListing b key done pushes → All (IsLegal b key) pushes
 listed_legal b key done pushes listing = λ k d within. ((listing.lists.exact (get_or pushes k d)).0 (Contains-get_or pushes k d within)).0
 
 -- once all boxes are done, all legal pushes are listed
-pub listed_whole : (b : Numbered) → IsArea b.rows b.area → (key : Key) → IsPlaced b key.boxes key.least → (done : ℕ) (pushes : List Push)
+pub listed_whole : (b : BoardView) → IsArea b.rows b.area → (key : Key) → IsPlaced b key.boxes key.least → (done : ℕ) (pushes : List Push)
     → length key.boxes ≤ done → IsListing b key done pushes → (push : Push) → IsLegal b key push → Contains pushes push
 listed_whole b area key placed done pushes all listing push legal =
     let (k, within, is) = box_index b area key placed push legal in
@@ -127,5 +127,5 @@ listed_whole b area key placed done pushes all listing push legal =
     let past = listing.past k (omega (arith, within, all)) in
     (listing.lists.exact push).1 (legal, omega (arith, past, is, ranked))
 
-pub listed_in_order : (b : Numbered) (key : Key) (bound : ℕ) (pushes : List Push) → Lists b key bound pushes → AllPairs Precedes pushes
+pub listed_in_order : (b : BoardView) (key : Key) (bound : ℕ) (pushes : List Push) → Lists b key bound pushes → AllPairs Precedes pushes
 listed_in_order b key bound pushes lists = λ i j d below within. Precedes-place (get_or pushes i d) (get_or pushes j d) (lists.in_order i j d below within)

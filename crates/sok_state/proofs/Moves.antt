@@ -11,7 +11,7 @@ use Rattle.sok_rules.specs.Squares.{same_spot}
 use Rattle.sok_rules.specs.Play.{moved}
 use Rattle.sok_rules.proofs.Moved.{moved-come, moved-kept, moved-left, moved-other}
 use Rattle.sok_rules.proofs.Spots.{same_spot-apart, same_spot-is, same_spot-refl}
-use Rattle.sok_board.specs.Area.{Numbered, IsArea, InArea, spot_of, position_of, is_decoration}
+use Rattle.sok_board.specs.Area.{BoardView, IsArea, InArea, spot_of, position_of, is_decoration}
 use Rattle.sok_board.proofs.Accepted.{decoration-outside}
 use Rattle.sok_board.proofs.AreaLaws.{InArea-spot_of, same_number}
 use Rattle.sok_board.proofs.Positions.{listed_box}
@@ -57,7 +57,7 @@ next-found old index from to least found one here is (Some at) has = record {
 moved-there : (boxes : Spot → Bool) (from to s : Spot) → boxes s ≡ true → (s ≡ from → ⊥) → moved boxes from to s ≡ true
 moved-there boxes from to s there other = moved-kept boxes from to s (same_spot-apart s from other) there
 
-module _ (b : Numbered) (area : IsArea b.rows b.area) (player other : ℕ) (boxes after : List ℕ) (from to : ℕ) (exist : All (λ n. n < length b.area) boxes)
+module _ (b : BoardView) (area : IsArea b.rows b.area) (player other : ℕ) (boxes after : List ℕ) (from to : ℕ) (exist : All (λ n. n < length b.area) boxes)
     (from_exists : from < length b.area) (to_exists : to < length b.area) (moves : IsMoved boxes from to after) where
   forth : (s : Spot) → moved (position_of b player boxes).boxes (spot_of b from) (spot_of b to) s ≡ true → (position_of b other after).boxes s ≡ true
   forth s there = elim (cases_Bool (same_spot s (spot_of b to))) [

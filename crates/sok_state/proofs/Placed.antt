@@ -10,14 +10,14 @@ use Rattle.std.proofs.lemmas.List.Kept.{AllPairs-from_increasing}
 use Rattle.sok_rules.specs.declared.cell.Spot.{Spot}
 use Rattle.sok_rules.specs.Squares.{same_spot}
 use Rattle.sok_rules.proofs.Spots.{same_spot-is}
-use Rattle.sok_board.specs.Area.{Numbered, IsArea, spot_of, position_of, is_among, is_decoration}
+use Rattle.sok_board.specs.Area.{BoardView, IsArea, spot_of, position_of, is_among, is_decoration}
 use Rattle.sok_board.proofs.Lists.{same_ordered}
 use Rattle.sok_board.proofs.Positions.{known_box, listed_box}
 use Rattle.sok_region.specs.Regions.{IsPlaced}
 pub use Rattle.sok_region.proofs.Regions.{IsStanding-placed}
 
 -- a decoration is a box
-pub decoration_there : (b : Numbered) (player : ℕ) (boxes : List ℕ) (s : Spot) → is_decoration b s ≡ true → (position_of b player boxes).boxes s ≡ true
+pub decoration_there : (b : BoardView) (player : ℕ) (boxes : List ℕ) (s : Spot) → is_decoration b s ≡ true → (position_of b player boxes).boxes s ≡ true
 decoration_there b player boxes s decoration = elim (cases_Bool (is_among (map (spot_of b) boxes) s)) [
   | inl among ↦ ap (λ t. t || is_decoration b s) among
   | inr apart ↦ ap (λ t. t || is_decoration b s) apart ∙ decoration
@@ -30,7 +30,7 @@ same_rising xs ys rising_xs rising_ys = same_ordered (λ x y. x < y) (λ x y bel
     (AllPairs-from_increasing xs rising_xs) (AllPairs-from_increasing ys rising_ys)
 
 -- positions with the same boxes have them from the same numbers
-pub same_boxes : (b : Numbered) → IsArea b.rows b.area → (player other_player : ℕ) (boxes other_boxes : List ℕ) → IsPlaced b boxes player
+pub same_boxes : (b : BoardView) → IsArea b.rows b.area → (player other_player : ℕ) (boxes other_boxes : List ℕ) → IsPlaced b boxes player
     → IsPlaced b other_boxes other_player
     → (position_of b player boxes).boxes ≡ (position_of b other_player other_boxes).boxes → boxes ≡ other_boxes
 same_boxes b area player other_player boxes other_boxes placed other_placed same =
@@ -41,7 +41,7 @@ same_boxes b area player other_player boxes other_boxes placed other_placed same
     ((λ i. same i (spot_of b s)) ∙ listed_box b other_player other_boxes s there))
 
 -- what stands on a square is a box by its number, or a decoration
-pub box_cases : (b : Numbered) (player : ℕ) (boxes : List ℕ) (s : Spot) → (position_of b player boxes).boxes s ≡ true
+pub box_cases : (b : BoardView) (player : ℕ) (boxes : List ℕ) (s : Spot) → (position_of b player boxes).boxes s ≡ true
     → ((n : ℕ) × Contains boxes n × (s ≡ spot_of b n)) ⊎ (is_decoration b s ≡ true)
 box_cases b player boxes s there = elim (cases_Bool (is_among (map (spot_of b) boxes) s)) [
   | inr apart ↦ inr (sym (ap (λ t. t || is_decoration b s) apart) ∙ there)

@@ -5,7 +5,7 @@ use Rattle.std.proofs.lemmas.Bool.{cases_eq}
 use Rattle.std.proofs.lemmas.Option.{same_Some}
 use Rattle.sok_rules.specs.declared.cell.Spot.{Spot}
 use Rattle.sok_rules.proofs.Walking.{IsStanding-Same}
-use Rattle.sok_board.specs.Area.{Numbered, IsAccepted, beside, number_of, position_of, spot_of}
+use Rattle.sok_board.specs.Area.{BoardView, IsAccepted, beside, number_of, position_of, spot_of}
 use Rattle.sok_board.proofs.AreaLaws.{spot_of-number_of}
 use Rattle.sok_field.specs.Fields.{has, IsFirstSquare}
 use Rattle.sok_field.specs.Numbers.{Draws}
@@ -47,12 +47,12 @@ gone boxes after from to there free moved left = elim ((moved from).0 left) [
 ]
 
 -- a box is pushed to a square where no box is, and the man to where it stood
-pub clear-after : (b : Numbered) → IsAccepted b → (key : Key) (push : Push) (ahead : ℕ) → IsKey b key → IsLegal b key push
+pub clear-after : (b : BoardView) → IsAccepted b → (key : Key) (push : Push) (ahead : ℕ) → IsKey b key → IsLegal b key push
     → beside b push.from push.dir ≡ Some ahead → Contains key.boxes ahead → ⊥
 clear-after b accepted key push ahead state legal ahead_is =
     clear_ahead b key push (clear-legal b accepted.numbered key state.is.placed push legal).1 ahead ahead_is
 
-pub placed-after : (b : Numbered) → IsAccepted b → (key : Key) (push : Push) (ahead : ℕ) (boxes : List ℕ) → IsKey b key → IsLegal b key push
+pub placed-after : (b : BoardView) → IsAccepted b → (key : Key) (push : Push) (ahead : ℕ) (boxes : List ℕ) → IsKey b key → IsLegal b key push
     → beside b push.from push.dir ≡ Some ahead → IsMoved key.boxes push.from ahead boxes → IsStrictlyIncreasing boxes → IsPlaced b boxes push.from
 placed-after b accepted key push ahead boxes state legal = IsPlaced-after b accepted.numbered key state.is.placed push ahead boxes legal
 
@@ -60,7 +60,7 @@ placed-after b accepted key push ahead boxes state legal = IsPlaced-after b acce
 abbrev pub next_of : Key → ℕ → ℕ → ℕ → Key
 next_of key from to least = record { boxes = put_in_order from to key.boxes; least = least }
 
-pub next-made : (b : Numbered) → IsAccepted b → (key : Key) (push : Push) (to least : ℕ) (scene : Scene) → IsPushable b push scene key
+pub next-made : (b : BoardView) → IsAccepted b → (key : Key) (push : Push) (to least : ℕ) (scene : Scene) → IsPushable b push scene key
     → beside b push.from push.dir ≡ Some to
     → IsNext key push.from to least (next_of key push.from to least) × (length (next_of key push.from to least).boxes ≡ length key.boxes)
 next-made b accepted key push to least scene can ahead =
@@ -70,18 +70,18 @@ next-made b accepted key push to least scene can ahead =
     (record { moved = IsMoved-put push.from to key.boxes; rising = list.rising; least_is = refl }, as_many)
 
 -- each other one has as many boxes
-pub next-as_many : (b : Numbered) → IsAccepted b → (key next : Key) (push : Push) (to least : ℕ) (scene : Scene) → IsPushable b push scene key
+pub next-as_many : (b : BoardView) → IsAccepted b → (key next : Key) (push : Push) (to least : ℕ) (scene : Scene) → IsPushable b push scene key
     → beside b push.from push.dir ≡ Some to → IsNext key push.from to least next → length next.boxes ≡ length key.boxes
 next-as_many b accepted key next push to least scene can ahead is =
     let (made, as_many) = next-made b accepted key push to least scene can ahead in
     ap (λ (k : Key). length k.boxes) (next-same key push.from to least next (next_of key push.from to least) is made) ∙ as_many
 
 -- what is known of it
-pub record ComesNext (b : Numbered) (key : Key) (push : Push) (to least : ℕ) : Type 0 where
+pub record ComesNext (b : BoardView) (key : Key) (push : Push) (to least : ℕ) : Type 0 where
   pub is : IsNext key push.from to least (next_of key push.from to least)
   pub came : IsKeyAfter b key push (next_of key push.from to least)
 
-pub comes-next : (b : Numbered) → IsAccepted b → (key : Key) (push : Push) (to least : ℕ) (scene : Scene) → IsPushable b push scene key
+pub comes-next : (b : BoardView) → IsAccepted b → (key : Key) (push : Push) (to least : ℕ) (scene : Scene) → IsPushable b push scene key
     → beside b push.from push.dir ≡ Some to
     → ((next : Key) → IsNext key push.from to least next → IsKeyAfter b key push next)
     → ComesNext b key push to least
@@ -90,7 +90,7 @@ comes-next b accepted key push to least scene can ahead comes =
     record { is = is; came = comes (next_of key push.from to least) is }
 
 -- the first square that a flood draws makes the key
-pub first-key : (b : Numbered) → IsAccepted b → (boxes : List ℕ) (player : ℕ) (free seen : List ℕ) → IsPlaced b boxes player
+pub first-key : (b : BoardView) → IsAccepted b → (boxes : List ℕ) (player : ℕ) (free seen : List ℕ) → IsPlaced b boxes player
     → Draws b (λ n. Contains boxes n → ⊥) free → ((lets : ℕ → Bool) → Draws b (λ n. lets n ≡ true) free → Draws b (Leads b lets player) seen)
     → (s : Spot) (least : ℕ) → IsFirstSquare (has seen) s → number_of b s ≡ Some least
     → IsKeyOf b (position_of b player boxes) (record { boxes = boxes; least = least })

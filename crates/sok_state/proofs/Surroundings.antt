@@ -7,7 +7,7 @@ use Rattle.sok_rules.specs.declared.cell.Dir.{Dir}
 use Rattle.sok_rules.specs.declared.cell.Spot.{Spot}
 use Rattle.sok_rules.specs.Squares.{opposite}
 use Rattle.sok_rules.proofs.Walking.{IsStanding-Same, Same-refl, Same-step, Same-sym, Same-trans}
-use Rattle.sok_board.specs.Area.{Numbered, IsAccepted, beside, position_of, spot_of}
+use Rattle.sok_board.specs.Area.{BoardView, IsAccepted, beside, position_of, spot_of}
 use Rattle.sok_board.specs.BoxSets.{IsMoved}
 use Rattle.sok_board.proofs.AreaLaws.{same_number}
 use Rattle.sok_board.proofs.Beside.{beside-within}
@@ -30,12 +30,12 @@ use Rattle.sok_state.proofs.LegalPushes.{IsPlaced-after, LeadsTo-position, clear
 use Rattle.sok_state.proofs.Stepped.{clear-after, next-as_many, placed-after}
 
 -- on to the square beside one, if it is free
-pub Leads-beside : (b : Numbered) (free : List ℕ) (from square : ℕ) (d : Dir) (beside : Option ℕ) → Leads b (among b free) from square
+pub Leads-beside : (b : BoardView) (free : List ℕ) (from square : ℕ) (d : Dir) (beside : Option ℕ) → Leads b (among b free) from square
     → TellsBeside b free square d beside → IfSome beside (Leads b (among b free) from)
 Leads-beside b free from square d None led told = tt
 Leads-beside b free from square d (Some t) led told = Leads-more b (among b free) from square t d led told.is told.has
 
-module _ (b : Numbered) (accepted : IsAccepted b) (key : Key) (push : Push) (to : ℕ) (free reached after : List ℕ)
+module _ (b : BoardView) (accepted : IsAccepted b) (key : Key) (push : Push) (to : ℕ) (free reached after : List ℕ)
     (stepping : IsStepping b key push to free reached after) where
   abbrev from : ℕ
   from = push.from
@@ -209,7 +209,7 @@ module _ (b : Numbered) (accepted : IsAccepted b) (key : Key) (push : Push) (to 
       )
 
 -- what is come to from a square is come to in the state
-pub Reaches-key : (b : Numbered) → IsAccepted b → (boxes : List ℕ) (player least : ℕ) (reached : List ℕ) → IsPlaced b boxes player
+pub Reaches-key : (b : BoardView) → IsAccepted b → (boxes : List ℕ) (player least : ℕ) (reached : List ℕ) → IsPlaced b boxes player
     → IsKeyOf b (position_of b player boxes) (record { boxes = boxes; least = least }) → ReachesFrom b player boxes reached
     → ReachesFrom b least boxes reached
 Reaches-key b accepted boxes player least reached placed is reaches s within =
@@ -221,7 +221,7 @@ Reaches-key b accepted boxes player least reached placed is reaches s within =
     )
 
 -- boxes that are shifted by a push are those behind it
-pub IsStepping-shifted : (b : Numbered) → IsAccepted b → (key : Key) (push : Push) (to : ℕ) (scene : Scene) (shifted : Laid) (free after : List ℕ)
+pub IsStepping-shifted : (b : BoardView) → IsAccepted b → (key : Key) (push : Push) (to : ℕ) (scene : Scene) (shifted : Laid) (free after : List ℕ)
     → IsPushable b push scene key → beside b push.from push.dir ≡ Some to → IsMoved key.boxes push.from to after → IsStrictlyIncreasing after
     → ((boxes moved : List ℕ) → IsLaidOut b boxes scene.layout → Contains boxes push.from → (Contains boxes to → ⊥) → IsMoved boxes push.from to moved
     → IsLaidOut b moved shifted)
@@ -241,7 +241,7 @@ IsStepping-shifted b accepted key push to scene shifted free after can ahead mov
     }
 
 -- so the key of what was found is that of the state behind it
-pub key-behind : (b : Numbered) → IsAccepted b → (key next : Key) (push : Push) (to : ℕ) (scene : Scene) → IsPushable b push scene key
+pub key-behind : (b : BoardView) → IsAccepted b → (key next : Key) (push : Push) (to : ℕ) (scene : Scene) → IsPushable b push scene key
     → beside b push.from push.dir ≡ Some to → IsNext key push.from to next.least next → IsKeyOf b (position_of b push.from next.boxes) next
     → IsKeyAfter b key push next
 key-behind b accepted key next push to scene can ahead is is_key = record {

@@ -2,7 +2,7 @@
 use Rattle.std.specs.Prelude.{ℕ, ◌≡◌, ◌<◌, List, Option, Some, None, Bool, Contains, IsTrue, length}
 use Rattle.std.specs.List.Sorted.{IsStrictlyIncreasing}
 use Rattle.sok_rules.specs.declared.cell.Dir.{Dir}
-use Rattle.sok_board.specs.Area.{Numbered, beside, spot_of}
+use Rattle.sok_board.specs.Area.{BoardView, beside, spot_of}
 use Rattle.sok_board.specs.BoxSets.{IsMoved}
 use Rattle.sok_field.specs.Fields.{has}
 use Rattle.sok_field.specs.Numbers.{Draws}
@@ -13,30 +13,30 @@ use Rattle.sok_state.specs.Keys.{IsKey}
 use Rattle.sok_state.specs.Pushes.{IsLegal, Reaches}
 
 -- a set of squares, by their numbers
-abbrev pub among : Numbered → List ℕ → ℕ → Bool
+abbrev pub among : BoardView → List ℕ → ℕ → Bool
 among b set n = has set (spot_of b n)
 
 -- the square beside one is of a set
-pub record IsBesideIn (b : Numbered) (set : List ℕ) (square : ℕ) (d : Dir) (t : ℕ) : Type 0 where
+pub record IsBesideIn (b : BoardView) (set : List ℕ) (square : ℕ) (d : Dir) (t : ℕ) : Type 0 where
   pub is : beside b square d ≡ Some t
   pub within : t < length b.area
   pub has : IsTrue (among b set t)
 
 -- the square beside one, if it is of a set
-abbrev pub TellsBeside : Numbered → List ℕ → ℕ → Dir → Option ℕ → Type 0
+abbrev pub TellsBeside : BoardView → List ℕ → ℕ → Dir → Option ℕ → Type 0
 TellsBeside b set square d None = (t : ℕ) → beside b square d ≡ Some t → IsTrue (among b set t) → ⊥
 TellsBeside b set square d (Some t) = IsBesideIn b set square d t
 
 -- the square beside one, if it is free, is one to which the man came before
-abbrev pub IsReachedBeside : Numbered → List ℕ → List ℕ → ℕ → Dir → Type 0
+abbrev pub IsReachedBeside : BoardView → List ℕ → List ℕ → ℕ → Dir → Type 0
 IsReachedBeside b free reached square d = (t : ℕ) → beside b square d ≡ Some t → IsTrue (among b free t) → IsTrue (among b reached t)
 
 -- or one to which letters lead over free squares
-abbrev pub IsLedBeside : Numbered → List ℕ → ℕ → ℕ → Dir → Type 0
+abbrev pub IsLedBeside : BoardView → List ℕ → ℕ → ℕ → Dir → Type 0
 IsLedBeside b free from square d = (t : ℕ) → beside b square d ≡ Some t → IsTrue (among b free t) → Leads b (among b free) from t
 
 -- a push from a state, the boxes behind it, the squares that those leave free, and those to which the man came before it
-pub record IsStepping (b : Numbered) (key : Key) (push : Push) (to : ℕ) (free reached after : List ℕ) : Type 0 where
+pub record IsStepping (b : BoardView) (key : Key) (push : Push) (to : ℕ) (free reached after : List ℕ) : Type 0 where
   pub state : IsKey b key
   pub legal : IsLegal b key push
   pub ahead : beside b push.from push.dir ≡ Some to

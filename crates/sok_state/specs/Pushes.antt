@@ -4,7 +4,7 @@ use Rattle.sok_rules.specs.declared.cell.Dir.{Dir}
 use Rattle.sok_rules.specs.declared.cell.Dir.TheVariants.{Left, Up, Right, Down}
 use Rattle.sok_rules.specs.Play.{Position, step}
 use Rattle.sok_rules.specs.States.{Same}
-use Rattle.sok_board.specs.Area.{Numbered, spot_of, position_of}
+use Rattle.sok_board.specs.Area.{BoardView, spot_of, position_of}
 use Rattle.sok_board.specs.Limits.{box_limit}
 use Rattle.sok_field.specs.Fields.{has}
 use Rattle.sok_region.specs.Layouts.{IsLaidOut}
@@ -14,7 +14,7 @@ use Rattle.sok_state.specs.declared.scene.Scene.{Scene}
 use Rattle.sok_state.specs.Keys.{IsKey, IsKeyOf}
 
 -- the push is legal from a position of the state and leads to another: the man ends where the box stood
-pub record LeadsTo (b : Numbered) (key : Key) (push : Push) (after : Position) : Type 0 where
+pub record LeadsTo (b : BoardView) (key : Key) (push : Push) (after : Position) : Type 0 where
   pub before : Position
   pub same : Same b.rows (position_of b key.least key.boxes) before
   pub steps : step b.rows push.dir before ≡ Some (record { position = after; pushed = true })
@@ -22,32 +22,32 @@ pub record LeadsTo (b : Numbered) (key : Key) (push : Push) (after : Position) :
   pub exists : push.from < length b.area
 
 -- the push is legal from some position of the state
-pub record IsLegal (b : Numbered) (key : Key) (push : Push) : Type 0 where
+pub record IsLegal (b : BoardView) (key : Key) (push : Push) : Type 0 where
   pub after : Position
   pub leads : LeadsTo b key push after
 
 -- the key of each position to which the push leads from the state, with as many boxes
-pub record IsKeyAfter (b : Numbered) (key : Key) (push : Push) (next : Key) : Type 0 where
+pub record IsKeyAfter (b : BoardView) (key : Key) (push : Push) (next : Key) : Type 0 where
   pub exact : (after : Position) → LeadsTo b key push after → IsKeyOf b after next
   pub of_board : IsKey b next
   pub as_many : length next.boxes ≡ length key.boxes
 
 -- a set has the squares to which the man comes from one among boxes
-abbrev pub ReachesFrom : Numbered → ℕ → List ℕ → List ℕ → Type 0
+abbrev pub ReachesFrom : BoardView → ℕ → List ℕ → List ℕ → Type 0
 ReachesFrom b player boxes reached =
     (s : ℕ) → s < length b.area → IsTrue (has reached (spot_of b s)) ↔ Same b.rows (position_of b player boxes) (position_of b s boxes)
 
 -- those to which he comes in a state
-abbrev pub Reaches : Numbered → Key → List ℕ → Type 0
+abbrev pub Reaches : BoardView → Key → List ℕ → Type 0
 Reaches b key reached = ReachesFrom b key.least key.boxes reached
 
 -- a state that is laid out: its boxes, and the squares to which the man comes
-pub record IsOpened (b : Numbered) (key : Key) (scene : Scene) : Type 0 where
+pub record IsOpened (b : BoardView) (key : Key) (scene : Scene) : Type 0 where
   pub laid : IsLaidOut b key.boxes scene.layout
   pub reached : Reaches b key scene.reached
 
 -- a push from a state of the board that is laid out
-pub record IsPushable (b : Numbered) (push : Push) (scene : Scene) (key : Key) : Type 0 where
+pub record IsPushable (b : BoardView) (push : Push) (scene : Scene) (key : Key) : Type 0 where
   pub state : IsKey b key
   pub few : length key.boxes ≤ box_limit
   pub legal : IsLegal b key push

@@ -3,7 +3,7 @@ use Rattle.std.proofs.Common.{◌≡◌, ◌≢◌, ◌⊎◌, inl, inr, refl, s
 use Rattle.sok_rules.specs.Squares.{Rows}
 use Rattle.sok_board.specs.declared.fault.BoardFault.{BoardFault}
 use Rattle.sok_board.specs.declared.fault.BoardFault.TheVariants as board
-use Rattle.sok_board.specs.Area.{IsAccepted, Numbered}
+use Rattle.sok_board.specs.Area.{IsAccepted, BoardView}
 use Rattle.sok_board.specs.Refusals.{IsAcceptable, IsRefused}
 use Rattle.sok_board.proofs.OneRefusal.{IsRefused-acceptable}
 use Rattle.sok_cert.specs.Claim.{Claim}
@@ -31,7 +31,7 @@ module _ (page : Page) (kept : IsKeptPage page) where
   no_board fault refused = board_of page.level fault kept.accepted refused
 
 -- a board on which bytes prove nothing is one of the page
-pub no_proof : (page : Page) (b : Numbered) → b.rows ≡ page.level → IsAccepted b → (bytes : List ℕ) (fault : BookFault)
+pub no_proof : (page : Page) (b : BoardView) → b.rows ≡ page.level → IsAccepted b → (bytes : List ℕ) (fault : BookFault)
     → (fault ≡ Memory) ⊎ IsNoProof b (best_pushes page) bytes fault → (fault ≡ Memory) ⊎ IsUnproved page bytes fault
 no_proof page b rows accepted bytes fault (inl memory) = inl memory
 no_proof page b rows accepted bytes fault (inr none) = inr (b, rows, accepted, none)

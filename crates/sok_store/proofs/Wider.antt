@@ -2,7 +2,7 @@
 use Rattle.std.proofs.Common.{ℕ, ◌≤◌, arith}
 use Rattle.sok_rules.specs.Squares.{Rows}
 use Rattle.sok_rules.specs.Levels.{IsProperIn}
-use Rattle.sok_board.specs.Area.{Numbered, IsAcceptedIn}
+use Rattle.sok_board.specs.Area.{BoardView, IsAcceptedIn}
 use Rattle.sok_store.specs.Laws.{RowsKeptBeforeAreKept}
 
 IsProperIn-wider : (rows : Rows) (size wider : ℕ) → size ≤ wider → IsProperIn size rows → IsProperIn wider rows
@@ -16,7 +16,7 @@ IsProperIn-wider rows size wider more proper =
       some_box = proper.some_box;
     }
 
-IsAcceptedIn-wider : (b : Numbered) (size wider squares more : ℕ) → size ≤ wider → squares ≤ more → IsAcceptedIn size squares b
+IsAcceptedIn-wider : (b : BoardView) (size wider squares more : ℕ) → size ≤ wider → squares ≤ more → IsAcceptedIn size squares b
     → IsAcceptedIn wider more b
 IsAcceptedIn-wider b size wider squares more larger also accepted =
     let few = accepted.few_squares in

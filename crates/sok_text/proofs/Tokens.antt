@@ -1,7 +1,7 @@
 -- A text of letters read token by token, up to a place in it.
 use Rattle.std.proofs.Common.{ℕ, ◌≡◌, ◌<◌, ◌≤◌, ◌+◌, ◌-◌, List, [], ◌∷◌, ◌++◌, false, true, Some, None}
-use Rattle.std.proofs.Common.{length, take, drop, get_or, replicate, flat_map, sym, ap, subst, refl, ◌∙◌, arith}
-use Rattle.std.proofs.lemmas.List.{append_assoc, append-nil, flat_map_more, take_all, length-append, length-replicate}
+use Rattle.std.proofs.Common.{length, get_or, replicate, flat_map, sym, ap, subst, refl, ◌∙◌, arith}
+use Rattle.std.proofs.lemmas.List.{append_assoc, append-nil, flat_map_more, length-append, length-replicate}
 use Rattle.std.proofs.lemmas.List.Elements.{All-nil, All-push}
 use Rattle.std.specs.Char.{is_ascii_digit}
 use Rattle.std.specs.List.{AllPass}

@@ -1,5 +1,5 @@
 use Rattle.std.proofs.Common.{ℕ, ◌≡◌, ◌≤◌, ◌++◌, ◌∷◌, [], refl, sym, subst, Option, Some, IfOk, MatchBool, MatchOption, length}
-use Rattle.sok_board.specs.Area.{Numbered}
+use Rattle.sok_board.specs.Area.{BoardView}
 use Rattle.sok_board.specs.Limits.{box_limit}
 use Rattle.sok_closed.specs.declared.placing.Located.{Located}
 use Rattle.sok_closed.specs.Fine.{AreEntered, IsFine}
@@ -10,7 +10,7 @@ use Rattle.sok_bar.specs.Patterns.{IsBarredAlone, inner_node}
 use Rattle.sok_bar.proofs.alone.enter_alone.Goals as goal
 
 -- what was located
-found-here : (b : Numbered) (count : ℕ) (one : Inner) (o : Option Located) → MatchOption o (IsPosition b count (inner_node one) → ⊥) (IsLocated b count (inner_node one))
+found-here : (b : BoardView) (count : ℕ) (one : Inner) (o : Option Located) → MatchOption o (IsPosition b count (inner_node one) → ⊥) (IsLocated b count (inner_node one))
     → (found : Located) → o ≡ Some found → IsLocated b count (inner_node one) found
 found-here b count one o told found is = subst (λ p. MatchOption p (IsPosition b count (inner_node one) → ⊥) (IsLocated b count (inner_node one))) is told
 

@@ -1,6 +1,6 @@
 use Rattle.std.proofs.Common.{ℕ, ◌<◌, ◌∙◌, ◌++◌, ◌∷◌, ◌↔◌, [], All, Bool, Err, IfOk, IsOkAnd, IsTrue, MatchBool, Ok, Result, ap, arith, false, length, refl, sym, true, true≢false}
 use Rattle.sok_closed.specs.declared.placing.Located.{Located}
-use Rattle.sok_board.specs.Area.{Numbered}
+use Rattle.sok_board.specs.Area.{BoardView}
 use Rattle.sok_closed.specs.Lookup.{Rolled}
 use Rattle.sok_closed.specs.Fine.{IsOfBoard}
 use Rattle.sok_closed.specs.Placing.{IsLocated}
@@ -11,7 +11,7 @@ use Rattle.sok_bar.specs.Patterns.{IsBarredAlone, inner_node}
 use Rattle.sok_bar.proofs.alone.enter_located.Goals as goal
 
 -- its key is of the board
-key-exists : (b : Numbered) (count : ℕ) (one : Inner) (found : Located) (roll : Rolled) → IsLocated b count (inner_node one) found → IsOfBoard b roll
+key-exists : (b : BoardView) (count : ℕ) (one : Inner) (found : Located) (roll : Rolled) → IsLocated b count (inner_node one) found → IsOfBoard b roll
     → All (λ square. square < roll.room) found.key.boxes
 key-exists b count one found roll located of_board k d within =
     let below = located.key_is.placed.boxes_exist k d within in

@@ -1,14 +1,14 @@
 use Rattle.std.proofs.Common.{ℕ, ◌↔◌, ◌∙◌, refl, ap, sym, subst, List, Bool, Result, Ok, IsTrue, IsOkAnd, MatchBool, not, true, false, true≢false}
 use Rattle.sok_rules.specs.Play.{AllOnGoals}
 use Rattle.sok_rules.specs.declared.fault.Memory.{Memory}
-use Rattle.sok_board.specs.Area.{Numbered, position_of}
+use Rattle.sok_board.specs.Area.{BoardView, position_of}
 use Rattle.sok_entry.specs.declared.entry.InnerReason.{InnerReason}
 use Rattle.sok_entry.specs.declared.entry.InnerReason.TheVariants.{Expanded, Crowd, Frozen}
 use Rattle.sok_bar.specs.Patterns.{BarsAlone, is_expanded}
 use Rattle.sok_bar.proofs.alone.may_stand.Goals as goal
 
 -- what is told of a reason
-abbrev Tells : Numbered → ℕ → Result Bool Memory → List ℕ → InnerReason → Type 0
+abbrev Tells : BoardView → ℕ → Result Bool Memory → List ℕ → InnerReason → Type 0
 Tells b player result boxes reason = IsOkAnd result (λ stands. IsTrue stands
     ↔ MatchBool (is_expanded reason) (AllOnGoals b.rows (position_of b player boxes) → ⊥) (BarsAlone b boxes reason))
 

@@ -9,9 +9,9 @@ returns-in-Some c =
     let pushes = c.from-in-Some-2.ensures in
     let test : nat_le c.from.result (c.from-in-Some.result + c.from-in-Some-2.result) ≡ nat_le c.args.price (c.args.goal_price + c.in-Some.pushes) =
     λ i. nat_le (price i) (goal_price i + pushes i) in
-    let (there, back) = affordable_at c.args.tables.now.board c.args.square c.args.price c.args.goal c.args.goal_price c.in-Some.pushes
+    let (there, back) = affordable_at c.args.distances.now.board c.args.square c.args.price c.args.goal c.args.goal_price c.in-Some.pushes
     c.in-Some.ensures.exact in
     ((λ yes. there (sym test ∙ yes)), λ cheap. test ∙ back cheap)
 
 pub returns-in-None : goal.returns-in-None
-returns-in-None c = affordable_nowhere c.args.tables.now.board c.args.square c.args.price c.args.goal c.args.goal_price c.in-None.ensures.exact
+returns-in-None c = affordable_nowhere c.args.distances.now.board c.args.square c.args.price c.args.goal c.args.goal_price c.in-None.ensures.exact

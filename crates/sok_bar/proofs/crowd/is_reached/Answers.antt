@@ -21,6 +21,6 @@ returns c = (
   (λ none. absurd (true≢false (sym none))),
   λ reached.
       let all = c.loop-member-test.false in
-      absurd (each_member (λ s. Reaches c.args.tables.now.board s c.args.goal → ⊥) c.args.boxes.now c.args.members.now
+      absurd (each_member (λ s. Reaches c.args.distances.now.board s c.args.goal → ⊥) c.args.boxes.now c.args.members.now
       (λ k within. c.loop-member.invariant k (omega (arith, within, all))) reached.from reached.member reached.reaches),
 )

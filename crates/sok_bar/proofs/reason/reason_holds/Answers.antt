@@ -1,6 +1,6 @@
 use Rattle.std.proofs.Common.{ℕ, ◌∙◌, ◌↔◌, ap, sym, subst, List, Bool, Result, Ok, Err, IfOk, IsTrue, IsOkAnd, IsSomeAnd, OnErr}
 use Rattle.sok_rules.specs.declared.fault.Memory.{Memory}
-use Rattle.sok_board.specs.Area.{Numbered}
+use Rattle.sok_board.specs.Area.{BoardView}
 use Rattle.sok_bar.specs.declared.rest.Rest.{Rest}
 use Rattle.sok_bar.specs.Bars.{Bars, barring}
 use Rattle.sok_entry.specs.declared.entry.Reason.{Reason}
@@ -9,19 +9,19 @@ use Rattle.sok_entry.specs.Text.{is_pattern}
 use Rattle.sok_bar.proofs.reason.reason_holds.Goals as goal
 
 -- what is told of a reason that takes no memory
-abbrev Tells : Numbered → ℕ → List ℕ → Rest → Result Bool Memory → Reason → Type 0
+abbrev Tells : BoardView → ℕ → List ℕ → Rest → Result Bool Memory → Reason → Type 0
 Tells b player boxes rest result reason = IsOkAnd result (λ holds. IsTrue holds ↔ IsSomeAnd (barring reason) (λ one. Bars b player boxes one rest))
 
 -- and of one that may
-abbrev MayTell : Numbered → ℕ → List ℕ → Rest → Result Bool Memory → Reason → Type 0
+abbrev MayTell : BoardView → ℕ → List ℕ → Rest → Result Bool Memory → Reason → Type 0
 MayTell b player boxes rest result reason = IfOk result (λ holds. IsTrue holds ↔ IsSomeAnd (barring reason) (λ one. Bars b player boxes one rest))
 
-told : (b : Numbered) (player : ℕ) (boxes : List ℕ) (rest : Rest) (result : Result Bool Memory) (reason : Reason) → Tells b player boxes rest result reason
+told : (b : BoardView) (player : ℕ) (boxes : List ℕ) (rest : Rest) (result : Result Bool Memory) (reason : Reason) → Tells b player boxes rest result reason
     → MayTell b player boxes rest result reason
 told b player boxes rest (Ok holds) reason tells = tells
 told b player boxes rest (Err e) reason none = absurd none
 
-ample : (b : Numbered) (player : ℕ) (boxes : List ℕ) (rest : Rest) (result : Result Bool Memory) (reason : Reason) → Tells b player boxes rest result reason
+ample : (b : BoardView) (player : ℕ) (boxes : List ℕ) (rest : Rest) (result : Result Bool Memory) (reason : Reason) → Tells b player boxes rest result reason
     → OnErr result (IsTrue (is_pattern reason))
 ample b player boxes rest (Ok holds) reason tells = tt
 ample b player boxes rest (Err e) reason none = absurd none

@@ -1,14 +1,14 @@
 use Rattle.std.proofs.Common.{◌≡◌, ◌<◌, true, false, ◌∙◌, subst, arith, filter, length}
 use Rattle.std.specs.List.{range_with_len}
 use Rattle.sok_rules.specs.Squares.{holds}
-use Rattle.sok_board.specs.Area.{Numbered, spot_of}
+use Rattle.sok_board.specs.Area.{BoardView, spot_of}
 use Rattle.sok_board.proofs.Numbering.{where_more, where_same}
 use Rattle.sok_board.proofs.area.numbers_where.Goals as goal
 use Rattle.sok_board.proofs.area.numbers_where.Goals.{then-passes+in_ok-push, else-passes}
 
 pub loop-number-preserved : goal.loop-number-preserved
 loop-number-preserved g c = λ test shut tells.
-    let b : Numbered = record { rows = c.args.level.now; area = c.args.squares.now } in
+    let b : BoardView = record { rows = c.args.level.now; area = c.args.squares.now } in
     let n = c.loop-number.number in
     let so_far = c.loop-number.invariant test shut tells in
     let within : n < length c.args.squares.now = omega arith in
@@ -28,6 +28,6 @@ loop-number-preserved g c = λ test shut tells.
 
 pub returns : goal.returns
 returns g c = λ test shut tells.
-    let b : Numbered = record { rows = c.args.level.now; area = c.args.squares.now } in
+    let b : BoardView = record { rows = c.args.level.now; area = c.args.squares.now } in
     let all : c.loop-number.number ≡ length c.args.squares.now = omega arith in
     subst (λ n. c.loop-number.numbers.items ≡ filter (λ k. holds test b.rows (spot_of b k)) (range_with_len 0 n)) all (c.loop-number.invariant test shut tells)

@@ -1,7 +1,7 @@
 use Rattle.std.proofs.Common.{refl, map, ◌↔◌, None, IsSome, ap, sym, ◌∙◌, subst, arith, length}
 use Rattle.sok_rules.specs.Play.{start}
 use Rattle.sok_rules.specs.Squares.{is_box, is_goal}
-use Rattle.sok_board.specs.Area.{Numbered, InArea}
+use Rattle.sok_board.specs.Area.{BoardView, InArea}
 use Rattle.sok_board.specs.Neighbours.{neighbours_of}
 use Rattle.sok_board.specs.Tables.{entry}
 use Rattle.sok_board.proofs.Accepted.{HasPlace-area, IsSome-number_of}
@@ -14,26 +14,26 @@ numbers-requires-clause-within c = HasPlace-area c.args.level.now c.args.squares
 pub list_neighbours-requires : goal.list_neighbours-requires
 list_neighbours-requires c = HasPlace-area c.args.level.now c.args.squares.now c.requires.proper c.requires.area
 
-pub list_runs-requires-clause-within : goal.list_runs-requires-clause-within
-list_runs-requires-clause-within c = HasPlace-area c.args.level.now c.args.squares.now c.requires.proper c.requires.area
+pub list_spans-requires-clause-within : goal.list_spans-requires-clause-within
+list_spans-requires-clause-within c = HasPlace-area c.args.level.now c.args.squares.now c.requires.proper c.requires.area
 
 pub first_stray-requires-clause-numbers : goal.first_stray-requires-clause-numbers
 first_stray-requires-clause-numbers c =
-    let b : Numbered = record { rows = c.args.level.now; area = c.args.squares.now } in
+    let b : BoardView = record { rows = c.args.level.now; area = c.args.squares.now } in
     λ s. subst (λ o. IsSome o ↔ InArea c.args.level.now s) (sym (ap (λ table. entry None table s) c.deref.ensures.value ∙ c.in_ok-numbers.ensures s))
     (IsSome-number_of b c.requires.area s)
 
 pub unwrap-player-requires : goal.unwrap-player-requires
 unwrap-player-requires c =
     let rows = c.args.level.now in
-    let b : Numbered = record { rows = rows; area = c.args.squares.now } in
+    let b : BoardView = record { rows = rows; area = c.args.squares.now } in
     let is = c.entry.ensures ∙ (λ i. entry None (c.deref-3.ensures.value i) (c.man.ensures i)) ∙ c.in_ok-numbers.ensures (start rows).man in
     subst IsSome (sym is) ((IsSome-number_of b c.requires.area (start rows).man).1 (InArea-man rows))
 
 pub returns-clause-accepted : goal.returns-clause-accepted
 returns-clause-accepted c =
     let rows = c.args.level.now in
-    let b : Numbered = record { rows = rows; area = c.args.squares.now } in
+    let b : BoardView = record { rows = rows; area = c.args.squares.now } in
     let is = c.entry.ensures ∙ (λ i. entry None (c.deref-3.ensures.value i) (c.man.ensures i)) ∙ c.in_ok-numbers.ensures (start rows).man in
     let boxes = c.in_ok-boxes.ensures is_box refl (λ cell answer told. told.1) in
     let goals = c.in_ok-goals.ensures is_goal refl (λ cell answer told. told.1) in
@@ -52,7 +52,7 @@ returns-clause-accepted c =
       numbers = c.in_ok-numbers.ensures;
       trimmed = c.requires.trimmed;
       neighbours = c.in_ok-neighbours.ensures ∙ ap (λ table. map (neighbours_of table) c.args.squares.now) c.deref-2.ensures.value;
-      runs = c.in_ok-runs.ensures b refl;
+      spans = c.in_ok-spans.ensures b refl;
       goals = goals;
       player = sym c.unwrap-player.ensures ∙ is;
       boxes = boxes;

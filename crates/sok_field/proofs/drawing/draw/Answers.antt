@@ -1,31 +1,31 @@
 use Rattle.std.proofs.Common.{◌<◌, ◌∙◌, sym, subst, arith, true≢false, get_or, ◌+◌}
 use Rattle.sok_field.specs.Numbers.{Draws}
-use Rattle.sok_field.proofs.ByRuns.{no_run, next-run, no-more, Draws-run}
+use Rattle.sok_field.proofs.BySpans.{no_span, next-span, no-more, Draws-span}
 use Rattle.sok_field.proofs.drawing.draw.Goals as goal
 
-pub loop-run-init : goal.loop-run-init
-loop-run-init c = record {
+pub loop-span-init : goal.loop-span-init
+loop-span-init c = record {
   to = 0;
-  rest = c.runs-runs.ensures.runs;
+  rest = c.spans-spans.ensures.spans;
   drawn = λ s. (λ e. absurd (true≢false (sym e ∙ c.requires s)), λ (n, _, below). absurd (omega (arith, below)));
 }
 
-pub put_run-requires : goal.put_run-requires
-put_run-requires c =
-    let (is, _, _) = next-run _ _ _ _ _ c.loop-run-test.true c.loop-run.invariant.rest in
+pub put_span-requires : goal.put_span-requires
+put_span-requires c =
+    let (is, _, _) = next-span _ _ _ _ _ c.loop-span-test.true c.loop-span.invariant.rest in
     record { some = is.some; row = is.row; col = is.col; columns = is.columns }
 
-pub loop-run-preserved : goal.loop-run-preserved
-loop-run-preserved c =
-    let (is, at, rest) = next-run _ _ _ _ _ c.loop-run-test.true c.loop-run.invariant.rest in
+pub loop-span-preserved : goal.loop-span-preserved
+loop-span-preserved c =
+    let (is, at, rest) = next-span _ _ _ _ _ c.loop-span-test.true c.loop-span.invariant.rest in
     record {
-      to = c.loop-run.invariant.to + (get_or c.runs-runs.result.now c.loop-run.run-index no_run).length;
+      to = c.loop-span.invariant.to + (get_or c.spans-spans.result.now c.loop-span.span-index no_span).length;
       rest = rest;
-      drawn = Draws-run _ c.runs-runs.ensures.accepted.numbered _ _ _ _ is at c.put_run.ensures c.loop-run.invariant.drawn;
+      drawn = Draws-span _ c.spans-spans.ensures.accepted.numbered _ _ _ _ is at c.put_span.ensures c.loop-span.invariant.drawn;
     }
 
 pub returns : goal.returns
 returns c =
     let b = c.args.board.now in
-    let all = no-more b c.runs-runs.result.now c.loop-run.run-index c.loop-run.invariant.to _ c.loop-run-test.false c.loop-run.invariant.rest in
-    record { drawn = subst (λ k. Draws b (λ n. n < k) c.loop-run.field) all c.loop-run.invariant.drawn; accepted = c.runs-runs.ensures.accepted }
+    let all = no-more b c.spans-spans.result.now c.loop-span.span-index c.loop-span.invariant.to _ c.loop-span-test.false c.loop-span.invariant.rest in
+    record { drawn = subst (λ k. Draws b (λ n. n < k) c.loop-span.field) all c.loop-span.invariant.drawn; accepted = c.spans-spans.ensures.accepted }

@@ -3,7 +3,7 @@ use Rattle.sok_price.proofs.assign.assign.Goals as goal
 
 pub returns : goal.returns
 returns c =
-    let b = c.args.tables.now.board in
+    let b = c.args.distances.now.board in
     let costs = c.in_ok-costs.costs in
     let boxes = c.list-boxes.result.now in
     let of = c.in_ok-costs.ensures in

@@ -1,4 +1,4 @@
-use Rattle.sok_price.proofs.Words.{◌≡◌, ◌≤◌, ◌∙◌, ap, sym, refl, subst, All, arith, length, get_or, All-weaker, Search, cost_of, moved_from, low, growth_of}
+use Rattle.sok_price.proofs.Words.{◌≡◌, ◌≤◌, ◌∙◌, ap, sym, refl, subst, All, arith, length, get_or, All-weaker, PathSearch, cost_of, moved_from, low, growth_of}
 use Rattle.sok_price.proofs.Words.{cost_in}
 use Rattle.sok_price.proofs.Exchanging.{IsReady-exchanged, AreCosts-moved}
 use Rattle.sok_price.proofs.exchange.open_row.Goals as goal
@@ -14,7 +14,7 @@ returns-clause-ready c =
     let is = c.put_row.ensures in
     let g = growth_of c.args.search.now in
     let whole = c.requires.whole in
-    let search : Search = record c.args.search.now { u = c.put_price.new.prices; goal_of = c.free_goal.new.goal_of; floor = c.highest-search.result } in
+    let search : PathSearch = record c.args.search.now { u = c.put_price.new.prices; goal_of = c.free_goal.new.goal_of; floor = c.highest-search.result } in
     let last_is : length c.free_goal.new.goal_of.items ≡ is.last = omega (arith, c.free_goal.ensures.fewer, whole.whole, is.whole) in
     IsReady-exchanged (cost_of costs rows) (cost_of costs after) (length rows) costs.goals c.args.row is.last (length after) g (growth_of search)
     whole.ready whole.whole is.whole is.kept (record {

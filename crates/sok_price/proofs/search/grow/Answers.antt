@@ -1,4 +1,4 @@
-use Rattle.sok_price.proofs.Words.{Growth, HasRoom, IsAhead, Search, ap, arith, cost_of, length, subst, sym, ◌∙◌, length_push, joined}
+use Rattle.sok_price.proofs.Words.{Growth, HasRoom, IsAhead, PathSearch, ap, arith, cost_of, length, subst, sym, ◌∙◌, length_push, joined}
 use Rattle.sok_price.proofs.{CostRows.AreShort-costs, Joining.IsAhead-joined, Joining.IsJoining-next, Joining.fewer-branches, Joining.branch_of}
 use Rattle.sok_price.proofs.search.grow.Goals as goal
 
@@ -17,7 +17,7 @@ growing-smaller c =
     c.in-Some-index.is in
     let more = ap (λ (h : Growth). length h.branches) c.join.ensures.joined ∙ length_push c.look_on.new.search.branches.items (branch_of c.in-Some.near
     c.in-Some-index.member) in
-    omega (arith, fewer-branches is, more, ap (λ (s : Search). length s.branches.items) c.look_on.ensures.same)
+    omega (arith, fewer-branches is, more, ap (λ (s : PathSearch). length s.branches.items) c.look_on.ensures.same)
 
 pub growing-preserved : goal.growing-preserved
 unfolding joined
@@ -27,7 +27,7 @@ growing-preserved c =
     c.in-Some-index.is in
     let (_, goals, floor, room) = c.growing.invariant in (
       subst (IsAhead (cost_of c.args.costs.now rows) (length rows) c.args.costs.now.goals) (sym c.join.ensures.joined) (IsAhead-joined is),
-      ap (λ (h : Growth). h.goal_of) c.join.ensures.joined ∙ ap (λ (s : Search). s.goal_of.items) c.look_on.ensures.same ∙ goals,
-      ap (λ (h : Growth). h.floor) c.join.ensures.joined ∙ ap (λ (s : Search). s.floor) c.look_on.ensures.same ∙ floor,
+      ap (λ (h : Growth). h.goal_of) c.join.ensures.joined ∙ ap (λ (s : PathSearch). s.goal_of.items) c.look_on.ensures.same ∙ goals,
+      ap (λ (h : Growth). h.floor) c.join.ensures.joined ∙ ap (λ (s : PathSearch). s.floor) c.look_on.ensures.same ∙ floor,
       c.join.ensures.room (length rows) (subst (HasRoom (length rows)) (sym c.look_on.ensures.same) (record { tree = room.tree; matching = room.matching })),
     )

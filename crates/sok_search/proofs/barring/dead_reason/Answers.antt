@@ -1,5 +1,5 @@
 use Rattle.std.proofs.Common.{sym, subst, All, length, List, ℕ, ◌<◌, ◌∷◌, Option, IfSome, IfNone, Vec}
-use Rattle.sok_board.specs.Area.{Numbered}
+use Rattle.sok_board.specs.Area.{BoardView}
 use Rattle.std.specs.declared.alloc.Global.{Global}
 use Rattle.std.proofs.lemmas.Result.{IfOk-weaker}
 use Rattle.sok_cert.specs.Text.{IsSmall}
@@ -30,15 +30,15 @@ returns-in-None-clause-bars c =
 pub stuck_place-requires : goal.stuck_place-requires
 stuck_place-requires c =
     let exist = subst (λ (squares : List ℕ). All (λ square. square < length c.args.setting.now.board.now.area) squares) (sym c.list.ensures.list) c.requires.exist in
-    subst (λ (b : Numbered). All (λ square. square < length b.area) c.list.result.now) (sym c.args.setting.now.own) exist
+    subst (λ (b : BoardView). All (λ square. square < length b.area) c.list.result.now) (sym c.args.setting.now.own) exist
 
 -- the place is that of a box on the board
 stuck-at : (c : In-Some) → IsStuckAt c.args.setting.now.board.now c.args.boxes.now c.in-Some.place
 stuck-at c =
-    let told : IsStuckAt c.args.setting.now.tables.now.board c.list.result.now c.in-Some.place = subst
-    (λ (found : Option ℕ). IfSome found (IsStuckAt c.args.setting.now.tables.now.board c.list.result.now)) c.in-Some.is c.stuck_place.ensures in
-    subst (λ (b : Numbered). IsStuckAt b c.args.boxes.now c.in-Some.place) c.args.setting.now.own
-    (subst (λ (squares : List ℕ). IsStuckAt c.args.setting.now.tables.now.board squares c.in-Some.place) c.list.ensures.list told)
+    let told : IsStuckAt c.args.setting.now.distances.now.board c.list.result.now c.in-Some.place = subst
+    (λ (found : Option ℕ). IfSome found (IsStuckAt c.args.setting.now.distances.now.board c.list.result.now)) c.in-Some.is c.stuck_place.ensures in
+    subst (λ (b : BoardView). IsStuckAt b c.args.boxes.now c.in-Some.place) c.args.setting.now.own
+    (subst (λ (squares : List ℕ). IsStuckAt c.args.setting.now.distances.now.board squares c.in-Some.place) c.list.ensures.list told)
 
 pub returns-in-Some-clause-bars : goal.returns-in-Some-clause-bars
 returns-in-Some-clause-bars c = IfOk-weaker c.stuck_reason.result _ _ (λ (why : Reason) is. lone-bars c.args.setting.now.board.now c.args.boxes.now c.in-Some.place

@@ -1,7 +1,7 @@
 use Rattle.std.proofs.Common.{◌∙◌, Some, sym, ap, arith}
 use Rattle.std.proofs.lemmas.Option.{slice_get-get_or}
 use Rattle.sok_search.specs.Views.{progress_of}
-use Rattle.sok_search.proofs.Knowing.{state-few}
+use Rattle.sok_search.proofs.StatesByIndex.{state-few}
 use Rattle.sok_search.proofs.certifying.state_at.Goals as goal
 
 pub key-requires-clause-few : goal.key-requires-clause-few

@@ -4,19 +4,19 @@ use Rattle.sok_state.specs.declared.key.Key.{Key}
 use Rattle.sok_state.specs.declared.push.Push.{Push}
 use Rattle.sok_state.specs.Pushes.{IsLegal}
 use Rattle.sok_search.specs.Steps.{holding}
-use Rattle.sok_search.specs.Trials.{IsLast}
+use Rattle.sok_search.specs.PushScratches.{IsLast}
 use Rattle.sok_search.specs.Views.{progress_of}
 use Rattle.sok_search.proofs.Adding.{taken-key}
-use Rattle.sok_search.proofs.Knowing.{state-few}
-use Rattle.sok_search.proofs.Trailing.{both-ok, told-expanded}
+use Rattle.sok_search.proofs.StatesByIndex.{state-few}
+use Rattle.sok_search.proofs.FollowedPushes.{both-ok, told-expanded}
 use Rattle.sok_search.proofs.expanding.expand.Goals as goal
 
 pub open-requires-clause-state : goal.open-requires-clause-state
 open-requires-clause-state c = taken-key c.args.setting.now.board.now c.args.limit c.args.index
     (progress_of c.args.search.now) c.args.key.now c.args.depth c.requires.state.running.search c.requires.state.there c.requires.state.depth_is
 
-pub follow-requires-clause-trial : goal.follow-requires-clause-trial
-follow-requires-clause-trial c = record {
+pub follow-requires-clause-push_scratch : goal.follow-requires-clause-push_scratch
+follow-requires-clause-push_scratch c = record {
   serves = c.in_ok-open.ensures.serves;
   holds = λ matched. absurd (true≢false (sym matched ∙ c.in_ok-open.ensures.matched));
 }
@@ -25,11 +25,11 @@ pub returns-clause-ready : goal.returns-clause-ready
 returns-clause-ready c =
     let state = taken-key c.args.setting.now.board.now c.args.limit c.args.index
     (progress_of c.args.search.now) c.args.key.now c.args.depth c.requires.state.running.search c.requires.state.there c.requires.state.depth_is in
-    both-ok c.follow.result (λ trial opened. record {
-      serves = trial.serves;
+    both-ok c.follow.result (λ push_scratch opened. record {
+      serves = push_scratch.serves;
       boxes = c.args.key.now.boxes;
       laid = opened.laid;
-      of_last = subst (λ (last : Option Key). IfSome last (IsLast c.args.setting.now.board.now c.follow.new.trial.scene c.open.new.self.pushes.items))
+      of_last = subst (λ (last : Option Key). IfSome last (IsLast c.args.setting.now.board.now c.follow.new.push_scratch.scene c.open.new.self.pushes.items))
           (sym c.in_ok-open.ensures.last) (record {
             state = state;
             few = state-few c.args.setting.now.board.now c.args.limit (holding c.args.index (progress_of c.args.search.now)) c.requires.state.running.search c.args.index
@@ -37,7 +37,7 @@ returns-clause-ready c =
             opened = opened;
             legal = c.in_ok-open.ensures.legal;
           });
-    }) c.follow.ensures.trial c.follow.ensures.opened
+    }) c.follow.ensures.push_scratch c.follow.ensures.opened
 
 pub returns-clause-tells : goal.returns-clause-tells
 returns-clause-tells c =

@@ -3,14 +3,14 @@ use Rattle.std.proofs.lemmas.Option.{slice_get-get_or}
 use Rattle.sok_search.specs.Views.{TellsReached, progress_of}
 use Rattle.sok_search.specs.declared.reaching.Reached.TheVariants.{On}
 use Rattle.sok_closed.proofs.Looking.{no_push}
-use Rattle.sok_search.proofs.Trailing.{Before, followed-along, followed-more, followed-none, held-stays}
+use Rattle.sok_search.proofs.FollowedPushes.{Before, followed-along, followed-more, followed-none, held-stays}
 use Rattle.sok_search.proofs.expanding.follow.Goals as goal
 
 pub loop-push-init : goal.loop-push-init
 loop-push-init c = record {
   followed = followed-none c.args.setting.now.board.now c.args.limit
       (progress_of c.args.search.now) c.args.index c.args.key.now c.args.depth c.args.pushes.now c.requires.state.running.search;
-  trial = c.requires.trial;
+  push_scratch = c.requires.push_scratch;
   opened = c.requires.opened;
 }
 
@@ -38,7 +38,7 @@ loop-push-preserved c =
       followed = followed-more b c.args.limit (progress_of c.args.search.now) (progress_of c.loop-push.search)
           (progress_of c.reach.new.search) c.args.index c.args.key.now c.args.depth pushes n push
           (slice_get-get_or pushes n no_push c.loop-push-test.true) c.loop-push.invariant.followed told;
-      trial = c.in_ok-reach.ensures.trial;
+      push_scratch = c.in_ok-reach.ensures.push_scratch;
       opened = c.in_ok-reach.ensures.opened;
     }
 

@@ -19,7 +19,7 @@ use Rattle.sok_search.proofs.reaching.arrive.Goals.{After-step-least, Then-not-i
 pub step-least-requires-clause-pushable : goal.step-least-requires-clause-pushable
 step-least-requires-clause-pushable c =
     taken-pushable c.args.setting.now.board.now c.requires.state.running.accepted c.args.limit c.args.index (progress_of c.args.search.now) c.args.key.now c.args.depth
-    c.requires.state.running.search c.requires.state.there c.requires.state.depth_is c.args.push c.requires.legal c.args.trial.now.scene c.requires.opened
+    c.requires.state.running.search c.requires.state.there c.requires.state.depth_is c.args.push c.requires.legal c.args.push_scratch.now.scene c.requires.opened
 
 pub insert_next-requires-clause-exists : goal.insert_next-requires-clause-exists
 insert_next-requires-clause-exists c = at-within c.args.search.now.table.entries c.args.key.now c.args.index c.requires.state.there
@@ -43,14 +43,14 @@ overflow_add-deeper c =
     omega (arith, deep, c.ranges.limit.fits)
 
 -- the push can be made
-can_in : (c : After-step-least) → IsPushable c.args.setting.now.board.now c.args.push c.args.trial.now.scene c.args.key.now
+can_in : (c : After-step-least) → IsPushable c.args.setting.now.board.now c.args.push c.args.push_scratch.now.scene c.args.key.now
 can_in c = taken-pushable c.args.setting.now.board.now c.requires.state.running.accepted c.args.limit c.args.index (progress_of c.args.search.now) c.args.key.now c.args.depth
-    c.requires.state.running.search c.requires.state.there c.requires.state.depth_is c.args.push c.requires.legal c.args.trial.now.scene c.requires.opened
+    c.requires.state.running.search c.requires.state.there c.requires.state.depth_is c.args.push c.requires.legal c.args.push_scratch.now.scene c.requires.opened
 
 -- and leads to a state
 comes_in : (c : After-step-least) → ComesNext c.args.setting.now.board.now c.args.key.now c.args.push c.args.to c.step-least.result
 comes_in c = comes-next c.args.setting.now.board.now c.requires.state.running.accepted c.args.key.now c.args.push c.args.to c.step-least.result
-    c.args.trial.now.scene (can_in c) c.requires.ahead c.step-least.ensures.next
+    c.args.push_scratch.now.scene (can_in c) c.requires.ahead c.step-least.ensures.next
 
 -- the frame of a search with another table
 abbrev frame_in : Search → Tabled → Frame
@@ -67,9 +67,9 @@ stays_in : (c : Then-not-is_new) → Stays c.args.search.now.table.entries (next
 unfolding next_in
 stays_in c =
     let can = taken-pushable c.args.setting.now.board.now c.requires.state.running.accepted c.args.limit c.args.index (progress_of c.args.search.now) c.args.key.now c.args.depth
-    c.requires.state.running.search c.requires.state.there c.requires.state.depth_is c.args.push c.requires.legal c.args.trial.now.scene c.requires.opened in
+    c.requires.state.running.search c.requires.state.there c.requires.state.depth_is c.args.push c.requires.legal c.args.push_scratch.now.scene c.requires.opened in
     let comes = comes-next c.args.setting.now.board.now c.requires.state.running.accepted c.args.key.now c.args.push c.args.to c.step-least.result
-    c.args.trial.now.scene can c.requires.ahead c.step-least.ensures.next in
+    c.args.push_scratch.now.scene can c.requires.ahead c.step-least.ensures.next in
     subst (λ t. Enters c.args.search.now.table.entries (next_in c) (c.args.depth + 1) c.in_ok-at.at t c.insert_next.new.self.entries)
     c.if-not-is_new.true (c.in_ok-at.ensures.inserted.enters c.args.key.now (next_in c) c.requires.state.there comes.is)
 
@@ -147,7 +147,7 @@ returns-clause-tells c =
     let here = (goal.at.returns-clause-tells c).After-step-least in
     let losses = losses_of c.args.search.now.losses in
     let judged = c.in_ok-standing.ensures.judged losses c.step-least.result
-    (lost-next c.args.setting.now.board.now c.requires.state.running.accepted c.args.key.now c.args.push c.args.to c.args.trial.now.scene (can_in here)
+    (lost-next c.args.setting.now.board.now c.requires.state.running.accepted c.args.key.now c.args.push c.args.to c.args.push_scratch.now.scene (can_in here)
     c.requires.ahead c.step-least.result comes losses c.args.lost c.requires.lost) in
     pushed-added c.args.setting.now.board.now c.args.limit c.args.index p c.requires.state.running.search c.args.key.now
     c.args.depth c.requires.state.there c.requires.state.depth_is one.note one.note_is

@@ -1,14 +1,14 @@
 use Rattle.std.proofs.Common.{◌∙◌, subst, sym}
 use Rattle.std.proofs.lemmas.Result.{IfOk-weaker}
-use Rattle.sok_board.specs.Area.{Numbered}
-use Rattle.sok_push.specs.Pushing.{IsStuck}
+use Rattle.sok_board.specs.Area.{BoardView}
+use Rattle.sok_distance.specs.Pushing.{IsStuck}
 use Rattle.sok_alone.specs.Losses.{losses_of}
 use Rattle.sok_search.specs.Searches.{IsSearch}
 use Rattle.sok_search.specs.Steps.{holding, knowing}
 use Rattle.sok_search.specs.Views.{progress_of}
 use Rattle.sok_search.proofs.Adding.{taken-key, taken-pushable}
 use Rattle.sok_search.proofs.Asking.{lost-found, tells-knowing}
-use Rattle.sok_search.proofs.Keeping.{keeps-knowing}
+use Rattle.sok_search.proofs.Invariant.{keeps-knowing}
 use Rattle.sok_search.proofs.Pushing.{pushed-knowing}
 use Rattle.sok_search.proofs.LeavingOut.{leads-nowhere, pushed-left_out}
 use Rattle.sok_search.proofs.reaching.reach.Goals as goal
@@ -34,7 +34,7 @@ returns-then-stuck-clause-tells c =
     let to = c.square_ahead-to.result in
     let running = c.requires.state.running in
     let state = taken-key b c.args.limit c.args.index p key c.args.depth running.search c.requires.state.there c.requires.state.depth_is in
-    let stuck = subst (λ (board : Numbered). IsStuck board to) c.args.setting.now.own (c.stuck.ensures.0 c.if-stuck.true) in
+    let stuck = subst (λ (board : BoardView). IsStuck board to) c.args.setting.now.own (c.stuck.ensures.0 c.if-stuck.true) in
     pushed-left_out b c.args.limit c.args.index p running.search key c.args.depth c.args.push (record {
       part = c.if-not-search.true;
       nowhere = leads-nowhere b running.accepted key state c.args.push c.requires.legal to c.square_ahead-to.ensures stuck;
@@ -53,11 +53,11 @@ returns-then-is_some-clause-tells c =
     let key = c.args.key.now in
     let running = c.requires.state.running in
     let can = taken-pushable b running.accepted c.args.limit c.args.index p key c.args.depth running.search c.requires.state.there c.requires.state.depth_is c.args.push
-    c.requires.legal c.args.trial.now.scene c.requires.opened in
+    c.requires.legal c.args.push_scratch.now.scene c.requires.opened in
     pushed-knowing b c.args.limit (holding c.args.index p) c.ask.new.losses key c.args.depth c.args.push (holding c.args.index q)
     (pushed-left_out b c.args.limit c.args.index q (known-in ((goal.at.returns-then-is_some-clause-tells c).In_ok-lost)) key c.args.depth c.args.push (record {
       part = c.if-not-search-2.true;
-      nowhere = lost-found b running.accepted key c.args.push c.square_ahead-to.result c.args.trial.now.scene can c.square_ahead-to.ensures
+      nowhere = lost-found b running.accepted key c.args.push c.square_ahead-to.result c.args.push_scratch.now.scene can c.square_ahead-to.ensures
           (losses_of c.ask.new.losses) c.in_ok-lost.lost (sym c.is_some.ensures ∙ c.if-is_some.true) c.in_ok-lost.ensures.lost;
     }))
 

@@ -3,7 +3,7 @@ use Rattle.sok_search.specs.declared.reaching.Reached.TheVariants.{On, Full}
 use Rattle.sok_search.specs.Steps.{holding}
 use Rattle.sok_search.specs.Views.{TellsExpanded, progress_of}
 use Rattle.sok_search.proofs.Adding.{taken-key}
-use Rattle.sok_search.proofs.Knowing.{state-few}
+use Rattle.sok_search.proofs.StatesByIndex.{state-few}
 use Rattle.sok_search.proofs.Turning.{cut-waits, go-beaten, go-on, go-solved, held-noted, held-within}
 use Rattle.sok_search.proofs.running.visit.Goals as goal
 

@@ -1,6 +1,6 @@
 use Rattle.std.proofs.Common.{ℕ, ◌≡◌, ◌∙◌, Bool}
 use Rattle.std.proofs.lemmas.Result.{IfOk-weaker}
-use Rattle.sok_board.specs.Area.{Numbered}
+use Rattle.sok_board.specs.Area.{BoardView}
 use Rattle.sok_search.specs.declared.reaching.Reached.{Reached}
 use Rattle.sok_search.specs.declared.reaching.Reached.TheVariants.{On, Full}
 use Rattle.sok_search.specs.Searches.{Progress}
@@ -8,7 +8,7 @@ use Rattle.sok_search.specs.Views.{TellsFinished, TellsSearched, progress_of}
 use Rattle.sok_search.proofs.solve.search_all.Goals as goal
 
 -- turns that have ended, of a search that began so
-searched-finished : (b : Numbered) (limit : ℕ) (whole : Bool) (p q : Progress) → p.frame.whole ≡ whole → (r : Reached) → TellsFinished b limit p q r
+searched-finished : (b : BoardView) (limit : ℕ) (whole : Bool) (p q : Progress) → p.frame.whole ≡ whole → (r : Reached) → TellsFinished b limit p q r
     → TellsSearched b limit whole q r
 searched-finished b limit whole p q began On told = record { search = told.search; kept = told.whole ∙ began; empty = told.empty }
 searched-finished b limit whole p q began Full told = record { more = told.more; search = told.search; full = told.full; kept = told.kept ∙ began }

@@ -1,5 +1,5 @@
 use Rattle.std.proofs.Common.{ℕ, ◌<◌}
-use Rattle.sok_search.specs.Trails.{IsSolvedAt}
+use Rattle.sok_search.specs.Walkthroughs.{IsSolvedAt}
 use Rattle.sok_search.specs.Views.{progress_of}
 use Rattle.sok_search.proofs.tracing.find_solved.Given as goal
 

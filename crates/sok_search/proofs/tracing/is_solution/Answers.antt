@@ -1,6 +1,6 @@
 use Rattle.std.proofs.Common.{arith, sym, true≢false}
 use Rattle.sok_search.specs.Views.{progress_of}
-use Rattle.sok_search.proofs.Knowing.{state-few, state-noted}
+use Rattle.sok_search.proofs.StatesByIndex.{state-few, state-noted}
 use Rattle.sok_search.proofs.Traces.{solved-key, solved-shallow}
 use Rattle.sok_search.proofs.tracing.is_solution.Goals as goal
 

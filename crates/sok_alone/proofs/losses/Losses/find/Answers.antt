@@ -1,7 +1,7 @@
 use Rattle.std.proofs.Common.{◌≡◌, sym, subst, List, [], ◌∷◌, All, IfSome, Some, slice_get}
 use Rattle.std.proofs.lemmas.List.Elements.{All-push}
 use Rattle.sok_region.specs.Regions.{IsRegion}
-use Rattle.sok_region.proofs.Floods.{slice_get-append}
+use Rattle.sok_board.proofs.Lists.{slice_get-append}
 use Rattle.sok_state.specs.declared.key.Key.{Key}
 use Rattle.sok_state.specs.Keys.{IsKey}
 use Rattle.sok_bar.specs.Patterns.{AreClosedAlone}

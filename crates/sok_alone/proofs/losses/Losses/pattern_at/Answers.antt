@@ -1,7 +1,7 @@
 use Rattle.std.proofs.Common.{ℕ, ◌≡◌, ◌≤◌, ◌∙◌, List, Some, All, Contains, ap, get_or, length, subst, sym}
 use Rattle.std.proofs.lemmas.List.{get_or_default}
 use Rattle.std.proofs.lemmas.Option.{same_Some, slice_get-get_or, slice_get_within}
-use Rattle.sok_board.specs.Area.{Numbered}
+use Rattle.sok_board.specs.Area.{BoardView}
 use Rattle.sok_entry.specs.declared.entry.Inner.{Inner}
 use Rattle.sok_entry.specs.Text.{FitsInner}
 use Rattle.sok_bar.specs.Patterns.{AreClosedAlone}
@@ -13,7 +13,7 @@ use Rattle.sok_alone.proofs.losses.Losses.pattern_at.Goals as goal
 use Rattle.sok_alone.proofs.losses.Losses.pattern_at.Goals.{After-index-loss}
 
 -- the loss that is read is the one at the place
-loss-is : (c : After-index-loss) (b : Numbered) (player : ℕ) (lost : IsLostBy b player c.args.boxes.now (losses_of c.args.self.now) c.args.place)
+loss-is : (c : After-index-loss) (b : BoardView) (player : ℕ) (lost : IsLostBy b player c.args.boxes.now (losses_of c.args.self.now) c.args.place)
     → lost.loss ≡ c.index-loss.result.now
 loss-is c b player lost =
     let losses = losses_of c.args.self.now in

@@ -1,6 +1,6 @@
 use Rattle.std.proofs.Common.{ℕ, ◌≡◌, sym, ap, ◌∙◌, subst, true, true≢false, arith, List, length, nat_le}
 use Rattle.std.proofs.lemmas.Bool.{leb-true, le-leb}
-use Rattle.sok_board.specs.Area.{Numbered, IsAccepted, goals_of}
+use Rattle.sok_board.specs.Area.{BoardView, IsAccepted, goals_of}
 use Rattle.sok_price.specs.Prices.{Priced}
 use Rattle.sok_bar.specs.Bars.{Barring, Bars}
 use Rattle.sok_bar.specs.Fair.{AreFair}
@@ -19,13 +19,13 @@ returns-then-not-are_fair-clause-exact c = (
       let priced : Priced b c.args.boxes.now u v c.in-AtLeast.pushes = subst (Bars b c.args.player c.args.boxes.now (Barring.bound u v)) c.in-AtLeast.is bars in
       let fair = AreFair-Priced b c.args.boxes.now u v c.in-AtLeast.pushes priced in
       let listed = subst (λ (bs : List ℕ). AreFair b bs u v) (sym c.list-boxes.ensures.list) fair in
-      let told = subst (λ (other : Numbered). AreFair other c.list-boxes.result.now u v) (sym c.args.setting.now.own) listed in
+      let told = subst (λ (other : BoardView). AreFair other c.list-boxes.result.now u v) (sym c.args.setting.now.own) listed in
       absurd (true≢false (sym (c.are_fair.ensures.1 told) ∙ c.if-not-are_fair.true)),
 )
 
 pub total-requires-2 : goal.total-requires-2
 total-requires-2 c =
-    let few = few_goals c.args.setting.now.tables.now.board c.goals.ensures.accepted in
+    let few = few_goals c.args.setting.now.distances.now.board c.goals.ensures.accepted in
     let same = c.if-self-goals.false in
     let count = c.goals.ensures.count in
     omega (arith, few, same, count)
@@ -33,7 +33,7 @@ total-requires-2 c =
 a_price_a_goal : (c : After-from) → length c.args.self.now.v.now ≡ length (goals_of c.args.setting.now.board.now)
 a_price_a_goal c =
     let same = c.if-self-goals.false in
-    let goals : c.goals.result ≡ length (goals_of c.args.setting.now.board.now) = c.goals.ensures.count ∙ ap (λ (b : Numbered). length (goals_of b)) c.args.setting.now.own in
+    let goals : c.goals.result ≡ length (goals_of c.args.setting.now.board.now) = c.goals.ensures.count ∙ ap (λ (b : BoardView). length (goals_of b)) c.args.setting.now.own in
     omega (arith, same, goals)
 
 a_price_a_box : (c : After-from) → length c.args.self.now.u.now ≡ length c.args.boxes.now
@@ -49,7 +49,7 @@ priced c leaves =
     let u = c.args.self.now.u.now in
     let v = c.args.self.now.v.now in
     let told = c.are_fair.ensures.0 c.if-not-are_fair.false in
-    let listed = subst (λ (other : Numbered). AreFair other c.list-boxes.result.now u v) c.args.setting.now.own told in
+    let listed = subst (λ (other : BoardView). AreFair other c.list-boxes.result.now u v) c.args.setting.now.own told in
     let fair = subst (λ (bs : List ℕ). AreFair b bs u v) c.list-boxes.ensures.list listed in
     let (within, left) = c.in-Some.ensures in
     let of_boxes = c.total.ensures in

@@ -1,6 +1,6 @@
 use Rattle.std.proofs.Common.{ℕ, ◌≡◌, sym, subst, true, nat_lt, arith, List, length}
 use Rattle.std.proofs.lemmas.Bool.{ltb-true, lt-ltb}
-use Rattle.sok_board.specs.Area.{Numbered, IsAccepted}
+use Rattle.sok_board.specs.Area.{BoardView, IsAccepted}
 use Rattle.sok_price.specs.Prices.{IsCrowd}
 use Rattle.sok_bar.specs.Bars.{Barring}
 use Rattle.sok_bar.specs.Reached.{HasReached}
@@ -17,7 +17,7 @@ crowd c fewer =
     subst (λ (bs : List ℕ). IsCrowd c.args.setting.now.board.now bs members) c.list-boxes.ensures.list (record {
       listed = c.are_members.ensures.0 c.if-not-are_members.false;
       goals = goals;
-      all_reached = subst (λ (b : Numbered). HasReached b c.list-boxes.result.now members goals) c.args.setting.now.own has;
+      all_reached = subst (λ (b : BoardView). HasReached b c.list-boxes.result.now members goals) c.args.setting.now.own has;
       fewer = omega (arith, less, many);
     })
 
@@ -28,7 +28,7 @@ returns-clause-exact c = (
       let members = c.args.self.now.members.now in
       let listed : IsCrowd c.args.setting.now.board.now c.list-boxes.result.now members =
       subst (λ (bs : List ℕ). IsCrowd c.args.setting.now.board.now bs members) (sym c.list-boxes.ensures.list) is_crowd in
-      let has = subst (λ (b : Numbered). HasReached b c.list-boxes.result.now members listed.goals) (sym c.args.setting.now.own) listed.all_reached in
+      let has = subst (λ (b : BoardView). HasReached b c.list-boxes.result.now members listed.goals) (sym c.args.setting.now.own) listed.all_reached in
       let least = c.reached_goals.ensures.least listed.goals has in
       let fewer = listed.fewer in
       lt-ltb c.reached_goals.result (length members) (omega (arith, least, fewer)),

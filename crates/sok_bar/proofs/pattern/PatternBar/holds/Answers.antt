@@ -1,6 +1,6 @@
 use Rattle.std.proofs.Common.{◌↔◌, ℕ, List, Bool, Result, Ok, Err, IfOk, IsTrue}
 use Rattle.sok_rules.specs.declared.fault.Memory.{Memory}
-use Rattle.sok_board.specs.Area.{Numbered, IsAccepted}
+use Rattle.sok_board.specs.Area.{BoardView, IsAccepted}
 use Rattle.sok_region.specs.Regions.{IsPlaced}
 use Rattle.sok_entry.specs.declared.entry.Inner.{Inner}
 use Rattle.sok_bar.specs.declared.rest.Rest.{Rest}
@@ -11,7 +11,7 @@ use Rattle.sok_bar.proofs.ReasonLaws.{reasons-bar}
 use Rattle.sok_bar.proofs.pattern.PatternBar.holds.Goals as goal
 
 -- a pattern bars
-bars : (b : Numbered) → IsAccepted b → (player : ℕ) (boxes members : List ℕ) (inner : List Inner) (rest : Rest) → IsPlaced b boxes player
+bars : (b : BoardView) → IsAccepted b → (player : ℕ) (boxes members : List ℕ) (inner : List Inner) (rest : Rest) → IsPlaced b boxes player
     → (r : Result Bool Memory) → IfOk r (λ holds. IsTrue holds ↔ IsPattern b player boxes members inner)
     → IfOk r (λ holds. IsTrue holds → IsBarred b player boxes rest)
 bars b accepted player boxes members inner rest placed (Ok t) told = λ yes.

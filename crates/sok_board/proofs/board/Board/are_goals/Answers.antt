@@ -1,10 +1,10 @@
 use Rattle.std.proofs.Common.{ap, ◌∙◌, subst, length, IsTrue, ◌↔◌, arith}
-use Rattle.sok_board.specs.Area.{AreGoals, Numbered}
+use Rattle.sok_board.specs.Area.{AreGoals, BoardView}
 use Rattle.sok_board.proofs.board.Board.are_goals.Goals as goal
 
 pub all_goals-requires : goal.all_goals-requires
 all_goals-requires c = λ k d within.
-    let long = ap length c.deref.ensures.value ∙ ap (λ (b : Numbered). length b.area) c.self.view_is in
+    let long = ap length c.deref.ensures.value ∙ ap (λ (b : BoardView). length b.area) c.self.view_is in
     let exists = c.requires k d within in
     omega (arith, long, exists)
 

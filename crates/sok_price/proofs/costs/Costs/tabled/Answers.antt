@@ -7,7 +7,7 @@ loop-square-preserved c = AreTold-more c.loop-square.invariant c.in_ok-entries.e
 
 pub returns-clause-tabled : goal.returns-clause-tabled
 returns-clause-tabled c =
-    let b = c.args.tables.now.board in
+    let b = c.args.distances.now.board in
     let all : c.loop-square.square ≡ length b.area = omega (arith, c.requires.squares) in
     let spare : c.in_ok-vec.field-0.items ≡ replicate c.args.goals (Some 0) = search rules in
     let added = ap (λ (row : List (Option ℕ)). c.loop-square.entries.items ++ row) (c.deref.ensures.value ∙ spare) in

@@ -1,14 +1,14 @@
-use Rattle.sok_price.proofs.Words.{rules, AreRows, Numbered, ap, arith, length, subst, sym, ◌≡◌, ◌≤◌, ◌+◌, ◌*◌, ◌∙◌, List, length-replicate, ℕ}
+use Rattle.sok_price.proofs.Words.{rules, AreRows, BoardView, ap, arith, length, subst, sym, ◌≡◌, ◌≤◌, ◌+◌, ◌*◌, ◌∙◌, List, length-replicate, ℕ}
 use Rattle.sok_price.proofs.{CostRows.AreCosts-below, CostRows.AreRows-spare, CostRows.goals-few}
 use Rattle.sok_price.proofs.matching.Matching.new.Goals as goal
 
 pub invariant_of-result : goal.invariant_of-result
 invariant_of-result c =
-    let b = c.args.setting.now.tables.now.board in
+    let b = c.args.setting.now.distances.now.board in
     let costs = c.in_ok-tabled.field-0 in
     let squares = c.squares-squares.result in
     let tabled = c.in_ok-tabled.ensures.tabled in
-    let area : squares ≡ length b.area = c.squares-squares.ensures.count ∙ sym (ap (λ (h : Numbered). length h.area) c.args.setting.now.own) in
+    let area : squares ≡ length b.area = c.squares-squares.ensures.count ∙ sym (ap (λ (h : BoardView). length h.area) c.args.setting.now.own) in
     let are = subst (AreRows squares) (sym c.in_ok-spare_rows.ensures) (AreRows-spare squares c.goals-goals.result) in
     let room : (squares + 1) * costs.goals ≤ length costs.entries.items =
     subst (λ n. (n + 1) * costs.goals ≤ length costs.entries.items) (sym area) (omega (arith, tabled.whole)) in

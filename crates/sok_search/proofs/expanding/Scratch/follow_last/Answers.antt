@@ -4,13 +4,13 @@ use Rattle.sok_state.specs.declared.key.Key.{Key}
 use Rattle.sok_state.specs.declared.push.Push.{Push}
 use Rattle.sok_state.specs.Pushes.{IsLegal, IsOpened}
 use Rattle.sok_alone.proofs.Losing.{same-key}
-use Rattle.sok_search.specs.Trials.{IsLast}
+use Rattle.sok_search.specs.PushScratches.{IsLast}
 use Rattle.sok_search.proofs.expanding.Scratch.follow_last.Goals as goal
 
 pub follow-requires-clause-pushable : goal.follow-requires-clause-pushable
 follow-requires-clause-pushable c =
     let pushes = c.args.self.now.pushes.items in
-    let scene = c.args.self.now.trial.scene in
+    let scene = c.args.self.now.push_scratch.scene in
     let last : IsLast c.args.board.now scene pushes c.in-Some-last.last = subst (λ (known : Option Key). IfSome known (IsLast c.args.board.now scene pushes))
     c.in-Some-last.is c.requires.ready.of_last in
     let listed = subst (λ (items : List Push). Contains items c.in-Some.origin.push) c.deref.ensures.value (c.is_listed.ensures c.if-not-is_listed.false) in

@@ -1,5 +1,0 @@
-use Rattle.sok_field.proofs.Parts.{cut-exact}
-use Rattle.sok_field.proofs.runs.cut.Goals as goal
-
-pub returns : goal.returns
-returns c = λ k. cut-exact c.args.rows.now c.args.run c.ones.result k c.ones.ensures

@@ -1,8 +1,0 @@
-use Rattle.sok_push.proofs.Pushes.{pushes-alone, pushes-known}
-use Rattle.sok_push.proofs.law.pushes_are_lone.Goals as goal
-
-pub returns-clause-alone : goal.returns-clause-alone
-returns-clause-alone c = pushes-alone
-
-pub returns-clause-known : goal.returns-clause-known
-returns-clause-known c = pushes-known

@@ -1,6 +1,0 @@
-use Rattle.sok_push.specs.Distances.{IsFilled}
-use Rattle.sok_push.proofs.Filled.{with_entries}
-use Rattle.sok_push.proofs.tables.entries.Given as goal
-
-abbrev pub invariant-loop-goal : goal.invariant-loop-goal
-invariant-loop-goal l = IsFilled l.goal-index (with_entries l.board l.entries.items)

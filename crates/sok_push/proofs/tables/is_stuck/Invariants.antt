@@ -1,7 +1,0 @@
-use Rattle.std.proofs.Common.{ℕ, ◌≡◌, ◌<◌, None}
-use Rattle.sok_push.specs.Distances.{distance_at}
-use Rattle.sok_push.proofs.Filled.{with_entries}
-use Rattle.sok_push.proofs.tables.is_stuck.Given as goal
-
-abbrev pub invariant-loop-goal : goal.invariant-loop-goal
-invariant-loop-goal l = (k : ℕ) → k < l.goal → distance_at (with_entries l.board l.entries) k l.square ≡ None

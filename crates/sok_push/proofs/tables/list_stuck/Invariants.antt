@@ -1,5 +1,0 @@
-use Rattle.sok_push.specs.Distances.{TellsStuck}
-use Rattle.sok_push.proofs.tables.list_stuck.Given as goal
-
-abbrev pub invariant-loop-square : goal.invariant-loop-square
-invariant-loop-square l = TellsStuck l.board l.square l.list.items

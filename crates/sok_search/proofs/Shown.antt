@@ -1,0 +1,138 @@
+-- What a search shows whose states are done with, whole or not: they are known, and nothing solves from those that it left out.
+use Rattle.std.proofs.Common.{ℕ, ◌≡◌, ◌≤◌, ◌+◌, ◌⊎◌, inl, inr, Some, true, false, arith, slice_get}
+use Rattle.std.specs.Map.{values_of}
+use Rattle.sok_rules.specs.declared.cell.Dir.{Dir}
+use Rattle.sok_rules.specs.Play.{After, NeverFrom, Position, start, step}
+use Rattle.sok_rules.specs.States.{Same}
+use Rattle.sok_rules.proofs.Man.{IsStanding-start}
+use Rattle.sok_rules.proofs.Walking.{Same-step, Same-sym, Same-trans}
+use Rattle.sok_board.specs.Area.{BoardView, IsAccepted}
+use Rattle.sok_region.specs.Regions.{IsPlaced}
+use Rattle.sok_bar.specs.declared.rest.Rest.TheVariants.{AtLeast}
+use Rattle.sok_bar.specs.Bars.{Barring}
+use Rattle.sok_bar.proofs.Patterns.{NeverFrom-Same}
+use Rattle.sok_bar.proofs.ReasonLaws.{reasons-bar}
+use Rattle.sok_alone.specs.Losses.{losses_of}
+use Rattle.sok_alone.proofs.Losing.{lost-never}
+use Rattle.sok_cert.specs.Claim.{Claim}
+use Rattle.sok_cert.specs.Claim.TheVariants.{Pushes, Unsolvable}
+use Rattle.sok_cert.specs.Closed.{IsTrueOf, rest_of}
+use Rattle.sok_cert.proofs.Barring.{Agrees-barred, Agrees-deeper}
+use Rattle.sok_closed.proofs.Followed.{leads-pushed}
+use Rattle.sok_closed.proofs.Looking.{standing-after}
+use Rattle.sok_cert.proofs.KnownPositions.{AllAgree, IsTrueOf-known}
+use Rattle.sok_closed.proofs.KnownPositions.{LeadsOn, solved-Same}
+use Rattle.sok_state.specs.declared.key.Key.{Key}
+use Rattle.sok_state.specs.declared.push.Push.{Push}
+use Rattle.sok_state.specs.Pushes.{IsLegal, LeadsTo}
+use Rattle.sok_state.specs.Tables.{IsAt}
+use Rattle.sok_state.specs.Keys.{key_position}
+use Rattle.sok_search.specs.declared.note.Standing.{Standing}
+use Rattle.sok_search.specs.declared.note.Standing.TheVariants.{Open, Expanded, Dead, Lost}
+use Rattle.sok_search.specs.Finished.{AreDone, CostsEnough, IsDone}
+use Rattle.sok_search.specs.Searches.{Progress, IsDead, IsMet, IsSearch, Stands}
+use Rattle.sok_search.proofs.StatesByIndex.{noted-at}
+
+-- a known state at most so deep, of a position
+record IsKnownAt (b : BoardView) (p : Progress) (depth : ℕ) (x : Position) : Type 0 where
+  pub index : ℕ
+  pub key : Key
+  pub there : IsAt p.table key index
+  pub deep : ℕ
+  pub depth_is : slice_get (values_of p.table) index ≡ Some deep
+  pub near : deep ≤ depth
+  pub same : Same b.rows (key_position b key) x
+
+-- or nothing solves from it
+abbrev IsKnown : BoardView → Progress → ℕ → Position → Type 0
+IsKnown b p depth x = IsKnownAt b p depth x ⊎ NeverFrom b.rows x
+
+module _ (b : BoardView) (accepted : IsAccepted b) (claim : Claim) (key : Key) (depth deep : ℕ) (x : Position) (placed : IsPlaced b key.boxes key.least)
+    (same : Same b.rows (key_position b key) x) (near : deep ≤ depth) where
+  agree-dead : IsDead b key.boxes → AllAgree b.rows claim depth x
+  agree-dead (why, of_boxes, bars) w solves =
+      let rest = rest_of claim deep in
+      let barred = reasons-bar b accepted key.least key.boxes why rest placed (bars key.least rest) in
+      Agrees-deeper claim deep depth _ near (Agrees-barred b claim deep key.least key.boxes barred x same w solves)
+
+agree-open : (b : BoardView) → IsAccepted b → (claim : Claim) (key : Key) (depth deep : ℕ) (x : Position) → IsPlaced b key.boxes key.least
+    → Same b.rows (key_position b key) x → deep ≤ depth → CostsEnough b claim key.boxes deep → AllAgree b.rows claim depth x
+agree-open b accepted Unsolvable key depth deep x placed same near (n, bounded, none) w solves = absurd none
+agree-open b accepted (Pushes k) key depth deep x placed same near (n, ((u, v, priced), cost), enough) w solves =
+    let more = (reasons-bar b accepted key.least key.boxes (Barring.bound u v) (AtLeast n) placed priced).each x same w solves in
+    omega (arith, more, enough, near)
+
+module _ (b : BoardView) (accepted : IsAccepted b) (limit : ℕ) (p : Progress) (search : IsSearch b limit p) (claim : Claim) (done : AreDone b claim p) where
+  -- a push from an expanded state leads to what is known
+  known-met : (key : Key) (deep depth : ℕ) (push : Push) (after : Position) → LeadsTo b key push after → deep + 1 ≤ depth → IsMet b p key deep push
+      → IsKnown b p depth after
+  known-met key deep depth push after leads near (inl found) =
+      let close = found.near in
+      inl (record {
+        index = found.index;
+        key = found.next;
+        there = found.there;
+        deep = found.deep;
+        depth_is = found.depth_is;
+        near = omega (arith, near, close);
+        same = Same-sym b.rows after (key_position b found.next) (standing-after b key push after leads) (found.is after leads).same;
+      })
+  known-met key deep depth push after leads near (inr left) = inr (left.nowhere after leads)
+
+  module _ (depth : ℕ) (x : Position) (at : IsKnownAt b p depth x) (placed : IsPlaced b at.key.boxes at.key.least) where
+    -- a walk stays in the state
+    walked : (d : Dir) (a : After) → step b.rows d x ≡ Some a → a.pushed ≡ false → IsKnown b p depth a.position
+    walked d a steps is = inl (record {
+      index = at.index;
+      key = at.key;
+      there = at.there;
+      deep = at.deep;
+      depth_is = at.depth_is;
+      near = at.near;
+      same = Same-trans b.rows (key_position b at.key) x a.position at.same (Same-step b.rows d x a steps is);
+    })
+
+    -- a push from an expanded state was met
+    pushed : ((push : Push) → IsLegal b at.key push → IsMet b p at.key at.deep push) → (d : Dir) (a : After) → step b.rows d x ≡ Some a → a.pushed ≡ true
+        → IsKnown b p (depth + 1) a.position
+    pushed met d a steps is =
+        let (from, leads) = leads-pushed b accepted at.key placed x d a at.same steps is in
+        let push : Push = record { from = from; dir = d } in
+        let near = at.near in
+        known-met at.key at.deep (depth + 1) push a.position leads (omega (arith, near)) (met push (record { after = a.position; leads = leads }))
+
+    -- by the standing of the state
+    standing-known : (s : Standing) → Stands b p at.index at.key at.deep s
+        → IsDone b claim (losses_of p.frame.losses) at.key.least at.key.boxes at.deep s
+        → AllAgree b.rows claim depth x ⊎ LeadsOn b.rows (IsKnown b p) depth x
+    standing-known (Open bound) stands enough = inl (agree-open b accepted claim at.key depth at.deep x placed at.same at.near enough)
+    standing-known (Expanded bound) (prices, unsolved, met) expanded = inr (record {
+      unsolved = λ solved. unsolved (solved-Same b.rows (key_position b at.key) x at.same solved);
+      walked = walked;
+      pushed = pushed met;
+    })
+    standing-known Dead stands dead = inl (agree-dead b accepted claim at.key depth at.deep x placed at.same at.near dead)
+    standing-known (Lost place) stands lost = inl (λ w solves. absurd
+        (NeverFrom-Same b.rows (key_position b at.key) x at.same
+        (lost-never b at.key.least at.key.boxes (losses_of p.frame.losses) place lost accepted placed) w solves))
+
+  known : (depth : ℕ) (x : Position) → IsKnown b p depth x → AllAgree b.rows claim depth x ⊎ LeadsOn b.rows (IsKnown b p) depth x
+  known depth x (inr never) = inl (λ w solves. absurd (never w solves))
+  known depth x (inl at) =
+      let (note, note_is, noted) = noted-at b limit p search at.index at.key at.deep at.there at.depth_is in
+      standing-known depth x at noted.state.is.placed note.standing noted.stands
+      (done at.index at.key at.deep note (record { there = at.there; depth_is = at.depth_is; note_is = note_is }))
+
+  -- the start is known, so the claim is true
+  pub shows : IsTrueOf b.rows claim
+  shows =
+      let begun = search.begun in
+      IsTrueOf-known b.rows claim (IsKnown b p) known (inl (record {
+        index = 0;
+        key = begun.key;
+        there = begun.there;
+        deep = 0;
+        depth_is = begun.depth_is;
+        near = omega arith;
+        same = Same-sym b.rows (start b.rows) (key_position b begun.key) (IsStanding-start b.rows accepted.proper) begun.is.same;
+      }))

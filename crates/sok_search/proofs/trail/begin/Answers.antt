@@ -1,8 +1,0 @@
-use Rattle.sok_search.proofs.Trails.{begun-start}
-use Rattle.sok_search.proofs.trail.begin.Goals as goal
-
-pub returns : goal.returns
-returns c =
-    begun-start c.args.board.now c.start-player.ensures.accepted _ c.start-player.result.1.now c.in_ok-key.ensures.of_board c.in_ok-key.ensures.key
-    c.start-player.ensures.player_exists c.start-player.ensures.position
-    c.new.ensures.items

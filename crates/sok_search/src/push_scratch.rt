@@ -1,0 +1,136 @@
+//! How a new state stands that a push leads to.
+
+ghost use Rattle.std.specs.Prelude.{ℕ, List, ◌≡◌, ◌<◌, ◌↔◌, IfOk, IfSome, IsTrue, OnOk, All, length};
+ghost use Rattle.sok_alone.specs.declared.losses.Loss.{Loss};
+ghost use Rattle.sok_alone.specs.Losses.{IsLostBy};
+ghost use Rattle.sok_board.specs.Area.{IsAccepted};
+ghost use Rattle.sok_price.specs.Matched.{TellsLeast};
+ghost use Rattle.sok_bar.specs.Jam.{HasJamWith};
+ghost use Rattle.sok_board.specs.BoxSets.{put_in_order};
+ghost use Rattle.sok_region.specs.Layouts.{IsLaidOut};
+ghost use Rattle.sok_search.specs.Steps.{IsJudged};
+ghost use Rattle.sok_search.specs.PushScratches.{AreMoved, IsPushScratch};
+
+use crate::note::Standing;
+use sok_bar::layout_jam::has_jam;
+use sok_board::area::Sq;
+use sok_board::board::Board;
+use sok_board::box_set::BoxSet;
+use sok_distance::setting::Setting;
+use sok_price::matching::Matching;
+use sok_region::layout::Layout;
+use sok_rules::fault::Memory;
+use sok_state::scene::Scene;
+use std::alloc::Global;
+
+/// What pushes from a state are tried with: the state, laid out, and a matching, which is made that
+/// of its boxes once a bound is asked for.
+#[derive(Drop)]
+pub(crate) struct PushScratch {
+    pub(crate) scene: Scene,
+    pub(crate) matching: Matching,
+    pub(crate) matched: bool,
+}
+
+/// Makes the matching that of some boxes, unless they have a crowd.
+fn match_boxes(board: &Board, push_scratch: &mut PushScratch, boxes: &BoxSet)
+    requires push_scratch { IsPushScratch board.now boxes.now push_scratch.old.matching push_scratch.old.matched }
+    requires exist { All (λ square. square < length board.now.area) boxes.now }
+    ensures push_scratch { IsPushScratch board.now boxes.now push_scratch.new.matching push_scratch.new.matched }
+    ensures scene { push_scratch.new.scene ≡ push_scratch.old.scene }
+{
+    if push_scratch.matched {
+        return;
+    }
+    match push_scratch.matching.set(boxes) {
+        Some(_total) => push_scratch.matched = true,
+        None => {}
+    }
+}
+
+/// The least total of the boxes after a push, and None where they have a crowd. The boxes are
+/// listed only where those before have a crowd.
+fn bound_after(
+    alloc: Global,
+    board: &Board,
+    push_scratch: &mut PushScratch,
+    before: &BoxSet,
+    from: Sq,
+    to: Sq,
+) -> Result<Option<u32>, Memory>
+    requires push_scratch { IsPushScratch board.now before.now push_scratch.old.matching push_scratch.old.matched }
+    requires moved { AreMoved board.now before.now from to (put_in_order from to before.now) }
+    ensures push_scratch { OnOk result
+        (IsPushScratch board.now before.now push_scratch.new.matching push_scratch.new.matched) }
+    ensures scene { push_scratch.new.scene ≡ push_scratch.old.scene }
+    ensures least { IfOk result (TellsLeast board.now (put_in_order from to before.now)) }
+{
+    match_boxes(board, push_scratch, before);
+    if push_scratch.matched {
+        return Ok(push_scratch.matching.bound_after(from, to));
+    }
+    let after = before.moved(alloc, from, to)?;
+    Ok(push_scratch.matching.set(&after))
+}
+
+/// Whether the boxes after a push have a jam with the box that was pushed. The boxes that are laid
+/// out are shifted by the push and back.
+fn is_jammed(setting: &Setting<'_>, layout: &mut Layout, from: Sq, to: Sq) -> bool
+    requires accepted { IsAccepted setting.now.board.now }
+    requires laid { (boxes after : List ℕ)
+        × AreMoved setting.now.board.now boxes from to after
+        × IsLaidOut setting.now.board.now boxes layout.old }
+    ensures laid { (boxes after : List ℕ) → AreMoved setting.now.board.now boxes from to after
+        → IsLaidOut setting.now.board.now boxes layout.old
+        → IsLaidOut setting.now.board.now boxes layout.new }
+    ensures jammed { (boxes after : List ℕ) → AreMoved setting.now.board.now boxes from to after
+        → IsLaidOut setting.now.board.now boxes layout.old → IsTrue result
+        ↔ HasJamWith setting.now.board.now after to }
+{
+    layout.shift(setting.board, from, to);
+    let jammed = has_jam(setting, layout, to);
+    layout.shift(setting.board, to, from);
+    jammed
+}
+
+/// How a new state with some boxes stands, of which one was pushed: dead, where that box reaches no
+/// goal, by a jam with it or by a crowd, lost, by a loss that is known, or open, with prices of a
+/// total.
+pub(crate) fn judge_after(
+    alloc: Global,
+    setting: &Setting<'_>,
+    push_scratch: &mut PushScratch,
+    before: &BoxSet,
+    from: Sq,
+    to: Sq,
+    lost: Option<u32>,
+) -> Result<Standing, Memory>
+    requires accepted { IsAccepted setting.now.board.now }
+    requires push_scratch { IsPushScratch setting.now.board.now before.now push_scratch.old.matching push_scratch.old.matched }
+    requires laid { IsLaidOut setting.now.board.now before.now push_scratch.old.scene.layout }
+    requires moved { AreMoved setting.now.board.now before.now from to
+        (put_in_order from to before.now) }
+    ensures push_scratch { OnOk result
+        (IsPushScratch setting.now.board.now before.now push_scratch.new.matching push_scratch.new.matched) }
+    ensures laid { OnOk result (IsLaidOut setting.now.board.now before.now push_scratch.new.scene.layout) }
+    ensures reached { push_scratch.new.scene.reached ≡ push_scratch.old.scene.reached }
+    ensures judged { (losses : List Loss) (player : ℕ)
+        → IfSome lost (IsLostBy setting.now.board.now player
+        (put_in_order from to before.now) losses)
+        → IfOk result (IsJudged setting.now.board.now losses player
+        (put_in_order from to before.now)) }
+{
+    if setting.distances.stuck(to) {
+        return Ok(Standing::Dead);
+    }
+    if is_jammed(setting, &mut push_scratch.scene.layout, from, to) {
+        return Ok(Standing::Dead);
+    }
+    if let Some(place) = lost {
+        return Ok(Standing::Lost(place));
+    }
+    match bound_after(alloc, setting.board, push_scratch, before, from, to)? {
+        Some(bound) => Ok(Standing::Open(bound)),
+        None => Ok(Standing::Dead),
+    }
+}
