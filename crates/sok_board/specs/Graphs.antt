@@ -1,4 +1,4 @@
--- BoardView nodes, one of them the start, and how many letters lead from the start to each at least.
+-- Numbered nodes, one of them the start, and how many letters lead from the start to each at least.
 use Rattle.std.specs.Prelude.{ℕ, ◌≡◌, ◌≤◌, List, [], ◌∷◌, Option, Some, None, IfSome, Vec, length, slice_index_or}
 use Rattle.std.specs.Option.{option_and_then}
 use Rattle.sok_rules.specs.declared.cell.Dir.{Dir}
@@ -14,7 +14,7 @@ abbrev pub follow : Graph → ℕ → List Dir → Option ℕ
 follow g s [] = Some s
 follow g s (d ∷ w) = option_and_then (λ t. follow g t w) (g.way d s)
 
--- letters that lead from the start to a node, no fewer than any others that do
+-- letters that lead from the start to a node, no more than any others that do
 pub record IsShortest (g : Graph) (s : ℕ) (w : List Dir) : Type 0 where
   pub lead : follow g g.start w ≡ Some s
   pub least : (v : List Dir) → follow g g.start v ≡ Some s → length w ≤ length v
