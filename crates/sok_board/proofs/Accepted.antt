@@ -15,7 +15,7 @@ use Rattle.sok_board.specs.Area.{BoardView, Before, InArea, IsArea, IsAccepted, 
 use Rattle.sok_board.specs.Refusals.{IsRefused, lies_beside, has_gap}
 use Rattle.sok_board.specs.declared.fault.BoardFault.{BoardFault}
 use Rattle.sok_board.specs.declared.fault.BoardFault.TheVariants as fault
-use Rattle.sok_board.specs.Tables.{HasPlace}
+use Rattle.sok_board.specs.Tables.{HasPlace, HasPlaceIn}
 use Rattle.sok_rules.proofs.Spots.{same_spot-is, same_spot-refl}
 use Rattle.sok_board.proofs.AreaLaws.{spot_of-number_of, number-InArea, InArea-spot_of, InArea-next}
 use Rattle.sok_board.proofs.Lists.{same_ordered}
@@ -23,7 +23,10 @@ use Rattle.sok_board.proofs.Numbering.{spot_of-get_or}
 use Rattle.sok_board.proofs.Refusals.{before_asym}
 use Rattle.sok_rules.proofs.Grid.{holds-some, is_open-is}
 use Rattle.sok_rules.proofs.Steps.{both}
-use Rattle.sok_board.proofs.Inside.{HasPlace-InArea, InArea-open}
+use Rattle.sok_board.proofs.Inside.{HasPlaceIn-InArea, HasPlace-InArea, InArea-open}
+
+pub HasPlaceIn-area : (rows : Rows) (squares : List Spot) → IsProper rows → IsArea rows squares → All (HasPlaceIn (length rows)) squares
+HasPlaceIn-area rows squares proper area = All-weaker (InArea rows) (HasPlaceIn (length rows)) (HasPlaceIn-InArea rows proper) squares area.inside
 
 pub HasPlace-area : (rows : Rows) (squares : List Spot) → IsProper rows → IsArea rows squares → All HasPlace squares
 HasPlace-area rows squares proper area = All-weaker (InArea rows) HasPlace (HasPlace-InArea rows proper) squares area.inside

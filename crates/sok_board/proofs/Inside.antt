@@ -11,20 +11,29 @@ use Rattle.sok_rules.proofs.Grid.{cell-from_holds}
 use Rattle.sok_rules.proofs.Man.{holds-man}
 use Rattle.sok_rules.proofs.Scenes.{man_stands}
 use Rattle.sok_board.specs.Area.{InArea, stroll}
-use Rattle.sok_board.specs.Tables.{HasPlace}
+use Rattle.sok_board.specs.Tables.{HasPlace, HasPlaceIn}
 
--- a level has cells in 128 rows and 128 columns only
-pub HasPlace-cell : (rows : Rows) (s : Spot) (cell : Cell) → IsProper rows → cell_at rows s ≡ Some cell → HasPlace s
-HasPlace-cell rows s cell proper at = option_and_then_some (λ row. slice_get row s.col) (slice_get rows s.row) cell at (λ row found here.
+-- a level has cells in its rows and in 128 columns only
+pub HasPlaceIn-cell : (rows : Rows) (s : Spot) (cell : Cell) → IsProper rows → cell_at rows s ≡ Some cell → HasPlaceIn (length rows) s
+HasPlaceIn-cell rows s cell proper at = option_and_then_some (λ row. slice_get row s.col) (slice_get rows s.row) cell at (λ row found here.
     let inside = slice_get_within rows s.row row found in
-    let few = proper.few_rows in
     let short = proper.few_columns s.row [] inside in
     let same = ap length (get_or_from_slice_get rows s.row row [] found) in
     let beside = slice_get_within row s.col cell here in
-    record { row = omega (arith, inside, few); col = omega (arith, short, same, beside) })
+    record { row = inside; col = omega (arith, short, same, beside) })
+
+pub HasPlaceIn-holds : (test : Cell → Bool) (rows : Rows) (s : Spot) → IsProper rows → holds test rows s ≡ true → HasPlaceIn (length rows) s
+HasPlaceIn-holds test rows s proper e = let (cell, at, _) = cell-from_holds test rows s e in HasPlaceIn-cell rows s cell proper at
+
+-- so in 128 rows
+pub HasPlace-few : (rows : Rows) (s : Spot) → IsProper rows → HasPlaceIn (length rows) s → HasPlace s
+HasPlace-few rows s proper place =
+    let few = proper.few_rows in
+    let inside = place.row in
+    record { row = omega (arith, inside, few); col = place.col }
 
 pub HasPlace-holds : (test : Cell → Bool) (rows : Rows) (s : Spot) → IsProper rows → holds test rows s ≡ true → HasPlace s
-HasPlace-holds test rows s proper e = let (cell, at, _) = cell-from_holds test rows s e in HasPlace-cell rows s cell proper at
+HasPlace-holds test rows s proper e = HasPlace-few rows s proper (HasPlaceIn-holds test rows s proper e)
 
 pub if_some : {X : Type 0} (b : Bool) (o : Option X) (x : X) → (if b then o else None) ≡ Some x → (b ≡ true) × (o ≡ Some x)
 if_some true o x e = (refl, e)
@@ -40,8 +49,14 @@ stroll-open rows (d ∷ w) s t opened leads = option_and_then_some (λ q. if hol
 pub InArea-open : (rows : Rows) → IsProper rows → (s : Spot) → InArea rows s → holds is_open rows s ≡ true
 InArea-open rows proper s (w, leads) = stroll-open rows w (start rows).man s (man_stands rows (start rows).man (holds-man rows proper)).0 leads
 
+pub HasPlaceIn-InArea : (rows : Rows) → IsProper rows → (s : Spot) → InArea rows s → HasPlaceIn (length rows) s
+HasPlaceIn-InArea rows proper s inside = HasPlaceIn-holds is_open rows s proper (InArea-open rows proper s inside)
+
 pub HasPlace-InArea : (rows : Rows) → IsProper rows → (s : Spot) → InArea rows s → HasPlace s
-HasPlace-InArea rows proper s inside = HasPlace-holds is_open rows s proper (InArea-open rows proper s inside)
+HasPlace-InArea rows proper s inside = HasPlace-few rows s proper (HasPlaceIn-InArea rows proper s inside)
+
+pub HasPlaceIn-man : (rows : Rows) → IsProper rows → HasPlaceIn (length rows) (start rows).man
+HasPlaceIn-man rows proper = HasPlaceIn-holds is_man rows (start rows).man proper (holds-man rows proper)
 
 pub HasPlace-man : (rows : Rows) → IsProper rows → HasPlace (start rows).man
-HasPlace-man rows proper = HasPlace-holds is_man rows (start rows).man proper (holds-man rows proper)
+HasPlace-man rows proper = HasPlace-few rows (start rows).man proper (HasPlaceIn-man rows proper)

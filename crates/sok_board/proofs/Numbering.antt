@@ -16,7 +16,7 @@ use Rattle.sok_rules.specs.declared.cell.Spot.{Spot}
 use Rattle.sok_rules.specs.Squares.{Rows, holds, is_open, is_box, is_goal, places, same_spot}
 use Rattle.sok_rules.specs.Levels.{IsProper}
 use Rattle.sok_board.specs.Area.{BoardView, InArea, IsArea, Before, spot_of, goals_of, boxes_of}
-use Rattle.sok_board.specs.Tables.{table_places, HasPlace, place_of, entry}
+use Rattle.sok_board.specs.Tables.{table_places, HasPlaceIn, place_of, entry}
 use Rattle.sok_rules.proofs.Spots.{apart_back, same_spot-is, same_spot-refl}
 use Rattle.sok_board.proofs.AreaLaws.{before_apart, spot_of-at, origin}
 use Rattle.sok_rules.proofs.Grid.{cell-from_holds}
@@ -77,14 +77,14 @@ position_push-first p xs x fails passes =
     (λ i. cond (nat_lt (first i) (longer i)) (Some (first i)) None) ∙ ap (λ b. cond b (Some n) None) found
 
 -- one square more has its number in the table
-pub numbers_more : (squares : List Spot) (numbers : List (Option ℕ)) (i : ℕ) (x : Spot) → All HasPlace squares → AllPairs Before squares → i < length squares
+pub numbers_more : (rows : ℕ) (squares : List Spot) (numbers : List (Option ℕ)) (i : ℕ) (x : Spot) → All (HasPlaceIn rows) squares → AllPairs Before squares → i < length squares
     → get_or squares i x ≡ x
-    → length numbers ≡ table_places → ((s : Spot) → entry None numbers s ≡ position (same_spot s) (take i squares)) → (s : Spot)
+    → length numbers ≡ table_places rows → ((s : Spot) → entry None numbers s ≡ position (same_spot s) (take i squares)) → (s : Spot)
     → entry None (set numbers (place_of x) (Some i)) s ≡ position (same_spot s) (take (i + 1) squares)
-numbers_more squares numbers i x within in_order inside is whole so_far s =
+numbers_more rows squares numbers i x within in_order inside is whole so_far s =
     let done = take i squares in
     let long : length done ≡ i = length-take-le i squares (omega (arith, inside)) in
-    let fits : HasPlace x = subst HasPlace is (within i x inside) in
+    let fits : HasPlaceIn rows x = subst (HasPlaceIn rows) is (within i x inside) in
     let more : take (i + 1) squares ≡ done ++ x ∷ [] = take_more squares i x inside ∙ ap (λ y. done ++ y ∷ []) is in
     let row = fits.row in
     let col = fits.col in

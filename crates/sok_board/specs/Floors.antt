@@ -1,5 +1,5 @@
 -- The squares of a level without a wall as a graph, each by its place in a table.
-use Rattle.std.specs.Prelude.{ℕ, ◌/◌, ◌%◌, Option, Some, None, if◌then◌else◌}
+use Rattle.std.specs.Prelude.{ℕ, ◌/◌, ◌%◌, Option, Some, None, length, if◌then◌else◌}
 use Rattle.std.specs.Option.{option_and_then}
 use Rattle.sok_rules.specs.declared.cell.Dir.{Dir}
 use Rattle.sok_rules.specs.declared.cell.Spot.{Spot}
@@ -17,4 +17,4 @@ abbrev pub floor_way : Rows → Dir → ℕ → Option ℕ
 floor_way rows d n = option_and_then (λ t. if holds is_open rows t then Some (place_of t) else None) (next d (square_at n))
 
 abbrev pub floor : Rows → Graph
-floor rows = record { nodes = table_places; start = place_of (start rows).man; way = floor_way rows }
+floor rows = record { nodes = table_places (length rows); start = place_of (start rows).man; way = floor_way rows }

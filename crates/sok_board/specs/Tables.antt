@@ -1,20 +1,24 @@
--- Tables with an entry for each square of 128 rows and 128 columns.
+-- Tables with an entry for each square of some rows, of 128 columns each.
 use Rattle.std.specs.Prelude.{ℕ, ◌+◌, ◌*◌, ◌<◌, List, nat_lt, if◌then◌else◌, slice_index_or}
 use Rattle.sok_rules.specs.Limits.{size_limit}
 use Rattle.sok_rules.specs.declared.cell.Spot.{Spot}
 
--- how many rows a table has, and columns: as many as a level may have
+-- how many columns a table has, and the most rows: as many as a level may have
 abbrev pub table_side : ℕ
 table_side = size_limit
 
--- the places of a table
-abbrev pub table_places : ℕ
-table_places = table_side * table_side
+-- the places of a table of so many rows
+abbrev pub table_places : ℕ → ℕ
+table_places rows = rows * table_side
 
 -- a square for which such a table has a place
-pub record HasPlace (s : Spot) : Type 0 where
-  pub row : s.row < table_side
+pub record HasPlaceIn (rows : ℕ) (s : Spot) : Type 0 where
+  pub row : s.row < rows
   pub col : s.col < table_side
+
+-- a square for which the largest table has a place
+abbrev pub HasPlace : Spot → Type 0
+HasPlace = HasPlaceIn table_side
 
 abbrev pub place_of : Spot → ℕ
 place_of s = s.row * table_side + s.col

@@ -9,7 +9,7 @@ ghost use Rattle.sok_rules.specs.declared.cell.Cell.TheVariants.{Wall};
 ghost use Rattle.sok_rules.specs.declared.cell.Spot.{Spot};
 ghost use Rattle.sok_board.specs.Area.{IsArea, Before, AreGoals, numbers_where};
 ghost use Rattle.sok_board.specs.Limits.{square_limit};
-ghost use Rattle.sok_board.specs.Tables.{HasPlace, entry};
+ghost use Rattle.sok_board.specs.Tables.{HasPlaceIn, entry};
 
 use crate::cells::cell_or_wall;
 use crate::floor::Floor;
@@ -55,15 +55,19 @@ fn keep_found(alloc: Global, spots: &[Spot], depths: &[Option<u16>]) -> Result<V
     Ok(kept)
 }
 
-/// A table of the squares' numbers.
-pub(crate) fn numbers(alloc: Global, squares: &[Spot]) -> Result<Vec<Option<Sq>>, Memory>
+/// A table of the squares' numbers, which lie in a level's rows.
+pub(crate) fn numbers(
+    alloc: Global,
+    level: &Level,
+    squares: &[Spot],
+) -> Result<Vec<Option<Sq>>, Memory>
     requires few { length squares.now ≤ square_limit }
-    requires within { All HasPlace squares.now }
+    requires within { All (HasPlaceIn (length level.now)) squares.now }
     requires in_order { AllPairs Before squares.now }
     ensures { IfOk result
         (λ numbers. (s : Spot) → entry None numbers.items s ≡ position (same_spot s) squares.now) }
 {
-    let mut numbers = vec![in alloc; None; table::PLACES]?;
+    let mut numbers = vec![in alloc; None; table::place_count(level)]?;
     for (number, spot) in squares.iter().enumerate() {
         numbers[table::place(*spot)] = Some(number as Sq);
     }

@@ -24,7 +24,7 @@ impl Ways for Floor<'_> {
     ghost graph = { λ ways. floor ways.level.now };
 
     fn nodes(&self) -> usize {
-        table::PLACES
+        table::place_count(self.level)
     }
 
     fn start(&self) -> u16 {

@@ -50,7 +50,7 @@ pub(crate) fn number(
     if squares.len() > SQUARE_LIMIT {
         return Err(BoardFault::TooLarge);
     }
-    let numbers = numbers(alloc, squares)?;
+    let numbers = numbers(alloc, level, squares)?;
     if let Some(spot) = first_stray(level, spots, &numbers) {
         return Err(BoardFault::BoxOutside(spot));
     }

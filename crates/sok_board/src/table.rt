@@ -1,15 +1,20 @@
-//! Tables with an entry for each square of 128 rows and 128 columns.
+//! Tables with an entry for each square of a level's rows, of 128 columns each.
 
-ghost use Rattle.std.specs.Prelude.{◌≡◌};
-ghost use Rattle.sok_board.specs.Tables.{place_of, entry};
+ghost use Rattle.std.specs.Prelude.{◌≡◌, length};
+ghost use Rattle.sok_board.specs.Tables.{place_of, entry, table_places};
 
 use sok_rules::cell::Spot;
+use sok_rules::level::Level;
 
-/// The columns of a table, and its rows.
+/// The columns of a table.
 pub(crate) const SIDE: usize = 128;
 
-/// The places of a table.
-pub(crate) const PLACES: usize = 16384;
+/// The places of a table for a level.
+pub(crate) fn place_count(level: &Level) -> usize
+    ensures { result ≡ table_places (length level.now) }
+{
+    level.rows().len() * SIDE
+}
 
 /// The place of a square's entry.
 pub(crate) fn place(spot: Spot) -> usize

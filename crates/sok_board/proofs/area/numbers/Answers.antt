@@ -10,8 +10,9 @@ use Rattle.sok_board.proofs.area.numbers.Goals as goal
 pub loop-number-init : goal.loop-number-init
 loop-number-init c =
     let blank = c.in_ok-numbers.ensures.items_if_clones_equal (clone-None _ (λ x e. e)) in
-    let whole : length c.in_ok-numbers.numbers.items ≡ table_places = ap length blank ∙ length-replicate {0} {A = Option ℕ} table_places None in
-    (whole, λ s. entry-replicate None table_places c.in_ok-numbers.numbers.items blank s)
+    let places = table_places (length c.args.level.now) in
+    let whole : length c.in_ok-numbers.numbers.items ≡ places = ap length blank ∙ length-replicate {0} {A = Option ℕ} c.place_count.result None ∙ c.place_count.ensures in
+    (whole, λ s. entry-replicate None c.place_count.result c.in_ok-numbers.numbers.items blank s)
 
 pub loop-number-preserved : goal.loop-number-preserved
 loop-number-preserved c =
@@ -23,6 +24,6 @@ loop-number-preserved c =
     let whole = c.loop-number.invariant.0 in (
       length-set numbers c.place.result (Some n) ∙ whole,
       λ s. ap (λ place. entry None (set numbers place (Some n)) s) c.place.ensures
-          ∙ numbers_more squares numbers n x c.requires.within c.requires.in_order inside
+          ∙ numbers_more (length c.args.level.now) squares numbers n x c.requires.within c.requires.in_order inside
           (get_or_default squares n x origin inside) whole c.loop-number.invariant.1 s,
     )

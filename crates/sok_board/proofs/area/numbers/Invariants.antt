@@ -6,4 +6,4 @@ use Rattle.sok_board.proofs.area.numbers.Given as goal
 
 abbrev pub invariant-loop-number : goal.invariant-loop-number
 invariant-loop-number l =
-    (length l.numbers.items ≡ table_places) × ((s : Spot) → entry None l.numbers.items s ≡ position (same_spot s) (take l.number l.squares))
+    (length l.numbers.items ≡ table_places (length l.level)) × ((s : Spot) → entry None l.numbers.items s ≡ position (same_spot s) (take l.number l.squares))

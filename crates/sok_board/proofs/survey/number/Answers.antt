@@ -4,12 +4,12 @@ use Rattle.sok_rules.specs.Squares.{is_box, is_goal}
 use Rattle.sok_board.specs.Area.{BoardView, InArea}
 use Rattle.sok_board.specs.Neighbours.{neighbours_of}
 use Rattle.sok_board.specs.Tables.{entry}
-use Rattle.sok_board.proofs.Accepted.{HasPlace-area, IsSome-number_of}
+use Rattle.sok_board.proofs.Accepted.{HasPlaceIn-area, HasPlace-area, IsSome-number_of}
 use Rattle.sok_board.proofs.AreaLaws.{InArea-man}
 use Rattle.sok_board.proofs.survey.number.Goals as goal
 
 pub numbers-requires-clause-within : goal.numbers-requires-clause-within
-numbers-requires-clause-within c = HasPlace-area c.args.level.now c.args.squares.now c.requires.proper c.requires.area
+numbers-requires-clause-within c = HasPlaceIn-area c.args.level.now c.args.squares.now c.requires.proper c.requires.area
 
 pub list_neighbours-requires : goal.list_neighbours-requires
 list_neighbours-requires c = HasPlace-area c.args.level.now c.args.squares.now c.requires.proper c.requires.area

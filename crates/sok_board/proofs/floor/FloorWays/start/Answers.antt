@@ -1,6 +1,6 @@
 use Rattle.std.proofs.Common.{ap, ◌∙◌, arith}
 use Rattle.sok_board.specs.Tables.{place_of}
-use Rattle.sok_board.proofs.Inside.{HasPlace-man}
+use Rattle.sok_board.proofs.Inside.{HasPlaceIn-man, HasPlace-man}
 use Rattle.sok_board.proofs.floor.FloorWays.start.Goals as goal
 
 pub overflow_cast-result : goal.overflow_cast-result
@@ -10,4 +10,4 @@ overflow_cast-result c =
     omega (arith, within.row, within.col, place)
 
 pub returns-clause-exists : goal.returns-clause-exists
-returns-clause-exists c = let within = HasPlace-man c.args.self.now.level.now c.args.self.now.proper in omega (arith, within.row, within.col)
+returns-clause-exists c = let within = HasPlaceIn-man c.args.self.now.level.now c.args.self.now.proper in omega (arith, within.row, within.col)
