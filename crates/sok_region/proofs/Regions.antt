@@ -15,7 +15,7 @@ use Rattle.sok_board.specs.Area.{BoardView, IsArea, number_of, position_of, spot
 use Rattle.sok_board.proofs.AreaLaws.{same_number, number_of-spot_of, spot_of-number_of}
 use Rattle.sok_board.proofs.Lists.{Contains-filter, Contains-from_filter}
 use Rattle.sok_board.proofs.Numbering.{Contains-range, rising-chosen}
-use Rattle.sok_region.specs.Regions.{IsPlaced, IsRegion, IsWalkBetween, HasSquare, squares_of}
+use Rattle.sok_region.specs.Regions.{IsLeastWalk, IsPlaced, IsRegion, IsWalkBetween, HasSquare, squares_of}
 use Rattle.sok_field.specs.Fields.{has}
 use Rattle.sok_board.specs.Spans.{word_bits}
 use Rattle.sok_field.specs.Numbers.{Draws, bit_of_number, has_number}
@@ -146,24 +146,29 @@ IsWalkBetween-trail b boxes player words proper area region w from to leads =
     ((region.exact n).0 ((Contains-squares_of words n).1 through)).1)) w from to leads in
     record { leads = legal; quiet = quiet }
 
+-- a walk between squares of a region goes over its squares
+pub trail-IsWalkBetween : (b : BoardView) (boxes : List ℕ) (player : ℕ) (words : List ℕ) → IsProper b.rows → IsArea b.rows b.area
+    → IsRegion b boxes player (squares_of words) → (from to : ℕ) → Contains (squares_of words) from → Contains (squares_of words) to
+    → (w : List Dir) → IsWalkBetween b boxes from to w → trail b (has_number words) from w ≡ Some to
+trail-IsWalkBetween b boxes player words proper area region from to from_there to_there w walk =
+    let are = placed_boxes b boxes player proper area region.placed in
+    let (from_within, to_from) = (region.exact from).0 from_there in
+    let arrives = trail-run b boxes are (has_number words) w from (position_of b to boxes) from_within
+    (λ n within reached. (Contains-squares_of words n).0 ((region.exact n).1
+    (within, Same-trans b.rows (position_of b player boxes) (position_of b from boxes) (position_of b n boxes) to_from reached))) walk.leads walk.quiet in
+    let is : to ≡ arrives.to = same_player b boxes area to arrives.to ((region.exact to).0 to_there).0 arrives.within arrives.is in
+    arrives.leads ∙ ap Some (sym is)
+
 -- letters over a region lead from each of its squares to each other
 pub Leads-region : (b : BoardView) (boxes : List ℕ) (player : ℕ) (words : List ℕ) → IsProper b.rows → IsArea b.rows b.area
     → IsRegion b boxes player (squares_of words)
     → (from to : ℕ) → Contains (squares_of words) from → Contains (squares_of words) to → Leads b (has_number words) from to
 Leads-region b boxes player words proper area region from to from_there to_there =
-    let placed = region.placed in
-    let are = placed_boxes b boxes player proper area placed in
-    let stands = IsStanding-placed b area proper player boxes placed in
-    let (from_within, to_from) = (region.exact from).0 from_there in
-    let (to_within, to_to) = (region.exact to).0 to_there in
+    let stands = IsStanding-placed b area proper player boxes region.placed in
     let start = position_of b player boxes in
     let same = Same-trans b.rows (position_of b from boxes) start (position_of b to boxes)
-    (Same-sym b.rows start (position_of b from boxes) stands to_from) to_to in
-    let arrives = trail-run b boxes are (has_number words) same.0 from (position_of b to boxes) from_within
-    (λ n within reached. (Contains-squares_of words n).0 ((region.exact n).1
-    (within, Same-trans b.rows start (position_of b from boxes) (position_of b n boxes) to_from reached))) same.1 same.2 in
-    let is : to ≡ arrives.to = same_player b boxes area to arrives.to to_within arrives.within arrives.is in
-    (same.0, arrives.leads ∙ ap Some (sym is))
+    (Same-sym b.rows start (position_of b from boxes) stands ((region.exact from).0 from_there).1) ((region.exact to).0 to_there).1 in
+    (same.0, trail-IsWalkBetween b boxes player words proper area region from to from_there to_there same.0 (record { leads = same.1; quiet = same.2 }))
 
 -- the shortest letters over squares of a region lead from each to each, and to no other
 pub walks-exactly : {A : Type 0} (b : BoardView) (boxes : List ℕ) (player : ℕ) (words : List ℕ) → IsProper b.rows → IsArea b.rows b.area
@@ -191,3 +196,13 @@ pub walks-legally : {A : Type 0} (b : BoardView) (boxes : List ℕ) (player : �
 walks-legally b boxes player words proper area region from to None none = tt
 walks-legally b boxes player words proper area region from to (Some w) shortest =
     IsWalkBetween-trail b boxes player words proper area region w.items from to (sym (follow-trail b (has_number words) from w.items from) ∙ shortest.lead)
+
+-- and no walk has fewer letters
+pub walks-least : {A : Type 0} (b : BoardView) (boxes : List ℕ) (player : ℕ) (words : List ℕ) → IsProper b.rows → IsArea b.rows b.area
+    → IsRegion b boxes player (squares_of words) → (from to : ℕ) → Contains (squares_of words) from → (walk : Option (Vec Dir A))
+    → TellsLetters (paths b (has_number words) from) to walk → IfSome walk (λ w. IsLeastWalk b boxes from to w.items)
+walks-least b boxes player words proper area region from to here None none = tt
+walks-least b boxes player words proper area region from to here (Some w) shortest = λ v walk.
+    let there = ((walks-exactly b boxes player words proper area region from to here (Some w) shortest).0 refl).1 in
+    shortest.least v (follow-trail b (has_number words) from v from
+    ∙ trail-IsWalkBetween b boxes player words proper area region from to here there v walk)

@@ -1,5 +1,5 @@
 -- Where the player comes without a push, as squares by their numbers.
-use Rattle.std.specs.Prelude.{ℕ, ◌≡◌, ◌<◌, ◌↔◌, ◌*◌, List, Some, true, All, Contains, filter, length}
+use Rattle.std.specs.Prelude.{ℕ, ◌≡◌, ◌<◌, ◌≤◌, ◌↔◌, ◌*◌, List, Some, true, All, Contains, filter, length}
 use Rattle.std.specs.List.{range_with_len}
 use Rattle.std.specs.List.Sorted.{IsStrictlyIncreasing}
 use Rattle.sok_rules.specs.declared.cell.Dir.{Dir}
@@ -32,6 +32,10 @@ pub record IsRegionOf (b : BoardView) (region : List ℕ) : Type 0 where
 pub record IsWalkBetween (b : BoardView) (boxes : List ℕ) (from to : ℕ) (w : List Dir) : Type 0 where
   pub leads : run b.rows (position_of b from boxes) w ≡ Some (position_of b to boxes)
   pub quiet : pushes b.rows (position_of b from boxes) w ≡ 0
+
+-- letters that are no more than those of any walk from the one square to the other
+abbrev pub IsLeastWalk : BoardView → List ℕ → ℕ → ℕ → List Dir → Type 0
+IsLeastWalk b boxes from to w = (v : List Dir) → IsWalkBetween b boxes from to v → length w ≤ length v
 
 -- the squares whose bits are set, rising
 unfoldable pub squares_of : List ℕ → List ℕ

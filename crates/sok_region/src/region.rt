@@ -3,7 +3,7 @@
 ghost use Rattle.std.specs.Prelude.{ℕ, ◌≡◌, ◌≤◌, ◌↔◌, IfOk, IfSome, IsOk, IsSome, IsTrue, List};
 ghost use Rattle.std.specs.Prelude.{Contains, length};
 ghost use Rattle.sok_board.specs.Area.{IsAccepted};
-ghost use Rattle.sok_region.specs.Regions.{IsPlaced, IsRegion, IsRegionOf, IsWalkBetween};
+ghost use Rattle.sok_region.specs.Regions.{IsLeastWalk, IsPlaced, IsRegion, IsRegionOf, IsWalkBetween};
 ghost use Rattle.sok_region.specs.Regions.{squares_of};
 
 use crate::path::Paths;
@@ -84,6 +84,9 @@ impl Region {
         ensures legal { (boxes : List ℕ) (player : ℕ) → IsRegion board.now boxes player self.now
             → IfOk result
             (λ walk. IfSome walk (λ w. IsWalkBetween board.now boxes from to w.items)) }
+        ensures shortest { (boxes : List ℕ) (player : ℕ)
+            → IsRegion board.now boxes player self.now → IfOk result
+            (λ walk. IfSome walk (λ w. IsLeastWalk board.now boxes from to w.items)) }
     {
         if to as usize >= board.squares() || !self.has(from) {
             return Ok(None);

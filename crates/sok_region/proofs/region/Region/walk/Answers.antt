@@ -3,8 +3,8 @@ use Rattle.std.proofs.lemmas.Result.{IfOk-weaker}
 use Rattle.sok_board.specs.Graphs.{TellsLetters}
 use Rattle.sok_field.specs.Numbers.{has_number}
 use Rattle.sok_region.specs.Paths.{paths}
-use Rattle.sok_region.specs.Regions.{IsRegion, IsWalkBetween, squares_of}
-use Rattle.sok_region.proofs.Regions.{walks-exactly, walks-legally}
+use Rattle.sok_region.specs.Regions.{IsLeastWalk, IsRegion, IsWalkBetween, squares_of}
+use Rattle.sok_region.proofs.Regions.{walks-exactly, walks-least, walks-legally}
 use Rattle.sok_region.proofs.region.Region.walk.Goals.{then-to-squares-via-then-to-squares, then-to-squares-via-else-to-squares+then-not-has}
 use Rattle.sok_region.proofs.region.Region.walk.Goals as goal
 
@@ -45,3 +45,13 @@ returns-clause-legal c = λ boxes player region.
     (λ walk. IfSome walk (λ w. IsWalkBetween b boxes c.args.from c.args.to w.items))
     (walks-legally b boxes player words accepted.proper accepted.numbered (subst (IsRegion b boxes player) (sym c.self.view_is) region) c.args.from c.args.to)
     c.letters_to.ensures
+
+pub returns-clause-shortest : goal.returns-clause-shortest
+returns-clause-shortest c = λ boxes player region.
+    let words = c.self.inside.words in
+    let own = subst (IsRegion c.args.board.now boxes player) (sym c.self.view_is) region in
+    let here = subst (λ squares. Contains squares c.args.from) (sym c.self.view_is) (c.has.ensures.0 c.if-not-has.false) in
+    let accepted = c.squares.ensures.accepted in
+    IfOk-weaker c.letters_to.result (TellsLetters (paths c.args.board.now (has_number words) c.args.from) c.args.to)
+    (λ walk. IfSome walk (λ w. IsLeastWalk c.args.board.now boxes c.args.from c.args.to w.items))
+    (walks-least c.args.board.now boxes player words accepted.proper accepted.numbered own c.args.from c.args.to here) c.letters_to.ensures
