@@ -6,8 +6,8 @@ use Rattle.sok_cert.specs.CertFault.TheVariants as cert
 use Rattle.sok_cert.specs.Claim.{Claim}
 use Rattle.sok_cert.specs.Entry.{Entry}
 use Rattle.sok_cert.specs.Reading.{GoesWrong}
-use Rattle.sok_cert.specs.Text.{Spells}
-use Rattle.sok_cert.specs.Verdicts.{IsUnshown}
+use Rattle.sok_cert.specs.Text.{SpellsCertificate}
+use Rattle.sok_cert.specs.Verdicts.{IsRefusedText}
 use Rattle.sok_cert.proofs.Readings.{Spells-one}
 use Rattle.sok_book.specs.Commands.{Meets}
 use Rattle.sok_book.specs.declared.fault.BookFault.TheVariants as book
@@ -22,7 +22,7 @@ IsNoProof-text b best bytes fault (inr wrong) = inr ((λ e. cc), inl wrong)
 
 -- the certificate that the text spells is about the best
 pub IsNoProof-list : (b : BoardView) (best : Option ℕ) (bytes : List ℕ) (claim : Claim) (entries : List Entry) (fault : CertFault)
-    → Spells bytes claim entries → Meets claim best → (fault ≡ cert.Memory) ⊎ IsUnshown b bytes fault
+    → SpellsCertificate bytes claim entries → Meets claim best → (fault ≡ cert.Memory) ⊎ IsRefusedText b bytes fault
     → (of_certificate fault ≡ book.Memory) ⊎ IsNoProof b best bytes (of_certificate fault)
 IsNoProof-list b best bytes claim entries fault spelled meets (inl same) = inl (ap of_certificate same)
 IsNoProof-list b best bytes claim entries cert.Memory spelled meets (inr unshown) = inl refl

@@ -13,8 +13,8 @@ use Rattle.sok_cert.specs.Claim.{Claim}
 use Rattle.sok_cert.specs.Claim.TheVariants as claim
 use Rattle.sok_cert.specs.CertFault.{CertFault}
 use Rattle.sok_cert.specs.Entry.{Entry}
-use Rattle.sok_cert.specs.Text.{Spells}
-use Rattle.sok_cert.specs.Verdicts.{IsShown, IsVerdict}
+use Rattle.sok_cert.specs.Text.{SpellsCertificate}
+use Rattle.sok_cert.specs.Verdicts.{IsProofOf, IsVerdict}
 use Rattle.sok_cert.proofs.Readings.{Spells-one}
 use Rattle.sok_cert.proofs.Verdicts.{IsVerdict-one}
 use Rattle.sok_book.specs.declared.fault.BookFault.{BookFault}
@@ -92,19 +92,19 @@ differs claim.Unsolvable best book.ClaimDiffers meets some = some_none best meet
 differs c best fault meets other = absurd other
 
 -- another claim is not spelled
-claimed : (b : BoardView) (best : Option ℕ) (bytes : List ℕ) (c : Claim) (fault : BookFault) → IsShown b bytes c → Meets c best
-    → (other : Claim) × (entries : List Entry) × Spells bytes other entries × Differs other best fault → ⊥
+claimed : (b : BoardView) (best : Option ℕ) (bytes : List ℕ) (c : Claim) (fault : BookFault) → IsProofOf b bytes c → Meets c best
+    → (other : Claim) × (entries : List Entry) × SpellsCertificate bytes other entries × Differs other best fault → ⊥
 claimed b best bytes c fault is meets (other, entries, spelled, differ) =
     let same = (Spells-one bytes c other is.entries entries is.spelled spelled).0 in
     differs other best fault (subst (λ d. Meets d best) same meets) differ
 
 -- bytes that show a claim about the best are refused for nothing
-not_refused : (b : BoardView) (best : Option ℕ) (bytes : List ℕ) (c : Claim) (fault : CertFault) → IsShown b bytes c → IsVerdict b bytes (Err fault) → ⊥
+not_refused : (b : BoardView) (best : Option ℕ) (bytes : List ℕ) (c : Claim) (fault : CertFault) → IsProofOf b bytes c → IsVerdict b bytes (Err fault) → ⊥
 not_refused b best bytes c fault is other =
     let e : Ok c ≡ Err fault = IsVerdict-one b bytes (Ok c) (Err fault) is other in
     cc
 
-shown : (b : BoardView) (best : Option ℕ) (bytes : List ℕ) (c : Claim) (fault : BookFault) → IsShown b bytes c → Meets c best
+shown : (b : BoardView) (best : Option ℕ) (bytes : List ℕ) (c : Claim) (fault : BookFault) → IsProofOf b bytes c → Meets c best
     → IsNoProof b best bytes fault → ⊥
 shown b best bytes c (book.Certificate f) is meets (other, inl wrong) = not_refused b best bytes c f is (other, inl wrong)
 shown b best bytes c (book.Certificate f) is meets (other, inr unclosed) =
@@ -117,7 +117,7 @@ unproved : (bk : Book) (id : ℕ) (bytes : List ℕ) (c : Claim) (fault : BookFa
 unproved bk id bytes c fault page at certificate meets refused =
     let (b, rows, accepted, none) = of_page (page_at bk id) page (λ (p : Page). IsUnproved p bytes fault) at refused in
     let same : certificate.board ≡ b = IsAccepted-one certificate.board b (certificate.rows_are ∙ sym rows) certificate.accepted accepted in
-    shown b (best_pushes page) bytes c fault (subst (λ d. IsShown d bytes c) same certificate.shown) meets none
+    shown b (best_pushes page) bytes c fault (subst (λ d. IsProofOf d bytes c) same certificate.shown) meets none
 
 pub proofs-are-not-refused : ProofsAreNotRefused
 proofs-are-not-refused bk after id bytes c book.NoLevel proves refused = not_missing (page_at bk id) proves.page proves.there refused

@@ -9,7 +9,7 @@ use Rattle.sok_board.specs.Area.{BoardView, IsAccepted}
 use Rattle.sok_board.specs.Refusals.{IsAcceptable}
 use Rattle.sok_cert.specs.Claim.{Claim}
 use Rattle.sok_cert.specs.Claim.TheVariants as claim
-use Rattle.sok_cert.specs.Verdicts.{IsShown}
+use Rattle.sok_cert.specs.Verdicts.{IsProofOf}
 use Rattle.sok_book.specs.declared.record.Offer.{Offer}
 use Rattle.sok_book.specs.declared.record.Offer.TheVariants.{Stored, Kept}
 use Rattle.sok_book.specs.declared.record.Verdict.{Verdict}
@@ -71,7 +71,7 @@ pub record IsCertificate (rows : Rows) (bytes : List ℕ) (claim : Claim) : Type
   pub board : BoardView
   pub rows_are : board.rows ≡ rows
   pub accepted : IsAccepted board
-  pub shown : IsShown board bytes claim
+  pub shown : IsProofOf board bytes claim
 
 -- a claim is about the best solution: it has as many pushes as are claimed, or there is none
 abbrev pub Meets : Claim → Option ℕ → Type 0

@@ -15,7 +15,7 @@ use Rattle.sok_cert.specs.Entry.{Entry}
 use Rattle.sok_cert.specs.CertFault.{CertFault}
 use Rattle.sok_cert.specs.CertFault.TheVariants as cert
 use Rattle.sok_cert.specs.Reading.{GoesWrong}
-use Rattle.sok_cert.specs.Text.{Spells}
+use Rattle.sok_cert.specs.Text.{SpellsCertificate}
 use Rattle.sok_cert.specs.Refusals as list
 use Rattle.sok_book.specs.declared.fault.BookFault.{BookFault}
 use Rattle.sok_book.specs.declared.fault.BookFault.TheVariants.{Level, Letters, NotSolved, Certificate, NoLevel, NoBest, ClaimDiffers, BookFull}
@@ -51,14 +51,14 @@ Differs claim best _ = ⊥
 pub record IsUnclosed (b : BoardView) (best : Option ℕ) (bytes : List ℕ) (fault : CertFault) : Type 0 where
   pub claim : Claim
   pub entries : List Entry
-  pub spelled : Spells bytes claim entries
+  pub spelled : SpellsCertificate bytes claim entries
   pub meets : Meets claim best
   pub refused : list.IsRefused b claim entries fault
 
 -- bytes prove nothing of a level with this best: they are no certificate; its claim is not about the best; or its list is not closed
 abbrev pub IsNoProof : BoardView → Option ℕ → List ℕ → BookFault → Type 0
 IsNoProof b best bytes (Certificate fault) = (fault ≢ cert.Memory) × (GoesWrong bytes fault ⊎ IsUnclosed b best bytes fault)
-IsNoProof b best bytes fault = (claim : Claim) × (entries : List Entry) × Spells bytes claim entries × Differs claim best fault
+IsNoProof b best bytes fault = (claim : Claim) × (entries : List Entry) × SpellsCertificate bytes claim entries × Differs claim best fault
 
 -- so it is on the board of the level's rows
 abbrev pub IsUnproved : Page → List ℕ → BookFault → Type 0

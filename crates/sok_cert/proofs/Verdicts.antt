@@ -6,17 +6,17 @@ use Rattle.sok_entry.specs.declared.fault.CertFault.{CertFault}
 use Rattle.sok_entry.specs.declared.fault.CertFault.TheVariants.{Memory}
 use Rattle.sok_entry.proofs.Readings.{Spells-one, GoesWrong-one, Spells-GoesWrong}
 use Rattle.sok_cert.specs.Refusals.{IsRefused}
-use Rattle.sok_cert.specs.Verdicts.{IsShown, IsUnshown, IsVerdict}
+use Rattle.sok_cert.specs.Verdicts.{IsProofOf, IsRefusedText, IsVerdict}
 use Rattle.sok_cert.proofs.OneRefusal.{IsRefused-closed, IsRefused-one}
 
-shown-unshown : (b : BoardView) (text : List ℕ) (claim : Claim) (fault : CertFault) → fault ≢ Memory → IsShown b text claim
-    → IsUnshown b text fault → ⊥
+shown-unshown : (b : BoardView) (text : List ℕ) (claim : Claim) (fault : CertFault) → fault ≢ Memory → IsProofOf b text claim
+    → IsRefusedText b text fault → ⊥
 shown-unshown b text claim fault ample shown unshown =
     let same = Spells-one text unshown.claim claim unshown.entries shown.entries unshown.spelled shown.spelled in
     let here = subst (λ c. IsRefused b c unshown.entries fault) same.0 unshown.refused in
     IsRefused-closed b claim shown.entries fault ample shown.closed (subst (λ es. IsRefused b claim es fault) same.1 here)
 
-IsUnshown-one : (b : BoardView) (text : List ℕ) (f g : CertFault) → f ≢ Memory → g ≢ Memory → IsUnshown b text f → IsUnshown b text g
+IsUnshown-one : (b : BoardView) (text : List ℕ) (f g : CertFault) → f ≢ Memory → g ≢ Memory → IsRefusedText b text f → IsRefusedText b text g
     → f ≡ g
 IsUnshown-one b text f g f_is g_is a c =
     let same = Spells-one text a.claim c.claim a.entries c.entries a.spelled c.spelled in

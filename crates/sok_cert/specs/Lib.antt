@@ -2,7 +2,7 @@
 pub mod Closed
 pub mod Refusals
 pub mod Rosters
-pub mod Shown
+pub mod LevelClaims
 pub mod Streams
 pub mod Verdicts
 -- what a certificate is, and its text

@@ -7,7 +7,7 @@ use Rattle.sok_entry.specs.declared.fault.CertFault.{CertFault}
 use Rattle.sok_entry.specs.declared.stage.Stage.{Stage}
 use Rattle.sok_entry.specs.Reading.{GoesWrong}
 use Rattle.sok_entry.specs.Stages.{IsSplit, IsStage, MayClaim}
-use Rattle.sok_entry.specs.Text.{Spells}
+use Rattle.sok_entry.specs.Text.{SpellsCertificate}
 use Rattle.sok_cert.specs.Rosters.{Rostered, TellsEntries}
 
 -- what was read so far: what comes next, how many lines ended, the bytes of the line that did not yet, why the text is no certificate, if that is known,
@@ -54,7 +54,7 @@ pub record Ending : Type 0 where
 -- it stands for a text that is a certificate
 pub record EndsFor (text : List ℕ) (e : Ending) : Type 0 where
   pub entries : List Entry
-  pub spelled : Spells text e.claim entries
+  pub spelled : SpellsCertificate text e.claim entries
   pub tells : TellsEntries e.board e.claim entries e.roster.roll e.roster.fault
 
 -- the end of a stream that has come so far, with what is claimed

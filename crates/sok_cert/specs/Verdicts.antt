@@ -6,25 +6,25 @@ use Rattle.sok_entry.specs.declared.entry.Entry.{Entry}
 use Rattle.sok_entry.specs.declared.fault.CertFault.{CertFault}
 use Rattle.sok_entry.specs.declared.fault.CertFault.TheVariants.{Memory}
 use Rattle.sok_entry.specs.Reading.{GoesWrong}
-use Rattle.sok_entry.specs.Text.{Spells}
+use Rattle.sok_entry.specs.Text.{SpellsCertificate}
 use Rattle.sok_cert.specs.Closed.{IsClosed, IsTrueOf}
 use Rattle.sok_cert.specs.Refusals.{IsRefused}
 
 -- the text is a certificate that is closed, and what it claims is true of the level
-pub record IsShown (b : BoardView) (text : List ℕ) (claim : Claim) : Type 0 where
+pub record IsProofOf (b : BoardView) (text : List ℕ) (claim : Claim) : Type 0 where
   pub entries : List Entry
-  pub spelled : Spells text claim entries
+  pub spelled : SpellsCertificate text claim entries
   pub closed : IsClosed b claim entries
   pub true_claim : IsTrueOf b.rows claim
 
 -- the text is a certificate that is not closed, and this is its first fault
-pub record IsUnshown (b : BoardView) (text : List ℕ) (fault : CertFault) : Type 0 where
+pub record IsRefusedText (b : BoardView) (text : List ℕ) (fault : CertFault) : Type 0 where
   pub claim : Claim
   pub entries : List Entry
-  pub spelled : Spells text claim entries
+  pub spelled : SpellsCertificate text claim entries
   pub refused : IsRefused b claim entries fault
 
 -- a claim that the text shows, or the fault of the text or of the certificate that it spells
 abbrev pub IsVerdict : BoardView → List ℕ → Result Claim CertFault → Type 0
-IsVerdict b text (Ok claim) = IsShown b text claim
-IsVerdict b text (Err fault) = (fault ≢ Memory) × (GoesWrong text fault ⊎ IsUnshown b text fault)
+IsVerdict b text (Ok claim) = IsProofOf b text claim
+IsVerdict b text (Err fault) = (fault ≢ Memory) × (GoesWrong text fault ⊎ IsRefusedText b text fault)

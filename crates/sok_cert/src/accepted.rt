@@ -21,9 +21,9 @@ pub struct Accepted {
 
 impl Model for Accepted {
     ghost use Rattle.sok_cert.specs.Closed.{IsTrueOf};
-    ghost use Rattle.sok_cert.specs.Shown.{Shown};
+    ghost use Rattle.sok_cert.specs.LevelClaims.{LevelClaim};
 
-    ghost Value = { Shown };
+    ghost Value = { LevelClaim };
 
     ghost view = { λ accepted. record { rows = accepted.level; claim = accepted.claim } };
 

@@ -10,7 +10,7 @@ ghost use Rattle.sok_entry.specs.declared.fault.CertFault.TheVariants as cert;
 ghost use Rattle.sok_cert.specs.Parts.{rostered_of};
 ghost use Rattle.sok_cert.specs.Rosters.{IsOfBoard, TellsEntries};
 ghost use Rattle.sok_cert.specs.Streams.{EndsFor, StandsFor};
-ghost use Rattle.sok_cert.specs.Verdicts.{IsShown, IsUnshown};
+ghost use Rattle.sok_cert.specs.Verdicts.{IsProofOf, IsRefusedText};
 
 use crate::accepted::Accepted;
 use crate::progress::Progress;
@@ -188,10 +188,10 @@ impl Ended<'_> {
         ensures claim { IfOk result (λ accepted. accepted.claim ≡ self.entry.claim) }
         ensures level { IfOk result (λ accepted. accepted.rows ≡ self.entry.board.rows) }
         ensures shown { (text : List ℕ) → EndsFor text self.entry
-            → IfOk result (λ accepted. IsShown self.entry.board text accepted.claim) }
+            → IfOk result (λ accepted. IsProofOf self.entry.board text accepted.claim) }
         ensures refused { (text : List ℕ) → EndsFor text self.entry
             → IfErr result (λ fault. (fault ≡ cert.Memory)
-            ⊎ IsUnshown self.entry.board text fault) }
+            ⊎ IsRefusedText self.entry.board text fault) }
     {
         let Ended {
             alloc,
@@ -210,10 +210,10 @@ impl Ended<'_> {
 pub fn judge_pieces(alloc: Global, board: &Board, pieces: &[Vec<u8>]) -> Result<Accepted, CertFault>
     ensures level { IfOk result (λ accepted. accepted.rows ≡ board.now.rows) }
     ensures shown { IfOk result (λ accepted.
-        IsShown board.now (flat_map (λ piece. piece.items) pieces.now) accepted.claim) }
+        IsProofOf board.now (flat_map (λ piece. piece.items) pieces.now) accepted.claim) }
     ensures refused { IfErr result (λ fault. (fault ≡ cert.Memory)
         ⊎ (GoesWrong (flat_map (λ piece. piece.items) pieces.now) fault
-        ⊎ IsUnshown board.now (flat_map (λ piece. piece.items) pieces.now) fault)) }
+        ⊎ IsRefusedText board.now (flat_map (λ piece. piece.items) pieces.now) fault)) }
 {
     let mut stream = Stream::new(alloc, board)?;
     for piece in pieces {

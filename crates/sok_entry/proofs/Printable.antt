@@ -20,7 +20,7 @@ use Rattle.sok_entry.specs.declared.entry.Reason.TheVariants.{Expanded, Spent, B
 use Rattle.sok_entry.specs.declared.version.Version.{Version}
 use Rattle.sok_entry.specs.declared.version.Version.TheVariants.{One, Two}
 use Rattle.sok_entry.specs.Text.{IsSmall, header, last_line, claim_line, entry_alike, entry_line, entry_lines, ended, inner_line, inner_of, inner_text, is_pattern, lines_of}
-use Rattle.sok_entry.specs.Text.{text_of, letter_of, numbers_of, spaced, version_of, FitsClaim, FitsEntry, FitsInner, FitsVersion, Fits, Spells}
+use Rattle.sok_entry.specs.Text.{text_of, letter_of, numbers_of, spaced, version_of, FitsClaim, FitsEntry, FitsInner, FitsVersion, Fits, SpellsCertificate}
 use Rattle.sok_entry.specs.Stages.{IsSplit}
 use Rattle.sok_entry.proofs.Numbers.{IsNumeral-decimal}
 use Rattle.sok_entry.proofs.Splits.{IsSplit-end, IsSplit-more}
@@ -156,7 +156,7 @@ written_allowed entries true is = λ k d within. tt
 written_allowed entries false is = no_patterns entries is
 
 -- what is printed has the lines that it is made of
-pub Spells-text_of : (claim : Claim) (entries : List Entry) → Fits claim entries → Spells (text_of claim entries) claim entries
+pub Spells-text_of : (claim : Claim) (entries : List Entry) → Fits claim entries → SpellsCertificate (text_of claim entries) claim entries
 Spells-text_of claim entries fits = record {
   version = version_of entries;
   has_lines = lines-flat_map (lines_of (version_of entries) claim entries) (lines_printable (version_of entries) claim entries fits);

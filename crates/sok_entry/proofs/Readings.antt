@@ -9,7 +9,7 @@ use Rattle.sok_entry.specs.declared.entry.Entry.{Entry}
 use Rattle.sok_entry.specs.declared.fault.CertFault.{CertFault}
 use Rattle.sok_entry.specs.declared.version.Version.{Version}
 use Rattle.sok_entry.specs.declared.version.Version.TheVariants.{One, Two}
-use Rattle.sok_entry.specs.Text.{header, last_line, claim_line, entry_line, entry_lines, FitsClaim, FitsEntry, FitsVersion, Spells}
+use Rattle.sok_entry.specs.Text.{header, last_line, claim_line, entry_line, entry_lines, FitsClaim, FitsEntry, FitsVersion, SpellsCertificate}
 use Rattle.sok_entry.specs.Reading.{IsWrong, StopsAt, GoesWrong, at_header, behind_header, ended_lines}
 use Rattle.sok_entry.proofs.Openings.{equal, fronts, last_is_no_entry, longer, shorter}
 use Rattle.sok_entry.proofs.Wrongs.{IsWrong-one, no_lines, nothing_behind, nothing_wrong, wrong_entry, wrong_nothing}
@@ -79,7 +79,7 @@ front_one text v w c d ls ms of_c of_d =
     let claims : claim_line c ≡ claim_line d = cc in
     (same_version v w headers, claims, ap (drop 2) all)
 
-pub Spells-one : (text : List ℕ) (c d : Claim) (es fs : List Entry) → Spells text c es → Spells text d fs → (c ≡ d) × (es ≡ fs)
+pub Spells-one : (text : List ℕ) (c d : Claim) (es fs : List Entry) → SpellsCertificate text c es → SpellsCertificate text d fs → (c ≡ d) × (es ≡ fs)
 Spells-one text c d es fs a b =
     let same = front_one text a.version b.version c d (flat_map entry_lines es ++ last_line ∷ []) (flat_map entry_lines fs ++ last_line ∷ []) a.has_lines
     b.has_lines in
@@ -95,7 +95,7 @@ GoesWrong-one text f g (behind_header v c ls fits_c same_c stops_f) (behind_head
     let moved = subst (λ l. StopsAt w (ended_lines text - 2) l f) same.2 (subst (λ x. StopsAt x (ended_lines text - 2) ls f) same.0 stops_f) in
     StopsAt-one w (ended_lines text - 2) ms f g moved stops_g
 
-pub Spells-GoesWrong : (text : List ℕ) (claim : Claim) (es : List Entry) (fault : CertFault) → Spells text claim es → GoesWrong text fault → ⊥
+pub Spells-GoesWrong : (text : List ℕ) (claim : Claim) (es : List Entry) (fault : CertFault) → SpellsCertificate text claim es → GoesWrong text fault → ⊥
 Spells-GoesWrong text claim es fault spells (at_header lacks is_fault) =
     lacks spells.version claim (flat_map entry_lines es ++ last_line ∷ []) spells.fits.claim_fits spells.has_lines
 Spells-GoesWrong text claim es fault spells (behind_header version other_claim ls fits same stops) =

@@ -23,7 +23,7 @@ use Rattle.sok_entry.specs.declared.stage.LineRead.TheVariants.{Listed, Passed, 
 use Rattle.sok_entry.specs.declared.version.Version.{Version}
 use Rattle.sok_entry.specs.declared.version.Version.TheVariants.{One, Two}
 use Rattle.sok_entry.specs.Text.{header, claim_line, entry_lines, entry_with, head_line, inner_line, is_pattern, last_line, FitsEntry, FitsInner}
-use Rattle.sok_entry.specs.Text.{FitsVersion, Spells}
+use Rattle.sok_entry.specs.Text.{FitsVersion, SpellsCertificate}
 use Rattle.sok_entry.specs.Reading.{Begins, FitsHead, IsClaimLine, IsEntryLine, IsHeadLine, IsInnerLine, IsUnfinished, unfinished_lines}
 use Rattle.sok_entry.specs.Reading.{IsWrong, missing, cut, other, behind, inside, IsWrongInside, missing_inside, cut_inside, other_inside, GoesWrong, at_header}
 use Rattle.sok_entry.specs.Reading.{behind_header, ended_lines}
@@ -261,7 +261,7 @@ module _ (ls : List (List ℕ)) (es : List Entry) where
               none claim (fits, first)
         ]) refl
 
-    pub ended-last : (version : Version) (claim : Claim) → AreRead ls version claim es [] → rest ≡ last_line → Spells text claim es
+    pub ended-last : (version : Version) (claim : Claim) → AreRead ls version claim es [] → rest ≡ last_line → SpellsCertificate text claim es
     ended-last version claim read last = record {
       version = version;
       has_lines = lines-split text ls rest split
@@ -293,7 +293,7 @@ module _ (ls : List (List ℕ)) (es : List Entry) where
         AreRead-wrong ls Two claim es (unfinished_lines h inner) read text (lines rest) Truncated (lines-split text ls rest split)
         (inside h inner (lines rest) refl unfinished refl wrong)
 
-    pub ended-end : (claim : Claim) → IsStage ls es (AtEnd claim) → rest ≡ [] → Spells text claim es
+    pub ended-end : (claim : Claim) → IsStage ls es (AtEnd claim) → rest ≡ [] → SpellsCertificate text claim es
     ended-end claim (version, read) empty = record {
       version = version;
       has_lines = lines-split text ls rest split ∙ ap (λ bytes. ls ++ lines bytes) empty ∙ append-nil ls ∙ read.is;

@@ -62,12 +62,12 @@ reason_alike (inside.Crowd members) = Crowd members
 reason_alike (inside.Frozen members) = Frozen members
 
 -- the entry with these parts
-abbrev pub entry_of : ℕ → ℕ → List ℕ → Reason → Entry
-entry_of depth player boxes reason = record { depth = depth; player = player; boxes = boxes; reason = reason }
+abbrev pub entry_from : ℕ → ℕ → List ℕ → Reason → Entry
+entry_from depth player boxes reason = record { depth = depth; player = player; boxes = boxes; reason = reason }
 
 -- the entry that has the form of an inner position
 abbrev pub entry_alike : Inner → Entry
-entry_alike i = entry_of i.depth i.player i.boxes (reason_alike i.reason)
+entry_alike i = entry_from i.depth i.player i.boxes (reason_alike i.reason)
 
 abbrev pub inner_line : Inner → List ℕ
 inner_line i = entry_line (entry_alike i)
@@ -94,7 +94,7 @@ head_line h = code (codes "p") ∷ spaced (numbers_of_head h)
 
 -- the pattern with this first line, where there are as many inner positions as it counts
 abbrev pub entry_with : Head → List Inner → Entry
-entry_with h inner = entry_of h.depth h.player h.boxes (Pattern h.members inner)
+entry_with h inner = entry_from h.depth h.player h.boxes (Pattern h.members inner)
 
 -- a text that has grown at its end, or not at all
 pub record Grows (old new : List ℕ) : Type 0 where
@@ -163,7 +163,7 @@ pub record Fits (claim : Claim) (entries : List Entry) : Type 0 where
   pub entries_fit : All FitsEntry entries
 
 -- the text has the lines of this certificate in one of the versions, with LF or CR LF between them; the last may have no end
-pub record Spells (text : List ℕ) (claim : Claim) (entries : List Entry) : Type 0 where
+pub record SpellsCertificate (text : List ℕ) (claim : Claim) (entries : List Entry) : Type 0 where
   pub version : Version
   pub has_lines : lines text ≡ lines_of version claim entries
   pub allowed : All (FitsVersion version) entries

@@ -1,7 +1,7 @@
 //! Laws of the texts of certificates.
 
 ghost use Rattle.std.specs.Prelude.{◌≡◌, ℕ, List};
-ghost use Rattle.sok_entry.specs.Text.{Fits, Spells, text_of};
+ghost use Rattle.sok_entry.specs.Text.{Fits, SpellsCertificate, text_of};
 ghost use Rattle.sok_entry.specs.Reading.{GoesWrong};
 ghost use Rattle.sok_entry.specs.declared.claim.Claim.{Claim};
 ghost use Rattle.sok_entry.specs.declared.entry.Entry.{Entry};
@@ -11,15 +11,15 @@ ghost use Rattle.sok_entry.specs.declared.fault.CertFault.{CertFault};
 /// this certificate.
 pub fn written_texts_spell()
     ensures { (claim : Claim) (entries : List Entry)
-        → Fits claim entries → Spells (text_of claim entries) claim entries }
+        → Fits claim entries → SpellsCertificate (text_of claim entries) claim entries }
 {}
 
 /// A text spells one certificate at most, or goes wrong in one way, and never both.
 pub fn texts_have_one_reading()
     ensures spelled { (text : List ℕ) (c d : Claim) (es fs : List Entry)
-        → Spells text c es → Spells text d fs → (c ≡ d) × (es ≡ fs) }
+        → SpellsCertificate text c es → SpellsCertificate text d fs → (c ≡ d) × (es ≡ fs) }
     ensures wrong { (text : List ℕ) (f g : CertFault)
         → GoesWrong text f → GoesWrong text g → f ≡ g }
     ensures apart { (text : List ℕ) (claim : Claim) (entries : List Entry) (fault : CertFault)
-        → Spells text claim entries → GoesWrong text fault → ⊥ }
+        → SpellsCertificate text claim entries → GoesWrong text fault → ⊥ }
 {}

@@ -1,7 +1,7 @@
 //! Certificates, read from their text.
 
 ghost use Rattle.std.specs.Prelude.{ℕ, ◌≡◌, ◌<◌, ◌^◌, ◌⊎◌, ◌++◌, ◌∷◌, [], List, IfErr, IfOk, MatchResult, length};
-ghost use Rattle.sok_entry.specs.Text.{Spells};
+ghost use Rattle.sok_entry.specs.Text.{SpellsCertificate};
 ghost use Rattle.sok_entry.specs.Reading.{GoesWrong};
 ghost use Rattle.sok_entry.specs.Stages.{AreWrong, IsStage};
 ghost use Rattle.sok_entry.specs.declared.claim.Claim.{Claim};
@@ -22,9 +22,9 @@ use std::alloc::Global;
 /// any other line that has its end is a `Line`, and `end` without one is `Truncated` too.
 pub fn read(alloc: Global, text: &[u8]) -> Result<Certificate, CertFault>
     // What is read is spelled so.
-    ensures found { IfOk result (λ found. Spells text.now found.claim found.entries.items) }
+    ensures found { IfOk result (λ found. SpellsCertificate text.now found.claim found.entries.items) }
     // What is spelled so is read, unless memory runs out.
-    ensures only { (claim : Claim) (entries : List Entry) → Spells text.now claim entries
+    ensures only { (claim : Claim) (entries : List Entry) → SpellsCertificate text.now claim entries
         → MatchResult result (λ found. (found.claim ≡ claim) × (found.entries.items ≡ entries))
         (λ fault. fault ≡ cert.Memory) }
     ensures fault { IfErr result (λ fault. (fault ≡ cert.Memory) ⊎ GoesWrong text.now fault) }
@@ -34,7 +34,7 @@ pub fn read(alloc: Global, text: &[u8]) -> Result<Certificate, CertFault>
 
 /// The certificate of a text.
 fn certificate_of(alloc: Global, text: &[u8]) -> Result<Certificate, CertFault>
-    ensures { MatchResult result (λ found. Spells text.now found.claim found.entries.items)
+    ensures { MatchResult result (λ found. SpellsCertificate text.now found.claim found.entries.items)
         (λ fault. (fault ≡ cert.Memory) ⊎ GoesWrong text.now fault) }
 {
     let mut stage = Stage::AtHeader;

@@ -4,7 +4,7 @@ ghost use Rattle.std.specs.Prelude.{ℕ, ◌≡◌, ◌<◌, ◌≤◌, ◌^◌,
 ghost use Rattle.std.specs.Prelude.{length, map};
 ghost use Rattle.sok_entry.specs.Reading.{FitsHead, GoesWrong, unfinished_lines};
 ghost use Rattle.sok_entry.specs.Stages.{AreRead, IsRead, IsSplit, IsStage, MayClaim, ReadsOn, awaited};
-ghost use Rattle.sok_entry.specs.Text.{FitsInner, Spells, inner_line};
+ghost use Rattle.sok_entry.specs.Text.{FitsInner, SpellsCertificate, inner_line};
 ghost use Rattle.sok_entry.specs.declared.entry.Entry.{Entry};
 ghost use Rattle.sok_entry.specs.declared.stage.Stage.TheVariants as at;
 ghost use Rattle.sok_entry.specs.declared.version.Version.TheVariants as versions;
@@ -104,7 +104,7 @@ impl Stage {
         requires { lines < 2 ^ 63 }
         ensures { (text : List ℕ) (ls : List (List ℕ)) (es : List Entry)
             → length ls ≡ lines → IsSplit text ls rest.now → IsStage ls es self.now
-            → MatchResult result (λ claim. Spells text claim es × MayClaim self.now claim)
+            → MatchResult result (λ claim. SpellsCertificate text claim es × MayClaim self.now claim)
             (GoesWrong text) }
     {
         match self {

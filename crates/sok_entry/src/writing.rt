@@ -4,10 +4,10 @@
 ghost use Rattle.std.specs.Prelude.{◌≡◌, ◌+◌, ◌<◌, ◌≤◌, ◌++◌, ◌∷◌, [], IfOk, OnErr, OnOk, length, map};
 ghost use Rattle.std.specs.Prelude.{vec_capacity, vec_len, decimal};
 ghost use Rattle.std.specs.List.{flat_map, list_any};
-ghost use Rattle.sok_entry.specs.Text.{header, claim_line, entry_line, entry_of, entry_text, last_line};
+ghost use Rattle.sok_entry.specs.Text.{header, claim_line, entry_from, entry_line, entry_text, last_line};
 ghost use Rattle.sok_entry.specs.Text.{letter_of, numbers_of_reason, spaced, ended};
 ghost use Rattle.sok_entry.specs.Text.{inner_line, inner_of, inner_text, is_pattern, reason_alike};
-ghost use Rattle.sok_entry.specs.Text.{text_of, version_of, Fits, Grows, Spells};
+ghost use Rattle.sok_entry.specs.Text.{text_of, version_of, Fits, Grows, SpellsCertificate};
 
 use crate::claim::Claim;
 use crate::entry::{Certificate, Entry, Inner, InnerReason, Reason};
@@ -24,7 +24,7 @@ pub fn write(alloc: Global, certificate: &Certificate) -> Result<Vec<u8>, Memory
     ensures exact { IfOk result (λ text. text.items
         ≡ text_of certificate.now.claim certificate.now.entries.items) }
     ensures spells { IfOk result (λ text.
-        Spells text.items certificate.now.claim certificate.now.entries.items) }
+        SpellsCertificate text.items certificate.now.claim certificate.now.entries.items) }
 {
     let mut text = Vec::new(alloc);
     push_front(
@@ -126,10 +126,10 @@ pub fn push_entry(
     reason: &Reason,
 ) -> Result<(), AllocError>
     ensures lines { OnOk result (text.new.items ≡ text.old.items
-        ++ entry_text (entry_of depth player boxes.now reason.now)) }
+        ++ entry_text (entry_from depth player boxes.now reason.now)) }
     ensures capacity { vec_capacity text.old ≤ vec_capacity text.new }
     ensures full { OnErr result (vec_capacity text.old < vec_len text.old
-        + length (entry_text (entry_of depth player boxes.now reason.now))) }
+        + length (entry_text (entry_from depth player boxes.now reason.now))) }
     ensures refused { OnErr result (text.new.items ≡ text.old.items) }
 {
     let kept = text.len();
@@ -149,10 +149,10 @@ fn push_lines(
     reason: &Reason,
 ) -> Result<(), AllocError>
     ensures lines { OnOk result (text.new.items ≡ text.old.items
-        ++ entry_text (entry_of depth player boxes.now reason.now)) }
+        ++ entry_text (entry_from depth player boxes.now reason.now)) }
     ensures capacity { vec_capacity text.old ≤ vec_capacity text.new }
     ensures full { OnErr result (vec_capacity text.old < vec_len text.old
-        + length (entry_text (entry_of depth player boxes.now reason.now))) }
+        + length (entry_text (entry_from depth player boxes.now reason.now))) }
     ensures front { OnErr result (Grows text.old.items text.new.items) }
 {
     push_line(text, depth, player, boxes, reason)?;
@@ -260,10 +260,10 @@ fn push_line(
     reason: &Reason,
 ) -> Result<(), AllocError>
     ensures line { OnOk result (text.new.items ≡ text.old.items
-        ++ ended (entry_line (entry_of depth player boxes.now reason.now))) }
+        ++ ended (entry_line (entry_from depth player boxes.now reason.now))) }
     ensures capacity { vec_capacity text.old ≤ vec_capacity text.new }
     ensures full { OnErr result (vec_capacity text.old < vec_len text.old
-        + length (ended (entry_line (entry_of depth player boxes.now reason.now)))) }
+        + length (ended (entry_line (entry_from depth player boxes.now reason.now)))) }
     ensures front { OnErr result (Grows text.old.items text.new.items) }
 {
     push_position(text, letter_of(reason), depth, player, boxes)?;

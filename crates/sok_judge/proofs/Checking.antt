@@ -21,11 +21,11 @@ use Rattle.sok_engine.proofs.Answering.{IsFaultOf-weaker, Within-few, Writes-non
 use Rattle.sok_judge.specs.Boards.{OnBoard, IsBoardOf, LacksBoard, accepted, faulty, memory, refused, unaccepted}
 use Rattle.sok_judge.specs.Checks.{IsCheck, IsCheckOf, TellsVerdict, TellsVerdictWithin}
 use Rattle.sok_judge.specs.Verdicts.{verdict_answer}
-use Rattle.sok_cert.specs.Verdicts.{IsUnshown, IsVerdict}
+use Rattle.sok_cert.specs.Verdicts.{IsRefusedText, IsVerdict}
 
 -- why a text shows nothing, unless memory was refused
 pub untold : (b : BoardView) (text : List ℕ) (fault : CertFault) (result : Result Claim CertFault) → result ≡ Err fault
-    → (fault ≡ cert.Memory) ⊎ (GoesWrong text fault ⊎ IsUnshown b text fault)
+    → (fault ≡ cert.Memory) ⊎ (GoesWrong text fault ⊎ IsRefusedText b text fault)
     → (result ≡ Err cert.Memory) ⊎ IsVerdict b text result
 untold b text cert.Memory result is _ = inl is
 untold b text fault result is (inl same) = inl (is ∙ ap Err same)

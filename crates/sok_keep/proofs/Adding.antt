@@ -10,6 +10,7 @@ use Rattle.sok_rules.specs.declared.fault.LevelFault.{LevelFault}
 use Rattle.sok_rules.specs.declared.fault.LevelFault.TheVariants as level
 use Rattle.sok_rules.specs.Squares.{Rows}
 use Rattle.sok_text.specs.Collections.{Block, blocks_of, level_at}
+use Rattle.sok_text.specs.Titles.{title_at}
 use Rattle.sok_board.specs.declared.fault.BoardFault.{BoardFault}
 use Rattle.sok_board.specs.Refusals.{IsAcceptable}
 use Rattle.sok_book.specs.declared.fault.BookFault.{BookFault}
@@ -28,16 +29,16 @@ use Rattle.sok_engine.specs.Written.{Answer, Answers, AppendsFront}
 use Rattle.sok_engine.proofs.Answering.{too_much}
 use Rattle.sok_judge.proofs.Checking.{some_text}
 use Rattle.sok_store.specs.Faults.{IsOutside}
-use Rattle.sok_store.specs.Calls.{Keeps, Turns, id_number, title_kept}
+use Rattle.sok_store.specs.Calls.{KeepsBook, ChangesBook, id_number, title_kept}
 use Rattle.sok_store.proofs.Calls.{keeps_turns, same_turns, turns_more, turns_then}
-use Rattle.sok_keep.specs.Adds.{AddsFirst, AddsLevel, IsEndAt, IsStopAt, WritesAdding, added, faulty, fault_line, id_line, more, none, title_at, unaccepted}
+use Rattle.sok_keep.specs.Adds.{AddsFirst, AddsLevel, IsEndAt, IsStopAt, WritesAdding, added, faulty, fault_line, id_line, more, none, unaccepted}
 use Rattle.sok_keep.specs.Adding.{IsStop, EndsLevel, EndsLevels}
 
 -- ---- one level
 
 pub level_added : (old new : State) (n : ℕ) (rows : Rows) (title : Option (List ℕ)) (id : ℤ) (told whole : List ℕ) (done : Unit {0}) → IsAcceptable rows
-    → Turns old new (λ b after. Adds b rows (title_kept title) (id_number id) after) → whole ≡ told ++ id_line n id
-    → Turns old new (λ b after. EndsLevel n (Ok rows) title b after told whole (Ok done))
+    → ChangesBook old new (λ b after. Adds b rows (title_kept title) (id_number id) after) → whole ≡ told ++ id_line n id
+    → ChangesBook old new (λ b after. EndsLevel n (Ok rows) title b after told whole (Ok done))
 level_added old new n rows title id told whole done accepted turns grown =
     turns_more (λ book after adds. (id_line n id, added rows id refl accepted adds refl, grown)) turns
 
@@ -71,12 +72,12 @@ fails fault = Err fault
 -- the level of the collection, with its title
 pub level_found : (old new : State) (n : ℕ) (rows : Rows) (found : Result Rows LevelFault) (title known : Option (List ℕ)) (told whole : List ℕ)
     (result : Result (Unit {0}) ToolFault) → (reads rows ≡ fails level.Memory) ⊎ (reads rows ≡ found) → title ≡ known
-    → Turns old new (λ b after. EndsLevel n (Ok rows) title b after told whole result)
-    → Turns old new (λ b after. EndsLevel n found known b after told whole result)
+    → ChangesBook old new (λ b after. EndsLevel n (Ok rows) title b after told whole result)
+    → ChangesBook old new (λ b after. EndsLevel n found known b after told whole result)
 level_found old new n rows found title known told whole result (inl other) same turns = let no : ⊥ = cc in absurd no
 level_found old new n rows found title known told whole result (inr is) same turns =
-    subst (λ t. Turns old new (λ b after. EndsLevel n found t b after told whole result)) same
-    (subst (λ l. Turns old new (λ b after. EndsLevel n l title b after told whole result)) is turns)
+    subst (λ t. ChangesBook old new (λ b after. EndsLevel n found t b after told whole result)) same
+    (subst (λ l. ChangesBook old new (λ b after. EndsLevel n l title b after told whole result)) is turns)
 
 -- it has a fault
 pub is_faulty : (fault : LevelFault) (found : Result Rows LevelFault) → (fails fault ≡ fails level.Memory) ⊎ (fails fault ≡ found) → fault ≢ level.Memory
@@ -89,8 +90,8 @@ pub level_ended : (old new : State) (n : ℕ) (rows : Rows) (title : Option (Lis
     (result : Result (Unit {0}) ToolFault)
     → OnOk result ((cause : BoardFault) × (fault ≡ refusal.Level cause) × (whole ≡ told ++ fault_line n (of_board cause)))
     → IfErr result (λ why. (why ≡ tool.Memory) ⊎ (((cause : BoardFault) → fault ≢ refusal.Level cause) × (why ≡ of_book fault)))
-    → OnErr result (whole ≡ told) → Keeps old new (λ b. IsOutside fault ⊎ IsNotAdded b rows fault)
-    → Turns old new (λ b after. EndsLevel n (Ok rows) title b after told whole result)
+    → OnErr result (whole ≡ told) → KeepsBook old new (λ b. IsOutside fault ⊎ IsNotAdded b rows fault)
+    → ChangesBook old new (λ b after. EndsLevel n (Ok rows) title b after told whole result)
 level_ended old new n rows title fault told whole (Ok done) (cause, is, grown) given same keeps =
     keeps_turns _ (λ book why. (fault_line n (of_board cause), unaccepted rows cause refl (no_board book rows fault cause why is) refl refl, grown)) keeps
 level_ended old new n rows title fault told whole (Err why) given (inl memory) same keeps =
@@ -102,7 +103,7 @@ level_ended old new n rows title fault told whole (Err why) given (inr (other, i
 pub level_told : (s : State) (n : ℕ) (fault : LevelFault) (found : Result Rows LevelFault) (title : Option (List ℕ)) (told whole : List ℕ)
     (result : Result (Unit {0}) ToolFault) → (fails fault ≡ fails level.Memory) ⊎ (fails fault ≡ found) → OnOk result (fault ≢ level.Memory)
     → OnOk result (whole ≡ told ++ fault_line n (of_level fault)) → IfErr result (λ why. why ≡ tool.Memory) → OnErr result (whole ≡ told)
-    → Turns s s (λ b after. EndsLevel n found title b after told whole result)
+    → ChangesBook s s (λ b after. EndsLevel n found title b after told whole result)
 level_told s n fault found title told whole (Ok done) is other grown memory same =
     same_turns _ (λ book. (fault_line n (of_level fault), faulty fault (is_faulty fault found is other) refl refl, grown))
 level_told s n fault found title told whole (Err why) is other grown memory same =
@@ -118,7 +119,7 @@ adds_more blocks book n text before line after whole first within adds grown =
     subst (λ t. AddsFirst blocks book (n + 1) t after) (sym grown) (more n text line before after first within adds)
 
 -- none of them yet
-pub first_none : (s : State) (blocks : List Block) (text : List ℕ) → text ≡ [] → Turns s s (λ b after. AddsFirst blocks b 0 text after)
+pub first_none : (s : State) (blocks : List Block) (text : List ℕ) → text ≡ [] → ChangesBook s s (λ b after. AddsFirst blocks b 0 text after)
 first_none s blocks text empty = same_turns _ (λ book. subst (λ t. AddsFirst blocks book 0 t book) (sym empty) none)
 
 -- a level is not added for what stops there
@@ -140,25 +141,25 @@ stopped_at blocks book n text middle after whole fault first (same, kept, why) =
 
 -- the first levels, and then one more, or a stop
 module _ (old mid new : State) (blocks : List Block) (n : ℕ) (text whole : List ℕ) (cleaner : doubt mid.is_clean ≤ doubt new.is_clean)
-    (first : Turns old mid (λ b after. AddsFirst blocks b n text after)) where
+    (first : ChangesBook old mid (λ b after. AddsFirst blocks b n text after)) where
   pub first_more : (done : Unit {0}) → n < length blocks
-      → Turns mid new (λ b after. EndsLevel (n + 1) (level_at blocks (n + 1)) (title_at blocks (n + 1)) b after text whole (Ok done))
-      → Turns old new (λ b after. AddsFirst blocks b (n + 1) whole after)
+      → ChangesBook mid new (λ b after. EndsLevel (n + 1) (level_at blocks (n + 1)) (title_at blocks (n + 1)) b after text whole (Ok done))
+      → ChangesBook old new (λ b after. AddsFirst blocks b (n + 1) whole after)
   first_more done within = turns_then (λ clean. omega (arith, clean, cleaner))
       (λ book middle after before left. adds_more blocks book n text middle left.0 after whole before within left.1 left.2) first
 
   pub first_stopped : (fault : ToolFault)
-      → Turns mid new (λ b after. EndsLevel (n + 1) (level_at blocks (n + 1)) (title_at blocks (n + 1)) b after text whole (Err fault))
-      → Turns old new (λ b after. EndsLevels blocks b after whole (Err fault))
+      → ChangesBook mid new (λ b after. EndsLevel (n + 1) (level_at blocks (n + 1)) (title_at blocks (n + 1)) b after text whole (Err fault))
+      → ChangesBook old new (λ b after. EndsLevels blocks b after whole (Err fault))
   first_stopped fault = turns_then (λ clean. omega (arith, clean, cleaner))
       (λ book middle after before left. stopped_at blocks book n text middle after whole fault before left) first
 
-module _ (old new : State) (blocks : List Block) (n : ℕ) (text : List ℕ) (first : Turns old new (λ b after. AddsFirst blocks b n text after)) where
+module _ (old new : State) (blocks : List Block) (n : ℕ) (text : List ℕ) (first : ChangesBook old new (λ b after. AddsFirst blocks b n text after)) where
   -- memory was refused before the next one
-  pub first_unsaid : (fault : ToolFault) → fault ≡ tool.Memory → Turns old new (λ b after. EndsLevels blocks b after text (Err fault))
+  pub first_unsaid : (fault : ToolFault) → fault ≡ tool.Memory → ChangesBook old new (λ b after. EndsLevels blocks b after text (Err fault))
   first_unsaid fault memory = turns_more (λ book after before. (n, before, subst (λ f. IsStopAt blocks (n + 1) after f) (sym memory) tt)) first
 
-  pub all_added : (done : Unit {0}) → n ≡ length blocks → Turns old new (λ b after. EndsLevels blocks b after text (Ok done))
+  pub all_added : (done : Unit {0}) → n ≡ length blocks → ChangesBook old new (λ b after. EndsLevels blocks b after text (Ok done))
   all_added done end = turns_more (λ book after before. subst (λ k. AddsFirst blocks book k text after) end before) first
 
 -- ---- the answer
@@ -190,7 +191,7 @@ unread book known held input.TooMuch much =
 
 pub adding_unread : (s : State) (known held : Option (List ℕ)) (fault : InputFault)
     → (fault ≡ input.TooMuch → IfSome known (λ all. input_limit < length all))
-    → Turns s s (λ b after. WritesAdding b known after held held (Err (of_input fault)))
+    → ChangesBook s s (λ b after. WritesAdding b known after held held (Err (of_input fault)))
 adding_unread s known held fault much = same_turns _ (λ book. unread book known held fault much)
 
 -- the lines were written, and the call ends as the addition did
@@ -214,19 +215,19 @@ end_of blocks book after text (Err fault) (n, first, why) = (n, first, inr (faul
 
 module _ (old new : State) (read : List ℕ) (known before later : Option (List ℕ)) (text : List ℕ) (all : IfSome known (λ all. read ≡ all))
     (few : length read ≤ input_limit) where
-  pub adding_stopped : (fault : ToolFault) → Turns old new (λ b after. EndsLevels (blocks_of read) b after text (Err fault)) → Appends before later text
-      → Turns old new (λ b after. WritesAdding b known after before later (Err fault))
+  pub adding_stopped : (fault : ToolFault) → ChangesBook old new (λ b after. EndsLevels (blocks_of read) b after text (Err fault)) → Appends before later text
+      → ChangesBook old new (λ b after. WritesAdding b known after before later (Err fault))
   adding_stopped fault turns written = turns_more (λ book after left. ends_at read known book after before later text fault all few written left) turns
 
-  pub adding_done : (done : Unit {0}) → Turns old new (λ b after. EndsLevels (blocks_of read) b after text (Ok done)) → Appends before later text
-      → Turns old new (λ b after. WritesAdding b known after before later (Ok 0))
+  pub adding_done : (done : Unit {0}) → ChangesBook old new (λ b after. EndsLevels (blocks_of read) b after text (Ok done)) → Appends before later text
+      → ChangesBook old new (λ b after. WritesAdding b known after before later (Ok 0))
   adding_done done turns written = turns_more (λ book after first.
       record { bytes = read; told = all; count = length (blocks_of read); text = text; added = first; ended = (few, refl, refl, written) }) turns
 
   -- a write of the lines failed
   pub adding_unwritten : (ended : Result (Unit {0}) ToolFault) (fault : ToolFault) → fault ≡ tool.WriteFailed
-      → Turns old new (λ b after. EndsLevels (blocks_of read) b after text ended) → AppendsFront before later text
-      → Turns old new (λ b after. WritesAdding b known after before later (Err fault))
+      → ChangesBook old new (λ b after. EndsLevels (blocks_of read) b after text ended) → AppendsFront before later text
+      → ChangesBook old new (λ b after. WritesAdding b known after before later (Err fault))
   adding_unwritten ended fault unwritten turns written = turns_more (λ book after left.
       let (n, first, end) = end_of (blocks_of read) book after text ended left in
       subst (λ f. WritesAdding book known after before later (Err f)) (sym unwritten)

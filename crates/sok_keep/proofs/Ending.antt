@@ -14,7 +14,7 @@ use Rattle.sok_engine.specs.declared.input.InputFault.TheVariants as input
 use Rattle.sok_engine.specs.Faults.{of_book, of_input, of_lurd}
 use Rattle.sok_engine.specs.Written.{Answer, Answers, AnswersOf, IsFaultOf, Writes, WritesOne}
 use Rattle.sok_engine.proofs.Answering.{EndsBy-fault}
-use Rattle.sok_store.specs.Calls.{Changes, EndsOpen, IsCaused, Turns}
+use Rattle.sok_store.specs.Calls.{StoresChange, EndsOpen, IsCaused, ChangesBook}
 use Rattle.sok_store.proofs.Calls.{stops_same}
 use Rattle.sok_keep.specs.Causes.{IsCausedFault, TakesIn}
 use Rattle.sok_keep.specs.Offers.{StaysOnFault}
@@ -40,10 +40,10 @@ pub ends_unwritten : (P : Answers) (held : Option (List ℕ)) (fault : ToolFault
 ends_unwritten P held fault is = EndsBy-fault P held held fault is (Keeps-refl held)
 
 -- a command that was done leaves the connection open
-pub changes_open : (old new : State) (Makes : Book → Book → Type 0) → Changes old new Makes → EndsOpen old new
+pub changes_open : (old new : State) (Makes : Book → Book → Type 0) → StoresChange old new Makes → EndsOpen old new
 changes_open old new Makes changes clean book holds = (changes clean book holds).2.1.0
 
-pub done_open : (old new : State) (Makes : Book → Book → Type 0) (result : Result ℕ ToolFault) → Changes old new Makes → OnOk result (EndsOpen old new)
+pub done_open : (old new : State) (Makes : Book → Book → Type 0) (result : Result ℕ ToolFault) → StoresChange old new Makes → OnOk result (EndsOpen old new)
 done_open old new Makes (Ok status) changes = changes_open old new Makes changes
 done_open old new Makes (Err fault) changes = tt
 
@@ -93,7 +93,7 @@ module _ (old new : State) (More : Book → Book → Type 0) where
   unproved_caused fault told (inr same) caused = λ is. caused (sym same ∙ is)
 
 -- a file that is not read changes nothing
-pub unread_takes : {T : Type 0} (s : State) (Makes MayMake : Book → Book → Type 0) (fault : InputFault) → Turns s s Makes
+pub unread_takes : {T : Type 0} (s : State) (Makes MayMake : Book → Book → Type 0) (fault : InputFault) → ChangesBook s s Makes
     → TakesIn {T = T} s s Makes MayMake (Err (of_input fault))
 unread_takes s Makes MayMake fault turns =
     record { writes = turns; keeps_open = tt; stop = stops_same s MayMake; cause = λ told. absurd (input_database fault told) }

@@ -13,7 +13,7 @@ use Rattle.sok_engine.specs.Faults.{of_book, of_lurd}
 use Rattle.sok_engine.specs.Written.{IsFaultOf, WritesOne}
 use Rattle.sok_engine.proofs.Answering.{Writes-one}
 use Rattle.sok_store.specs.Faults.{IsOutside}
-use Rattle.sok_store.specs.Calls.{Changes, Keeps, Turns, id_number}
+use Rattle.sok_store.specs.Calls.{StoresChange, KeepsBook, ChangesBook, id_number}
 use Rattle.sok_store.specs.Standing.{OffersTelling}
 use Rattle.sok_store.specs.declared.standing.Standing.{Standing}
 use Rattle.sok_store.proofs.Calls.{changes_more, keeps_turns, same_turns}
@@ -42,7 +42,7 @@ letter_fault book id text letters after fault spelled (inr refused) =
 
 -- the text does not spell letters
 pub offer_unread : (s : State) (id : ℤ) (text : List ℕ) (held : Option (List ℕ)) (fault : LurdFault) → (fault ≡ lurd.Memory) ⊎ GoesWrong text fault
-    → Turns s s (λ b after. WritesOffer b id text after held held (Err (of_lurd fault)))
+    → ChangesBook s s (λ b after. WritesOffer b id text after held held (Err (of_lurd fault)))
 offer_unread s id text held fault why = same_turns _ (λ book.
     let is : IsFaultOf (IsOffer book id text book) (of_lurd fault) = elim why [
       | inl memory ↦ subst (λ f. IsFaultOf (IsOffer book id text book) (of_lurd f)) (sym memory) tt
@@ -52,8 +52,8 @@ offer_unread s id text held fault why = same_turns _ (λ book.
 
 -- they are refused
 pub offer_refused : (old new : State) (id : ℤ) (text : List ℕ) (letters : List Dir) (held : Option (List ℕ)) (fault : BookFault) → Spells text letters
-    → Keeps old new (λ b. IsOutside fault ⊎ IsNotOffered b (id_number id) letters fault)
-    → Turns old new (λ b after. WritesOffer b id text after held held (Err (of_book fault)))
+    → KeepsBook old new (λ b. IsOutside fault ⊎ IsNotOffered b (id_number id) letters fault)
+    → ChangesBook old new (λ b after. WritesOffer b id text after held held (Err (of_book fault)))
 offer_refused old new id text letters held fault spelled keeps = keeps_turns _ (λ book why. (
   ends_unwritten (IsOffer book id text book) held (of_book fault) (letter_fault book id text letters book fault spelled why),
   inr refl,
@@ -61,8 +61,8 @@ offer_refused old new id text letters held fault spelled keeps = keeps_turns _ (
 
 -- or the offer was done, and is told
 pub offer_done : (old new : State) (id : ℤ) (text : List ℕ) (letters : List Dir) (told : Standing) (before after : Option (List ℕ))
-    (result : Result ℕ ToolFault) → Spells text letters → Changes old new (λ b later. OffersTelling b (id_number id) letters told later)
-    → WritesOne (told_offer told.offer told.pushes told.moves) before after result → Turns old new (λ b later. WritesOffer b id text later before after result)
+    (result : Result ℕ ToolFault) → Spells text letters → StoresChange old new (λ b later. OffersTelling b (id_number id) letters told later)
+    → WritesOne (told_offer told.offer told.pushes told.moves) before after result → ChangesBook old new (λ b later. WritesOffer b id text later before after result)
 offer_done old new id text letters told before after result spelled changes written =
     let answer = told_offer told.offer told.pushes told.moves in
     changes_more (λ book later done. (

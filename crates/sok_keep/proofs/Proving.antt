@@ -18,7 +18,7 @@ use Rattle.sok_engine.specs.Written.{Answer, IsFaultOf, WritesOne}
 use Rattle.sok_engine.proofs.Answering.{Writes-none, Writes-read, Writes-unread}
 use Rattle.sok_judge.specs.Verdicts.{verdict_answer}
 use Rattle.sok_store.specs.Faults.{IsOutside}
-use Rattle.sok_store.specs.Calls.{Changes, Keeps, Turns, id_number}
+use Rattle.sok_store.specs.Calls.{StoresChange, KeepsBook, ChangesBook, id_number}
 use Rattle.sok_store.proofs.Calls.{changes_more, keeps_turns, same_turns}
 use Rattle.sok_keep.specs.Proves.{IsProof, WritesProof, failed, proved, proved_answer, refused, unproved}
 use Rattle.sok_keep.proofs.Ending.{book_fault, stays_written}
@@ -40,24 +40,24 @@ refused_status fault answer (cause, is, says) zero =
 -- the input was not read
 pub proof_unread : (s : State) (id : ℤ) (known held : Option (List ℕ)) (fault : InputFault)
     → (fault ≡ input.TooMuch → IfSome known (λ all. cert_limit < length all))
-    → Turns s s (λ b after. WritesProof b id known after held held (Err (of_input fault)))
+    → ChangesBook s s (λ b after. WritesProof b id known after held held (Err (of_input fault)))
 proof_unread s id known held fault much = same_turns _ (λ book. (Writes-unread cert_limit (IsProof book id book) known held fault much, inr refl))
 
 module _ (old new : State) (id : ℤ) (read : List ℕ) (known : Option (List ℕ)) (all : IfSome known (λ all. read ≡ all)) (few : length read ≤ cert_limit) where
   -- the verdict is proved
   pub proof_done : (before later : Option (List ℕ)) (claim : Claim) (result : Result ℕ ToolFault)
-      → Changes old new (λ b after. Proves b (id_number id) read claim after) → WritesOne (proved_answer claim) before later result
-      → Turns old new (λ b after. WritesProof b id known after before later result)
+      → StoresChange old new (λ b after. Proves b (id_number id) read claim after) → WritesOne (proved_answer claim) before later result
+      → ChangesBook old new (λ b after. WritesProof b id known after before later result)
   proof_done before later claim result changes written = changes_more (λ book after proves. (
     Writes-read cert_limit (IsProof book id after) known before later read (proved_answer claim) result all few (proved claim proves refl) written,
     stays_written (proved_answer claim) before later result book after written,
   )) changes
 
-  module _ (fault : BookFault) (keeps : Keeps old new (λ b. IsOutside fault ⊎ IsNotProved b (id_number id) read fault)) where
+  module _ (fault : BookFault) (keeps : KeepsBook old new (λ b. IsOutside fault ⊎ IsNotProved b (id_number id) read fault)) where
     -- the certificate is refused, which is an answer
     pub proof_refused : (before later : Option (List ℕ)) (answer : Answer) (result : Result ℕ ToolFault)
         → (cause : CertFault) × (fault ≡ refusal.Certificate cause) × (answer ≡ verdict_answer (Err cause)) → WritesOne answer before later result
-        → Turns old new (λ b after. WritesProof b id known after before later result)
+        → ChangesBook old new (λ b after. WritesProof b id known after before later result)
     proof_refused before later answer result (cause, is, says) written = keeps_turns _ (λ book why.
         let none : IsNotProved book (id_number id) read (refusal.Certificate cause) = elim why [
           | inl (inl memory) ↦ absurd (let e = memory in cc)
@@ -69,7 +69,7 @@ module _ (old new : State) (id : ℤ) (read : List ℕ) (known : Option (List �
 
     -- another cause is told, or memory was refused
     pub proof_failed : (still : Option (List ℕ)) (told : ToolFault) → (told ≡ tool.Memory) ⊎ (told ≡ of_book fault)
-        → Turns old new (λ b after. WritesProof b id known after still still (Err told))
+        → ChangesBook old new (λ b after. WritesProof b id known after still still (Err told))
     proof_failed still told given = keeps_turns _ (λ book why.
         let is : IsFaultOf (IsProof book id book read) told = elim given [
           | inl memory ↦ subst (IsFaultOf (IsProof book id book read)) (sym memory) tt

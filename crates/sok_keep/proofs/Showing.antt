@@ -14,7 +14,7 @@ use Rattle.sok_engine.specs.Faults.{of_book}
 use Rattle.sok_engine.specs.Written.{Answer, IsFaultOf, Writes}
 use Rattle.sok_store.specs.Faults.{IsOutside}
 use Rattle.sok_book.specs.Records.{AreRecordsOf, IsRecordAt, pages_from, pages_of}
-use Rattle.sok_store.specs.Calls.{Keeps, id_number}
+use Rattle.sok_store.specs.Calls.{KeepsBook, id_number}
 use Rattle.sok_keep.specs.Shows.{IsBookText, IsShow, show_answer}
 use Rattle.sok_keep.proofs.Ending.{ends_unwritten}
 
@@ -57,8 +57,8 @@ tells_all text book records answer are same status =
 -- ---- calls
 
 pub page_unshown : (old new : State) (id : ℤ) (held : Option (List ℕ)) (told : ToolFault)
-    → (fault : BookFault) × (told ≡ of_book fault) × Keeps old new (λ b. IsOutside fault ⊎ ((fault ≡ refusal.NoLevel) × IsNone (page_at b (id_number id))))
-    → Keeps old new (λ b. Writes (IsShow b id) held held (Err told))
+    → (fault : BookFault) × (told ≡ of_book fault) × KeepsBook old new (λ b. IsOutside fault ⊎ ((fault ≡ refusal.NoLevel) × IsNone (page_at b (id_number id))))
+    → KeepsBook old new (λ b. Writes (IsShow b id) held held (Err told))
 page_unshown old new id held told (fault, is, keeps) clean book holds =
     let (why, kept) = keeps clean book holds in
     (ends_unwritten (IsShow book id) held told (subst (IsFaultOf (IsShow book id)) (sym is) (not_shown book id fault why)), kept)

@@ -7,6 +7,7 @@ use Rattle.sok_rules.specs.declared.fault.LevelFault.{LevelFault}
 use Rattle.sok_rules.specs.declared.fault.LevelFault.TheVariants as level
 use Rattle.sok_rules.specs.Squares.{Rows}
 use Rattle.sok_text.specs.Collections.{Block, level_at}
+use Rattle.sok_text.specs.Titles.{title_at}
 use Rattle.sok_board.specs.declared.fault.BoardFault.{BoardFault}
 use Rattle.sok_board.specs.Refusals.{IsAcceptable}
 use Rattle.sok_book.specs.declared.fault.BookFault.{BookFault}
@@ -19,11 +20,11 @@ use Rattle.sok_engine.specs.declared.fault.ToolFault.TheVariants as tool
 use Rattle.sok_engine.specs.Faults.{of_board, of_book, of_level}
 use Rattle.sok_store.specs.Faults.{IsOutside}
 use Rattle.sok_store.specs.Rows.{ShowsBook}
-use Rattle.sok_store.specs.Calls.{Carries, Changes, IsCaused, Keeps, KeepsOpen, Stops, Turns, id_number, title_kept}
+use Rattle.sok_store.specs.Calls.{Carries, StoresChange, IsCaused, KeepsBook, KeepsOpen, Stops, ChangesBook, id_number, title_kept}
 use Rattle.sok_store.specs.Running.{Admits}
 use Rattle.sok_store.proofs.Calls.{held_shown, shown, stops_less, stops_same}
 use Rattle.sok_store.proofs.Caused.{cause_before}
-use Rattle.sok_keep.specs.Adds.{AddsCount, AddsFirst, added, faulty, fault_line, id_line, more, none, title_at, unaccepted}
+use Rattle.sok_keep.specs.Adds.{AddsCount, AddsFirst, added, faulty, fault_line, id_line, more, none, unaccepted}
 use Rattle.sok_keep.specs.Adding.{AddsNext, AddsSome}
 use Rattle.sok_keep.specs.Causes.{IsCausedFault, Treats}
 use Rattle.sok_keep.proofs.Adding.{fails, is_faulty, no_board, reads}
@@ -67,7 +68,7 @@ level_stops old new n rows title stop = stops_less old new _ _ (admitted n rows 
 
 module _ {T : Type 0} (old new : State) (n : ℕ) (rows : Rows) (title : Option (List ℕ)) (stop : Stops old new (Admits rows (title_kept title))) where
   -- it is added, or stands there already
-  pub added_treats : (id : ℤ) (line : T) → IsAcceptable rows → Changes old new (λ b after. Adds b rows (title_kept title) (id_number id) after)
+  pub added_treats : (id : ℤ) (line : T) → IsAcceptable rows → StoresChange old new (λ b after. Adds b rows (title_kept title) (id_number id) after)
       → Treats old new (AddsNext n (Ok rows) title) (Ok line)
   added_treats id line accepted changes = record {
     done = λ clean book shows.
@@ -81,7 +82,7 @@ module _ {T : Type 0} (old new : State) (n : ℕ) (rows : Rows) (title : Option 
   pub refused_treats : (told whole : List ℕ) (fault : BookFault) (result : Result T ToolFault)
       → OnOk result ((cause : BoardFault) × (fault ≡ refusal.Level cause) × (whole ≡ told ++ fault_line n (of_board cause)))
       → IfErr result (λ why. (why ≡ tool.Memory) ⊎ (((cause : BoardFault) → fault ≢ refusal.Level cause) × (why ≡ of_book fault)))
-      → Keeps old new (λ b. IsOutside fault ⊎ IsNotAdded b rows fault) → ((cause : BoardFault) → fault ≡ refusal.Level cause → new ≡ old)
+      → KeepsBook old new (λ b. IsOutside fault ⊎ IsNotAdded b rows fault) → ((cause : BoardFault) → fault ≡ refusal.Level cause → new ≡ old)
       → IsCaused old new (Admits rows (title_kept title)) fault → Treats old new (AddsNext n (Ok rows) title) result
   refused_treats told whole fault (Ok done) (cause, is, grown) given keeps untouched caused = record {
     done = λ clean book shows.
@@ -154,7 +155,7 @@ module _ {T : Type 0} (old mid new : State) (blocks : List Block) (n : ℕ) (tex
           (after, counted blocks n within book middle after first adds, shows_new, λ up. stays_new (stays up))
       go (Err fault) done = tt
 
-  next_caused : Turns old mid (λ b after. AddsFirst blocks b n text after) → IfErr result (IsCausedFault old new (AddsSome blocks))
+  next_caused : ChangesBook old mid (λ b after. AddsFirst blocks b n text after) → IfErr result (IsCausedFault old new (AddsSome blocks))
   next_caused turns = go result next.cause
     where
       go : (r : Result T ToolFault) → IfErr r (IsCausedFault mid new (AddsNext (n + 1) (level_at blocks (n + 1)) (title_at blocks (n + 1))))
@@ -167,7 +168,7 @@ module _ {T : Type 0} (old mid new : State) (blocks : List Block) (n : ℕ) (tex
             | inr why ↦ inr (cause_before old mid new _ _ stop next.stop clean why)
           ]
 
-  pub next_treats : Turns old mid (λ b after. AddsFirst blocks b n text after) → Carries old mid (AddsCount blocks n)
+  pub next_treats : ChangesBook old mid (λ b after. AddsFirst blocks b n text after) → Carries old mid (AddsCount blocks n)
       → OnOk result (Carries old new (AddsCount blocks (n + 1))) × Stops old new (AddsSome blocks) × IfErr result (IsCausedFault old new (AddsSome blocks))
   next_treats turns carries = (next_carries carries, next_stops carries, next_caused turns)
 

@@ -2,11 +2,10 @@
 use Rattle.std.specs.Prelude.{ℕ, ℤ, ◌≡◌, ◌<◌, ◌≤◌, ◌⊎◌, ◌+◌, List, [], ◌++◌, Option, Result, Ok, Err, IfSome, codes, length}
 use Rattle.std.specs.Fmt.{decimal, signed_decimal}
 use Rattle.std.specs.Io.KnownBytes.{Appends, Keeps}
-use Rattle.std.specs.Option.{option_and_then}
 use Rattle.sok_rules.specs.declared.fault.LevelFault.{LevelFault}
 use Rattle.sok_rules.specs.Squares.{Rows}
-use Rattle.sok_text.specs.Collections.{Block, block_at, blocks_of, level_at}
-use Rattle.sok_text.specs.Titles.{title_of}
+use Rattle.sok_text.specs.Collections.{Block, blocks_of, level_at}
+use Rattle.sok_text.specs.Titles.{title_at}
 use Rattle.sok_board.specs.declared.fault.BoardFault.{BoardFault}
 use Rattle.sok_board.specs.Refusals.{IsAcceptable}
 use Rattle.sok_book.specs.declared.fault.BookFault.TheVariants as refusal
@@ -36,10 +35,6 @@ pub data AddsLevel (n : ℕ) (level : Result Rows LevelFault) (title : Option (L
       → AddsLevel n level title book line after
   added : (rows : Rows) (id : ℤ) → level ≡ Ok rows → IsAcceptable rows → Adds book rows (title_kept title) (id_number id) after → line ≡ id_line n id
       → AddsLevel n level title book line after
-
--- the title of the n-th level, counted from 1
-abbrev pub title_at : List Block → ℕ → Option (List ℕ)
-title_at blocks n = option_and_then title_of (block_at blocks n)
 
 -- the first levels of a collection have been added one after another, and these are their lines
 pub data AddsFirst (blocks : List Block) (book : Book) : ℕ → List ℕ → Book → Type 0 where

@@ -5,7 +5,7 @@ use Rattle.sok_book.specs.declared.fault.BookFault.TheVariants as refusal
 use Rattle.sok_book.specs.Books.{Book}
 use Rattle.sok_engine.specs.declared.fault.ToolFault.{ToolFault}
 use Rattle.sok_engine.specs.declared.fault.ToolFault.TheVariants as tool
-use Rattle.sok_store.specs.Calls.{Carries, IsCaused, KeepsOpen, Stops, Turns}
+use Rattle.sok_store.specs.Calls.{Carries, IsCaused, KeepsOpen, Stops, ChangesBook}
 
 -- `Database` is told only where the connection gave a cause, or where the book that would be made so has a row that is too big
 abbrev pub IsCausedFault : State → State → (Book → Book → Type 0) → ToolFault → Type 0
@@ -20,7 +20,7 @@ pub record Treats {T : Type 0} (old new : State) (Makes : Book → Book → Type
 -- how a call that takes what a file has into a book ends: what it makes of the book, that it keeps its connection open, what a stop in the middle leaves, and
 -- why it fails
 pub record TakesIn {T : Type 0} (old new : State) (Makes MayMake : Book → Book → Type 0) (result : Result T ToolFault) : Type 0 where
-  pub writes : Turns old new Makes
+  pub writes : ChangesBook old new Makes
   pub keeps_open : OnOk result (KeepsOpen old new)
   pub stop : Stops old new MayMake
   pub cause : IfErr result (IsCausedFault old new MayMake)

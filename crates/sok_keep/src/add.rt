@@ -4,13 +4,14 @@ ghost use Rattle.std.specs.Prelude.{◌≡◌, ◌≢◌, ◌≤◌, ◌⊎◌, 
 ghost use Rattle.std.specs.Prelude.{option_map, string_bytes, vec_capacity, vec_len};
 ghost use Rattle.sqlite.specs.Held.{state};
 ghost use Rattle.sok_text.specs.Collections.{blocks_of, level_at};
+ghost use Rattle.sok_text.specs.Titles.{title_at};
 ghost use Rattle.sok_rules.specs.declared.fault.LevelFault.TheVariants as level;
 ghost use Rattle.sok_board.specs.declared.fault.BoardFault.{BoardFault};
 ghost use Rattle.sok_book.specs.declared.fault.BookFault.TheVariants as refusal;
 ghost use Rattle.sok_engine.specs.Faults.{of_board, of_book, of_level};
 ghost use Rattle.sok_engine.specs.declared.fault.ToolFault.TheVariants as tool;
-ghost use Rattle.sok_store.specs.Calls.{Turns};
-ghost use Rattle.sok_keep.specs.Adds.{AddsBytes, WritesAdding, fault_line, id_line, title_at};
+ghost use Rattle.sok_store.specs.Calls.{ChangesBook};
+ghost use Rattle.sok_keep.specs.Adds.{AddsBytes, WritesAdding, fault_line, id_line};
 ghost use Rattle.sok_keep.specs.Adding.{AddsNext, AddsSome, EndsLevel, EndsLevels};
 ghost use Rattle.sok_keep.specs.Causes.{TakesIn, Treats};
 
@@ -64,7 +65,7 @@ fn add_all<S: Alter>(
     lines: &mut Vec<u8>,
 ) -> Result<(), ToolFault>
     requires { lines.old.items ≡ [] }
-    ensures leaves { Turns (state S.Store book.old) (state S.Store book.new) (λ pages after.
+    ensures leaves { ChangesBook (state S.Store book.old) (state S.Store book.new) (λ pages after.
         EndsLevels (blocks_of bytes.now) pages after lines.new.items result) }
     ensures treats { Treats (state S.Store book.old) (state S.Store book.new)
         (AddsSome (blocks_of bytes.now)) result }
@@ -80,7 +81,7 @@ fn add_levels<S: Alter>(
     lines: &mut Vec<u8>,
 ) -> Result<(), ToolFault>
     requires { lines.old.items ≡ [] }
-    ensures leaves { Turns (state S.Store book.old) (state S.Store book.new) (λ pages after.
+    ensures leaves { ChangesBook (state S.Store book.old) (state S.Store book.new) (λ pages after.
         EndsLevels collection.now pages after lines.new.items result) }
     ensures treats { Treats (state S.Store book.old) (state S.Store book.new)
         (AddsSome collection.now) result }
@@ -102,7 +103,7 @@ fn add_level<S: Alter>(
     lines: &mut Vec<u8>,
 ) -> Result<(), ToolFault>
     requires { vec_len lines.old + LINE_ROOM ≤ vec_capacity lines.old }
-    ensures leaves { Turns (state S.Store book.old) (state S.Store book.new) (λ pages after.
+    ensures leaves { ChangesBook (state S.Store book.old) (state S.Store book.new) (λ pages after.
         EndsLevel n (level_at collection.now n) (title_at collection.now n) pages after
         lines.old.items lines.new.items result) }
     ensures treats { Treats (state S.Store book.old) (state S.Store book.new)
@@ -144,7 +145,7 @@ fn add_made<S: Alter>(
     lines: &mut Vec<u8>,
 ) -> Result<(), ToolFault>
     requires { vec_len lines.old + LINE_ROOM ≤ vec_capacity lines.old }
-    ensures leaves { Turns (state S.Store book.old) (state S.Store book.new) (λ pages after.
+    ensures leaves { ChangesBook (state S.Store book.old) (state S.Store book.new) (λ pages after.
         EndsLevel n (Ok level.now) (option_map (λ t. t.now) title.entry) pages after
         lines.old.items lines.new.items result) }
     ensures treats { Treats (state S.Store book.old) (state S.Store book.new)

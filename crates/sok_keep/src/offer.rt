@@ -2,7 +2,7 @@
 
 ghost use Rattle.std.specs.Prelude.{◌≡◌, ◌≤◌, IfErr, OnOk, length};
 ghost use Rattle.sqlite.specs.Held.{state};
-ghost use Rattle.sok_store.specs.Calls.{EndsOpen, Stops, Turns};
+ghost use Rattle.sok_store.specs.Calls.{EndsOpen, Stops, ChangesBook};
 ghost use Rattle.sok_keep.specs.Causes.{IsCausedFault};
 ghost use Rattle.sok_keep.specs.Offers.{OffersText, WritesOffer};
 ghost use Rattle.sok_keep.specs.Offers.{offer_line, offer_status, offer_word};
@@ -34,7 +34,7 @@ pub fn offer_bytes<S: Alter, W: Write>(
     text: &[u8],
     out: &mut W,
 ) -> Result<u8, ToolFault>
-    ensures writes { Turns (state S.Store book.old) (state S.Store book.new) (λ pages after.
+    ensures writes { ChangesBook (state S.Store book.old) (state S.Store book.new) (λ pages after.
         WritesOffer pages id text.now after (W.contents out.old) (W.contents out.new) result) }
     ensures open { OnOk result (EndsOpen (state S.Store book.old) (state S.Store book.new)) }
     ensures cause { IfErr result (IsCausedFault (state S.Store book.old) (state S.Store book.new)

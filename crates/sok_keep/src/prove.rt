@@ -7,7 +7,7 @@ ghost use Rattle.sok_book.specs.declared.fault.BookFault.TheVariants as refusal;
 ghost use Rattle.sok_engine.specs.Faults.{of_book};
 ghost use Rattle.sok_engine.specs.declared.fault.ToolFault.TheVariants as tool;
 ghost use Rattle.sok_judge.specs.Verdicts.{verdict_answer};
-ghost use Rattle.sok_store.specs.Calls.{EndsOpen, Stops, Turns};
+ghost use Rattle.sok_store.specs.Calls.{EndsOpen, Stops, ChangesBook};
 ghost use Rattle.sok_keep.specs.Causes.{IsCausedFault};
 ghost use Rattle.sok_keep.specs.Proves.{ProvesBytes, WritesProof, proved_line};
 
@@ -41,7 +41,7 @@ pub fn prove_bytes<S: Alter, C: Read, W: Write>(
     cert_input: &mut C,
     out: &mut W,
 ) -> Result<u8, ToolFault>
-    ensures writes { Turns (state S.Store book.old) (state S.Store book.new) (λ pages after.
+    ensures writes { ChangesBook (state S.Store book.old) (state S.Store book.new) (λ pages after.
         WritesProof pages id (C.remaining cert_input.old) after
         (W.contents out.old) (W.contents out.new) result) }
     ensures open { IfOk result (λ status. status ≡ 0

@@ -9,7 +9,7 @@ ghost use Rattle.sok_book.specs.declared.fault.BookFault.TheVariants as refusal;
 ghost use Rattle.sok_engine.specs.Faults.{of_book};
 ghost use Rattle.sok_engine.specs.Written.{Gives, Writes};
 ghost use Rattle.sok_store.specs.Faults.{IsOutside};
-ghost use Rattle.sok_store.specs.Calls.{Keeps, MakesNone, Stops, id_number};
+ghost use Rattle.sok_store.specs.Calls.{KeepsBook, MakesNone, Stops, id_number};
 ghost use Rattle.sok_keep.specs.Causes.{IsCausedFault};
 ghost use Rattle.sok_keep.specs.Shows.{IsBookText, IsShow};
 
@@ -35,7 +35,7 @@ pub fn show_bytes<S: Alter, W: Write>(
     id: i64,
     out: &mut W,
 ) -> Result<u8, ToolFault>
-    ensures writes { Keeps (state S.Store book.old) (state S.Store book.new) (λ pages.
+    ensures writes { KeepsBook (state S.Store book.old) (state S.Store book.new) (λ pages.
         Writes (IsShow pages id) (W.contents out.old) (W.contents out.new) result) }
     ensures cause { IfErr result
         (IsCausedFault (state S.Store book.old) (state S.Store book.new) MakesNone) }
@@ -48,10 +48,10 @@ pub fn show_bytes<S: Alter, W: Write>(
 
 /// The record of the level with an id.
 fn record_at<S: Alter>(book: &mut Book<S>, id: i64) -> Result<Record, ToolFault>
-    ensures found { IfOk result (λ kept. Keeps (state S.Store book.old) (state S.Store book.new)
+    ensures found { IfOk result (λ kept. KeepsBook (state S.Store book.old) (state S.Store book.new)
         (λ pages. IsRecordAt pages (id_number id) kept)) }
     ensures unfound { IfErr result (λ told. (fault : BookFault) × (told ≡ of_book fault)
-        × Keeps (state S.Store book.old) (state S.Store book.new) (λ pages. IsOutside fault
+        × KeepsBook (state S.Store book.old) (state S.Store book.new) (λ pages. IsOutside fault
         ⊎ ((fault ≡ refusal.NoLevel) × IsNone (page_at pages (id_number id))))) }
     ensures cause { IfErr result
         (IsCausedFault (state S.Store book.old) (state S.Store book.new) MakesNone) }
@@ -80,7 +80,7 @@ pub fn book_bytes<S: Alter, W: Write>(
     text: BookText,
     out: &mut W,
 ) -> Result<u8, ToolFault>
-    ensures writes { Keeps (state S.Store book.old) (state S.Store book.new) (λ pages.
+    ensures writes { KeepsBook (state S.Store book.old) (state S.Store book.new) (λ pages.
         Writes (IsBookText text pages) (W.contents out.old) (W.contents out.new) result) }
     ensures cause { IfErr result
         (IsCausedFault (state S.Store book.old) (state S.Store book.new) MakesNone) }
@@ -92,7 +92,7 @@ pub fn book_bytes<S: Alter, W: Write>(
 
 /// The answer that has such a text.
 fn told<S: Alter>(alloc: Global, book: &mut Book<S>, text: BookText) -> Result<Answer, ToolFault>
-    ensures gives { Keeps (state S.Store book.old) (state S.Store book.new)
+    ensures gives { KeepsBook (state S.Store book.old) (state S.Store book.new)
         (λ pages. Gives (IsBookText text pages) result) }
     ensures cause { IfErr result
         (IsCausedFault (state S.Store book.old) (state S.Store book.new) MakesNone) }

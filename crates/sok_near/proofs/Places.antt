@@ -1,5 +1,5 @@
 -- Whether a line is nearly of a board is told by its first bytes, and the lines of a text one after another.
-use Rattle.std.proofs.Common.{ℕ, ◌≡◌, ◌+◌, ◌-◌, ◌<◌, ◌≤◌, List, [], ◌∷◌, ◌++◌, Option, Some, None, false, ◌&&◌, if◌then◌else◌, ◌==◌, nat_le, length, take}
+use Rattle.std.proofs.Common.{ℕ, ◌≡◌, ◌+◌, ◌<◌, ◌≤◌, List, [], ◌∷◌, ◌++◌, Option, Some, None, false, ◌&&◌, if◌then◌else◌, ◌==◌, nat_le, length, take}
 use Rattle.std.proofs.Common.{position, codes, sym, ap, ◌∙◌, refl, inl, inr, arith, add-zero}
 use Rattle.std.proofs.lemmas.Bool.{cases_lt}
 use Rattle.std.proofs.lemmas.Bool.Decides.{nat_tests}

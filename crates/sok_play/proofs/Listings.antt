@@ -6,8 +6,9 @@ use Rattle.sok_rules.specs.declared.fault.LevelFault.{LevelFault}
 use Rattle.sok_rules.specs.declared.fault.LevelFault.TheVariants as level
 use Rattle.sok_rules.specs.Squares.{Rows}
 use Rattle.sok_text.specs.Collections.{Block, level_at}
+use Rattle.sok_text.specs.Titles.{title_at}
 use Rattle.sok_engine.specs.Written.{HasOne}
-use Rattle.sok_play.specs.Listing.{IsListing, level_line, lines_from, title_at}
+use Rattle.sok_play.specs.Listing.{IsListing, level_line, lines_from}
 
 -- the line of a level, and then the lines of those after it
 pub lines_from-drop : (n : ℕ) (blocks : List Block) (i : ℕ) → i < length blocks

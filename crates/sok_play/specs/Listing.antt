@@ -1,12 +1,12 @@
 -- What is told of each level of a collection.
-use Rattle.std.specs.Prelude.{ℕ, ◌≡◌, ◌+◌, List, [], ◌∷◌, ◌++◌, Option, Some, None, Result, Ok, Err, codes, fold, length, max}
+use Rattle.std.specs.Prelude.{ℕ, ◌≡◌, ◌+◌, List, [], ◌∷◌, ◌++◌, Option, Result, Ok, Err, codes, fold, length, max}
 use Rattle.std.specs.Fmt.{decimal}
-use Rattle.std.specs.Option.{option_and_then}
 use Rattle.sok_rules.specs.declared.fault.LevelFault.{LevelFault}
 use Rattle.sok_rules.specs.Levels.{count_in, level_of}
 use Rattle.sok_rules.specs.Squares.{Rows, is_box, is_goal}
-use Rattle.sok_text.specs.Collections.{Block, block_at, blocks_of, rows_of}
+use Rattle.sok_text.specs.Collections.{Block, blocks_of, rows_of}
 use Rattle.sok_text.specs.Titles.{title_of}
+use Rattle.sok_book.specs.Overview.{title_words}
 use Rattle.sok_engine.specs.FaultLines.{fault_words}
 use Rattle.sok_engine.specs.Faults.{of_level}
 use Rattle.sok_engine.specs.Written.{Answers}
@@ -20,11 +20,6 @@ abbrev pub level_numbers : Rows → List ℕ
 level_numbers rows =
     decimal (length rows) ++ codes " " ++ decimal (width_of rows) ++ codes " " ++ decimal (count_in is_box rows) ++ codes " " ++ decimal (count_in is_goal rows)
 
--- a title behind a space, if there is one
-abbrev pub title_words : Option (List ℕ) → List ℕ
-title_words None = []
-title_words (Some title) = codes " " ++ title
-
 -- the numbers of a level, and its title; or its fault
 abbrev pub level_words : Result Rows LevelFault → Option (List ℕ) → List ℕ
 level_words (Ok rows) title = level_numbers rows ++ title_words title
@@ -33,10 +28,6 @@ level_words (Err fault) title = fault_words (of_level fault)
 -- a level's number, from 1, and what is told of it
 abbrev pub level_line : ℕ → Result Rows LevelFault → Option (List ℕ) → List ℕ
 level_line n level title = decimal n ++ codes " " ++ level_words level title ++ codes "\n"
-
--- the title of the n-th level, counted from 1
-abbrev pub title_at : List Block → ℕ → Option (List ℕ)
-title_at blocks n = option_and_then title_of (block_at blocks n)
 
 -- the lines of levels, of which the first has this number
 unfoldable pub lines_from : ℕ → List Block → List ℕ

@@ -5,12 +5,13 @@ ghost use Rattle.std.specs.Prelude.{MatchResult, OnOk, codes, option_map, string
 ghost use Rattle.std.specs.Fmt.{decimal};
 ghost use Rattle.sok_rules.specs.declared.fault.LevelFault.TheVariants as level;
 ghost use Rattle.sok_text.specs.Collections.{level_at};
+ghost use Rattle.sok_text.specs.Titles.{title_at};
+ghost use Rattle.sok_book.specs.Overview.{title_words};
 ghost use Rattle.sok_engine.specs.Inputs.{OfReader, Within};
 ghost use Rattle.sok_engine.specs.Limits.{input_limit};
 ghost use Rattle.sok_engine.specs.Written.{HasOne, Writes};
 ghost use Rattle.sok_engine.specs.declared.fault.ToolFault.TheVariants as tool;
 ghost use Rattle.sok_play.specs.Listing.{IsListing, level_line, level_numbers, lines_from};
-ghost use Rattle.sok_play.specs.Listing.{title_at, title_words};
 
 use crate::measure::{boxes, goals, height, width};
 use sok_engine::answer::Answer;

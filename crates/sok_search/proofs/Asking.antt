@@ -1,4 +1,4 @@
--- Losses are asked before a push is followed: what is found lost is left out or kept as lost, and what holds of a search that knows more holds of it.
+-- Losses are asked before a push is followed: what is found lost is left out or kept as lost.
 use Rattle.std.proofs.Common.{ℕ, ◌≡◌, sym, subst, List, Option, None, Some, IfSome, true, true≢false}
 use Rattle.std.specs.Option.{is_some}
 use Rattle.sok_rules.specs.Play.{Position}
@@ -13,23 +13,12 @@ use Rattle.sok_state.specs.declared.scene.Scene.{Scene}
 use Rattle.sok_state.specs.Keys.{key_position}
 use Rattle.sok_state.proofs.LegalPushes.{LeadsTo-position}
 use Rattle.sok_alone.specs.declared.losses.Loss.{Loss}
-use Rattle.sok_alone.specs.declared.losses.Losses.{Losses}
 use Rattle.sok_alone.specs.Losses.{IsLostBy}
 use Rattle.sok_alone.proofs.Losing.{lost-never, lost-walked}
-use Rattle.sok_search.specs.declared.reaching.Reached.{Reached}
-use Rattle.sok_search.specs.declared.reaching.Reached.TheVariants.{On, Full}
-use Rattle.sok_search.specs.Searches.{Progress, LeadsNowhere}
-use Rattle.sok_search.specs.Steps.{holding, knowing}
+use Rattle.sok_search.specs.Searches.{LeadsNowhere}
 use Rattle.sok_state.specs.Pushes.{IsPushable}
-use Rattle.sok_search.specs.Views.{TellsReached}
 use Rattle.sok_search.proofs.LeavingOut.{lost-nowhere}
-use Rattle.sok_search.proofs.Pushing.{pushed-knowing}
 use Rattle.sok_state.proofs.Stepped.{ComesNext, next-made, next_of, placed-after}
-
-pub tells-knowing : (b : BoardView) (limit : ℕ) (p : Progress) (losses : Losses) (index : ℕ) (key : Key) (depth : ℕ) (push : Push) (q : Progress) (r : Reached)
-    → TellsReached b limit (knowing losses p) index key depth push q r → TellsReached b limit p index key depth push q r
-tells-knowing b limit p losses index key depth push q On pushed = pushed-knowing b limit (holding index p) losses key depth push (holding index q) pushed
-tells-knowing b limit p losses index key depth push q Full more = more
 
 module _ (b : BoardView) (accepted : IsAccepted b) (key : Key) (push : Push) (to : ℕ) (scene : Scene) (can : IsPushable b push scene key)
     (ahead : beside b push.from push.dir ≡ Some to) where

@@ -16,7 +16,7 @@ use Rattle.sok_cert.specs.Closed.{IsClosed, IsTrueOf}
 use Rattle.sok_search.specs.Finished.{AreFirstEntries, claim_of}
 use Rattle.sok_search.specs.Halted.{IsLeastOpen}
 use Rattle.sok_search.specs.Limits.{state_limit}
-use Rattle.sok_search.specs.Outcomes.{Certifies, OfClaim, HasSearched, IsCutShort, IsLeastSolution, IsShownSolved, IsShownUnsolvable, ShowsLeast}
+use Rattle.sok_search.specs.Outcomes.{Certifies, OfClaim, HasSearched, IsCutShort, IsLeastSolution, IsProvedSolved, IsProvedUnsolvable, ShowsLeast}
 use Rattle.sok_search.specs.Searches.{Progress, IsSearch}
 use Rattle.sok_search.specs.Walkthroughs.{IsSolvedAt, IsSolvedWith, IsSolvedWithin, IsSolvingTrace, TracesBack}
 use Rattle.sok_search.proofs.Certified.{done-finished, done-least}
@@ -96,13 +96,13 @@ module _ (b : BoardView) (accepted : IsAccepted b) (limit : ℕ) (p : Progress) 
         }
 
     pub shown-unsolvable : p.frame.whole ≡ true → (entries : List Entry) → p.best ≡ None
-        → AreFirstEntries b claim.Unsolvable p (length p.table) entries → All FitsEntry entries → IsShownUnsolvable b.rows limit entries
+        → AreFirstEntries b claim.Unsolvable p (length p.table) entries → All FitsEntry entries → IsProvedUnsolvable b.rows limit entries
     shown-unsolvable whole entries is are fit =
         record { unsolvable = unsolvable is; certified = certifies whole claim.Unsolvable entries tt are fit }
 
     pub shown-solved : p.frame.whole ≡ true → length p.table ≤ state_limit → (k : ℕ) (w : List Dir) (entries : List Entry) → p.best ≡ Some k
         → AreFirstEntries b (claim.Pushes k) p (length p.table) entries → All FitsEntry entries → IsSolvedWithin b (length p.table) k w
-        → IsShownSolved b.rows limit w k entries
+        → IsProvedSolved b.rows limit w k entries
     shown-solved whole small k w entries is are fit within =
         let solution = least-solution k w is within in
         let above = solution.fewest.least w solution.solves in

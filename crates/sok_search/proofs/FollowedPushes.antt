@@ -1,5 +1,5 @@
 -- Pushes are followed one after another.
-use Rattle.std.proofs.Common.{ℕ, ◌≡◌, ◌<◌, ◌+◌, ◌∙◌, inl, inr, refl, sym, ap, subst, List, Some, Contains, Result, Ok, Err, arith, slice_get}
+use Rattle.std.proofs.Common.{ℕ, ◌≡◌, ◌<◌, ◌+◌, ◌∙◌, inl, inr, refl, sym, ap, subst, List, Some, Result, Ok, Err, arith, slice_get}
 use Rattle.std.specs.Result.{OnOk}
 use Rattle.std.specs.Map.{values_of}
 use Rattle.std.proofs.lemmas.Bool.{cases_eq}
@@ -11,10 +11,7 @@ use Rattle.sok_state.specs.Tables.{IsAt}
 use Rattle.sok_search.specs.declared.note.Note.{Note}
 use Rattle.sok_search.specs.Searches.{Progress, IsMet, IsSearch, IsState}
 use Rattle.sok_search.specs.Steps.{IsPushed, holding}
-use Rattle.sok_state.specs.Pushes.{IsLegal}
-use Rattle.sok_search.specs.declared.reaching.Reached.{Reached}
-use Rattle.sok_search.specs.declared.reaching.Reached.TheVariants.{On, Full}
-use Rattle.sok_search.specs.Views.{HasFollowed, TellsExpanded, TellsFollowed}
+use Rattle.sok_search.specs.Views.{HasFollowed}
 use Rattle.sok_search.proofs.Adding.{taken}
 use Rattle.sok_search.proofs.Invariant.{met-along}
 
@@ -70,13 +67,6 @@ pub held-stays : (b : BoardView) (limit : ℕ) (p q : Progress) (index : ℕ) (k
 held-stays b limit p q index key depth Followed search there depth_is followed =
     let one = taken b limit index p key depth search there depth_is in
     (one.note, followed.stay index key depth one.note (omega arith) (record { there = there; depth_is = depth_is; note_is = one.note_is }))
-
--- a list of all legal pushes was followed
-pub told-expanded : (b : BoardView) (limit : ℕ) (p q : Progress) (index : ℕ) (key : Key) (depth : ℕ) (pushes : List Push)
-    → ((push : Push) → IsLegal b key push → Contains pushes push) → (r : Reached) → TellsFollowed b limit p index key depth pushes q r
-    → TellsExpanded b limit p index key depth q r
-told-expanded b limit p q index key depth pushes whole On followed = followed-along b limit p q index key depth (Contains pushes) (IsLegal b key) whole followed
-told-expanded b limit p q index key depth pushes whole Full more = more
 
 -- what holds after an answer, and so what follows
 pub both-ok : {X E P Q R : Type 0} (r : Result X E) → (P → Q → R) → OnOk r P → OnOk r Q → OnOk r R

@@ -9,13 +9,11 @@ use Rattle.sok_board.proofs.Lists.{Contains-cons, Contains-cons_cases}
 use Rattle.sok_state.specs.declared.key.Key.{Key}
 use Rattle.sok_state.specs.Pushes.{IsLegal}
 use Rattle.sok_search.specs.declared.note.Note.{Note}
-use Rattle.sok_search.specs.declared.reaching.Reached.{Reached}
-use Rattle.sok_search.specs.declared.reaching.Reached.TheVariants.{On}
 use Rattle.sok_search.specs.declared.note.Standing.{Standing}
 use Rattle.sok_search.specs.declared.note.Standing.TheVariants.{Open, Expanded, Dead, Lost}
 use Rattle.sok_search.specs.Searches.{Progress, IsBeaten, IsSearch, IsSolved, IsState, Stands}
 use Rattle.sok_search.specs.Steps.{HasOneMore, Queues, done, holding, work}
-use Rattle.sok_search.specs.Views.{HasFollowed, IsCutOff, IsTurned, TellsTurned}
+use Rattle.sok_search.specs.Views.{HasFollowed, IsCutOff, IsTurned}
 use Rattle.sok_search.proofs.TakenIndices.{keeps-dropped, keeps-expanded, keeps-solved}
 use Rattle.sok_search.proofs.Invariant.{keeps-queue}
 use Rattle.sok_search.proofs.StatesByIndex.{known-at}
@@ -84,12 +82,10 @@ work-taken limit index p rest taken =
     as_much ((limit - length p.table) * (2 * limit + 2)) (sum_by (λ d. d) (values_of p.table)) (length (index ∷ rest)) (length p.queue) (omega (arith, longer))
 
 -- a turn of an index that was taken out is one of the whole search
-pub turned-taken : (b : BoardView) (limit index : ℕ) (p q : Progress) (rest : List ℕ) (reached : Reached) → HasOneMore rest index p.queue
-    → TellsTurned b limit (holding index (record p { queue = rest })) q reached → reached ≡ On → IsTurned b limit p q
-turned-taken b limit index p q rest reached taken tells on =
-    let held : Progress = holding index (record p { queue = rest }) in
-    let told : IsTurned b limit held q = subst (TellsTurned b limit held q) on tells in
-    record { search = told.search; whole = told.whole; less = subst (λ n. work limit q < n) (work-taken limit index p rest taken) told.less }
+pub turned-taken : (b : BoardView) (limit index : ℕ) (p q : Progress) (rest : List ℕ) → HasOneMore rest index p.queue
+    → IsTurned b limit (holding index (record p { queue = rest })) q → IsTurned b limit p q
+turned-taken b limit index p q rest taken turned =
+    record { search = turned.search; whole = turned.whole; less = subst (λ n. work limit q < n) (work-taken limit index p rest taken) turned.less }
 
 -- what is not open stands without waiting
 pub let-go : (b : BoardView) (limit index : ℕ) (p : Progress) (note : Note) → IsSearch b limit (holding index p) → slice_get p.notes index ≡ Some note

@@ -27,7 +27,7 @@ use Rattle.sok_state.proofs.States.{keys_equal}
 use Rattle.sok_closed.proofs.Looking.{standing-after}
 use Rattle.sok_search.specs.declared.walkthrough.Walkthrough.{Walkthrough}
 use Rattle.sok_search.specs.Searches.{IsSolved}
-use Rattle.sok_search.specs.Walkthroughs.{GoesOn, IsBegun, IsFollowed, IsSolvedWith, IsSolvingTrace, IsWalkthrough, LeadBy, Leads, pushes_of}
+use Rattle.sok_search.specs.Walkthroughs.{GoesOn, IsAtStart, FollowsPush, IsSolvedWith, IsSolvingTrace, IsWalkthrough, LeadBy, Leads, pushes_of}
 use Rattle.sok_search.proofs.Chains.{pushes-push, run-push}
 
 -- the first push of a chain, which stands last
@@ -60,7 +60,7 @@ under_way-legal b total walkthrough rest push whole is under_way =
 
 pub under_way-more : (b : BoardView) → IsAccepted b → (total : ℕ) (walkthrough after : Walkthrough) (rest : List Push) (push : Push) (whole : List Push)
     → whole ≡ rest ++ push ∷ [] → IsUnderWay b total walkthrough whole
-    → IsFollowed b walkthrough push after → IsUnderWay b total after rest
+    → FollowsPush b walkthrough push after → IsUnderWay b total after rest
 under_way-more b accepted total walkthrough after rest push whole is under_way followed =
     let (next, first, lead) = LeadBy-first b walkthrough.key under_way.to rest push (subst (λ w. LeadBy b walkthrough.key w under_way.to) is under_way.lead) in
     let is_next = followed.leads first.after first.leads in
@@ -89,7 +89,7 @@ under_way-all b total walkthrough rest none under_way =
       ends = under_way.is.ends;
     }
 
-pub under_way-none : (b : BoardView) → IsAccepted b → (walkthrough : Walkthrough) (trace : List Push) → IsSolvingTrace b trace → IsBegun b walkthrough
+pub under_way-none : (b : BoardView) → IsAccepted b → (walkthrough : Walkthrough) (trace : List Push) → IsSolvingTrace b trace → IsAtStart b walkthrough
     → IsUnderWay b (length trace) walkthrough trace
 under_way-none b accepted walkthrough trace solving begun =
     let same : solving.from ≡ walkthrough.key = keys_equal b accepted.numbered (start b.rows) (start b.rows) solving.from walkthrough.key
@@ -106,7 +106,7 @@ under_way-none b accepted walkthrough trace solving begun =
 -- the start
 pub begun-start : (b : BoardView) → IsAccepted b → (walkthrough : Walkthrough) (boxes : List ℕ) → IsKey b walkthrough.key → IsKeyOf b (start b.rows) walkthrough.key
     → walkthrough.player < length b.area
-    → position_of b walkthrough.player boxes ≡ start b.rows → walkthrough.letters.items ≡ [] → IsBegun b walkthrough
+    → position_of b walkthrough.player boxes ≡ start b.rows → walkthrough.letters.items ≡ [] → IsAtStart b walkthrough
 begun-start b accepted walkthrough boxes state is exists begins none =
     let kept : (start b.rows).boxes ≡ (key_position b walkthrough.key).boxes = sym (boxes-Same b.rows (start b.rows) (key_position b walkthrough.key) is.same) in
     let stands : start b.rows ≡ position_of b walkthrough.player walkthrough.key.boxes = λ i. record { man = (sym begins i).man; boxes = kept i } in
@@ -158,7 +158,7 @@ module _ (b : BoardView) (old new : Walkthrough) (push : Push) (walkthrough : Is
       let sum = pushes-append b.rows old.letters.items on.walk.0 (start b.rows) here walkthrough.leads in
       omega (arith, quiet, sum)
 
-  pub followed-made : IsFollowed b old push new
+  pub followed-made : FollowsPush b old push new
   followed-made = record {
     walkthrough = record {
       state = state;

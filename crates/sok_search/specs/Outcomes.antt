@@ -43,12 +43,12 @@ pub record Certifies (rows : Rows) (limit : ℕ) (shown : Claim) (entries : List
   pub few : length entries ≤ limit
 
 -- no list solves, and a certificate shows it
-pub record IsShownUnsolvable (rows : Rows) (limit : ℕ) (entries : List Entry) : Type 0 where
+pub record IsProvedUnsolvable (rows : Rows) (limit : ℕ) (entries : List Entry) : Type 0 where
   pub unsolvable : IsUnsolvable rows
   pub certified : Certifies rows limit claim.Unsolvable entries
 
 -- a list solves with the fewest pushes, and a certificate shows that it does
-pub record IsShownSolved (rows : Rows) (limit : ℕ) (w : List Dir) (n : ℕ) (entries : List Entry) : Type 0 where
+pub record IsProvedSolved (rows : Rows) (limit : ℕ) (w : List Dir) (n : ℕ) (entries : List Entry) : Type 0 where
   pub solution : IsLeastSolution rows w n
   pub certified : Certifies rows limit (claim.Pushes n) entries
 
@@ -84,10 +84,10 @@ pub record IsCutShort (rows : Rows) (limit states least : ℕ) : Type 0 where
   pub halted : HasHalted rows limit least
 
 -- what is found of a level within a limit
-abbrev pub IsFound : Rows → ℕ → Found → Type 0
-IsFound rows limit (found.Solved dirs pushes) = IsLeastSolution rows dirs.items pushes × HasSearched rows limit (Some pushes)
-IsFound rows limit found.Unsolvable = IsUnsolvable rows × HasSearched rows limit None
-IsFound rows limit (found.Limit states at_least) = IsCutShort rows limit states at_least
+abbrev pub IsFoundWithin : Rows → ℕ → Found → Type 0
+IsFoundWithin rows limit (found.Solved dirs pushes) = IsLeastSolution rows dirs.items pushes × HasSearched rows limit (Some pushes)
+IsFoundWithin rows limit found.Unsolvable = IsUnsolvable rows × HasSearched rows limit None
+IsFoundWithin rows limit (found.Limit states at_least) = IsCutShort rows limit states at_least
 
 -- a certificate of a claim, whose entries are so
 abbrev pub OfClaim : Claim → (List Entry → Type 0) → Certificate → Type 0
@@ -100,17 +100,17 @@ ShowsLeast rows limit wanted least certificate =
 
 -- What is found of a level within a limit, and which entries were taken: those of a certificate that shows it; where it is a limit, only if that is wanted,
 -- and else none.
-abbrev pub IsShown : (List Entry → Type 0) → Rows → ℕ → Bool → Found → Type 0
-IsShown Took rows limit wanted (found.Solved dirs pushes) = (entries : List Entry) × Took entries × IsShownSolved rows limit dirs.items pushes entries
-IsShown Took rows limit wanted found.Unsolvable = (entries : List Entry) × Took entries × IsShownUnsolvable rows limit entries
-IsShown Took rows limit wanted (found.Limit states least) =
+abbrev pub IsFoundWithProof : (List Entry → Type 0) → Rows → ℕ → Bool → Found → Type 0
+IsFoundWithProof Took rows limit wanted (found.Solved dirs pushes) = (entries : List Entry) × Took entries × IsProvedSolved rows limit dirs.items pushes entries
+IsFoundWithProof Took rows limit wanted found.Unsolvable = (entries : List Entry) × Took entries × IsProvedUnsolvable rows limit entries
+IsFoundWithProof Took rows limit wanted (found.Limit states least) =
     IsCutShort rows limit states least
     × MatchBool wanted ((entries : List Entry) × Took entries × Certifies rows limit (claim.Pushes least) entries) (Took [])
 
 -- what is answered of a level within a limit, where a certificate is wanted of what a search shows that was cut off, or not
 abbrev pub IsOutcome : Rows → ℕ → Bool → Outcome → Type 0
-IsOutcome rows limit wanted (Solved dirs pushes certificate) = OfClaim (claim.Pushes pushes) (IsShownSolved rows limit dirs.items pushes) certificate
-IsOutcome rows limit wanted (Unsolvable certificate) = OfClaim claim.Unsolvable (IsShownUnsolvable rows limit) certificate
+IsOutcome rows limit wanted (Solved dirs pushes certificate) = OfClaim (claim.Pushes pushes) (IsProvedSolved rows limit dirs.items pushes) certificate
+IsOutcome rows limit wanted (Unsolvable certificate) = OfClaim claim.Unsolvable (IsProvedUnsolvable rows limit) certificate
 IsOutcome rows limit wanted (Limit states at_least certificate) =
     IsCutShort rows limit states at_least × ShowsLeast rows limit wanted at_least certificate
 

@@ -90,13 +90,13 @@ pub record IsSolvedWith (b : BoardView) (n : ℕ) (w : List Dir) : Type 0 where
   pub ends : EndsWithPush b.rows w
 
 -- the start, with no letters
-pub record IsBegun (b : BoardView) (walkthrough : Walkthrough) : Type 0 where
+pub record IsAtStart (b : BoardView) (walkthrough : Walkthrough) : Type 0 where
   pub is : IsKeyOf b (start b.rows) walkthrough.key
   pub walkthrough_is : IsWalkthrough b walkthrough
   pub no_letters : walkthrough.letters.items ≡ []
 
 -- a walkthrough with one push more
-pub record IsFollowed (b : BoardView) (old : Walkthrough) (push : Push) (new : Walkthrough) : Type 0 where
+pub record FollowsPush (b : BoardView) (old : Walkthrough) (push : Push) (new : Walkthrough) : Type 0 where
   pub walkthrough : IsWalkthrough b new
   pub one_more : pushes_of b new.letters.items ≡ pushes_of b old.letters.items + 1
   pub leads : (after : Position) → LeadsTo b old.key push after → IsKeyOf b after new.key

@@ -2,7 +2,7 @@
 
 ghost use Rattle.std.specs.Prelude.{List, ◌≡◌, ◌∷◌, ◌++◌, [], OnOk};
 ghost use Rattle.sok_cert.specs.Entry.{Entry};
-ghost use Rattle.sok_cert.specs.Text.{entry_of};
+ghost use Rattle.sok_cert.specs.Text.{entry_from};
 
 use sok_cert::entry::{Entry, Numbers, Reason};
 use std::alloc::{AllocError, Global};
@@ -23,7 +23,7 @@ pub trait Entries {
         reason: Reason,
     ) -> Result<(), AllocError>
         ensures { OnOk result ((entries : List Entry) → took entries self.old
-            → took (entries ++ entry_of depth player boxes.now reason ∷ []) self.new) };
+            → took (entries ++ entry_from depth player boxes.now reason ∷ []) self.new) };
 }
 
 /// They are kept as they are.

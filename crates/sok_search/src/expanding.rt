@@ -8,12 +8,14 @@ ghost use Rattle.sok_state.specs.Keys.{IsKey};
 ghost use Rattle.sok_state.specs.declared.push.Push.{Push};
 ghost use Rattle.sok_state.specs.Pushes.{IsLegal, IsOpened};
 ghost use Rattle.sok_search.specs.PushScratches.{IsReady, IsPushScratch};
-ghost use Rattle.sok_search.specs.Views.{progress_of, HoldsState, TellsFollowed, TellsExpanded};
+ghost use Rattle.sok_search.specs.Steps.{holding};
+ghost use Rattle.sok_search.specs.Views.{progress_of, CutsOff, HasFollowed, HoldsState};
 
 use crate::note::Origin;
 use crate::push_scratch::PushScratch;
-use crate::reaching::{Reached, reach};
+use crate::reaching::reach;
 use crate::search::Search;
+use crate::stop::Stop;
 use sok_board::area::Sq;
 use sok_board::board::Board;
 use sok_distance::setting::Setting;
@@ -143,7 +145,7 @@ fn follow(
     key: &Key,
     depth: u32,
     pushes: &[Push],
-) -> Result<Reached, Memory>
+) -> Result<(), Stop>
     requires state { HoldsState setting.now.board.now limit index key.now depth search.old }
     requires push_scratch { IsPushScratch setting.now.board.now key.now.boxes push_scratch.old.matching
         push_scratch.old.matched }
@@ -152,12 +154,14 @@ fn follow(
     ensures push_scratch { OnOk result
         (IsPushScratch setting.now.board.now key.now.boxes push_scratch.new.matching push_scratch.new.matched) }
     ensures opened { OnOk result (IsOpened setting.now.board.now key.now push_scratch.new.scene) }
-    ensures tells { IfOk result (TellsFollowed setting.now.board.now limit
-        (progress_of search.old) index
-        key.now depth pushes.now (progress_of search.new)) }
+    ensures followed { OnOk result (HasFollowed setting.now.board.now limit
+        (progress_of search.old) index key.now depth (Contains pushes.now)
+        (progress_of search.new)) }
+    ensures cut { CutsOff setting.now.board.now limit search.old
+        (holding index (progress_of search.new)) result }
 {
     for push in pushes {
-        match reach(
+        reach(
             alloc,
             setting,
             limit,
@@ -167,12 +171,9 @@ fn follow(
             key,
             depth,
             *push,
-        )? {
-            Reached::On => {}
-            Reached::Full => return Ok(Reached::Full),
-        }
+        )?;
     }
-    Ok(Reached::On)
+    Ok(())
 }
 
 /// Follows each legal push from a state that was taken.
@@ -186,13 +187,15 @@ pub(crate) fn expand(
     key: &Key,
     depth: u32,
     origin: Option<Origin>,
-) -> Result<Reached, Memory>
+) -> Result<(), Stop>
     requires state { HoldsState setting.now.board.now limit index key.now depth search.old }
     requires ready { IsReady setting.now.board.now scratch.old }
     ensures ready { OnOk result (IsReady setting.now.board.now scratch.new) }
-    ensures tells { IfOk result (TellsExpanded setting.now.board.now limit
-        (progress_of search.old) index
-        key.now depth (progress_of search.new)) }
+    ensures followed { OnOk result (HasFollowed setting.now.board.now limit
+        (progress_of search.old) index key.now depth (IsLegal setting.now.board.now key.now)
+        (progress_of search.new)) }
+    ensures cut { CutsOff setting.now.board.now limit search.old
+        (holding index (progress_of search.new)) result }
 {
     scratch.push_scratch.matched = false;
     scratch.open(alloc, setting.board, index as u32, key, origin)?;

@@ -21,6 +21,7 @@
 //! | `reaching` | a push is followed (private) |
 //! | `running` | one state is taken after another (private) |
 //! | `search` | what a search knows (private) |
+//! | `stop` | why a search stops before its end (private) |
 //! | `tracing` | the pushes that lead to a solved state (private) |
 //! | `walkthrough` | the letters that make pushes one after another (private) |
 #![tactic(auto)]
@@ -43,5 +44,6 @@ mod reaching;
 mod running;
 mod search;
 pub mod solve;
+mod stop;
 mod tracing;
 mod walkthrough;

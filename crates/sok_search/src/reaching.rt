@@ -6,13 +6,14 @@ ghost use Rattle.sok_board.specs.Area.{IsAccepted, beside};
 ghost use Rattle.sok_board.specs.BoxSets.{put_in_order};
 ghost use Rattle.sok_state.specs.Keys.{IsKey};
 ghost use Rattle.sok_state.specs.Pushes.{IsLegal, IsOpened};
-ghost use Rattle.sok_search.specs.Steps.{Nears, reopened};
+ghost use Rattle.sok_search.specs.Steps.{IsPushed, Nears, holding, reopened};
 ghost use Rattle.sok_search.specs.PushScratches.{IsPushScratch};
-ghost use Rattle.sok_search.specs.Views.{progress_of, HoldsState, TellsReached};
+ghost use Rattle.sok_search.specs.Views.{progress_of, CutsOff, HoldsState};
 
 use crate::note::{Note, Origin, Standing};
 use crate::push_scratch::{PushScratch, judge_after};
 use crate::search::{Search, add, lower};
+use crate::stop::Stop;
 use sok_alone::losses::Losses;
 use sok_board::area::Sq;
 use sok_board::board::Board;
@@ -23,14 +24,6 @@ use sok_state::push::Push;
 use sok_state::scene::Scene;
 use sok_state::stepping::square_ahead;
 use std::alloc::Global;
-
-/// That a search goes on, or that its table is full and lacks a state that is reached: then the
-/// search is cut off.
-#[derive(Clone, Copy, Debug)]
-pub(crate) enum Reached {
-    On,
-    Full,
-}
 
 /// A state that was expanded is open again.
 fn reopened(standing: Standing) -> Standing
@@ -104,7 +97,7 @@ pub(crate) fn reach(
     key: &Key,
     depth: u32,
     push: Push,
-) -> Result<Reached, Memory>
+) -> Result<(), Stop>
     requires state { HoldsState setting.now.board.now limit index key.now depth search.old }
     requires push_scratch { IsPushScratch setting.now.board.now key.now.boxes push_scratch.old.matching
         push_scratch.old.matched }
@@ -113,19 +106,21 @@ pub(crate) fn reach(
     ensures push_scratch { OnOk result
         (IsPushScratch setting.now.board.now key.now.boxes push_scratch.new.matching push_scratch.new.matched) }
     ensures opened { OnOk result (IsOpened setting.now.board.now key.now push_scratch.new.scene) }
-    ensures tells { IfOk result (TellsReached setting.now.board.now limit
-        (progress_of search.old) index
-        key.now depth push (progress_of search.new)) }
+    ensures pushed { OnOk result (IsPushed setting.now.board.now limit
+        (holding index (progress_of search.old)) key.now depth push
+        (holding index (progress_of search.new))) }
+    ensures cut { CutsOff setting.now.board.now limit search.old
+        (holding index (progress_of search.new)) result }
 {
     let to = square_ahead(setting.board, push);
     if !search.whole && setting.distances.stuck(to) {
-        return Ok(Reached::On);
+        return Ok(());
     }
     let known = search.table.len();
     let losses = &mut search.losses;
     let lost = ask(alloc, setting, losses, known, key, push, to)?;
     if !search.whole && lost.is_some() {
-        return Ok(Reached::On);
+        return Ok(());
     }
     arrive(
         alloc,
@@ -154,14 +149,17 @@ fn arrive_full(
     key: &Key,
     depth: u32,
     push: Push,
-) -> Result<Reached, Memory>
+) -> Result<(), Stop>
     requires state { HoldsState board.now limit index key.now depth search.old }
     requires full { limit ≤ length search.old.table.entries }
     requires opened { IsOpened board.now key.now scene.old }
     requires legal { IsLegal board.now key.now push }
     ensures opened { OnOk result (IsOpened board.now key.now scene.new) }
-    ensures tells { IfOk result (TellsReached board.now limit (progress_of search.old) index
-        key.now depth push (progress_of search.new)) }
+    ensures pushed { OnOk result (IsPushed board.now limit
+        (holding index (progress_of search.old)) key.now depth push
+        (holding index (progress_of search.new))) }
+    ensures cut { CutsOff board.now limit search.old
+        (holding index (progress_of search.new)) result }
 {
     let next = scene.after(alloc, board, key, push)?;
     match search.table.get(&next) {
@@ -171,9 +169,9 @@ fn arrive_full(
                 push,
             });
             approach(search, at, depth + 1, origin)?;
-            Ok(Reached::On)
+            Ok(())
         }
-        None => Ok(Reached::Full),
+        None => Err(Stop::Cut),
     }
 }
 
@@ -191,7 +189,7 @@ fn arrive(
     push: Push,
     to: Sq,
     lost: Option<u32>,
-) -> Result<Reached, Memory>
+) -> Result<(), Stop>
     requires state { HoldsState setting.now.board.now limit index key.now depth search.old }
     requires push_scratch { IsPushScratch setting.now.board.now key.now.boxes push_scratch.old.matching
         push_scratch.old.matched }
@@ -203,9 +201,11 @@ fn arrive(
     ensures push_scratch { OnOk result
         (IsPushScratch setting.now.board.now key.now.boxes push_scratch.new.matching push_scratch.new.matched) }
     ensures opened { OnOk result (IsOpened setting.now.board.now key.now push_scratch.new.scene) }
-    ensures tells { IfOk result (TellsReached setting.now.board.now limit
-        (progress_of search.old) index
-        key.now depth push (progress_of search.new)) }
+    ensures pushed { OnOk result (IsPushed setting.now.board.now limit
+        (holding index (progress_of search.old)) key.now depth push
+        (holding index (progress_of search.new))) }
+    ensures cut { CutsOff setting.now.board.now limit search.old
+        (holding index (progress_of search.new)) result }
 {
     if search.table.len() >= limit as usize {
         let scene = &mut push_scratch.scene;
@@ -231,9 +231,9 @@ fn arrive(
     let (at, is_new) = search.table.insert_next(index, from, to, least, deeper)?;
     if !is_new {
         approach(search, at, deeper, origin)?;
-        return Ok(Reached::On);
+        return Ok(());
     }
     let standing = judge_after(alloc, setting, push_scratch, &key.boxes, from, to, lost)?;
     add(search, at, deeper, Note { origin, standing })?;
-    Ok(Reached::On)
+    Ok(())
 }

@@ -1,20 +1,19 @@
 //! The search.
 
-ghost use Rattle.std.specs.Prelude.{◌≡◌, ◌<◌, ◌+◌, ◌↔◌, IfOk, IsTrue, OnOk, Some};
+ghost use Rattle.std.specs.Prelude.{◌≡◌, ◌<◌, ◌+◌, ◌↔◌, IsTrue, OnOk, Some};
 ghost use Rattle.std.specs.Prelude.{length, slice_get, slice_set};
 ghost use Rattle.sok_search.specs.Searches.{IsBeaten};
 ghost use Rattle.sok_search.specs.Steps.{done, holding};
 ghost use Rattle.sok_search.specs.PushScratches.{IsReady};
-ghost use Rattle.sok_search.specs.Views.{progress_of, IsRunning, TellsTurned, TellsFinished};
+ghost use Rattle.sok_search.specs.Views.{progress_of, CutsOff, IsFinished, IsRunning, TakesTurn};
 ghost use Rattle.sok_search.specs.declared.note.Standing.TheVariants.{Open};
 
 use crate::expanding::{Scratch, expand};
 use crate::note::{Note, Standing};
-use crate::reaching::Reached;
 use crate::search::{Search, wait};
+use crate::stop::Stop;
 use sok_closed::solved::is_solved;
 use sok_distance::setting::Setting;
-use sok_rules::fault::Memory;
 use std::alloc::Global;
 
 /// Whether a solution with no more pushes is known.
@@ -46,23 +45,23 @@ fn visit(
     index: usize,
     note: Note,
     bound: u32,
-) -> Result<Reached, Memory>
+) -> Result<(), Stop>
     requires held { IsRunning setting.now.board.now limit (holding index (progress_of search.old)) }
     requires ready { IsReady setting.now.board.now scratch.old }
     requires noted { slice_get search.old.notes.items index ≡ Some note }
     requires is_open { note.standing ≡ Open bound }
     ensures ready { OnOk result (IsReady setting.now.board.now scratch.new) }
-    ensures tells { IfOk result (TellsTurned setting.now.board.now limit
-        (holding index (progress_of search.old)) (progress_of search.new)) }
+    ensures turned { OnOk result (TakesTurn setting.now.board.now limit index search.old search.new) }
+    ensures cut { CutsOff setting.now.board.now limit search.old (progress_of search.new) result }
 {
     let depth = search.table.depth(index);
     if is_beaten(search.best, depth, bound) {
-        return Ok(Reached::On);
+        return Ok(());
     }
     let key = search.table.key(alloc, &mut scratch.squares, index)?;
     if is_solved(setting.board, &key.boxes) {
         search.best = Some(depth);
-        return Ok(Reached::On);
+        return Ok(());
     }
     match expand(
         alloc,
@@ -74,17 +73,17 @@ fn visit(
         &key,
         depth,
         note.origin,
-    )? {
-        Reached::On => {
+    ) {
+        Ok(()) => {
             let standing = Standing::Expanded(bound);
             let origin = note.origin;
             mark(search, index, Note { origin, standing });
-            Ok(Reached::On)
+            Ok(())
         }
-        Reached::Full => {
+        Err(stop) => {
             // It waits still.
             wait(&mut search.queue, index as u32, depth, note.standing)?;
-            Ok(Reached::Full)
+            Err(stop)
         }
     }
 }
@@ -97,19 +96,19 @@ fn turn(
     search: &mut Search,
     scratch: &mut Scratch,
     index: usize,
-) -> Result<Reached, Memory>
+) -> Result<(), Stop>
     requires held { IsRunning setting.now.board.now limit (holding index (progress_of search.old)) }
     requires ready { IsReady setting.now.board.now scratch.old }
     ensures ready { OnOk result (IsReady setting.now.board.now scratch.new) }
-    ensures tells { IfOk result (TellsTurned setting.now.board.now limit
-        (holding index (progress_of search.old)) (progress_of search.new)) }
+    ensures turned { OnOk result (TakesTurn setting.now.board.now limit index search.old search.new) }
+    ensures cut { CutsOff setting.now.board.now limit search.old (progress_of search.new) result }
 {
     let note = search.notes[index];
     match note.standing {
         Standing::Open(bound) => visit(alloc, setting, limit, search, scratch, index, note, bound),
-        Standing::Expanded(_) => Ok(Reached::On),
-        Standing::Dead => Ok(Reached::On),
-        Standing::Lost(_) => Ok(Reached::On),
+        Standing::Expanded(_) => Ok(()),
+        Standing::Dead => Ok(()),
+        Standing::Lost(_) => Ok(()),
     }
 }
 
@@ -120,18 +119,15 @@ pub(crate) fn search_on(
     limit: u32,
     search: &mut Search,
     scratch: &mut Scratch,
-) -> Result<Reached, Memory>
+) -> Result<(), Stop>
     requires running { IsRunning setting.now.board.now limit (progress_of search.old) }
     requires ready { IsReady setting.now.board.now scratch.old }
-    ensures { IfOk result
-        (TellsFinished setting.now.board.now limit (progress_of search.old)
-        (progress_of search.new)) }
+    ensures finished { OnOk result (IsFinished setting.now.board.now limit
+        (progress_of search.old) (progress_of search.new)) }
+    ensures cut { CutsOff setting.now.board.now limit search.old (progress_of search.new) result }
 {
     while let Some(index) = search.queue.pop() {
-        match turn(alloc, setting, limit, search, scratch, index as usize)? {
-            Reached::On => {}
-            Reached::Full => return Ok(Reached::Full),
-        }
+        turn(alloc, setting, limit, search, scratch, index as usize)?;
     }
-    Ok(Reached::On)
+    Ok(())
 }

@@ -1,15 +1,14 @@
 //! The solver.
 
-ghost use Rattle.std.specs.Prelude.{ℕ, ◌≡◌, ◌<◌, ◌≤◌, ◌↔◌, [], Bool, IfOk, IsTrue, length, true};
+ghost use Rattle.std.specs.Prelude.{ℕ, ◌≡◌, ◌<◌, ◌≤◌, ◌↔◌, [], Bool, IfOk, IsTrue, OnOk, length, true};
 ghost use Rattle.sok_rules.specs.Squares.{Rows};
 ghost use Rattle.sok_board.specs.Area.{IsAccepted};
 ghost use Rattle.sok_search.specs.Faults.{IsAcceptedWithin, IsBadLimit, TellsFault};
 ghost use Rattle.sok_search.specs.Limits.{state_limit};
-ghost use Rattle.sok_search.specs.Outcomes.{IsAnswer, IsBounded, IsFound, IsOutcome, IsShown};
+ghost use Rattle.sok_search.specs.Outcomes.{IsAnswer, IsBounded, IsFoundWithProof, IsFoundWithin, IsOutcome};
 ghost use Rattle.sok_search.specs.Searches.{IsSearch, IsSearching, IsSmallSearch};
 ghost use Rattle.sok_search.specs.Walkthroughs.{IsSolvedWithin};
-ghost use Rattle.sok_search.specs.Views.{progress_of, IsCutOff, IsEmpty, IsRunning, TellsFinished};
-ghost use Rattle.sok_search.specs.Views.{TellsSearched};
+ghost use Rattle.sok_search.specs.Views.{progress_of, CutsOff, IsCutOff, IsEmpty, IsSearched};
 
 use crate::beginning::{empty, enter_start};
 use crate::certifying::certify;
@@ -19,9 +18,9 @@ use crate::fault::SolveFault;
 use crate::found::Found;
 use crate::halted::least_open;
 use crate::outcome::Outcome;
-use crate::reaching::Reached;
 use crate::running::search_on;
 use crate::search::{Search, let_go};
+use crate::stop::Stop;
 use crate::tracing::{find_solved, trace};
 use crate::walkthrough::letters;
 use sok_board::board::Board;
@@ -70,7 +69,7 @@ pub fn solve_into<C: Entries>(
 ) -> Result<Found, SolveFault>
     requires { C.took [] entries.old }
     ensures shown { IfOk result
-        (IsShown (λ taken. C.took taken entries.new) level.now limit bound) }
+        (IsFoundWithProof (λ taken. C.took taken entries.new) level.now limit bound) }
     ensures tells { TellsFault level.now limit result }
 {
     let board = accept(alloc, level, limit)?;
@@ -83,7 +82,7 @@ pub fn solve_into<C: Entries>(
 /// solved, were they alone on the board, are not kept. So there may be an answer where `solve` tells
 /// that there are more states than the limit.
 pub fn find(alloc: Global, level: &Level, limit: u32) -> Result<Found, SolveFault>
-    ensures found { IfOk result (IsFound level.now limit) }
+    ensures found { IfOk result (IsFoundWithin level.now limit) }
     ensures tells { TellsFault level.now limit result }
 {
     let board = accept(alloc, level, limit)?;
@@ -106,7 +105,7 @@ fn outcome(alloc: Global, level: &Level, limit: u32, wanted: bool) -> Result<Out
 /// What was found, with the certificate that has these entries.
 fn certified(found: Found, wanted: bool, entries: Vec<Entry>) -> Outcome
     ensures { (rows : Rows) (limit : ℕ)
-        → IsShown (λ taken. entries.items ≡ taken) rows limit wanted found
+        → IsFoundWithProof (λ taken. entries.items ≡ taken) rows limit wanted found
         → IsOutcome rows limit wanted result }
 {
     match found {
@@ -173,7 +172,7 @@ fn answer<C: Entries>(
     requires small { limit ≤ state_limit }
     requires none { C.took [] entries.old }
     ensures { IfOk result
-        (IsShown (λ taken. C.took taken entries.new) board.now.rows limit wanted) }
+        (IsFoundWithProof (λ taken. C.took taken entries.new) board.now.rows limit wanted) }
 {
     // Its clauses tell that the level is accepted.
     let _level = board.level();
@@ -199,23 +198,24 @@ fn answer_by<C: Entries>(
     requires whole { search.old.whole ≡ true }
     requires none { C.took [] entries.old }
     ensures { IfOk result
-        (IsShown (λ taken. C.took taken entries.new) board.now.rows limit wanted) }
+        (IsFoundWithProof (λ taken. C.took taken entries.new) board.now.rows limit wanted) }
 {
     let distances = Distances::new(alloc, board)?;
     let setting = Setting {
         board,
         distances: &distances,
     };
-    match search_all(alloc, &setting, limit, search)? {
-        Reached::On => conclude(alloc, &setting, search, entries),
-        Reached::Full => halt(alloc, &setting, limit, wanted, search, entries),
+    match search_all(alloc, &setting, limit, search) {
+        Ok(()) => conclude(alloc, &setting, search, entries),
+        Err(Stop::Cut) => halt(alloc, &setting, limit, wanted, search, entries),
+        Err(Stop::Memory) => Err(Memory),
     }
 }
 
 /// What is found of a board within a limit.
 fn find_on(alloc: Global, board: &Board, limit: u32) -> Result<Found, Memory>
     requires { 0 < limit }
-    ensures { IfOk result (IsFound board.now.rows limit) }
+    ensures { IfOk result (IsFoundWithin board.now.rows limit) }
 {
     // Its clauses tell that the level is accepted.
     let _level = board.level();
@@ -230,19 +230,20 @@ fn find_by(alloc: Global, board: &Board, limit: u32, search: &mut Search) -> Res
     requires accepted { IsAccepted board.now }
     requires positive { 0 < limit }
     requires empty { IsEmpty board.now search.old }
-    ensures { IfOk result (IsFound board.now.rows limit) }
+    ensures { IfOk result (IsFoundWithin board.now.rows limit) }
 {
     let distances = Distances::new(alloc, board)?;
     let setting = Setting {
         board,
         distances: &distances,
     };
-    match search_all(alloc, &setting, limit, search)? {
-        Reached::On => find_in(alloc, board, search),
-        Reached::Full => Ok(Found::Limit {
+    match search_all(alloc, &setting, limit, search) {
+        Ok(()) => find_in(alloc, board, search),
+        Err(Stop::Cut) => Ok(Found::Limit {
             states: limit,
             at_least: least_open(search),
         }),
+        Err(Stop::Memory) => Err(Memory),
     }
 }
 
@@ -260,7 +261,7 @@ fn halt<C: Entries>(
     requires cut { IsCutOff setting.now.board.now limit true (progress_of search.now) }
     requires none { C.took [] entries.old }
     ensures { IfOk result
-        (IsShown (λ taken. C.took taken entries.new) setting.now.board.now.rows limit wanted) }
+        (IsFoundWithProof (λ taken. C.took taken entries.new) setting.now.board.now.rows limit wanted) }
 {
     let at_least = least_open(search);
     if wanted {
@@ -279,34 +280,20 @@ fn search_all(
     setting: &Setting<'_>,
     limit: u32,
     search: &mut Search,
-) -> Result<Reached, Memory>
+) -> Result<(), Stop>
     requires accepted { IsAccepted setting.now.board.now }
     requires positive { 0 < limit }
     requires empty { IsEmpty setting.now.board.now search.old }
-    ensures { IfOk result
-        (TellsSearched setting.now.board.now limit search.old.whole (progress_of search.new)) }
+    ensures searched { OnOk result
+        (IsSearched setting.now.board.now limit search.old.whole (progress_of search.new)) }
+    ensures cut { CutsOff setting.now.board.now limit search.old (progress_of search.new) result }
 {
     enter_start(alloc, setting, search)?;
-    finish(alloc, setting, limit, search)
-}
-
-/// Goes on with a search until no state waits, or its table is full.
-fn finish(
-    alloc: Global,
-    setting: &Setting<'_>,
-    limit: u32,
-    search: &mut Search,
-) -> Result<Reached, Memory>
-    requires { IsRunning setting.now.board.now limit (progress_of search.old) }
-    ensures { IfOk result
-        (TellsFinished setting.now.board.now limit (progress_of search.old)
-        (progress_of search.new)) }
-{
     let mut scratch = Scratch::new(alloc, setting)?;
-    let reached = search_on(alloc, setting, limit, search, &mut scratch);
+    let ended = search_on(alloc, setting, limit, search, &mut scratch);
     // As one value: field by field takes five times as long to prove.
     drop(scratch);
-    reached
+    ended
 }
 
 /// What a finished search has found.
@@ -315,7 +302,7 @@ fn find_in(alloc: Global, board: &Board, search: &Search) -> Result<Found, Memor
     requires search { IsSearching board.now (progress_of search.now) }
     requires finished { search.now.queue ≡ [] }
     ensures { (limit : ℕ) → IsSearch board.now limit (progress_of search.now)
-        → IfOk result (IsFound board.now.rows limit) }
+        → IfOk result (IsFoundWithin board.now.rows limit) }
 {
     match search.best {
         Some(pushes) => {
@@ -340,7 +327,7 @@ fn conclude<C: Entries>(
     requires none { C.took [] entries.old }
     ensures { (limit : ℕ) (wanted : Bool) → IsSearch setting.now.board.now limit
         (progress_of search.now)
-        → IfOk result (IsShown
+        → IfOk result (IsFoundWithProof
         (λ taken. C.took taken entries.new) setting.now.board.now.rows limit wanted) }
 {
     match search.best {

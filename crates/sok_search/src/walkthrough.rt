@@ -5,7 +5,7 @@ ghost use Rattle.sok_board.specs.Area.{IsAccepted, position_of};
 ghost use Rattle.sok_rules.specs.States.{Same};
 ghost use Rattle.sok_state.specs.Keys.{IsKey};
 ghost use Rattle.sok_state.specs.Pushes.{IsLegal, IsOpened};
-ghost use Rattle.sok_search.specs.Walkthroughs.{GoesOn, IsBegun, IsFollowed, IsWalkthrough};
+ghost use Rattle.sok_search.specs.Walkthroughs.{GoesOn, IsAtStart, FollowsPush, IsWalkthrough};
 ghost use Rattle.sok_search.specs.Walkthroughs.{IsSolvedWith, IsSolvingTrace};
 
 use sok_board::area::Sq;
@@ -51,7 +51,7 @@ pub(crate) fn letters(alloc: Global, board: &Board, trace: Vec<Push>) -> Result<
 
 /// No letters, at the start.
 fn begin(alloc: Global, board: &Board) -> Result<Walkthrough, Memory>
-    ensures { IfOk result (IsBegun board.now) }
+    ensures { IfOk result (IsAtStart board.now) }
 {
     let key = Key::start(alloc, board)?;
     let (player, _boxes) = board.start();
@@ -74,7 +74,7 @@ fn follow(
     requires walkthrough { IsWalkthrough board.now walkthrough }
     requires legal { IsLegal board.now walkthrough.key push }
     requires opened { IsOpened board.now walkthrough.key scene.old }
-    ensures followed { IfOk result (IsFollowed board.now walkthrough push) }
+    ensures followed { IfOk result (FollowsPush board.now walkthrough push) }
     ensures opened { IfOk result (λ after. IsOpened board.now after.key scene.new) }
 {
     let Walkthrough {

@@ -11,7 +11,7 @@ use Rattle.sok_engine.specs.declared.fault.ToolFault.TheVariants as tool
 use Rattle.sok_engine.specs.Faults.{of_book}
 use Rattle.sok_store.specs.Faults.{IsOutside}
 use Rattle.sok_store.specs.Rows.{IsKeptBook}
-use Rattle.sok_store.specs.Calls.{Carries, Changes, Stops, Turns}
+use Rattle.sok_store.specs.Calls.{Carries, StoresChange, Stops, ChangesBook}
 use Rattle.sok_store.proofs.Calls.{changes_turns, held_shown, same_turns, shown, stops_same, turns_more}
 use Rattle.sok_keep.specs.Causes.{IsCausedFault}
 use Rattle.sok_keep.proofs.Ending.{book_database}
@@ -22,9 +22,9 @@ use Rattle.sok_settle.specs.Lines.{TellsLine}
 -- ---- books that are held, and shown
 
 abbrev pub Leads : State → State → (Book → Book → Type 0) → Type 0
-Leads old new Makes = Turns old new Makes × Carries old new Makes
+Leads old new Makes = ChangesBook old new Makes × Carries old new Makes
 
-pub changes_leads : (old new : State) (Makes : Book → Book → Type 0) → Changes old new Makes → Leads old new Makes
+pub changes_leads : (old new : State) (Makes : Book → Book → Type 0) → StoresChange old new Makes → Leads old new Makes
 changes_leads old new Makes changes = (
   changes_turns old new Makes changes,
   λ clean book shows.
@@ -84,7 +84,7 @@ module _ (One : Step) (Left : Leave) where
 
     -- memory is refused before a line is made
     pub memory_goes : (old new : State) (held later : Option (List ℕ)) (fault : ToolFault) → fault ≡ tool.Memory → Keeps held later
-        → Turns old new (λ book after. P book → Left.leaves book after) → Stops old new (λ book after. P book → MayStep One Left book after)
+        → ChangesBook old new (λ book after. P book → Left.leaves book after) → Stops old new (λ book after. P book → MayStep One Left book after)
         → GoesStep P One Left old new held later (Err fault)
     memory_goes old new held later fault memory keeps turns stop = record {
       turns = turns_more (λ book after left p. subst (λ f. StepsOnce One Left book after held later (Err f)) (sym memory) (left p, keeps)) turns;
@@ -108,7 +108,7 @@ module _ (One : Step) (Left : Leave) where
 module _ (old new : State) (Makes Other MayMake MayOther : Book → Book → Type 0)
     (so : (book after : Book) → IsKeptBook book → Makes book after → Other book after)
     (may : (book after : Book) → IsKeptBook book → MayMake book after → MayOther book after) where
-  other_turns : Turns old new Makes → Turns old new Other
+  other_turns : ChangesBook old new Makes → ChangesBook old new Other
   other_turns turns clean book holds = let (after, makes, held) = turns clean book holds in (after, so book after holds.0 makes, held)
 
   other_stops : Stops old new MayMake → Stops old new MayOther

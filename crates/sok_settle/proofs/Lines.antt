@@ -15,7 +15,7 @@ use Rattle.sok_engine.specs.declared.input.InputFault.{InputFault}
 use Rattle.sok_engine.specs.declared.input.InputFault.TheVariants as input
 use Rattle.sok_engine.specs.Faults.{of_input}
 use Rattle.sok_engine.specs.Limits.{input_limit}
-use Rattle.sok_store.specs.Calls.{Carries, KeepsOpen, Stops, Turns}
+use Rattle.sok_store.specs.Calls.{Carries, KeepsOpen, Stops, ChangesBook}
 use Rattle.sok_store.proofs.Calls.{same_turns, stops_less, stops_same, turns_more}
 use Rattle.sok_keep.specs.Causes.{IsCausedFault, TakesIn}
 use Rattle.sok_keep.proofs.Adding.{some_longer}
@@ -133,7 +133,7 @@ module _ (bytes : List ℕ) where
 
   module _ (known : Option (List ℕ)) (are : IfSome known (λ all. bytes ≡ all)) (old new : State) (first later : Option (List ℕ)) (result : Result ℕ ToolFault)
       (goes : GoesLines old new first later result) where
-    read_turns : Turns old new (λ book after. WritesOffers book known after first later result)
+    read_turns : ChangesBook old new (λ book after. WritesOffers book known after first later result)
     read_turns = turns_more (λ book after made. (bytes, are, made tt)) goes.turns
 
     read_open : OnOk result (KeepsOpen old new)
@@ -182,5 +182,5 @@ unread book known held input.TooMuch much =
 
 pub unread_turns : (s : State) (known held : Option (List ℕ)) (fault : InputFault)
     → (fault ≡ input.TooMuch → IfSome known (λ all. input_limit < length all))
-    → Turns s s (λ book after. WritesOffers book known after held held (Err (of_input fault)))
+    → ChangesBook s s (λ book after. WritesOffers book known after held held (Err (of_input fault)))
 unread_turns s known held fault much = same_turns _ (λ book. unread book known held fault much)

@@ -20,7 +20,7 @@ use Rattle.sok_engine.specs.declared.fault.ToolFault.TheVariants as tool
 use Rattle.sok_engine.specs.Faults.{of_book}
 use Rattle.sok_store.specs.Faults.{IsOutside}
 use Rattle.sok_store.specs.Rows.{IsKeptBook}
-use Rattle.sok_store.specs.Calls.{Changes, IsCaused, Stops, id_number}
+use Rattle.sok_store.specs.Calls.{StoresChange, IsCaused, Stops, id_number}
 use Rattle.sok_store.specs.Calls as calls
 use Rattle.sok_store.specs.Known.{IsNotKnown, ProvesKnown}
 use Rattle.sok_store.specs.Standing.{OffersTelling}
@@ -151,7 +151,7 @@ module _ (from id : ℤ) (rows : Rows) where
 
     -- the letters are not kept, for a cause outside
     pub unoffered_goes : (held : Option (List ℕ)) (fault : BookFault)
-        → calls.Keeps old mid (λ book. IsOutside fault ⊎ IsNotOffered book (id_number id) letters fault) → IsCaused old mid IsOffered fault
+        → calls.KeepsBook old mid (λ book. IsOutside fault ⊎ IsNotOffered book (id_number id) letters fault) → IsCaused old mid IsOffered fault
         → GoesBy from id rows (claim.Pushes pushes) old mid held held (Err (of_book fault))
     unoffered_goes held fault keeps caused = record {
       turns = λ clean book held_now.
@@ -168,7 +168,7 @@ module _ (from id : ℤ) (rows : Rows) where
       cause = caused_more old mid _ IsOffered (λ book after made tried. inl (left book after tried made)) fault caused;
     }
 
-    module _ (told : Standing) (offered : Changes old mid (λ book after. OffersTelling book (id_number id) letters told after)) (new : State)
+    module _ (told : Standing) (offered : StoresChange old mid (λ book after. OffersTelling book (id_number id) letters told after)) (new : State)
         (two : Stops mid new (λ book after. ProvesKnown book (id_number id) (claim.Pushes pushes) after)) where
       early : HasCleanDisk new → HasCleanDisk mid
       early clean = omega (arith, clean, two.clean)
@@ -206,7 +206,7 @@ module _ (from id : ℤ) (rows : Rows) where
 
       -- the verdict is not proved, for a cause outside
       pub unproved_goes : (held : Option (List ℕ)) (fault : BookFault)
-          → calls.Keeps mid new (λ book. IsOutside fault ⊎ IsNotKnown book (id_number id) rows (claim.Pushes pushes) fault)
+          → calls.KeepsBook mid new (λ book. IsOutside fault ⊎ IsNotKnown book (id_number id) rows (claim.Pushes pushes) fault)
           → IsCaused mid new (λ book after. ProvesKnown book (id_number id) (claim.Pushes pushes) after) fault
           → GoesBy from id rows (claim.Pushes pushes) old new held held (Err (of_book fault))
       unproved_goes held_out fault keeps caused = record {
@@ -234,7 +234,7 @@ module _ (from id : ℤ) (rows : Rows) where
 
       -- or it is, and told
       pub proved_goes : (held later : Option (List ℕ)) (result : Result Bool ToolFault)
-          → Changes mid new (λ book after. ProvesKnown book (id_number id) (claim.Pushes pushes) after)
+          → StoresChange mid new (λ book after. ProvesKnown book (id_number id) (claim.Pushes pushes) after)
           → TellsLine (optimal_line id told.pushes told.moves) true held later result
           → GoesBy from id rows (claim.Pushes pushes) old new held later result
       proved_goes held_out later result proved tells_line =
@@ -260,7 +260,7 @@ module _ (from id : ℤ) (rows : Rows) where
     none_stops = stops_less old new _ _ may_none stop
 
     pub none_unproved_goes : (held : Option (List ℕ)) (fault : BookFault)
-        → calls.Keeps old new (λ book. IsOutside fault ⊎ IsNotKnown book (id_number id) rows claim.Unsolvable fault)
+        → calls.KeepsBook old new (λ book. IsOutside fault ⊎ IsNotKnown book (id_number id) rows claim.Unsolvable fault)
         → IsCaused old new (λ book after. ProvesKnown book (id_number id) claim.Unsolvable after) fault
         → GoesBy from id rows claim.Unsolvable old new held held (Err (of_book fault))
     none_unproved_goes held fault keeps caused = record {
@@ -279,7 +279,7 @@ module _ (from id : ℤ) (rows : Rows) where
     }
 
     pub none_proved_goes : (held later : Option (List ℕ)) (result : Result Bool ToolFault)
-        → Changes old new (λ book after. ProvesKnown book (id_number id) claim.Unsolvable after) → TellsLine (unsolvable_line id) true held later result
+        → StoresChange old new (λ book after. ProvesKnown book (id_number id) claim.Unsolvable after) → TellsLine (unsolvable_line id) true held later result
         → GoesBy from id rows claim.Unsolvable old new held later result
     none_proved_goes held later result proved tells =
         told_goes (SettlesBy id rows claim.Unsolvable) (leave_of_kept from id) (IsTriedAs from id rows) old new (unsolvable_line id) true held later result

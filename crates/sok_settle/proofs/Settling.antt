@@ -20,7 +20,7 @@ use Rattle.sok_engine.specs.Faults.{of_book}
 use Rattle.sok_store.specs.Faults.{IsOutside}
 use Rattle.sok_book.specs.Records.{AreRecordsOf, pages_from, with_id}
 use Rattle.sok_store.proofs.ReadRows.{length-records}
-use Rattle.sok_store.specs.Calls.{Carries, EndsOpen, Finds, IsCaused, MakesNone, Stops, Turns, id_number}
+use Rattle.sok_store.specs.Calls.{Carries, EndsOpen, FindsBook, IsCaused, MakesNone, Stops, ChangesBook, id_number}
 use Rattle.sok_store.specs.Calls as calls
 use Rattle.sok_store.specs.Known.{ProvesKnown}
 use Rattle.sok_store.proofs.Calls.{finds_then, held, held_shown, keeps_turns, same_turns, shown, stops_later}
@@ -172,7 +172,7 @@ module _ (keeping : Keeping) (limit : ℕ) (from : ℤ) where
 
     -- ---- the whole book
 
-    module _ (old mid new : State) (one : Stops old mid MakesNone) (found : Finds old mid (λ book. AreRecordsOf book records)) (first later : Option (List ℕ))
+    module _ (old mid new : State) (one : Stops old mid MakesNone) (found : FindsBook old mid (λ book. AreRecordsOf book records)) (first later : Option (List ℕ))
         (result : Result ℕ ToolFault) (goes : GoesOn mid new first later result) where
       early : HasCleanDisk new → HasCleanDisk mid
       early clean = omega (arith, clean, goes.stop.clean)
@@ -182,7 +182,7 @@ module _ (keeping : Keeping) (limit : ℕ) (from : ℤ) where
           let (are, stores) = found (early clean) book (held_shown old book shows) in
           let (after, makes, has) = made book (shown mid book stores) in (after, makes are, has)) goes.stop
 
-      whole_turns : Turns old new (λ book after. WritesSettling keeping limit from book after first later result)
+      whole_turns : ChangesBook old new (λ book after. WritesSettling keeping limit from book after first later result)
       whole_turns = finds_then early (λ book after are makes. makes are) found goes.turns
 
       whole_open : OnOk result (EndsOpen old new)
@@ -209,7 +209,7 @@ module _ (keeping : Keeping) (limit : ℕ) (from : ℤ) where
               ]
 
       -- all that is promised of it
-      pub whole : Turns old new (λ book after. WritesSettling keeping limit from book after first later result) × OnOk result (EndsOpen old new)
+      pub whole : ChangesBook old new (λ book after. WritesSettling keeping limit from book after first later result) × OnOk result (EndsOpen old new)
           × Stops old new (SettlesSome keeping limit from) × IfErr result (IsCausedFault old new (SettlesSome keeping limit from))
       whole = (whole_turns, whole_open, whole_stops, whole_caused)
 
@@ -217,7 +217,7 @@ module _ (keeping : Keeping) (limit : ℕ) (from : ℤ) where
 
   -- the limit is refused
   pub bad_turns : (s : State) (held_now : Option (List ℕ)) → IsBadLimit limit
-      → Turns s s (λ book after. WritesSettling keeping limit from book after held_now held_now (Err tool.BadLimit))
+      → ChangesBook s s (λ book after. WritesSettling keeping limit from book after held_now held_now (Err tool.BadLimit))
   bad_turns s held_now bad =
       same_turns _ (λ book. record { count = 0; text = []; all = true; before = book; gone = none; ended = (bad, refl, refl, Keeps-refl held_now) })
 
@@ -229,8 +229,8 @@ module _ (keeping : Keeping) (limit : ℕ) (from : ℤ) where
   unlisted book held_now fault (inr database) = subst (λ f. WritesSettling keeping limit from book book held_now held_now (Err (of_book f))) (sym database)
       (record { count = 0; text = []; all = true; before = book; gone = none; ended = (inl refl, Appends-nil held_now) })
 
-  pub unlisted_turns : (old new : State) (held_now : Option (List ℕ)) (fault : BookFault) → calls.Keeps old new (λ _. IsOutside fault)
-      → Turns old new (λ book after. WritesSettling keeping limit from book after held_now held_now (Err (of_book fault)))
+  pub unlisted_turns : (old new : State) (held_now : Option (List ℕ)) (fault : BookFault) → calls.KeepsBook old new (λ _. IsOutside fault)
+      → ChangesBook old new (λ book after. WritesSettling keeping limit from book after held_now held_now (Err (of_book fault)))
   unlisted_turns old new held_now fault = keeps_turns _ (λ book why. unlisted book held_now fault why)
 
   pub unlisted_caused : (old new : State) (fault : BookFault) → IsCaused old new MakesNone fault

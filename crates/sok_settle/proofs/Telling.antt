@@ -13,7 +13,7 @@ use Rattle.sok_engine.specs.declared.fault.ToolFault.{ToolFault}
 use Rattle.sok_engine.specs.declared.fault.ToolFault.TheVariants as tool
 use Rattle.sok_engine.specs.Faults.{of_book, of_lurd}
 use Rattle.sok_store.specs.Faults.{IsOutside}
-use Rattle.sok_store.specs.Calls.{Carries, Changes, IsCaused, ShowsOn, Stops, Turns, id_number}
+use Rattle.sok_store.specs.Calls.{Carries, StoresChange, IsCaused, ShowsOn, Stops, ChangesBook, id_number}
 use Rattle.sok_store.specs.Calls as calls
 use Rattle.sok_store.specs.Standing.{OffersTelling}
 use Rattle.sok_store.specs.declared.standing.Standing.{Standing}
@@ -37,7 +37,7 @@ module _ (id : ℤ) (text : List ℕ) where
 
   fault_goes : (old new : State) (fault : ToolFault) (held later : Option (List ℕ)) (result : Result Bool ToolFault)
       → Leads old new (λ book after. IsAnyBook book → AnswersOffer id text book (fault_line id fault) false after)
-      → Turns old new (λ book after. IsAnyBook book → after ≡ book) → Stops old new MayOffer → TellsFault id fault held later result
+      → ChangesBook old new (λ book after. IsAnyBook book → after ≡ book) → Stops old new MayOffer → TellsFault id fault held later result
       → GoesOffer old new held later result
   fault_goes old new fault held later result leads stays stop (inl (is, keeps)) =
       subst (λ (r : Result Bool ToolFault). GoesOffer old new held later r) (sym is)
@@ -77,7 +77,7 @@ module _ (id : ℤ) (text : List ℕ) where
 
     -- they are stored, or the best is kept
     pub taken_goes : (told : Standing) (held later : Option (List ℕ)) (result : Result Bool ToolFault)
-        → Changes old new (λ book after. OffersTelling book (id_number id) letters told after)
+        → StoresChange old new (λ book after. OffersTelling book (id_number id) letters told after)
         → TellsLine (signed_decimal id ++ (codes " " ++ offer_line told.offer told.pushes told.moves)) true held later result
         → GoesOffer old new held later result
     taken_goes told held later result changes tells_line =
@@ -88,7 +88,7 @@ module _ (id : ℤ) (text : List ℕ) where
         offer_stops tells_line
 
     -- or the book refuses them, or the call ends
-    module _ (fault : BookFault) (keeps : calls.Keeps old new (λ book. IsOutside fault ⊎ IsNotOffered book (id_number id) letters fault)) where
+    module _ (fault : BookFault) (keeps : calls.KeepsBook old new (λ book. IsOutside fault ⊎ IsNotOffered book (id_number id) letters fault)) where
       refused : (IsOutside fault → ⊥) → (book after : Book) → IsOutside fault ⊎ IsNotOffered book (id_number id) letters fault → after ≡ book
           → AnswersOffer id text book (fault_line id (of_book fault)) false after
       refused inside book after (inl outside) same = absurd (inside outside)

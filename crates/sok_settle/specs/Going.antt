@@ -7,7 +7,7 @@ use Rattle.sok_book.specs.Books.{Book}
 use Rattle.sok_engine.specs.declared.fault.ToolFault.{ToolFault}
 use Rattle.sok_engine.specs.declared.fault.ToolFault.TheVariants as tool
 use Rattle.sok_engine.specs.Written.{AppendsFront}
-use Rattle.sok_store.specs.Calls.{Carries, Stops, Turns}
+use Rattle.sok_store.specs.Calls.{Carries, Stops, ChangesBook}
 use Rattle.sok_keep.specs.Causes.{IsCausedFault}
 
 -- a step from a book, with its line, well done or not, to a book
@@ -73,7 +73,7 @@ MayStep One Left book after = Left.leaves book after ⊎ ((line : List ℕ) × (
 
 -- how a call that makes such books treats it: what it holds then, what it shows where the call was done, what a stop in the middle leaves, and why it fails
 pub record Goes {X : Type 0} (old new : State) (Makes MayMake : Book → Book → Type 0) (result : Result X ToolFault) : Type 0 where
-  pub turns : Turns old new Makes
+  pub turns : ChangesBook old new Makes
   pub done : OnOk result (Carries old new Makes)
   pub stop : Stops old new MayMake
   pub cause : IfErr result (IsCausedFault old new MayMake)

@@ -8,7 +8,7 @@ ghost use Rattle.sok_board.specs.Refusals.{IsAcceptable};
 ghost use Rattle.sok_book.specs.Kept.{IsKeptPage};
 ghost use Rattle.sok_cert.specs.Claim.TheVariants as claim;
 ghost use Rattle.sok_search.specs.Faults.{IsBadLimit};
-ghost use Rattle.sok_search.specs.Outcomes.{IsLeastSolution, IsShown};
+ghost use Rattle.sok_search.specs.Outcomes.{IsLeastSolution, IsFoundWithProof};
 ghost use Rattle.sok_store.specs.Known.{IsCertified};
 ghost use Rattle.sok_settle.specs.Steps.{GoesBy, GoesThrough, IsRecordIn, IsTriedAs};
 
@@ -93,7 +93,7 @@ fn settle_by<S: Alter, C: Certs, W: Write>(
     out: &mut W,
 ) -> Result<bool, ToolFault>
     requires accepted { IsAcceptable level.now }
-    requires shown { IsShown (λ entries. C.Taking.took entries taken) level.now limit false found }
+    requires shown { IsFoundWithProof (λ entries. C.Taking.took entries taken) level.now limit false found }
     ensures { (from : ℤ) → GoesThrough (IsTriedAs from id level.now) (C.keeping certs.now)
         limit from id (state S.Store book.old) (state S.Store book.new)
         (W.contents out.old) (W.contents out.new) result }

@@ -4,7 +4,7 @@ ghost use Rattle.std.specs.Prelude.{◌≡◌, [], false, IfErr, IfOk};
 ghost use Rattle.sok_board.specs.Refusals.{IsAcceptable};
 ghost use Rattle.sok_engine.specs.declared.fault.ToolFault.TheVariants as tool;
 ghost use Rattle.sok_search.specs.Faults.{IsBadLimit};
-ghost use Rattle.sok_search.specs.Outcomes.{IsShown};
+ghost use Rattle.sok_search.specs.Outcomes.{IsFoundWithProof};
 
 use sok_engine::fault::ToolFault;
 use sok_rules::level::Level;
@@ -26,7 +26,7 @@ pub(crate) fn search<T: Entries>(
     requires accepted { IsAcceptable level.now }
     requires none { T.took [] taken.old }
     ensures shown { IfOk result
-        (IsShown (λ entries. T.took entries taken.new) level.now limit false) }
+        (IsFoundWithProof (λ entries. T.took entries taken.new) level.now limit false) }
     ensures memory { IfErr result (λ fault. fault ≡ tool.Memory) }
 {
     match solve_into(alloc, level, limit, false, taken) {

@@ -7,7 +7,7 @@ ghost use Rattle.sok_book.specs.Kept.{IsKeptPage};
 ghost use Rattle.sok_book.specs.Records.{AreRecordsOf};
 ghost use Rattle.sok_engine.specs.declared.fault.ToolFault.TheVariants as tool;
 ghost use Rattle.sok_search.specs.Faults.{IsBadLimit};
-ghost use Rattle.sok_store.specs.Calls.{EndsOpen, Stops, Turns};
+ghost use Rattle.sok_store.specs.Calls.{EndsOpen, Stops, ChangesBook};
 ghost use Rattle.sok_keep.specs.Causes.{IsCausedFault};
 ghost use Rattle.sok_settle.specs.Going.{GoesWhere};
 ghost use Rattle.sok_settle.specs.Settles.{SettlesSome, WritesSettling, settle_status};
@@ -45,7 +45,7 @@ pub fn settle_bytes<S: Alter, C: Certs, W: Write>(
     certs: &C,
     out: &mut W,
 ) -> Result<u8, ToolFault>
-    ensures writes { Turns (state S.Store book.old) (state S.Store book.new) (λ pages after.
+    ensures writes { ChangesBook (state S.Store book.old) (state S.Store book.new) (λ pages after.
         WritesSettling (C.keeping certs.now) limit from pages after
         (W.contents out.old) (W.contents out.new) result) }
     ensures bad_limit { IsBadLimit limit → result ≡ Err tool.BadLimit }

@@ -14,7 +14,7 @@ use Rattle.sok_cert.specs.Claim.TheVariants as claim
 use Rattle.sok_cert.specs.Entry.{Entry}
 use Rattle.sok_cert.specs.Text.{text_of}
 use Rattle.sok_search.specs.Faults.{IsBadLimit}
-use Rattle.sok_search.specs.Outcomes.{Certifies, HasSearched, IsCutShort, IsLeastSolution, IsShownSolved, IsShownUnsolvable}
+use Rattle.sok_search.specs.Outcomes.{Certifies, HasSearched, IsCutShort, IsLeastSolution, IsProvedSolved, IsProvedUnsolvable}
 use Rattle.sok_engine.specs.declared.fault.ToolFault.{ToolFault}
 use Rattle.sok_engine.specs.declared.fault.ToolFault.TheVariants as tool
 use Rattle.sok_engine.specs.Certified.{Certified, CertifiedAnswers}
@@ -70,9 +70,9 @@ certified_bound limit least entries = record { cert = text_of (claim.Pushes leas
 -- what is told: a list that solves with the fewest pushes, or that none solves, each with a closed certificate; or that there are too many states, and where a
 -- bound is asked for, that none solves with fewer pushes, with a closed certificate too
 pub data TellsOutcome (limit : ℕ) (bound : Bool) (rows : Rows) (told : Certified) : Type 0 where
-  is_solved : (w : List Dir) (pushes : ℕ) (entries : List Entry) → IsShownSolved rows limit w pushes entries
+  is_solved : (w : List Dir) (pushes : ℕ) (entries : List Entry) → IsProvedSolved rows limit w pushes entries
       → told ≡ certified_solution rows w pushes entries → TellsOutcome limit bound rows told
-  is_unsolvable : (entries : List Entry) → IsShownUnsolvable rows limit entries → told ≡ certified_unsolvable entries → TellsOutcome limit bound rows told
+  is_unsolvable : (entries : List Entry) → IsProvedUnsolvable rows limit entries → told ≡ certified_unsolvable entries → TellsOutcome limit bound rows told
   is_limited : (least : ℕ) → IsCutShort rows limit limit least → bound ≡ false → told ≡ uncertified_limit limit → TellsOutcome limit bound rows told
   is_bounded : (least : ℕ) (entries : List Entry) → IsCutShort rows limit limit least → Certifies rows limit (claim.Pushes least) entries → bound ≡ true
       → told ≡ certified_bound limit least entries → TellsOutcome limit bound rows told

@@ -4,7 +4,7 @@ ghost use Rattle.std.specs.Prelude.{List, ◌≡◌, ◌∷◌, ◌++◌, [], On
 ghost use Rattle.std.specs.Io.KnownBytes.{Appends};
 ghost use Rattle.sok_engine.specs.Written.{AppendsFront};
 ghost use Rattle.sok_cert.specs.Entry.{Entry};
-ghost use Rattle.sok_cert.specs.Text.{entry_of};
+ghost use Rattle.sok_cert.specs.Text.{entry_from};
 ghost use Rattle.sok_solve.specs.Lines.{HasLines, TellsReady};
 
 use sok_cert::claim::Claim;
@@ -47,7 +47,7 @@ impl EntryLines {
         reason: &Reason,
     ) -> Result<(), AllocError>
         ensures { OnOk result ((entries : List Entry) → HasLines self.old entries
-            → HasLines self.new (entries ++ entry_of depth player boxes.now reason.now ∷ [])) }
+            → HasLines self.new (entries ++ entry_from depth player boxes.now reason.now ∷ [])) }
     {
         self.has_pattern |= is_pattern(reason);
         if self.lines.len() > CERT_LIMIT {

@@ -5,7 +5,7 @@ ghost use Rattle.sok_engine.specs.Inputs.{OfReader, Within};
 ghost use Rattle.sok_engine.specs.Limits.{input_limit};
 ghost use Rattle.sok_engine.specs.Written.{Gives, Writes};
 ghost use Rattle.sok_engine.specs.declared.fault.ToolFault.TheVariants as tool;
-ghost use Rattle.sok_search.specs.Outcomes.{IsFound};
+ghost use Rattle.sok_search.specs.Outcomes.{IsFoundWithin};
 ghost use Rattle.sok_solve.specs.Solves.{IsFind, IsFindAnswer, TellsFound};
 
 use crate::solve::{bound_text, limit_text, solution_text, tool_fault};
@@ -71,7 +71,7 @@ fn told(
     bound: bool,
     found: Found,
 ) -> Result<Answer, ToolFault>
-    requires { IsFound level.now limit found }
+    requires { IsFoundWithin level.now limit found }
     ensures { MatchResult result (TellsFound limit bound level.now)
         (λ fault. fault ≡ tool.Memory) }
 {

@@ -7,7 +7,7 @@ ghost use Rattle.sok_engine.specs.Limits.{input_limit};
 ghost use Rattle.sok_engine.specs.Written.{Gives};
 ghost use Rattle.sok_engine.specs.declared.fault.ToolFault.TheVariants as tool;
 ghost use Rattle.sok_rules.specs.Play.{Solves};
-ghost use Rattle.sok_search.specs.Outcomes.{IsShown};
+ghost use Rattle.sok_search.specs.Outcomes.{IsFoundWithProof};
 ghost use Rattle.sok_solve.specs.Faults.{of_solve};
 ghost use Rattle.sok_solve.specs.Lines.{HasLines};
 ghost use Rattle.sok_solve.specs.Solves.{IsSolve, IsSolveAnswer, TellsOutcome, TellsWithin};
@@ -144,7 +144,7 @@ fn told(
     found: Found,
     taken: EntryLines,
 ) -> Result<CertifiedAnswer, ToolFault>
-    requires { IsShown (HasLines taken) level.now limit bound found }
+    requires { IsFoundWithProof (HasLines taken) level.now limit bound found }
     ensures { TellsWithin (TellsOutcome limit bound level.now) result }
 {
     match found {

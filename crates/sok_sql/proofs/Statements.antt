@@ -11,7 +11,7 @@ use Rattle.sqlite.specs.State.{State, CommitsBy, Executes, HasCleanDisk, Survive
 use Rattle.sqlite.proofs.Callers.{IsPlain, command_of}
 use Rattle.sqlite.proofs.StateLemmas.{survives_weaker}
 use Rattle.sok_sql.specs.Connections.{Shows}
-use Rattle.sok_sql.specs.Leaves.{Leaf, HasLeaves, level_schema, new_leaf, seen, shown, with_best, with_verdict}
+use Rattle.sok_sql.specs.Leaves.{Leaf, HasLeaves, level_schema, new_leaf, seen, shown, leaf_with_best, leaf_with_verdict}
 use Rattle.sok_sql.specs.Statements.{Inserts, Updates, UpdatesLeaf}
 use Rattle.sok_sql.proofs.Texts.{IsPosed, insert_text, pick_query, update_with}
 use Rattle.sok_sql.proofs.Texts.{best_text, best_is, best_plain, best_posed, best_terms, verdict_text, verdict_is, verdict_plain, verdict_posed, verdict_terms}
@@ -92,7 +92,7 @@ module _ {id : ℕ} {change : Leaf → Leaf} {sql : List ℕ} {more : Row} (u : 
 -- ---- the two updates
 
 pub best_update : (id : ℕ) (lurd : List ℕ) (pushes moves : ℕ)
-    → IsUpdate id (with_best lurd pushes moves) best_text (Words lurd ∷ Int (pos pushes) ∷ Int (pos moves) ∷ [])
+    → IsUpdate id (leaf_with_best lurd pushes moves) best_text (Words lurd ∷ Int (pos pushes) ∷ Int (pos moves) ∷ [])
 best_update id lurd pushes moves = record {
   project = best_terms;
   out = λ row. column row 0 ∷ column row 0 ∷ Null ∷ column row 1 ∷ column row 2 ∷ Words lurd ∷ Int (pos pushes) ∷ Int (pos moves) ∷ Int (pos 0) ∷ [];
@@ -104,7 +104,7 @@ best_update id lurd pushes moves = record {
   becomes = λ leaf. refl;
 }
 
-pub verdict_update : (id verdict : ℕ) → IsUpdate id (with_verdict verdict) verdict_text (Int (pos verdict) ∷ [])
+pub verdict_update : (id verdict : ℕ) → IsUpdate id (leaf_with_verdict verdict) verdict_text (Int (pos verdict) ∷ [])
 verdict_update id verdict = record {
   project = verdict_terms;
   out = λ row.

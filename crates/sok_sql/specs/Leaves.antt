@@ -62,11 +62,11 @@ abbrev pub new_leaf : List ℕ → Option (List ℕ) → Leaf
 new_leaf text title = record { text = text; title = title; lurd = None; pushes = None; moves = None; verdict = 0 }
 
 -- with other letters that solve, so many of which push, and no verdict yet
-abbrev pub with_best : List ℕ → ℕ → ℕ → Leaf → Leaf
-with_best lurd pushes moves leaf = record leaf { lurd = Some lurd; pushes = Some pushes; moves = Some moves; verdict = 0 }
+abbrev pub leaf_with_best : List ℕ → ℕ → ℕ → Leaf → Leaf
+leaf_with_best lurd pushes moves leaf = record leaf { lurd = Some lurd; pushes = Some pushes; moves = Some moves; verdict = 0 }
 
-abbrev pub with_verdict : ℕ → Leaf → Leaf
-with_verdict verdict leaf = record leaf { verdict = verdict }
+abbrev pub leaf_with_verdict : ℕ → Leaf → Leaf
+leaf_with_verdict verdict leaf = record leaf { verdict = verdict }
 
 -- its values in the order of the columns
 abbrev pub values : Leaf → Row

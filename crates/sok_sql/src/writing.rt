@@ -2,7 +2,7 @@
 
 ghost use Rattle.std.specs.Prelude.{option_map};
 ghost use Rattle.sqlite.specs.Held.{state};
-ghost use Rattle.sok_sql.specs.Leaves.{new_leaf, with_best, with_verdict};
+ghost use Rattle.sok_sql.specs.Leaves.{new_leaf, leaf_with_best, leaf_with_verdict};
 ghost use Rattle.sok_sql.specs.Statements.{Inserts, Updates};
 
 use sqlite::{Alter, Connection, Error, params};
@@ -35,7 +35,7 @@ pub fn set_best<S: Alter>(
     moves: u32,
 ) -> Result<(), Error>
     ensures { Updates (state S.Store conn.old) (state S.Store conn.new)
-        id (with_best lurd.now pushes moves) result }
+        id (leaf_with_best lurd.now pushes moves) result }
 {
     match conn.execute(
         "UPDATE level SET lurd = ?2, pushes = ?3, moves = ?4, verdict = 0 WHERE id = ?1",
@@ -49,7 +49,7 @@ pub fn set_best<S: Alter>(
 /// Writes a verdict.
 pub fn set_verdict<S: Alter>(conn: &mut Connection<S>, id: u32, verdict: u32) -> Result<(), Error>
     ensures { Updates (state S.Store conn.old) (state S.Store conn.new)
-        id (with_verdict verdict) result }
+        id (leaf_with_verdict verdict) result }
 {
     match conn.execute(
         "UPDATE level SET verdict = ?2 WHERE id = ?1",

@@ -29,7 +29,7 @@ use Rattle.sok_store.specs.Rows.{HoldsBook, IsKeptBook, StoresBook, leaves_of}
 use Rattle.sok_store.proofs.Finding.{stands_found, unknown_unfound}
 use Rattle.sok_store.proofs.KeptPages.{IsKeptPage-new}
 use Rattle.sok_store.proofs.KeptBooks.{IsKeptBook-push, leaves_of-push, length-leaves_of}
-use Rattle.sok_store.specs.Calls.{Changes, IsCaused, Keeps, MakesNone, Stops, id_number, title_kept}
+use Rattle.sok_store.specs.Calls.{StoresChange, IsCaused, KeepsBook, MakesNone, Stops, id_number, title_kept}
 use Rattle.sok_store.specs.Changing.{AddsPage, IsCausedAdding, IsFull, IsNewPage, StopsAdding}
 use Rattle.sok_store.specs.Running.{Admits, RunsAdding, RunsAddingPage}
 use Rattle.sok_store.proofs.Calls.{held, held_shown, rests_holds, rests_stops, shown, stops_later}
@@ -174,7 +174,7 @@ module _ (old mid : State) (text : List ℕ) (title : Option (List ℕ)) (rests 
 module _ (old mid : State) (rows : Rows) (text : List ℕ) (text_is : text ≡ level_text rows) (level : IsLevel rows) where
   pub is_there : (id : ℕ) (title : Option (List ℕ))
       → (HasCleanDisk mid → (leaves : List Leaf) → Holds old leaves → Stores mid leaves × (Some id ≡ slice_get (ids_with text 1 leaves) 0))
-      → Changes old mid (λ book after. Adds book rows title id after)
+      → StoresChange old mid (λ book after. Adds book rows title id after)
   is_there id title found clean book holds =
       let (shows, is) = found clean (leaves_of book) holds.1 in
       let at = subst (λ t. slice_get (ids_with t 1 (leaves_of book)) 0 ≡ Some id) text_is (sym is) in
@@ -196,15 +196,15 @@ module _ (old mid : State) (rows : Rows) (text : List ℕ) (text_is : text ≡ l
 
     module _ (new : State) (early : HasCleanDisk new → HasCleanDisk mid) where
       level_added : (result : Result ℤ BookFault) → IfOk result (AddsPage mid new text (title_kept title))
-          → IfOk result (λ id. Changes old new (λ book after. Adds book rows (title_kept title) (id_number id) after))
+          → IfOk result (λ id. StoresChange old new (λ book after. Adds book rows (title_kept title) (id_number id) after))
       level_added (Ok id) added = λ clean book holds.
           let (shows, unknown) = not_there (early clean) book holds in
           let (id_is, room, after) = added clean book added_page (held mid book shows) (page_is book unknown) in
           (book ++ added_page ∷ [], is_new unknown room (ap id_number id_is) refl, after)
       level_added (Err fault) added = tt
 
-      level_refused : (result : Result ℤ BookFault) → IfErr result (λ fault. Keeps mid new (λ book. IsOutside fault ⊎ IsFull book fault))
-          → IfErr result (λ fault. Keeps old new (λ book. IsOutside fault ⊎ IsNotAdded book rows fault))
+      level_refused : (result : Result ℤ BookFault) → IfErr result (λ fault. KeepsBook mid new (λ book. IsOutside fault ⊎ IsFull book fault))
+          → IfErr result (λ fault. KeepsBook old new (λ book. IsOutside fault ⊎ IsNotAdded book rows fault))
       level_refused (Ok id) refused = tt
       level_refused (Err fault) refused = λ clean book holds.
           let (shows, unknown) = not_there (early clean) book holds in

@@ -7,7 +7,7 @@ use Rattle.sok_book.specs.declared.fault.BookFault.{BookFault}
 use Rattle.sok_book.specs.Books.{Book}
 use Rattle.sok_sql.specs.Connections.{Rests}
 use Rattle.sok_store.specs.Rows.{HasBook, HoldsBook, ShowsBook, StoresBook, leaves_of}
-use Rattle.sok_store.specs.Calls.{Changes, Finds, Keeps, MakesNone, ShowsOn, Stops, Turns}
+use Rattle.sok_store.specs.Calls.{StoresChange, FindsBook, KeepsBook, MakesNone, ShowsOn, Stops, ChangesBook}
 
 -- what is shown is held
 pub held_shown : (s : State) (book : Book) → ShowsBook s book → HoldsBook s book
@@ -23,34 +23,34 @@ held s book stores = held_shown s book (shown s book stores)
 pub stored : (s : State) (book : Book) → HoldsBook s book → IsTrue s.is_open → StoresBook s book
 stored s book holds up = (holds.0, (up, holds.1 up))
 
-pub finds_keeps : (old new : State) (P : Book → Type 0) → Finds old new P → Keeps old new P
+pub finds_keeps : (old new : State) (P : Book → Type 0) → FindsBook old new P → KeepsBook old new P
 finds_keeps old new P finds clean book holds = let (is, stores) = finds clean book holds in (is, held new book stores)
 
 -- what is shown after a call is held after it, and the connection is open
-pub changes_turns : (old new : State) (Makes : Book → Book → Type 0) → Changes old new Makes → Turns old new Makes
+pub changes_turns : (old new : State) (Makes : Book → Book → Type 0) → StoresChange old new Makes → ChangesBook old new Makes
 changes_turns old new Makes changes clean book holds = let (after, makes, stores) = changes clean book holds in (after, makes, held new after stores)
 
 -- what is made of the book is more than is said
 pub turns_more : {old new : State} {Makes More : Book → Book → Type 0} → ((book after : Book) → Makes book after → More book after)
-    → Turns old new Makes → Turns old new More
+    → ChangesBook old new Makes → ChangesBook old new More
 turns_more so turns clean book holds = let (after, makes, held_after) = turns clean book holds in (after, so book after makes, held_after)
 
 pub changes_more : {old new : State} {Makes More : Book → Book → Type 0} → ((book after : Book) → Makes book after → More book after)
-    → Changes old new Makes → Turns old new More
+    → StoresChange old new Makes → ChangesBook old new More
 changes_more so changes = turns_more so (changes_turns _ _ _ changes)
 
 -- the book stays
 pub keeps_turns : {old new : State} {P : Book → Type 0} (Makes : Book → Book → Type 0) → ((book : Book) → P book → Makes book book)
-    → Keeps old new P → Turns old new Makes
+    → KeepsBook old new P → ChangesBook old new Makes
 keeps_turns Makes so keeps clean book holds = let (is, held_after) = keeps clean book holds in (book, so book is, held_after)
 
 -- nothing is done
-pub same_turns : {s : State} (Makes : Book → Book → Type 0) → ((book : Book) → Makes book book) → Turns s s Makes
+pub same_turns : {s : State} (Makes : Book → Book → Type 0) → ((book : Book) → Makes book book) → ChangesBook s s Makes
 same_turns Makes so clean book holds = (book, so book, holds)
 
 -- one call, and then another
 pub turns_then : {old mid new : State} {First Second Both : Book → Book → Type 0} → (HasCleanDisk new → HasCleanDisk mid)
-    → ((book middle after : Book) → First book middle → Second middle after → Both book after) → Turns old mid First → Turns mid new Second → Turns old new Both
+    → ((book middle after : Book) → First book middle → Second middle after → Both book after) → ChangesBook old mid First → ChangesBook mid new Second → ChangesBook old new Both
 turns_then early so one two clean book holds =
     let (middle, first, held_mid) = one (early clean) book holds in
     let (after, second, held_after) = two clean middle held_mid in
@@ -58,7 +58,7 @@ turns_then early so one two clean book holds =
 
 -- what is found of the book first is known of it then
 pub finds_then : {old mid new : State} {P : Book → Type 0} {Second Both : Book → Book → Type 0} → (HasCleanDisk new → HasCleanDisk mid)
-    → ((book after : Book) → P book → Second book after → Both book after) → Finds old mid P → Turns mid new Second → Turns old new Both
+    → ((book after : Book) → P book → Second book after → Both book after) → FindsBook old mid P → ChangesBook mid new Second → ChangesBook old new Both
 finds_then {mid = mid} early so finds turns clean book holds =
     let (is, stores) = finds (early clean) book holds in
     let (after, second, held_after) = turns clean book (held mid book stores) in

@@ -15,7 +15,7 @@ use Rattle.sok_book.specs.Commands.{Offers, best_pushes, is_better, offer_answer
 use Rattle.sok_book.specs.Refusals.{IsNoSolution, IsNotOffered}
 use Rattle.sok_book.specs.Kept.{IsKeptPage, IsKeptSolution}
 use Rattle.sok_store.specs.declared.columns.BestColumns.{BestColumns}
-use Rattle.sok_store.specs.Calls.{Changes}
+use Rattle.sok_store.specs.Calls.{StoresChange}
 use Rattle.sok_store.specs.Changing.{AreBestColumns, HasBest}
 use Rattle.sok_store.specs.Running.{RunsReading}
 use Rattle.sok_store.specs.Standing.{OffersTelling, StaysBest}
@@ -74,7 +74,7 @@ module _ (page : Page) (letters : List Dir) (best : BestColumns) (rows : Rows) (
   -- ---- what is done of it
 
   pub offer_kept : (old mid : State) (id : ℕ) (n : ℤ) (told : Standing) → RunsReading old mid id (Ok (record { id = n; page = page }))
-      → StaysBest page best.pushes told → Changes old mid (λ book after. OffersTelling book id letters told after)
+      → StaysBest page best.pushes told → StoresChange old mid (λ book after. OffersTelling book id letters told after)
   offer_kept old mid id n told read stays clean book holds =
       let (at, may, shows) = page_read old mid id (record { id = n; page = page }) read clean book holds in
       let test : is_better best.pushes (best_pushes page) ≡ false =

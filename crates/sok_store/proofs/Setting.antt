@@ -14,7 +14,7 @@ use Rattle.sok_book.specs.Commands.{with_page}
 use Rattle.sok_book.specs.Kept.{IsKeptPage}
 use Rattle.sok_sql.specs.Causes.{AreApart, IsMemory, IsTooBig}
 use Rattle.sok_sql.specs.Connections.{Holds, Shows}
-use Rattle.sok_sql.specs.Leaves.{Leaf, HasLeaves, with_best, with_verdict}
+use Rattle.sok_sql.specs.Leaves.{Leaf, HasLeaves, leaf_with_best, leaf_with_verdict}
 use Rattle.sok_sql.specs.Statements.{Updates, UpdatesLeaf}
 use Rattle.sok_store.specs.Faults.{IsOutside}
 use Rattle.sok_store.specs.Rows.{IsKeptBook, leaf_of, leaves_of, verdict_number}
@@ -35,19 +35,19 @@ pub record IsChanged (change : Leaf → Leaf) (page after : Page) : Type 0 where
 -- ---- a solution, or a verdict
 
 pub best_changed : (best : BestColumns) (page after : Page) → IsKeptPage page → HasBest best page after
-    → IsChanged (with_best (string_bytes best.lurd) best.pushes best.moves) page after
+    → IsChanged (leaf_with_best (string_bytes best.lurd) best.pushes best.moves) page after
 best_changed best page after kept has =
-    let change = with_best (string_bytes best.lurd) best.pushes best.moves in
+    let change = leaf_with_best (string_bytes best.lurd) best.pushes best.moves in
     let are = has.columns_are in
     let changed : IsChanged change page (solved page has.solution) = record {
       level = refl;
       kept = IsKeptPage-solved page has.solution kept has.kept;
-      leaf = λ i. with_best (sym are.lurd i) (sym are.pushes i) (sym are.moves i) (leaf_of page);
+      leaf = λ i. leaf_with_best (sym are.lurd i) (sym are.pushes i) (sym are.moves i) (leaf_of page);
     } in
     subst (IsChanged change page) (sym has.after_is) changed
 
 pub verdict_changed : (verdict : Verdict) (page after : Page) → IsKeptPage page → HasVerdict verdict page after
-    → IsChanged (with_verdict (verdict_number verdict)) page after
+    → IsChanged (leaf_with_verdict (verdict_number verdict)) page after
 verdict_changed verdict page after kept has = record {
   level = ap (λ (p : Page). p.level) has.after_is;
   kept = has.kept;

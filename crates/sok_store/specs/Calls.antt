@@ -22,24 +22,24 @@ title_kept None = None
 title_kept (Some title) = kept_title title
 
 -- the connection holds the book that it held before, and of it this is true
-abbrev pub Keeps : State → State → (Book → Type 0) → Type 0
-Keeps old new P = HasCleanDisk new → (book : Book) → HoldsBook old book → P book × HoldsBook new book
+abbrev pub KeepsBook : State → State → (Book → Type 0) → Type 0
+KeepsBook old new P = HasCleanDisk new → (book : Book) → HoldsBook old book → P book × HoldsBook new book
 
 -- and this fault is for a cause that is not of the command, or one of the book's own
 abbrev pub KeepsRefused : State → State → (Book → BookFault → Type 0) → BookFault → Type 0
-KeepsRefused old new Refuses fault = Keeps old new (λ book. IsOutside fault ⊎ Refuses book fault)
+KeepsRefused old new Refuses fault = KeepsBook old new (λ book. IsOutside fault ⊎ Refuses book fault)
 
 -- the connection is open and shows the book that it held before, and of it this is true
-abbrev pub Finds : State → State → (Book → Type 0) → Type 0
-Finds old new P = HasCleanDisk new → (book : Book) → HoldsBook old book → P book × StoresBook new book
+abbrev pub FindsBook : State → State → (Book → Type 0) → Type 0
+FindsBook old new P = HasCleanDisk new → (book : Book) → HoldsBook old book → P book × StoresBook new book
 
 -- the connection is open and shows a book that is made so of the one that it held before
-abbrev pub Changes : State → State → (Book → Book → Type 0) → Type 0
-Changes old new Makes = HasCleanDisk new → (book : Book) → HoldsBook old book → (after : Book) × Makes book after × StoresBook new after
+abbrev pub StoresChange : State → State → (Book → Book → Type 0) → Type 0
+StoresChange old new Makes = HasCleanDisk new → (book : Book) → HoldsBook old book → (after : Book) × Makes book after × StoresBook new after
 
 -- the connection holds a book that is made so of the one that it held before
-abbrev pub Turns : State → State → (Book → Book → Type 0) → Type 0
-Turns old new Makes = HasCleanDisk new → (book : Book) → HoldsBook old book → (after : Book) × Makes book after × HoldsBook new after
+abbrev pub ChangesBook : State → State → (Book → Book → Type 0) → Type 0
+ChangesBook old new Makes = HasCleanDisk new → (book : Book) → HoldsBook old book → (after : Book) × Makes book after × HoldsBook new after
 
 -- a book that is shown is followed by one that is made so of it, which is shown then, and the connection is not shut
 abbrev pub Carries : State → State → (Book → Book → Type 0) → Type 0

@@ -11,14 +11,14 @@ use Rattle.sok_book.specs.Books.{Book, IsTrueBook}
 use Rattle.sok_book.specs.Commands.{OneCommand}
 use Rattle.sok_book.specs.Laws.{IsMade}
 use Rattle.sok_store.specs.Rows.{HoldsBook}
-use Rattle.sok_store.specs.Calls.{Turns}
+use Rattle.sok_store.specs.Calls.{ChangesBook}
 use Rattle.sok_store.specs.Running.{RunsAdding, RunsKnown, RunsOffering, RunsProving, RunsTelling}
 use Rattle.sok_store.specs.declared.standing.Standing.{Standing}
 
 -- a call that is refused, and keeps the book, or that is one command
 pub record IsCall (old new : State) : Type 0 where
   pub clean : HasCleanDisk new → HasCleanDisk old
-  pub turns : Turns old new (λ book after. (after ≡ book) ⊎ OneCommand book after)
+  pub turns : ChangesBook old new (λ book after. (after ≡ book) ⊎ OneCommand book after)
 
 -- calls over connections, one after another
 pub data AreCalls {C : Type 0} (shows : C → State) (old : C) : C → Type 0 where

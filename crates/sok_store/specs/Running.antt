@@ -13,7 +13,7 @@ use Rattle.sok_book.specs.Commands.{Adds, Offers, Proves}
 use Rattle.sok_book.specs.Records.{IsRecordAt}
 use Rattle.sok_book.specs.Refusals.{IsNotAdded, IsNotOffered, IsNotProved}
 use Rattle.sok_store.specs.Faults.{IsOutside}
-use Rattle.sok_store.specs.Calls.{Changes, Finds, IsCaused, Keeps, KeepsRefused, MakesNone, ShowsOn, Stops, id_number}
+use Rattle.sok_store.specs.Calls.{StoresChange, FindsBook, IsCaused, KeepsBook, KeepsRefused, MakesNone, ShowsOn, Stops, id_number}
 use Rattle.sok_store.specs.Known.{IsNotKnown, ProvesKnown}
 use Rattle.sok_store.specs.Standing.{OffersTelling}
 use Rattle.sok_store.specs.declared.standing.Standing.{Standing}
@@ -21,7 +21,7 @@ use Rattle.sok_store.specs.Changing.{AddsPage, IsCausedAdding, IsCausedSetting, 
 
 -- the page with an id is read
 pub record RunsReading (old new : State) (id : ℕ) (result : Result PageWithId BookFault) : Type 0 where
-  pub found : IfOk result (λ kept. Finds old new (λ book. IsRecordAt book id kept))
+  pub found : IfOk result (λ kept. FindsBook old new (λ book. IsRecordAt book id kept))
   pub refused : IfErr result (KeepsRefused old new (λ book fault. (fault ≡ NoLevel) × IsNone (page_at book id)))
   pub shows : IfErr result (ShowsOn old new)
   pub stop : Stops old new MakesNone
@@ -30,7 +30,7 @@ pub record RunsReading (old new : State) (id : ℕ) (result : Result PageWithId 
 -- the page with an id is replaced
 pub record RunsSetting {X : Type 0} (old new : State) (id : ℕ) (Makes : Page → Page → Type 0) (result : Result X BookFault) : Type 0 where
   pub stored : OnOk result (Sets old new id Makes)
-  pub kept : OnErr result (Keeps old new (λ _. ⊤))
+  pub kept : OnErr result (KeepsBook old new (λ _. ⊤))
   pub outside : IfErr result IsOutside
   pub stop : StopsSetting old new id Makes
   pub cause : IfErr result (IsCausedSetting old new id Makes)
@@ -45,7 +45,7 @@ pub record RunsAddingPage (old new : State) (text : List ℕ) (title : Option (L
 -- a command that makes a book with what it answers; of one that it refuses the book stays, and a stop in its middle makes what it may make
 pub record Runs {X : Type 0} (old new : State) (Makes : X → Book → Book → Type 0) (MayMake : Book → Book → Type 0)
     (Refuses : Book → BookFault → Type 0) (result : Result X BookFault) : Type 0 where
-  pub done : IfOk result (λ x. Changes old new (Makes x))
+  pub done : IfOk result (λ x. StoresChange old new (Makes x))
   pub refused : IfErr result (KeepsRefused old new Refuses)
   pub stop : Stops old new MayMake
   pub cause : IfErr result (IsCaused old new MayMake)

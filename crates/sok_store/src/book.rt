@@ -15,7 +15,7 @@ ghost use Rattle.sok_book.specs.Refusals.{IsNotAdded, IsNotOffered, IsNotProved}
 ghost use Rattle.sok_book.specs.declared.record.Offer.{Offer};
 ghost use Rattle.sok_cert.specs.Claim.{Claim};
 ghost use Rattle.sok_store.specs.Faults.{IsOutside};
-ghost use Rattle.sok_store.specs.Calls.{Changes, Finds, IsCaused, Keeps, KeepsRefused};
+ghost use Rattle.sok_store.specs.Calls.{StoresChange, FindsBook, IsCaused, KeepsBook, KeepsRefused};
 ghost use Rattle.sok_store.specs.Calls.{MakesNone, ShowsOn, Stops};
 ghost use Rattle.sok_store.specs.Calls.{id_number, title_kept};
 ghost use Rattle.sok_store.specs.Known.{IsCertified, IsNotKnown, ProvesKnown};
@@ -117,7 +117,7 @@ impl<S: Alter> Book<S> {
 
     /// The level with an id, counted from 1. Another id, a negative one among them, is `NoLevel`.
     pub fn get(&mut self, id: i64) -> Result<Record, BookFault>
-        ensures found { IfOk result (λ kept. Finds (state S.Store self.old) (state S.Store self.new)
+        ensures found { IfOk result (λ kept. FindsBook (state S.Store self.old) (state S.Store self.new)
             (λ book. IsRecordAt book (id_number id) kept)) }
         ensures refused { IfErr result (KeepsRefused (state S.Store self.old) (state S.Store self.new)
             (λ book fault. (fault ≡ BookFault.NoLevel) × IsNone (page_at book (id_number id)))) }
@@ -133,10 +133,10 @@ impl<S: Alter> Book<S> {
         ensures kept { IfOk result
             (λ records. All (λ (kept : PageWithId). IsKeptPage kept.page) records.items) }
         ensures listed { IfOk result (λ records.
-            Finds (state S.Store self.old) (state S.Store self.new)
+            FindsBook (state S.Store self.old) (state S.Store self.new)
             (λ book. AreRecordsOf book records.items)) }
         ensures refused { IfErr result (λ fault.
-            Keeps (state S.Store self.old) (state S.Store self.new) (λ _. IsOutside fault)) }
+            KeepsBook (state S.Store self.old) (state S.Store self.new) (λ _. IsOutside fault)) }
         ensures stop { Stops (state S.Store self.old) (state S.Store self.new) MakesNone }
         ensures cause { IfErr result
             (IsCaused (state S.Store self.old) (state S.Store self.new) MakesNone) }
@@ -150,7 +150,7 @@ impl<S: Alter> Book<S> {
     /// level of which no board can be made, and a new level where there are 10,000.
     pub fn add(&mut self, level: &Level, title: Option<&[u8]>) -> Result<i64, BookFault>
         ensures accepted { OnOk result (IsAcceptable level.now) }
-        ensures added { IfOk result (λ id. Changes (state S.Store self.old) (state S.Store self.new)
+        ensures added { IfOk result (λ id. StoresChange (state S.Store self.old) (state S.Store self.new)
             (λ book after. Adds book level.now
             (title_kept (option_map (λ bytes. bytes.now) title.entry)) (id_number id) after)) }
         ensures refused { IfErr result (KeepsRefused (state S.Store self.old) (state S.Store self.new)
@@ -171,7 +171,7 @@ impl<S: Alter> Book<S> {
     /// letter that is not legal, and letters that leave a box off a goal.
     pub fn offer(&mut self, id: i64, letters: &[Dir]) -> Result<Offer, BookFault>
         ensures offered { IfOk result (λ answer.
-            Changes (state S.Store self.old) (state S.Store self.new)
+            StoresChange (state S.Store self.old) (state S.Store self.new)
             (λ book after. Offers book (id_number id) letters.now answer after)) }
         ensures refused { IfErr result (KeepsRefused (state S.Store self.old) (state S.Store self.new)
             (λ book fault. IsNotOffered book (id_number id) letters.now fault)) }
@@ -191,7 +191,7 @@ impl<S: Alter> Book<S> {
     /// Offers letters as `offer` does, and tells the pushes and moves of the best after that too.
     pub fn offer_with_best(&mut self, id: i64, letters: &[Dir]) -> Result<Standing, BookFault>
         ensures offered { IfOk result (λ told.
-            Changes (state S.Store self.old) (state S.Store self.new)
+            StoresChange (state S.Store self.old) (state S.Store self.new)
             (λ book after. OffersTelling book (id_number id) letters.now told after)) }
         ensures refused { IfErr result (KeepsRefused (state S.Store self.old) (state S.Store self.new)
             (λ book fault. IsNotOffered book (id_number id) letters.now fault)) }
@@ -214,7 +214,7 @@ impl<S: Alter> Book<S> {
     /// that is not closed.
     pub fn prove(&mut self, id: i64, certificate: &[u8]) -> Result<Claim, BookFault>
         ensures proved { IfOk result (λ shown.
-            Changes (state S.Store self.old) (state S.Store self.new)
+            StoresChange (state S.Store self.old) (state S.Store self.new)
             (λ book after. Proves book (id_number id) certificate.now shown after)) }
         ensures refused { IfErr result (KeepsRefused (state S.Store self.old) (state S.Store self.new)
             (λ book fault. IsNotProved book (id_number id) certificate.now fault)) }
@@ -234,7 +234,7 @@ impl<S: Alter> Book<S> {
     /// level does not stand (`NoLevel`), and a claim that is not about its best (`ClaimDiffers`).
     pub fn prove_known(&mut self, id: i64, level: &Level, claim: Claim) -> Result<(), BookFault>
         requires { IsCertified level.now claim }
-        ensures proved { OnOk result (Changes (state S.Store self.old) (state S.Store self.new)
+        ensures proved { OnOk result (StoresChange (state S.Store self.old) (state S.Store self.new)
             (λ book after. ProvesKnown book (id_number id) claim after)) }
         ensures refused { IfErr result (KeepsRefused (state S.Store self.old) (state S.Store self.new)
             (λ book fault. IsNotKnown book (id_number id) level.now claim fault)) }

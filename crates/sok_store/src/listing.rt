@@ -6,7 +6,7 @@ ghost use Rattle.sok_book.specs.Books.{PageWithId};
 ghost use Rattle.sok_book.specs.Kept.{IsKeptPage};
 ghost use Rattle.sok_book.specs.Records.{AreRecordsOf};
 ghost use Rattle.sok_store.specs.Faults.{IsOutside};
-ghost use Rattle.sok_store.specs.Calls.{Finds, IsCaused, Keeps, MakesNone, Stops};
+ghost use Rattle.sok_store.specs.Calls.{FindsBook, IsCaused, KeepsBook, MakesNone, Stops};
 
 use crate::fault::fault_of;
 use crate::records::records_of;
@@ -24,10 +24,10 @@ pub(crate) fn records_in<S: Alter>(
     ensures kept { IfOk result
         (λ records. All (λ (kept : PageWithId). IsKeptPage kept.page) records.items) }
     ensures listed { IfOk result (λ records.
-        Finds (state S.Store conn.old) (state S.Store conn.new)
+        FindsBook (state S.Store conn.old) (state S.Store conn.new)
         (λ book. AreRecordsOf book records.items)) }
     ensures refused { IfErr result (λ fault.
-        Keeps (state S.Store conn.old) (state S.Store conn.new) (λ _. IsOutside fault)) }
+        KeepsBook (state S.Store conn.old) (state S.Store conn.new) (λ _. IsOutside fault)) }
     ensures stop { Stops (state S.Store conn.old) (state S.Store conn.new) MakesNone }
     ensures cause { IfErr result
         (IsCaused (state S.Store conn.old) (state S.Store conn.new) MakesNone) }

@@ -3,7 +3,7 @@ use Rattle.std.specs.Prelude.{ℕ, List, [], ◌∷◌, Option, Some, None, Bool
 use Rattle.std.specs.List.{list_all, starts_with}
 use Rattle.std.specs.Option.{option_and_then}
 use Rattle.sok_text.specs.Characters.{code}
-use Rattle.sok_text.specs.Collections.{Block}
+use Rattle.sok_text.specs.Collections.{Block, block_at}
 
 abbrev pub is_space : ℕ → Bool
 is_space c = c == code (codes " ") || c == code (codes "\t")
@@ -55,3 +55,7 @@ title_after notes = first_text (map (text_behind (codes "Title:")) notes)
 -- a level's title: one after its board comes before one before it
 abbrev pub title_of : Block → Option (List ℕ)
 title_of block = first_text (title_after block.after ∷ title_before block.before ∷ [])
+
+-- the title of the n-th level, counted from 1
+abbrev pub title_at : List Block → ℕ → Option (List ℕ)
+title_at blocks n = option_and_then title_of (block_at blocks n)

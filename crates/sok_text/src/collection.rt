@@ -3,7 +3,6 @@
 ghost use Rattle.std.specs.Prelude.{◌≡◌, ◌⊎◌, ◌↔◌, ℕ, List, None, Err, IfOk};
 ghost use Rattle.std.specs.Prelude.{length, map, option_map};
 ghost use Rattle.std.specs.List.{filter_map};
-ghost use Rattle.std.specs.Option.{option_and_then};
 ghost use Rattle.std.specs.Str.Lines.{lines};
 ghost use Rattle.sok_rules.specs.Levels.{cells_of, level_of};
 ghost use Rattle.sok_rules.specs.declared.fault.LevelFault.TheVariants as fault;
@@ -11,7 +10,7 @@ ghost use Rattle.sok_text.specs.Xsb.{cell_of};
 ghost use Rattle.sok_text.specs.Collections.{blocks_of, block_at, block_of, board_rows, level_at};
 ghost use Rattle.sok_text.specs.Collections.{Parts, IsCut, parts_of};
 ghost use Rattle.sok_text.specs.Plain.{TextsReadPlain};
-ghost use Rattle.sok_text.specs.Titles.{title_of};
+ghost use Rattle.sok_text.specs.Titles.{title_at};
 
 use crate::kind::{Kind, kind_of};
 use crate::line::{before, cut_line, pass, pass_board, place_at};
@@ -108,7 +107,7 @@ impl<'a> Collection<'a> {
     /// board that is not blank. None where there is no title, and where there is no such level.
     pub fn title(&self, n: usize) -> Option<&'a [u8]>
         ensures { option_map (λ title. title.now) result
-            ≡ option_and_then title_of (block_at self.now n) }
+            ≡ title_at self.now n }
     {
         let block = self.block(n)?;
         title_between(block.before, block.after)

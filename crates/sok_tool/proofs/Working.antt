@@ -6,7 +6,7 @@ use Rattle.sqlite.specs.State.{State}
 use Rattle.sok_book.specs.Books.{Book}
 use Rattle.sok_engine.specs.declared.fault.ToolFault.{ToolFault}
 use Rattle.sok_engine.specs.Certified.{Bytes}
-use Rattle.sok_store.specs.Calls.{Keeps, Stops, Turns}
+use Rattle.sok_store.specs.Calls.{KeepsBook, Stops, ChangesBook}
 use Rattle.sok_store.proofs.Calls.{stops_less}
 use Rattle.sok_keep.specs.Causes.{IsCausedFault}
 use Rattle.sok_tool.specs.Databases.{IsWithoutBook, OfOpened, OpensFound, Place, WorksOn, bookless, busy, fileless, refused, unconnected, unread, worked}
@@ -29,14 +29,14 @@ module _ (db : Place) (lacks : Type 0) (MayMake : Book → Book → Type 0) wher
 
   -- and where there is one, its connection is given back
   pub works : (Makes : Book → Book → Type 0) (out : Bytes) (result : Result ℕ ToolFault) (opened left given : db.Connection) → OpensFound db opened
-      → given ≡ left → db.closes_as given → Turns (db.shows opened) (db.shows left) Makes → Stops (db.shows opened) (db.shows left) MayMake
+      → given ≡ left → db.closes_as given → ChangesBook (db.shows opened) (db.shows left) Makes → Stops (db.shows opened) (db.shows left) MayMake
       → IfErr result (IsCausedFault (db.shows opened) (db.shows left) MayMake) → WorksOn db lacks MayMake Makes out result
   works Makes out result opened left given (found, kept, opens) same back turns stop cause =
       worked found opened left kept (subst db.closes_as same back) (λ is. opens (omega (arith, is, stop.clean))) turns stop cause
 
 -- what is made of a book is also something else
-pub Turns-weaker : (old new : State) (P Q : Book → Book → Type 0) → ((book after : Book) → P book after → Q book after) → Turns old new P → Turns old new Q
-Turns-weaker old new P Q weaker turns clean book holds =
+pub ChangesBook-weaker : (old new : State) (P Q : Book → Book → Type 0) → ((book after : Book) → P book after → Q book after) → ChangesBook old new P → ChangesBook old new Q
+ChangesBook-weaker old new P Q weaker turns clean book holds =
     let (after, made, held) = turns clean book holds in (after, weaker book after made, held)
 
 -- and the cause of a fault that of more
@@ -49,17 +49,17 @@ caused_weaker old new P Q weaker (Err fault) caused = λ told same clean book ho
 ]
 
 -- a book that is kept is made of itself
-pub Keeps-turns : (old new : State) (P : Book → Type 0) → Keeps old new P → Turns old new (λ book after. (after ≡ book) × P book)
-Keeps-turns old new P keeps clean book holds = let (is, held) = keeps clean book holds in (book, (refl, is), held)
+pub KeepsBook-changes : (old new : State) (P : Book → Type 0) → KeepsBook old new P → ChangesBook old new (λ book after. (after ≡ book) × P book)
+KeepsBook-changes old new P keeps clean book holds = let (is, held) = keeps clean book holds in (book, (refl, is), held)
 
 module _ (db : Place) (lacks : Type 0) (reads : Option (List ℕ) → Type 0) (known : Option (List ℕ)) (is : reads known) where
   -- what is made of the book and of what a file has left is made of such a file
   pub works_with_file : (MayMake Makes : Option (List ℕ) → Book → Book → Type 0) (out : Bytes) (result : Result ℕ ToolFault) (opened left given : db.Connection)
-      → OpensFound db opened → given ≡ left → db.closes_as given → Turns (db.shows opened) (db.shows left) (Makes known)
+      → OpensFound db opened → given ≡ left → db.closes_as given → ChangesBook (db.shows opened) (db.shows left) (Makes known)
       → Stops (db.shows opened) (db.shows left) (MayMake known) → IfErr result (IsCausedFault (db.shows opened) (db.shows left) (MayMake known))
       → WorksOn db lacks (λ book after. OfOpened reads (λ k. MayMake k book after)) (λ book after. OfOpened reads (λ k. Makes k book after)) out result
   works_with_file MayMake Makes out result opened left given opens same back turns stop cause =
       works db lacks (λ book after. OfOpened reads (λ k. MayMake k book after)) (λ book after. OfOpened reads (λ k. Makes k book after)) out result opened left given
-      opens same back (Turns-weaker (db.shows opened) (db.shows left) (Makes known) _ (λ book after made. (known, is, made)) turns)
+      opens same back (ChangesBook-weaker (db.shows opened) (db.shows left) (Makes known) _ (λ book after made. (known, is, made)) turns)
       (stops_less (db.shows opened) (db.shows left) (MayMake known) _ (λ book after made. (known, is, made)) stop)
       (caused_weaker (db.shows opened) (db.shows left) (MayMake known) _ (λ book after made. (known, is, made)) result cause)

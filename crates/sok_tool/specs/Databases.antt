@@ -9,7 +9,7 @@ use Rattle.sok_engine.specs.declared.fault.ToolFault.TheVariants as tool
 use Rattle.sok_engine.specs.Certified.{Bytes, Stays}
 use Rattle.sok_engine.specs.Faults.{of_book}
 use Rattle.sok_sql.specs.Connections.{IsKnown, IsSame}
-use Rattle.sok_store.specs.Calls.{Stops, Turns}
+use Rattle.sok_store.specs.Calls.{Stops, ChangesBook}
 use Rattle.sok_store.specs.Opening.{IsCausedOpening, IsUnopened, Opens}
 use Rattle.sok_keep.specs.Causes.{IsCausedFault}
 use Rattle.sok_databases.specs.declared.databases.Access.{Access}
@@ -90,6 +90,6 @@ OpensFound db opened = (found : db.Connection) × db.opens_as found × (HasClean
 pub data WorksOn (db : Place) (lacks : Type 0) (MayMake Makes : Book → Book → Type 0) (out : Bytes) (result : Result ℕ ToolFault) : Type 0 where
   refused : (told : ToolFault) → IsWithoutBook db lacks told → result ≡ Err told → Stays out → WorksOn db lacks MayMake Makes out result
   worked : (found opened left : db.Connection) → db.opens_as found → db.closes_as left
-      → (HasCleanDisk (db.shows left) → Opens (db.shows found) (db.shows opened)) → Turns (db.shows opened) (db.shows left) Makes
+      → (HasCleanDisk (db.shows left) → Opens (db.shows found) (db.shows opened)) → ChangesBook (db.shows opened) (db.shows left) Makes
       → Stops (db.shows opened) (db.shows left) MayMake → IfErr result (IsCausedFault (db.shows opened) (db.shows left) MayMake)
       → WorksOn db lacks MayMake Makes out result

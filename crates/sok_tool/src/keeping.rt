@@ -7,7 +7,7 @@ ghost use Rattle.sqlite.specs.Held.{state};
 ghost use Rattle.sok_search.specs.Faults.{IsBadLimit};
 ghost use Rattle.sok_engine.specs.declared.fault.ToolFault.TheVariants as tool;
 ghost use Rattle.sok_files.specs.Files.{IsMade};
-ghost use Rattle.sok_store.specs.Calls.{Stops, Turns};
+ghost use Rattle.sok_store.specs.Calls.{Stops, ChangesBook};
 ghost use Rattle.sok_keep.specs.Causes.{IsCausedFault};
 ghost use Rattle.sok_keep.specs.Shows.{IsBookText, IsShow};
 ghost use Rattle.sok_settle.specs.Settles.{SettlesSome, WritesSettling};
@@ -134,7 +134,7 @@ fn settle_book<S: Alter, F: Folder + AllocGlobal, W: Write>(
     folder: Option<String>,
     out: &mut W,
 ) -> Result<u8, ToolFault>
-    ensures writes { Turns (state S.Store book.old) (state S.Store book.new) (λ pages after.
+    ensures writes { ChangesBook (state S.Store book.old) (state S.Store book.new) (λ pages after.
         WritesSettling (keeping_of (λ path. IsMade F.Output.contents (F.makes rt.now path))
         (option_map (λ s. string_bytes s) folder)) limit from pages after
         (W.contents out.old) (W.contents out.new) result) }

@@ -2,7 +2,7 @@
 use Rattle.std.proofs.Common.{◌≡◌, ◌⊎◌, subst}
 use Rattle.std.proofs.lemmas.Result.{err_from_is_err_and}
 use Rattle.sok_cert.specs.CertFault.TheVariants as cert
-use Rattle.sok_cert.specs.Verdicts.{IsUnshown}
+use Rattle.sok_cert.specs.Verdicts.{IsRefusedText}
 use Rattle.sok_book.specs.Commands.{Meets}
 use Rattle.sok_book.proofs.NoProofs.{IsNoProof-list, IsNoProof-text}
 use Rattle.sok_book.proofs.proving.judge_proof.Goals as goal
@@ -20,5 +20,5 @@ returns-in_err-judge-in-None-clause-refused c =
     let ends = c.in_ok-ended.ensures.ends in
     let fault = c.in_err-judge-in-None.field-0.0 in
     let meets = subst (λ claim. Meets claim c.args.best) c.claim.ensures c.in-None.ensures in
-    let told = subst (λ b. (fault ≡ cert.Memory) ⊎ IsUnshown b bytes fault) c.in_ok-ended.ensures.board (c.in_err-judge-in-None.ensures.refused bytes ends) in
+    let told = subst (λ b. (fault ≡ cert.Memory) ⊎ IsRefusedText b bytes fault) c.in_ok-ended.ensures.board (c.in_err-judge-in-None.ensures.refused bytes ends) in
     rw (p.1, p.2) (IsNoProof-list c.args.board.now c.args.best bytes ended.claim ends.entries fault ends.spelled meets told)

@@ -4,7 +4,7 @@ use Rattle.std.proofs.lemmas.List.{flat_map_more, take_all, take_more}
 use Rattle.std.proofs.lemmas.Result.{err_from_is_err_and, MatchResult-weaker}
 use Rattle.sok_entry.specs.declared.fault.CertFault.TheVariants as cert
 use Rattle.sok_cert.specs.Streams.{StandsFor}
-use Rattle.sok_cert.specs.Verdicts.{IsShown, IsUnshown}
+use Rattle.sok_cert.specs.Verdicts.{IsProofOf, IsRefusedText}
 use Rattle.sok_cert.proofs.stream.judge_pieces.Goals as goal
 use Rattle.sok_cert.proofs.stream.judge_pieces.Goals.{After-ended}
 
@@ -52,13 +52,13 @@ pub returns-clause-shown : goal.returns-clause-shown
 returns-clause-shown c =
     let text = joined c.args.pieces.now in
     let ends = c.in_ok-ended.ensures.ends text (whole (goal.at.returns-clause-shown c).After-ended) in
-    subst (λ b. IfOk c.judge.result (λ accepted. IsShown b text accepted.claim)) (c.in_ok-ended.ensures.board ∙ c.loop-piece.invariant.board)
+    subst (λ b. IfOk c.judge.result (λ accepted. IsProofOf b text accepted.claim)) (c.in_ok-ended.ensures.board ∙ c.loop-piece.invariant.board)
     (c.judge.ensures.shown text ends)
 
 pub returns-clause-refused : goal.returns-clause-refused
 returns-clause-refused c =
     let text = joined c.args.pieces.now in
     let ends = c.in_ok-ended.ensures.ends text (whole (goal.at.returns-clause-refused c).After-ended) in
-    let told = subst (λ b. IfErr c.judge.result (λ fault. (fault ≡ cert.Memory) ⊎ IsUnshown b text fault))
+    let told = subst (λ b. IfErr c.judge.result (λ fault. (fault ≡ cert.Memory) ⊎ IsRefusedText b text fault))
     (c.in_ok-ended.ensures.board ∙ c.loop-piece.invariant.board) (c.judge.ensures.refused text ends) in
     MatchResult-weaker c.judge.result told (λ accepted any. any) (λ fault said. elim said [ inl memory ↦ inl memory | inr unshown ↦ inr (inr unshown) ])

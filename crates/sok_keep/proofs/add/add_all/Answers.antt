@@ -2,7 +2,7 @@ use Rattle.std.proofs.Common.{subst}
 use Rattle.std.proofs.lemmas.Result.{err_from_is_err_and}
 use Rattle.sqlite.specs.Held.{state}
 use Rattle.sok_text.specs.Collections.{blocks_of}
-use Rattle.sok_store.specs.Calls.{Turns}
+use Rattle.sok_store.specs.Calls.{ChangesBook}
 use Rattle.sok_keep.specs.Adding.{AddsSome, EndsLevels}
 use Rattle.sok_keep.specs.Causes.{Treats}
 use Rattle.sok_store.proofs.Calls.{stops_same}
@@ -19,7 +19,7 @@ returns-in_err-collection-clause-leaves g c =
 
 pub returns-clause-leaves : goal.returns-clause-leaves
 returns-clause-leaves g c =
-    subst (λ blocks. Turns (state g.S.Store c.args.book.now) (state g.S.Store c.add_levels.new.book)
+    subst (λ blocks. ChangesBook (state g.S.Store c.args.book.now) (state g.S.Store c.add_levels.new.book)
     (λ pages after. EndsLevels blocks pages after c.add_levels.new.lines.items c.add_levels.result)) c.in_ok-collection.ensures c.add_levels.ensures.leaves
 
 pub returns-in_err-collection-clause-treats : goal.returns-in_err-collection-clause-treats

@@ -1,7 +1,7 @@
 use Rattle.std.proofs.Common.{Bor, List, option_map, ℕ}
 use Rattle.sqlite.specs.Held.{state}
 use Rattle.sok_text.specs.Collections.{level_at}
-use Rattle.sok_keep.specs.Adds.{title_at}
+use Rattle.sok_text.specs.Titles.{title_at}
 use Rattle.sok_keep.proofs.Adding.{level_found, level_told}
 use Rattle.sok_keep.proofs.Treating.{faulty_treats, found_treats}
 use Rattle.sok_keep.proofs.add.add_level.Goals as goal

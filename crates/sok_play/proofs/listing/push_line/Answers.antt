@@ -3,7 +3,8 @@ use Rattle.std.proofs.lemmas.Result.{on_ok_weaker}
 use Rattle.sok_rules.specs.declared.fault.LevelFault.{LevelFault}
 use Rattle.sok_rules.specs.Squares.{Rows}
 use Rattle.sok_text.specs.Collections.{level_at}
-use Rattle.sok_play.specs.Listing.{level_line, title_at}
+use Rattle.sok_text.specs.Titles.{title_at}
+use Rattle.sok_play.specs.Listing.{level_line}
 use Rattle.sok_play.proofs.Listings.{found-fault}
 use Rattle.sok_play.proofs.listing.push_line.Goals as goal
 

@@ -1,5 +1,5 @@
 use Rattle.std.proofs.Common.{◌∙◌, refl}
-use Rattle.sok_cert.specs.Text.{entry_of}
+use Rattle.sok_cert.specs.Text.{entry_from}
 use Rattle.sok_search.specs.Views.{progress_of}
 use Rattle.sok_search.proofs.Certified.{entry-at, entry-fits}
 use Rattle.sok_search.proofs.certifying.take_entry.Goals as goal
@@ -23,7 +23,7 @@ returns-clause-takes g c =
     let note = c.in_ok-key.note in
     let state = c.in_ok-key.ensures in
     let boxes = c.deref.ensures.value ∙ c.in_ok-widen.ensures ∙ c.list.ensures.list in
-    let entry = entry_of depth c.from.result c.deref.result.now c.in_ok-reason.reason in
+    let entry = entry_from depth c.from.result c.deref.result.now c.in_ok-reason.reason in
     record {
       entry = entry;
       is = entry-at b c.args.claim p c.args.index key depth note entry state

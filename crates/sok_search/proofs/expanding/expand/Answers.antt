@@ -1,5 +1,5 @@
 use Rattle.std.proofs.Common.{◌∙◌, sym, subst, true≢false, Contains, IfSome, List, Option}
-use Rattle.std.proofs.lemmas.Result.{IfOk-weaker}
+use Rattle.std.proofs.lemmas.Result.{on_ok_weaker}
 use Rattle.sok_state.specs.declared.key.Key.{Key}
 use Rattle.sok_state.specs.declared.push.Push.{Push}
 use Rattle.sok_state.specs.Pushes.{IsLegal}
@@ -8,7 +8,7 @@ use Rattle.sok_search.specs.PushScratches.{IsLast}
 use Rattle.sok_search.specs.Views.{progress_of}
 use Rattle.sok_search.proofs.Adding.{taken-key}
 use Rattle.sok_search.proofs.StatesByIndex.{state-few}
-use Rattle.sok_search.proofs.FollowedPushes.{both-ok, told-expanded}
+use Rattle.sok_search.proofs.FollowedPushes.{both-ok, followed-along}
 use Rattle.sok_search.proofs.expanding.expand.Goals as goal
 
 pub open-requires-clause-state : goal.open-requires-clause-state
@@ -39,11 +39,11 @@ returns-clause-ready c =
           });
     }) c.follow.ensures.push_scratch c.follow.ensures.opened
 
-pub returns-clause-tells : goal.returns-clause-tells
-returns-clause-tells c =
+pub returns-clause-followed : goal.returns-clause-followed
+returns-clause-followed c =
     let b = c.args.setting.now.board.now in
     let pushes = c.deref.result.now in
     let whole = subst (λ (items : List Push). (push : Push) → IsLegal b c.args.key.now push → Contains items push)
     (sym c.deref.ensures.value) c.in_ok-open.ensures.whole in
-    IfOk-weaker c.follow.result _ _ (λ r told. told-expanded b c.args.limit
-    (progress_of c.args.search.now) (progress_of c.follow.new.search) c.args.index c.args.key.now c.args.depth pushes whole r told) c.follow.ensures.tells
+    on_ok_weaker c.follow.result (followed-along b c.args.limit (progress_of c.args.search.now) (progress_of c.follow.new.search) c.args.index c.args.key.now c.args.depth
+    (Contains pushes) (IsLegal b c.args.key.now) whole) c.follow.ensures.followed

@@ -1,7 +1,6 @@
-use Rattle.std.proofs.Common.{ap, ◌∙◌, subst, Some, Contains, arith, get_or}
+use Rattle.std.proofs.Common.{ap, ◌∙◌, Some, Contains, arith, get_or}
 use Rattle.std.proofs.lemmas.Option.{slice_get-get_or}
-use Rattle.sok_search.specs.Views.{TellsReached, progress_of}
-use Rattle.sok_search.specs.declared.reaching.Reached.TheVariants.{On}
+use Rattle.sok_search.specs.Views.{progress_of}
 use Rattle.sok_closed.proofs.Looking.{no_push}
 use Rattle.sok_search.proofs.FollowedPushes.{Before, followed-along, followed-more, followed-none, held-stays}
 use Rattle.sok_search.proofs.expanding.follow.Goals as goal
@@ -32,18 +31,16 @@ loop-push-preserved c =
     let n = c.loop-push.push-index in
     let pushes = c.args.pushes.now in
     let push = get_or pushes n no_push in
-    let told : TellsReached b c.args.limit (progress_of c.loop-push.search) c.args.index c.args.key.now c.args.depth push (progress_of c.reach.new.search) On = subst
-    (TellsReached b c.args.limit (progress_of c.loop-push.search) c.args.index c.args.key.now c.args.depth push (progress_of c.reach.new.search)) c.in-On.is
-    c.in_ok-reach.ensures.tells in record {
+    record {
       followed = followed-more b c.args.limit (progress_of c.args.search.now) (progress_of c.loop-push.search)
           (progress_of c.reach.new.search) c.args.index c.args.key.now c.args.depth pushes n push
-          (slice_get-get_or pushes n no_push c.loop-push-test.true) c.loop-push.invariant.followed told;
+          (slice_get-get_or pushes n no_push c.loop-push-test.true) c.loop-push.invariant.followed c.in_ok-reach.ensures.pushed;
       push_scratch = c.in_ok-reach.ensures.push_scratch;
       opened = c.in_ok-reach.ensures.opened;
     }
 
-pub returns-clause-tells : goal.returns-clause-tells
-returns-clause-tells c =
+pub returns-clause-followed : goal.returns-clause-followed
+returns-clause-followed c =
     let pushes = c.args.pushes.now in
     let past = c.loop-push-test.false in
     followed-along c.args.setting.now.board.now c.args.limit (progress_of c.args.search.now) (progress_of c.loop-push.search) c.args.index c.args.key.now c.args.depth

@@ -93,14 +93,14 @@ approach-requires-clause-noted c =
     let here = (goal.at.approach-requires-clause-noted c).Then-not-is_new in
     note-within c.args.setting.now.board.now c.args.limit c.args.index (progress_of c.args.search.now) c.requires.state.running.search c.in_ok-at.at (next_in here) (stays_in here).there
 
-pub returns-then-not-is_new-clause-tells : goal.returns-then-not-is_new-clause-tells
+pub returns-then-not-is_new-clause-pushed : goal.returns-then-not-is_new-clause-pushed
 unfolding next_in
-returns-then-not-is_new-clause-tells c =
+returns-then-not-is_new-clause-pushed c =
     let p = progress_of c.args.search.now in
     let one = taken c.args.setting.now.board.now c.args.limit c.args.index p c.args.key.now c.args.depth c.requires.state.running.search c.requires.state.there c.requires.state.depth_is in
-    let comes = comes_in ((goal.at.returns-then-not-is_new-clause-tells c).After-step-least) in
+    let comes = comes_in ((goal.at.returns-then-not-is_new-clause-pushed c).After-step-least) in
     let next = next_of c.args.key.now c.args.push.from c.args.to c.step-least.result in
-    let stays = stays_in ((goal.at.returns-then-not-is_new-clause-tells c).Then-not-is_new) in
+    let stays = stays_in ((goal.at.returns-then-not-is_new-clause-pushed c).Then-not-is_new) in
     pushed-known c.args.setting.now.board.now c.args.limit c.args.index p c.requires.state.running.search c.args.key.now c.args.depth c.requires.state.there c.requires.state.depth_is
     one.note one.note_is c.args.push c.requires.legal next comes.came.exact comes.came.of_board comes.came.as_many
     c.in_ok-at.at (frame_in c.args.search.now c.insert_next.new.self) c.insert_next.new.self.entries
@@ -131,20 +131,20 @@ judge_after-requires-clause-moved c =
     moved-next c.args.setting.now.board.now c.requires.state.running.accepted c.args.key.now _ c.args.push c.args.to can.state can.few comes.came.of_board c.requires.legal
     comes.came.exact c.requires.ahead
 
-pub returns-clause-tells : goal.returns-clause-tells
-returns-clause-tells c =
+pub returns-clause-pushed : goal.returns-clause-pushed
+returns-clause-pushed c =
     let p = progress_of c.args.search.now in
     let q = progress_of c.add.new.search in
     let at = c.in_ok-at.at in
     let one = taken c.args.setting.now.board.now c.args.limit c.args.index p c.args.key.now c.args.depth c.requires.state.running.search c.requires.state.there c.requires.state.depth_is in
-    let comes = comes_in ((goal.at.returns-clause-tells c).After-step-least) in
+    let comes = comes_in ((goal.at.returns-clause-pushed c).After-step-least) in
     let next = next_of c.args.key.now c.args.push.from c.args.to c.step-least.result in
     let last : GoesLast p.table next (c.args.depth + 1) at c.insert_next.new.self.entries = subst
     (λ t. Enters p.table next (c.args.depth + 1) at t c.insert_next.new.self.entries) c.if-not-is_new.false
     (c.in_ok-at.ensures.inserted.enters c.args.key.now next c.requires.state.there comes.is) in
     let room = c.if-len-limit.false in
     let length_is = c.len.ensures.count in
-    let here = (goal.at.returns-clause-tells c).After-step-least in
+    let here = (goal.at.returns-clause-pushed c).After-step-least in
     let losses = losses_of c.args.search.now.losses in
     let judged = c.in_ok-standing.ensures.judged losses c.step-least.result
     (lost-next c.args.setting.now.board.now c.requires.state.running.accepted c.args.key.now c.args.push c.args.to c.args.push_scratch.now.scene (can_in here)

@@ -40,8 +40,8 @@ pub approach-requires-clause-noted : goal.approach-requires-clause-noted
 approach-requires-clause-noted c = note-within c.args.board.now c.args.limit c.args.index (progress_of c.args.search.now)
     c.requires.state.running.search c.in-Some.at c.in_ok-next.next c.in-Some.ensures
 
-pub returns-in-Some-clause-tells : goal.returns-in-Some-clause-tells
-returns-in-Some-clause-tells c =
+pub returns-in-Some-clause-pushed : goal.returns-in-Some-clause-pushed
+returns-in-Some-clause-pushed c =
     let held = c.requires.state in
     let p = progress_of c.args.search.now in
     let one = taken c.args.board.now c.args.limit c.args.index p c.args.key.now c.args.depth held.running.search held.there held.depth_is in
@@ -50,8 +50,8 @@ returns-in-Some-clause-tells c =
     c.args.push c.requires.legal next.next next.ensures.after.exact next.ensures.after.of_board next.ensures.after.as_many c.in-Some.at p.frame p.table refl
     (record { there = c.in-Some.ensures; unchanged = refl }) (progress_of c.approach.new.search) c.in_ok-approach-in-Some.ensures
 
-pub returns-clause-tells : goal.returns-clause-tells
-returns-clause-tells c =
+pub returns-clause-cut : goal.returns-clause-cut
+returns-clause-cut c = λ _.
     let held = c.requires.state in
     let next = c.in_ok-next in
     let legal = c.requires.legal in

@@ -1,5 +1,5 @@
 use Rattle.std.proofs.Common.{◌∙◌, subst, sym}
-use Rattle.std.proofs.lemmas.Result.{IfOk-weaker}
+use Rattle.std.proofs.lemmas.Result.{on_ok_weaker}
 use Rattle.sok_board.specs.Area.{BoardView}
 use Rattle.sok_distance.specs.Pushing.{IsStuck}
 use Rattle.sok_alone.specs.Losses.{losses_of}
@@ -7,7 +7,7 @@ use Rattle.sok_search.specs.Searches.{IsSearch}
 use Rattle.sok_search.specs.Steps.{holding, knowing}
 use Rattle.sok_search.specs.Views.{progress_of}
 use Rattle.sok_search.proofs.Adding.{taken-key, taken-pushable}
-use Rattle.sok_search.proofs.Asking.{lost-found, tells-knowing}
+use Rattle.sok_search.proofs.Asking.{lost-found}
 use Rattle.sok_search.proofs.Invariant.{keeps-knowing}
 use Rattle.sok_search.proofs.Pushing.{pushed-knowing}
 use Rattle.sok_search.proofs.LeavingOut.{leads-nowhere, pushed-left_out}
@@ -26,8 +26,8 @@ pub ask-requires-clause-state : goal.ask-requires-clause-state
 ask-requires-clause-state c = taken-key c.args.setting.now.board.now c.args.limit c.args.index (progress_of c.args.search.now) c.args.key.now c.args.depth
     c.requires.state.running.search c.requires.state.there c.requires.state.depth_is
 
-pub returns-then-stuck-clause-tells : goal.returns-then-stuck-clause-tells
-returns-then-stuck-clause-tells c =
+pub returns-then-stuck-clause-pushed : goal.returns-then-stuck-clause-pushed
+returns-then-stuck-clause-pushed c =
     let b = c.args.setting.now.board.now in
     let p = progress_of c.args.search.now in
     let key = c.args.key.now in
@@ -45,8 +45,8 @@ known-in : (c : In_ok-lost) → IsSearch c.args.setting.now.board.now c.args.lim
 known-in c = keeps-knowing c.args.setting.now.board.now c.args.limit (holding c.args.index (progress_of c.args.search.now)) c.ask.new.losses c.requires.state.running.search
     c.in_ok-lost.ensures.losses c.in_ok-lost.ensures.kept
 
-pub returns-then-is_some-clause-tells : goal.returns-then-is_some-clause-tells
-returns-then-is_some-clause-tells c =
+pub returns-then-is_some-clause-pushed : goal.returns-then-is_some-clause-pushed
+returns-then-is_some-clause-pushed c =
     let b = c.args.setting.now.board.now in
     let p = progress_of c.args.search.now in
     let q = knowing c.ask.new.losses p in
@@ -55,7 +55,7 @@ returns-then-is_some-clause-tells c =
     let can = taken-pushable b running.accepted c.args.limit c.args.index p key c.args.depth running.search c.requires.state.there c.requires.state.depth_is c.args.push
     c.requires.legal c.args.push_scratch.now.scene c.requires.opened in
     pushed-knowing b c.args.limit (holding c.args.index p) c.ask.new.losses key c.args.depth c.args.push (holding c.args.index q)
-    (pushed-left_out b c.args.limit c.args.index q (known-in ((goal.at.returns-then-is_some-clause-tells c).In_ok-lost)) key c.args.depth c.args.push (record {
+    (pushed-left_out b c.args.limit c.args.index q (known-in ((goal.at.returns-then-is_some-clause-pushed c).In_ok-lost)) key c.args.depth c.args.push (record {
       part = c.if-not-search-2.true;
       nowhere = lost-found b running.accepted key c.args.push c.square_ahead-to.result c.args.push_scratch.now.scene can c.square_ahead-to.ensures
           (losses_of c.ask.new.losses) c.in_ok-lost.lost (sym c.is_some.ensures ∙ c.if-is_some.true) c.in_ok-lost.ensures.lost;
@@ -71,7 +71,7 @@ arrive-requires-clause-state c = record {
   depth_is = c.requires.state.depth_is;
 }
 
-pub returns-clause-tells : goal.returns-clause-tells
-returns-clause-tells c = IfOk-weaker c.arrive.result _ _
-    (tells-knowing c.args.setting.now.board.now c.args.limit (progress_of c.args.search.now) c.ask.new.losses c.args.index c.args.key.now c.args.depth c.args.push
-    (progress_of c.arrive.new.search)) c.arrive.ensures.tells
+pub returns-clause-pushed : goal.returns-clause-pushed
+returns-clause-pushed c = on_ok_weaker c.arrive.result
+    (pushed-knowing c.args.setting.now.board.now c.args.limit (holding c.args.index (progress_of c.args.search.now)) c.ask.new.losses c.args.key.now c.args.depth c.args.push
+    (holding c.args.index (progress_of c.arrive.new.search))) c.arrive.ensures.pushed

@@ -1,4 +1,5 @@
-use Rattle.std.proofs.Common.{◌∙◌, refl, sym, subst, List, ℕ}
+use Rattle.std.proofs.Common.{◌∙◌, refl, sym, ap, subst, List, ℕ, Err}
+use Rattle.std.proofs.lemmas.Result.{err_from_is_err_and}
 use Rattle.sok_search.specs.Searches.{IsSearch}
 use Rattle.sok_search.specs.Views.{progress_of}
 use Rattle.sok_search.proofs.Turning.{held-search, turned-taken}
@@ -17,15 +18,15 @@ turn-requires-clause-held c = record {
 pub loop-index-preserved : goal.loop-index-preserved
 loop-index-preserved c =
     let turned = turned-taken c.args.setting.now.board.now c.args.limit c.in-Some.index (progress_of c.loop-index.search) (progress_of c.turn.new.search)
-    c.pop.new.self _ c.in-Some.ensures c.in_ok-turn.ensures.tells c.in-On.is in
+    c.pop.new.self c.in-Some.ensures c.in_ok-turn.ensures.turned in
     record { search = turned.search; whole = turned.whole ∙ c.loop-index.invariant.whole; ready = c.in_ok-turn.ensures.ready }
 
 pub loop-index-smaller : goal.loop-index-smaller
 loop-index-smaller c = (turned-taken c.args.setting.now.board.now c.args.limit c.in-Some.index (progress_of c.loop-index.search) (progress_of c.turn.new.search)
-    c.pop.new.self _ c.in-Some.ensures c.in_ok-turn.ensures.tells c.in-On.is).less
+    c.pop.new.self c.in-Some.ensures c.in_ok-turn.ensures.turned).less
 
-pub returns : goal.returns
-returns c =
+pub returns-clause-finished : goal.returns-clause-finished
+returns-clause-finished c =
     let (before, after) = c.in_default.ensures in
     record {
       search = subst (λ (queue : List ℕ). IsSearch c.args.setting.now.board.now c.args.limit (record (progress_of c.loop-index.search) { queue = queue }))
@@ -33,3 +34,9 @@ returns c =
       whole = c.loop-index.invariant.whole;
       empty = after;
     }
+
+pub returns-in_err-turn-clause-cut : goal.returns-in_err-turn-clause-cut
+returns-in_err-turn-clause-cut c = λ cut.
+    let stop = err_from_is_err_and c.from_residual.result c.from_residual.ensures.1 in
+    let left = c.in_err-turn.ensures.cut (sym (stop.1 ∙ ap Err stop.2) ∙ cut) in
+    record { more = left.more; search = left.search; full = left.full; kept = left.kept ∙ c.loop-index.invariant.whole }

@@ -12,21 +12,21 @@ visit-requires-clause-noted c =
     let within = held-noted c.args.setting.now.board.now c.args.limit c.args.index (progress_of c.args.search.now) c.requires.held.search in
     slice_get-get_or c.args.search.now.notes.items c.args.index c.index-note.result.now within ∙ ap Some (sym c.index-note.ensures)
 
-pub returns-in-Expanded-clause-tells : goal.returns-in-Expanded-clause-tells
-returns-in-Expanded-clause-tells c =
+pub returns-in-Expanded-clause-turned : goal.returns-in-Expanded-clause-turned
+returns-in-Expanded-clause-turned c =
     let within = held-noted c.args.setting.now.board.now c.args.limit c.args.index (progress_of c.args.search.now) c.requires.held.search in
     let there = slice_get-get_or c.args.search.now.notes.items c.args.index c.index-note.result.now within ∙ ap Some (sym c.index-note.ensures) in
     go-expanded c.args.setting.now.board.now c.args.limit c.args.index c.in-Expanded.field-0
     (progress_of c.args.search.now) c.index-note.result.now c.requires.held.search there c.in-Expanded.is
 
-pub returns-in-Dead-clause-tells : goal.returns-in-Dead-clause-tells
-returns-in-Dead-clause-tells c =
+pub returns-in-Dead-clause-turned : goal.returns-in-Dead-clause-turned
+returns-in-Dead-clause-turned c =
     let within = held-noted c.args.setting.now.board.now c.args.limit c.args.index (progress_of c.args.search.now) c.requires.held.search in
     let there = slice_get-get_or c.args.search.now.notes.items c.args.index c.index-note.result.now within ∙ ap Some (sym c.index-note.ensures) in
     go-dead c.args.setting.now.board.now c.args.limit c.args.index (progress_of c.args.search.now) c.index-note.result.now c.requires.held.search there c.in-Dead.is
 
-pub returns-in-Lost-clause-tells : goal.returns-in-Lost-clause-tells
-returns-in-Lost-clause-tells c =
+pub returns-in-Lost-clause-turned : goal.returns-in-Lost-clause-turned
+returns-in-Lost-clause-turned c =
     let within = held-noted c.args.setting.now.board.now c.args.limit c.args.index (progress_of c.args.search.now) c.requires.held.search in
     let there = slice_get-get_or c.args.search.now.notes.items c.args.index c.index-note.result.now within ∙ ap Some (sym c.index-note.ensures) in
     go-lost c.args.setting.now.board.now c.args.limit c.args.index c.in-Lost.field-0

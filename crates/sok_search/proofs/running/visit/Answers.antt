@@ -1,7 +1,6 @@
-use Rattle.std.proofs.Common.{refl, sym, subst, true≢false}
-use Rattle.sok_search.specs.declared.reaching.Reached.TheVariants.{On, Full}
+use Rattle.std.proofs.Common.{refl, sym, true≢false}
 use Rattle.sok_search.specs.Steps.{holding}
-use Rattle.sok_search.specs.Views.{TellsExpanded, progress_of}
+use Rattle.sok_search.specs.Views.{progress_of}
 use Rattle.sok_search.proofs.Adding.{taken-key}
 use Rattle.sok_search.proofs.StatesByIndex.{state-few}
 use Rattle.sok_search.proofs.Turning.{cut-waits, go-beaten, go-on, go-solved, held-noted, held-within}
@@ -17,8 +16,8 @@ pub key-requires-clause-few : goal.key-requires-clause-few
 key-requires-clause-few c = state-few c.args.setting.now.board.now c.args.limit (holding c.args.index
     (progress_of c.args.search.now)) c.requires.held.search c.args.index c.requires.held.accepted
 
-pub returns-then-is_beaten-clause-tells : goal.returns-then-is_beaten-clause-tells
-returns-then-is_beaten-clause-tells c = go-beaten c.args.setting.now.board.now c.args.limit c.args.index c.args.bound c.depth-depth.result
+pub returns-then-is_beaten-clause-turned : goal.returns-then-is_beaten-clause-turned
+returns-then-is_beaten-clause-turned c = go-beaten c.args.setting.now.board.now c.args.limit c.args.index c.args.bound c.depth-depth.result
     (progress_of c.args.search.now) c.args.note c.requires.held.search c.requires.noted c.requires.is_open c.depth-depth.ensures (c.if-is_beaten.ensures.0 refl)
 
 pub is_solved-requires : goal.is_solved-requires
@@ -27,36 +26,24 @@ is_solved-requires c = record {
       (progress_of c.args.search.now) c.in_ok-key.key c.depth-depth.result c.requires.held.search c.in_ok-key.ensures c.depth-depth.ensures).is.placed.boxes_exist;
 }
 
-pub returns-then-is_solved-clause-tells : goal.returns-then-is_solved-clause-tells
-returns-then-is_solved-clause-tells c =
+pub returns-then-is_solved-clause-turned : goal.returns-then-is_solved-clause-turned
+returns-then-is_solved-clause-turned c =
     let key = c.in_ok-key.key in
     go-solved c.args.setting.now.board.now c.args.limit c.args.index c.args.bound c.depth-depth.result key (progress_of c.args.search.now) c.args.note c.requires.held.search
     (assumption (c.in_ok-key.ensures, c.depth-depth.ensures, c.requires.noted)) c.requires.is_open ((c.if-is_solved.ensures key.least).0 refl)
     (λ beaten. true≢false (sym (c.if-is_beaten.ensures.1 beaten)))
 
 pub mark-requires : goal.mark-requires
-mark-requires c =
-    let b = c.args.setting.now.board.now in
-    let told : TellsExpanded b c.args.limit (progress_of c.args.search.now) c.args.index c.in_ok-key.key c.depth-depth.result (progress_of c.expand.new.search) On = subst
-    (TellsExpanded b c.args.limit (progress_of c.args.search.now) c.args.index c.in_ok-key.key c.depth-depth.result (progress_of c.expand.new.search)) c.in-On.is c.in_ok-expand.ensures.tells in
-    held-noted b c.args.limit c.args.index (progress_of c.expand.new.search) told.search
+mark-requires c = held-noted c.args.setting.now.board.now c.args.limit c.args.index (progress_of c.expand.new.search) c.in-Ok.ensures.followed.search
 
-pub returns-in-On-clause-tells : goal.returns-in-On-clause-tells
-returns-in-On-clause-tells c =
-    let b = c.args.setting.now.board.now in
-    let p = progress_of c.args.search.now in
+pub returns-in-Ok-clause-turned : goal.returns-in-Ok-clause-turned
+returns-in-Ok-clause-turned c =
     let key = c.in_ok-key.key in
-    let told : TellsExpanded b c.args.limit p c.args.index key c.depth-depth.result (progress_of c.expand.new.search) On = subst
-    (TellsExpanded b c.args.limit p c.args.index key c.depth-depth.result (progress_of c.expand.new.search)) c.in-On.is c.in_ok-expand.ensures.tells in
-    go-on b c.args.limit c.args.index c.args.bound c.depth-depth.result key p (progress_of c.expand.new.search) c.args.note
-    (assumption (c.in_ok-key.ensures, c.depth-depth.ensures, c.requires.noted)) c.requires.is_open
-    (λ solved. true≢false (sym ((c.if-is_solved.ensures key.least).1 solved))) told (progress_of c.mark.new.search) c.mark.ensures
+    go-on c.args.setting.now.board.now c.args.limit c.args.index c.args.bound c.depth-depth.result key (progress_of c.args.search.now) (progress_of c.expand.new.search)
+    c.args.note (assumption (c.in_ok-key.ensures, c.depth-depth.ensures, c.requires.noted)) c.requires.is_open
+    (λ solved. true≢false (sym ((c.if-is_solved.ensures key.least).1 solved))) c.in-Ok.ensures.followed (progress_of c.mark.new.search) c.mark.ensures
 
-pub returns-clause-tells : goal.returns-clause-tells
-returns-clause-tells c =
-    let b = c.args.setting.now.board.now in
-    let p = progress_of c.args.search.now in
-    let q = progress_of c.expand.new.search in
-    let told : TellsExpanded b c.args.limit p c.args.index c.in_ok-key.key c.depth-depth.result q Full = subst
-    (TellsExpanded b c.args.limit p c.args.index c.in_ok-key.key c.depth-depth.result q) c.in-Full.is c.in_ok-expand.ensures.tells in
-    cut-waits b c.args.limit c.args.index c.args.bound p.frame.whole q c.wait.new.queue c.args.note.standing c.requires.is_open told c.in_ok-wait-in-Full.ensures
+pub returns-clause-cut : goal.returns-clause-cut
+returns-clause-cut c = λ cut.
+    cut-waits c.args.setting.now.board.now c.args.limit c.args.index c.args.bound c.args.search.now.whole (progress_of c.expand.new.search) c.wait.new.queue
+    c.args.note.standing c.requires.is_open (c.in-Err.ensures.cut cut) c.in_ok-wait-in-Err.ensures

@@ -1,25 +1,18 @@
-use Rattle.std.proofs.Common.{ℕ, ◌≡◌, ◌∙◌, Bool}
-use Rattle.std.proofs.lemmas.Result.{IfOk-weaker}
-use Rattle.sok_board.specs.Area.{BoardView}
-use Rattle.sok_search.specs.declared.reaching.Reached.{Reached}
-use Rattle.sok_search.specs.declared.reaching.Reached.TheVariants.{On, Full}
-use Rattle.sok_search.specs.Searches.{Progress}
-use Rattle.sok_search.specs.Views.{TellsFinished, TellsSearched, progress_of}
+use Rattle.std.proofs.Common.{◌∙◌}
+use Rattle.std.proofs.lemmas.Result.{on_ok_weaker}
 use Rattle.sok_search.proofs.solve.search_all.Goals as goal
 
--- turns that have ended, of a search that began so
-searched-finished : (b : BoardView) (limit : ℕ) (whole : Bool) (p q : Progress) → p.frame.whole ≡ whole → (r : Reached) → TellsFinished b limit p q r
-    → TellsSearched b limit whole q r
-searched-finished b limit whole p q began On told = record { search = told.search; kept = told.whole ∙ began; empty = told.empty }
-searched-finished b limit whole p q began Full told = record { more = told.more; search = told.search; full = told.full; kept = told.kept ∙ began }
-
-pub finish-requires : goal.finish-requires
-finish-requires c = record {
+pub search_on-ended-requires-clause-running : goal.search_on-ended-requires-clause-running
+search_on-ended-requires-clause-running c = record {
   accepted = c.requires.accepted;
   search = c.in_ok-enter_start.ensures.search c.args.limit c.requires.positive;
 }
 
-pub returns : goal.returns
-returns c = IfOk-weaker c.finish.result _ _
-    (searched-finished c.args.setting.now.board.now c.args.limit c.args.search.now.whole (progress_of c.enter_start.new.search) (progress_of c.finish.new.search)
-    c.in_ok-enter_start.ensures.whole) c.finish.ensures
+pub returns-clause-searched : goal.returns-clause-searched
+returns-clause-searched c = on_ok_weaker c.search_on-ended.result
+    (λ finished. record { search = finished.search; kept = finished.whole ∙ c.in_ok-enter_start.ensures.whole; empty = finished.empty }) c.search_on-ended.ensures.finished
+
+pub returns-clause-cut : goal.returns-clause-cut
+returns-clause-cut c = λ cut.
+    let left = c.search_on-ended.ensures.cut cut in
+    record { more = left.more; search = left.search; full = left.full; kept = left.kept ∙ c.in_ok-enter_start.ensures.whole }

@@ -1,6 +1,6 @@
 use Rattle.std.proofs.Common.{subst}
 use Rattle.sok_rules.specs.Squares.{Rows}
-use Rattle.sok_search.specs.Outcomes.{IsShown}
+use Rattle.sok_search.specs.Outcomes.{IsFoundWithProof}
 use Rattle.sok_search.proofs.Refusing.{good-within, handed-on, no-answer, told-also, told-answer, told-memory}
 use Rattle.sok_search.proofs.solve.solve_into.Goals as goal
 
@@ -25,7 +25,7 @@ pub returns : goal.returns
 returns g c =
     let within = c.in_ok-board.ensures.board in
     record {
-      shown = subst (λ (level : Rows). IsShown (λ taken. g.C.Entries.took taken c.answer.new.entries) level c.args.limit c.args.bound c.in_ok-found.found)
+      shown = subst (λ (level : Rows). IsFoundWithProof (λ taken. g.C.Entries.took taken c.answer.new.entries) level c.args.limit c.args.bound c.in_ok-found.found)
           within.rows_are c.in_ok-found.ensures;
       tells = told-answer c.args.level.now c.args.limit c.in_ok-board.board c.in_ok-found.found within;
     }

@@ -2,7 +2,7 @@ use Rattle.std.proofs.Common.{◌∙◌, subst, sym, true≢false, w64}
 use Rattle.std.proofs.lemmas.Int.{to_z-of_z}
 use Rattle.sqlite.specs.Held.{state}
 use Rattle.sok_book.specs.Records.{AreRecordsOf}
-use Rattle.sok_store.specs.Calls.{Finds}
+use Rattle.sok_store.specs.Calls.{FindsBook}
 use Rattle.sok_store.proofs.Calls.{stops_none}
 use Rattle.sok_settle.proofs.Settling.{bad_turns, unlisted_caused, unlisted_turns, whole}
 use Rattle.sok_settle.proofs.settle.settle_bytes.Goals as goal
@@ -15,7 +15,7 @@ pub returns-in-Ok : goal.returns-in-Ok
 returns-in-Ok g c =
     let old = state g.S.Store c.args.book.now in
     let mid = state g.S.Store c.list.new.self in
-    let found = subst (λ rs. Finds old mid (λ book. AreRecordsOf book rs)) (sym c.deref.ensures.value) c.in-Ok.ensures.listed in
+    let found = subst (λ rs. FindsBook old mid (λ book. AreRecordsOf book rs)) (sym c.deref.ensures.value) c.in-Ok.ensures.listed in
     let (writes, ends_open, stop, cause) =
     whole (g.C.Certs.keeping c.args.certs.now) c.args.limit c.args.from c.deref.result.now old mid (state g.S.Store c.settle_all.new.book) c.list.ensures.stop found
     (g.W.Write.contents c.args.out.now) (g.W.Write.contents c.settle_all.new.out) c.settle_all.result

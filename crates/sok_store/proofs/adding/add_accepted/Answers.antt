@@ -4,7 +4,7 @@ use Rattle.sqlite.specs.State.{HasCleanDisk}
 use Rattle.sok_rules.specs.Levels.{IsLevel}
 use Rattle.sok_text.specs.Canonical.{level_text}
 use Rattle.sok_book.specs.Commands.{Adds}
-use Rattle.sok_store.specs.Calls.{Changes, id_number, title_kept}
+use Rattle.sok_store.specs.Calls.{StoresChange, id_number, title_kept}
 use Rattle.sok_store.proofs.Calls.{rests_holds, rests_stops, stops_same}
 use Rattle.sok_store.proofs.Added.{is_there, level_runs}
 use Rattle.sok_store.proofs.Wide.{wide}
@@ -28,7 +28,7 @@ returns-in-Ok-Some-clause-runs g c =
     let level : IsLevel c.args.level.now = record { proper = c.rows-rows.ensures.proper; trimmed = c.rows-rows.ensures.trimmed } in
     let text : c.as_str-text.result.now ≡ level_text c.args.level.now = c.as_str-text.ensures.value ∙ c.in-Ok.ensures in
     record {
-      done = subst (λ z. Changes old mid (λ book after. Adds book c.args.level.now title (id_number z) after))
+      done = subst (λ z. StoresChange old mid (λ book after. Adds book c.args.level.now title (id_number z) after))
           (sym (wide c.from.result c.in-Ok-Some.id (rw c.from.ensures at c.from.type_inv) c.from.ensures))
           (is_there old mid c.args.level.now c.as_str-text.result.now text level c.in-Ok-Some.id title (rw c.in-Ok-Some.field-0-is at c.in-Ok-Some.ensures.found));
       refused = tt;

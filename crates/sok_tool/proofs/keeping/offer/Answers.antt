@@ -1,6 +1,6 @@
 use Rattle.std.proofs.Common.{IfErr}
 use Rattle.sqlite.specs.Held.{state}
-use Rattle.sok_store.specs.Calls.{Stops, Turns}
+use Rattle.sok_store.specs.Calls.{Stops, ChangesBook}
 use Rattle.sok_keep.specs.Causes.{IsCausedFault}
 use Rattle.sok_keep.specs.Offers.{OffersText, WritesOffer}
 use Rattle.sok_keep.proofs.Ids.{of_passed}
@@ -15,7 +15,7 @@ returns g c =
     let call = c.offer_bytes-told in
     let before = g.W.Write.contents c.args.out.now in
     let later = g.W.Write.contents call.new.out in
-    let offers = of_passed (λ id. Turns (state g.S.Store c.in_ok-book.book) (state g.S.Store call.new.book)
+    let offers = of_passed (λ id. ChangesBook (state g.S.Store c.in_ok-book.book) (state g.S.Store call.new.book)
     (λ book after. WritesOffer book id c.args.text.now after before later call.result)) c.args.id c.ranges.id call.ensures.writes in
     let stop = of_passed (λ id. Stops (state g.S.Store c.in_ok-book.book) (state g.S.Store call.new.book) (OffersText id c.args.text.now)) c.args.id c.ranges.id
     call.ensures.stop in

@@ -1,6 +1,6 @@
 use Rattle.std.proofs.Common.{IfErr}
 use Rattle.sqlite.specs.Held.{state}
-use Rattle.sok_store.specs.Calls.{Stops, Turns}
+use Rattle.sok_store.specs.Calls.{Stops, ChangesBook}
 use Rattle.sok_keep.specs.Causes.{IsCausedFault}
 use Rattle.sok_keep.specs.Proves.{ProvesBytes, WritesProof}
 use Rattle.sok_keep.proofs.Ids.{of_passed}
@@ -16,7 +16,7 @@ returns g c =
     let known = g.F.Input.Read.remaining c.in_ok-book.cert_input in
     let before = g.W.Write.contents c.args.out.now in
     let later = g.W.Write.contents call.new.out in
-    let proves = of_passed (λ id. Turns (state g.S.Store c.in_ok-book.book) (state g.S.Store call.new.book)
+    let proves = of_passed (λ id. ChangesBook (state g.S.Store c.in_ok-book.book) (state g.S.Store call.new.book)
     (λ book after. WritesProof book id known after before later call.result)) c.args.id c.ranges.id call.ensures.writes in
     let stop = of_passed (λ id. Stops (state g.S.Store c.in_ok-book.book) (state g.S.Store call.new.book) (ProvesBytes id known)) c.args.id c.ranges.id call.ensures.stop in
     let cause = of_passed (λ id. IfErr call.result (IsCausedFault (state g.S.Store c.in_ok-book.book) (state g.S.Store call.new.book) (ProvesBytes id known)))

@@ -3,12 +3,12 @@ use Rattle.std.specs.Option.{option_map}
 use Rattle.std.specs.Prelude.{string_bytes}
 use Rattle.sqlite.specs.Held.{state}
 use Rattle.sok_files.specs.Files.{IsMade}
-use Rattle.sok_store.specs.Calls.{Stops, Turns}
+use Rattle.sok_store.specs.Calls.{Stops, ChangesBook}
 use Rattle.sok_keep.specs.Causes.{IsCausedFault}
 use Rattle.sok_keep.proofs.Ids.{of_passed}
 use Rattle.sok_settle.specs.Settles.{SettlesSome, WritesSettling}
 use Rattle.sok_tool.specs.Certs.{keeping_of}
-use Rattle.sok_tool.proofs.Working.{Turns-weaker, without_book, works}
+use Rattle.sok_tool.proofs.Working.{ChangesBook-weaker, without_book, works}
 use Rattle.sok_tool.proofs.keeping.settle.Goals as goal
 
 pub returns-in_err-book : goal.returns-in_err-book
@@ -24,11 +24,11 @@ returns g c =
     let new = state g.S.Store call.new.book in
     let before = g.W.Write.contents c.args.out.now in
     let later = g.W.Write.contents call.new.out in
-    let settles = of_passed (λ from. Turns old new (λ book after. WritesSettling keeping limit from book after before later call.result)) c.args.from
+    let settles = of_passed (λ from. ChangesBook old new (λ book after. WritesSettling keeping limit from book after before later call.result)) c.args.from
     c.ranges.from call.ensures.writes in
     let stop = of_passed (λ from. Stops old new (SettlesSome keeping limit from)) c.args.from c.ranges.from call.ensures.stop in
     let cause = of_passed (λ from. IfErr call.result (IsCausedFault old new (SettlesSome keeping limit from))) c.args.from c.ranges.from call.ensures.cause in
     works _ _ _ _ _ _ c.in_ok-book.book call.new.book _ c.in_ok-book.ensures.opens c.into_connection.ensures c.close.ensures
-    (Turns-weaker old new (λ book after. WritesSettling keeping limit c.args.from book after before later call.result) _
+    (ChangesBook-weaker old new (λ book after. WritesSettling keeping limit c.args.from book after before later call.result) _
     (λ book after made. (call.ensures.bad_limit, made)) settles)
     stop cause

@@ -3,7 +3,7 @@ use Rattle.std.specs.Prelude.{option_map, string_bytes}
 use Rattle.sqlite.specs.Held.{state}
 use Rattle.sok_engine.specs.Certified.{Bytes}
 use Rattle.sok_files.specs.Files.{IsMade}
-use Rattle.sok_store.specs.Calls.{Stops, Turns}
+use Rattle.sok_store.specs.Calls.{Stops, ChangesBook}
 use Rattle.sok_keep.specs.Causes.{IsCausedFault}
 use Rattle.sok_keep.proofs.Ids.{of_passed}
 use Rattle.sok_settle.specs.Keeping.{Keeping, no_certs}
@@ -25,7 +25,7 @@ pub returns-in-Some-clause-writes : goal.returns-in-Some-clause-writes
 returns-in-Some-clause-writes g c =
     let call = c.settle_bytes in
     let makes : List ℕ → Bytes → Type 0 = λ path. IsMade g.F.Output.Write.contents (g.F.Folder.makes c.args.rt.now path) in
-    let P : ℤ → Keeping → Type 0 = λ from keeping. Turns (state g.S.Store c.args.book.now) (state g.S.Store call.new.book) (λ book after.
+    let P : ℤ → Keeping → Type 0 = λ from keeping. ChangesBook (state g.S.Store c.args.book.now) (state g.S.Store call.new.book) (λ book after.
     WritesSettling keeping c.args.limit from book after (g.W.Write.contents c.args.out.now) (g.W.Write.contents call.new.out) call.result) in
     into_folder (P c.args.from) makes c.args.folder c.in-Some.folder c.as_str.result.now c.in-Some.is c.as_str.ensures.value
     (of_passed (λ from. P from (keeping_in makes c.as_str.result.now)) c.args.from c.ranges.from call.ensures.writes)
@@ -52,7 +52,7 @@ pub returns-in-None-clause-writes : goal.returns-in-None-clause-writes
 returns-in-None-clause-writes g c =
     let call = c.settle_bytes-in-None in
     let makes : List ℕ → Bytes → Type 0 = λ path. IsMade g.F.Output.Write.contents (g.F.Folder.makes c.args.rt.now path) in
-    let P : ℤ → Keeping → Type 0 = λ from keeping. Turns (state g.S.Store c.args.book.now) (state g.S.Store call.new.book) (λ book after.
+    let P : ℤ → Keeping → Type 0 = λ from keeping. ChangesBook (state g.S.Store c.args.book.now) (state g.S.Store call.new.book) (λ book after.
     WritesSettling keeping c.args.limit from book after (g.W.Write.contents c.args.out.now) (g.W.Write.contents call.new.out) call.result) in
     into_none (P c.args.from) makes c.args.folder c.in-None.is (of_passed (λ from. P from no_certs) c.args.from c.ranges.from call.ensures.writes)
 

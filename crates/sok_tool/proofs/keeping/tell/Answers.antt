@@ -1,4 +1,4 @@
-use Rattle.sok_tool.proofs.Working.{Keeps-turns, without_book, works}
+use Rattle.sok_tool.proofs.Working.{KeepsBook-changes, without_book, works}
 use Rattle.sok_tool.proofs.keeping.tell.Goals as goal
 
 pub returns-in_err-book : goal.returns-in_err-book
@@ -8,4 +8,4 @@ pub returns : goal.returns
 returns g c =
     let call = c.book_bytes-told in
     works _ _ _ _ _ _ c.in_ok-book.book call.new.book _ c.in_ok-book.ensures.opens c.into_connection.ensures c.close.ensures
-    (Keeps-turns _ _ _ call.ensures.writes) call.ensures.stop call.ensures.cause
+    (KeepsBook-changes _ _ _ call.ensures.writes) call.ensures.stop call.ensures.cause

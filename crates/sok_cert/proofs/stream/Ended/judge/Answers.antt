@@ -1,8 +1,8 @@
 use Rattle.std.proofs.Common.{inl, inr, subst, sym, true≢false, Result, Ok, Err, IfOk, IsOk, MatchResult, OnOk}
 use Rattle.std.proofs.lemmas.Result.{IfErr-weaker, IfOk-weaker, MatchResult-at_err, MatchResult-weaker}
-use Rattle.sok_cert.specs.Shown.{Shown}
+use Rattle.sok_cert.specs.LevelClaims.{LevelClaim}
 use Rattle.sok_cert.specs.Streams.{EndsFor, Ending}
-use Rattle.sok_cert.specs.Verdicts.{IsShown, IsUnshown}
+use Rattle.sok_cert.specs.Verdicts.{IsProofOf, IsRefusedText}
 use Rattle.sok_cert.proofs.ClosedLaws.{ShowsClaims-accepted}
 use Rattle.sok_cert.proofs.stream.Ended.judge.Goals as goal
 
@@ -31,13 +31,13 @@ returns-clause-shown c = λ text ends.
     let here = subst (EndsFor text) (sym c.self.view_is) ends in
     IfOk-weaker c.of.result _ _ (λ accepted (ok, made).
     let closed = all-ok _ _ judged.result ok (judged.ensures claim here.entries here.tells) in
-    let shown : IsShown b text claim = record {
+    let shown : IsProofOf b text claim = record {
       entries = here.entries;
       spelled = here.spelled;
       closed = closed;
       true_claim = ShowsClaims-accepted b c.self.invariant.0 claim here.entries closed;
     } in
-    subst (λ (e : Ending). IsShown e.board text accepted.claim) c.self.view_is (subst (λ (s : Shown). IsShown b text s.claim) (sym made) shown))
+    subst (λ (e : Ending). IsProofOf e.board text accepted.claim) c.self.view_is (subst (λ (s : LevelClaim). IsProofOf b text s.claim) (sym made) shown))
     (with-ok _ _ c.of.result c.of.ensures.judged c.of.ensures.made)
 
 pub returns-clause-refused : goal.returns-clause-refused
@@ -46,7 +46,7 @@ returns-clause-refused c = λ text ends.
     let here = subst (EndsFor text) (sym c.self.view_is) ends in
     IfErr-weaker c.of.result _ _ (λ fault said. elim said [
       | inl memory ↦ inl memory
-      | inr is ↦ inr (subst (λ (e : Ending). IsUnshown e.board text fault) c.self.view_is (record {
+      | inr is ↦ inr (subst (λ (e : Ending). IsRefusedText e.board text fault) c.self.view_is (record {
         claim = claim;
         entries = here.entries;
         spelled = here.spelled;

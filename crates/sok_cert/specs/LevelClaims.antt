@@ -3,6 +3,6 @@ use Rattle.sok_rules.specs.Squares.{Rows}
 use Rattle.sok_entry.specs.declared.claim.Claim.{Claim}
 
 -- a level, and what was claimed of it
-pub record Shown : Type 0 where
+pub record LevelClaim : Type 0 where
   pub rows : Rows
   pub claim : Claim
