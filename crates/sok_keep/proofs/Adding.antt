@@ -29,15 +29,15 @@ use Rattle.sok_engine.specs.Written.{Answer, Answers, AppendsFront}
 use Rattle.sok_engine.proofs.Answering.{too_much}
 use Rattle.sok_judge.proofs.Checking.{some_text}
 use Rattle.sok_store.specs.Faults.{IsOutside}
-use Rattle.sok_store.specs.Calls.{KeepsBook, ChangesBook, id_number, title_kept}
+use Rattle.sok_store.specs.Calls.{ChangesBook, KeepsBook, id_number, kept_if_given}
 use Rattle.sok_store.proofs.Calls.{keeps_turns, same_turns, turns_more, turns_then}
-use Rattle.sok_keep.specs.Adds.{AddsFirst, AddsLevel, IsEndAt, IsStopAt, WritesAdding, added, faulty, fault_line, id_line, more, none, unaccepted}
+use Rattle.sok_keep.specs.Adds.{AddsFirst, AddsLevel, IsEndAt, IsStopAt, WritesAdding, added, fault_line, faulty, id_line, more, none, unaccepted}
 use Rattle.sok_keep.specs.Adding.{IsStop, EndsLevel, EndsLevels}
 
 -- ---- one level
 
 pub level_added : (old new : State) (n : ℕ) (rows : Rows) (title : Option (List ℕ)) (id : ℤ) (told whole : List ℕ) (done : Unit {0}) → IsAcceptable rows
-    → ChangesBook old new (λ b after. Adds b rows (title_kept title) (id_number id) after) → whole ≡ told ++ id_line n id
+    → ChangesBook old new (λ b after. Adds b rows (kept_if_given title) (id_number id) after) → whole ≡ told ++ id_line n id
     → ChangesBook old new (λ b after. EndsLevel n (Ok rows) title b after told whole (Ok done))
 level_added old new n rows title id told whole done accepted turns grown =
     turns_more (λ book after adds. (id_line n id, added rows id refl accepted adds refl, grown)) turns

@@ -14,7 +14,7 @@ use Rattle.sok_engine.specs.declared.input.InputFault.TheVariants as input
 use Rattle.sok_engine.specs.Faults.{of_book, of_input, of_lurd}
 use Rattle.sok_engine.specs.Written.{Answer, Answers, AnswersOf, IsFaultOf, Writes, WritesOne}
 use Rattle.sok_engine.proofs.Answering.{EndsBy-fault}
-use Rattle.sok_store.specs.Calls.{StoresChange, EndsOpen, IsCaused, ChangesBook}
+use Rattle.sok_store.specs.Calls.{ChangesBook, EndsOpen, IsCaused, StoresChange}
 use Rattle.sok_store.proofs.Calls.{stops_same}
 use Rattle.sok_keep.specs.Causes.{IsCausedFault, TakesIn}
 use Rattle.sok_keep.specs.Offers.{StaysOnFault}

@@ -13,7 +13,7 @@ use Rattle.sok_engine.specs.Faults.{of_book, of_lurd}
 use Rattle.sok_engine.specs.Written.{IsFaultOf, WritesOne}
 use Rattle.sok_engine.proofs.Answering.{Writes-one}
 use Rattle.sok_store.specs.Faults.{IsOutside}
-use Rattle.sok_store.specs.Calls.{StoresChange, KeepsBook, ChangesBook, id_number}
+use Rattle.sok_store.specs.Calls.{ChangesBook, KeepsBook, StoresChange, id_number}
 use Rattle.sok_store.specs.Standing.{OffersTelling}
 use Rattle.sok_store.specs.declared.standing.Standing.{Standing}
 use Rattle.sok_store.proofs.Calls.{changes_more, keeps_turns, same_turns}

@@ -18,7 +18,7 @@ use Rattle.sok_engine.specs.Written.{Answer, IsFaultOf, WritesOne}
 use Rattle.sok_engine.proofs.Answering.{Writes-none, Writes-read, Writes-unread}
 use Rattle.sok_judge.specs.Verdicts.{verdict_answer}
 use Rattle.sok_store.specs.Faults.{IsOutside}
-use Rattle.sok_store.specs.Calls.{StoresChange, KeepsBook, ChangesBook, id_number}
+use Rattle.sok_store.specs.Calls.{ChangesBook, KeepsBook, StoresChange, id_number}
 use Rattle.sok_store.proofs.Calls.{changes_more, keeps_turns, same_turns}
 use Rattle.sok_keep.specs.Proves.{IsProof, WritesProof, failed, proved, proved_answer, refused, unproved}
 use Rattle.sok_keep.proofs.Ending.{book_fault, stays_written}

@@ -20,11 +20,11 @@ use Rattle.sok_engine.specs.declared.fault.ToolFault.TheVariants as tool
 use Rattle.sok_engine.specs.Faults.{of_board, of_book, of_level}
 use Rattle.sok_store.specs.Faults.{IsOutside}
 use Rattle.sok_store.specs.Rows.{ShowsBook}
-use Rattle.sok_store.specs.Calls.{Carries, StoresChange, IsCaused, KeepsBook, KeepsOpen, Stops, ChangesBook, id_number, title_kept}
+use Rattle.sok_store.specs.Calls.{Carries, ChangesBook, IsCaused, KeepsBook, KeepsOpen, Stops, StoresChange, id_number, kept_if_given}
 use Rattle.sok_store.specs.Running.{Admits}
 use Rattle.sok_store.proofs.Calls.{held_shown, shown, stops_less, stops_same}
 use Rattle.sok_store.proofs.Caused.{cause_before}
-use Rattle.sok_keep.specs.Adds.{AddsCount, AddsFirst, added, faulty, fault_line, id_line, more, none, unaccepted}
+use Rattle.sok_keep.specs.Adds.{AddsCount, AddsFirst, added, fault_line, faulty, id_line, more, none, unaccepted}
 use Rattle.sok_keep.specs.Adding.{AddsNext, AddsSome}
 use Rattle.sok_keep.specs.Causes.{IsCausedFault, Treats}
 use Rattle.sok_keep.proofs.Adding.{fails, is_faulty, no_board, reads}
@@ -58,17 +58,17 @@ module _ {T : Type 0} (old new : State) (Makes : Book → Book → Type 0) where
 
 -- ---- one level
 
-admitted : (n : ℕ) (rows : Rows) (title : Option (List ℕ)) (book after : Book) → Admits rows (title_kept title) book after
+admitted : (n : ℕ) (rows : Rows) (title : Option (List ℕ)) (book after : Book) → Admits rows (kept_if_given title) book after
     → AddsNext n (Ok rows) title book after
 admitted n rows title book after (accepted, (id, adds)) = (id_line n (pos id), added rows (pos id) refl accepted adds refl)
 
-level_stops : (old new : State) (n : ℕ) (rows : Rows) (title : Option (List ℕ)) → Stops old new (Admits rows (title_kept title))
+level_stops : (old new : State) (n : ℕ) (rows : Rows) (title : Option (List ℕ)) → Stops old new (Admits rows (kept_if_given title))
     → Stops old new (AddsNext n (Ok rows) title)
 level_stops old new n rows title stop = stops_less old new _ _ (admitted n rows title) stop
 
-module _ {T : Type 0} (old new : State) (n : ℕ) (rows : Rows) (title : Option (List ℕ)) (stop : Stops old new (Admits rows (title_kept title))) where
+module _ {T : Type 0} (old new : State) (n : ℕ) (rows : Rows) (title : Option (List ℕ)) (stop : Stops old new (Admits rows (kept_if_given title))) where
   -- it is added, or stands there already
-  pub added_treats : (id : ℤ) (line : T) → IsAcceptable rows → StoresChange old new (λ b after. Adds b rows (title_kept title) (id_number id) after)
+  pub added_treats : (id : ℤ) (line : T) → IsAcceptable rows → StoresChange old new (λ b after. Adds b rows (kept_if_given title) (id_number id) after)
       → Treats old new (AddsNext n (Ok rows) title) (Ok line)
   added_treats id line accepted changes = record {
     done = λ clean book shows.
@@ -83,7 +83,7 @@ module _ {T : Type 0} (old new : State) (n : ℕ) (rows : Rows) (title : Option 
       → OnOk result ((cause : BoardFault) × (fault ≡ refusal.Level cause) × (whole ≡ told ++ fault_line n (of_board cause)))
       → IfErr result (λ why. (why ≡ tool.Memory) ⊎ (((cause : BoardFault) → fault ≢ refusal.Level cause) × (why ≡ of_book fault)))
       → KeepsBook old new (λ b. IsOutside fault ⊎ IsNotAdded b rows fault) → ((cause : BoardFault) → fault ≡ refusal.Level cause → new ≡ old)
-      → IsCaused old new (Admits rows (title_kept title)) fault → Treats old new (AddsNext n (Ok rows) title) result
+      → IsCaused old new (Admits rows (kept_if_given title)) fault → Treats old new (AddsNext n (Ok rows) title) result
   refused_treats told whole fault (Ok done) (cause, is, grown) given keeps untouched caused = record {
     done = λ clean book shows.
         let (why, held) = keeps clean book (held_shown old book shows) in
@@ -100,7 +100,7 @@ module _ {T : Type 0} (old new : State) (n : ℕ) (rows : Rows) (title : Option 
     done = tt;
     stop = level_stops old new n rows title stop;
     cause = unproved_caused old new _ fault why (elim given [ inl memory ↦ inl memory | inr (other, is) ↦ inr is ])
-        (caused_more old new _ (Admits rows (title_kept title)) (admitted n rows title) fault caused);
+        (caused_more old new _ (Admits rows (kept_if_given title)) (admitted n rows title) fault caused);
   }
 
 -- the level that was found in the collection

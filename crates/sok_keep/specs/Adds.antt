@@ -18,7 +18,7 @@ use Rattle.sok_engine.specs.FaultLines.{fault_words}
 use Rattle.sok_engine.specs.Faults.{of_board, of_level}
 use Rattle.sok_engine.specs.Limits.{input_limit}
 use Rattle.sok_engine.specs.Written.{AppendsFront}
-use Rattle.sok_store.specs.Calls.{id_number, title_kept}
+use Rattle.sok_store.specs.Calls.{id_number, kept_if_given}
 
 -- the number of a level in its collection, and its id in the book
 abbrev pub id_line : ℕ → ℤ → List ℕ
@@ -33,7 +33,7 @@ pub data AddsLevel (n : ℕ) (level : Result Rows LevelFault) (title : Option (L
   faulty : (fault : LevelFault) → level ≡ Err fault → line ≡ fault_line n (of_level fault) → after ≡ book → AddsLevel n level title book line after
   unaccepted : (rows : Rows) (fault : BoardFault) → level ≡ Ok rows → IsNotAdded book rows (refusal.Level fault) → line ≡ fault_line n (of_board fault) → after ≡ book
       → AddsLevel n level title book line after
-  added : (rows : Rows) (id : ℤ) → level ≡ Ok rows → IsAcceptable rows → Adds book rows (title_kept title) (id_number id) after → line ≡ id_line n id
+  added : (rows : Rows) (id : ℤ) → level ≡ Ok rows → IsAcceptable rows → Adds book rows (kept_if_given title) (id_number id) after → line ≡ id_line n id
       → AddsLevel n level title book line after
 
 -- the first levels of a collection have been added one after another, and these are their lines

@@ -2,7 +2,7 @@
 
 ghost use Rattle.std.specs.Prelude.{◌≡◌, ◌≤◌, IfErr, OnOk, length};
 ghost use Rattle.sqlite.specs.Held.{state};
-ghost use Rattle.sok_store.specs.Calls.{EndsOpen, Stops, ChangesBook};
+ghost use Rattle.sok_store.specs.Calls.{ChangesBook, EndsOpen, Stops};
 ghost use Rattle.sok_keep.specs.Causes.{IsCausedFault};
 ghost use Rattle.sok_keep.specs.Offers.{OffersText, WritesOffer};
 ghost use Rattle.sok_keep.specs.Offers.{offer_line, offer_status, offer_word};

@@ -7,7 +7,7 @@ ghost use Rattle.sok_book.specs.declared.fault.BookFault.TheVariants as refusal;
 ghost use Rattle.sok_engine.specs.Faults.{of_book};
 ghost use Rattle.sok_engine.specs.declared.fault.ToolFault.TheVariants as tool;
 ghost use Rattle.sok_judge.specs.Verdicts.{verdict_answer};
-ghost use Rattle.sok_store.specs.Calls.{EndsOpen, Stops, ChangesBook};
+ghost use Rattle.sok_store.specs.Calls.{ChangesBook, EndsOpen, Stops};
 ghost use Rattle.sok_keep.specs.Causes.{IsCausedFault};
 ghost use Rattle.sok_keep.specs.Proves.{ProvesBytes, WritesProof, proved_line};
 

@@ -11,7 +11,7 @@ use Rattle.sok_engine.specs.declared.fault.ToolFault.TheVariants as tool
 use Rattle.sok_engine.specs.Faults.{of_book}
 use Rattle.sok_store.specs.Faults.{IsOutside}
 use Rattle.sok_store.specs.Rows.{IsKeptBook}
-use Rattle.sok_store.specs.Calls.{Carries, StoresChange, Stops, ChangesBook}
+use Rattle.sok_store.specs.Calls.{Carries, ChangesBook, Stops, StoresChange}
 use Rattle.sok_store.proofs.Calls.{changes_turns, held_shown, same_turns, shown, stops_same, turns_more}
 use Rattle.sok_keep.specs.Causes.{IsCausedFault}
 use Rattle.sok_keep.proofs.Ending.{book_database}

@@ -15,7 +15,7 @@ use Rattle.sok_engine.specs.declared.input.InputFault.{InputFault}
 use Rattle.sok_engine.specs.declared.input.InputFault.TheVariants as input
 use Rattle.sok_engine.specs.Faults.{of_input}
 use Rattle.sok_engine.specs.Limits.{input_limit}
-use Rattle.sok_store.specs.Calls.{Carries, KeepsOpen, Stops, ChangesBook}
+use Rattle.sok_store.specs.Calls.{Carries, ChangesBook, KeepsOpen, Stops}
 use Rattle.sok_store.proofs.Calls.{same_turns, stops_less, stops_same, turns_more}
 use Rattle.sok_keep.specs.Causes.{IsCausedFault, TakesIn}
 use Rattle.sok_keep.proofs.Adding.{some_longer}

@@ -20,7 +20,7 @@ use Rattle.sok_engine.specs.declared.fault.ToolFault.TheVariants as tool
 use Rattle.sok_engine.specs.Faults.{of_book}
 use Rattle.sok_store.specs.Faults.{IsOutside}
 use Rattle.sok_store.specs.Rows.{IsKeptBook}
-use Rattle.sok_store.specs.Calls.{StoresChange, IsCaused, Stops, id_number}
+use Rattle.sok_store.specs.Calls.{IsCaused, Stops, StoresChange, id_number}
 use Rattle.sok_store.specs.Calls as calls
 use Rattle.sok_store.specs.Known.{IsNotKnown, ProvesKnown}
 use Rattle.sok_store.specs.Standing.{OffersTelling}

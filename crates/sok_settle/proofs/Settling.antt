@@ -20,7 +20,7 @@ use Rattle.sok_engine.specs.Faults.{of_book}
 use Rattle.sok_store.specs.Faults.{IsOutside}
 use Rattle.sok_book.specs.Records.{AreRecordsOf, pages_from, with_id}
 use Rattle.sok_store.proofs.ReadRows.{length-records}
-use Rattle.sok_store.specs.Calls.{Carries, EndsOpen, FindsBook, IsCaused, MakesNone, Stops, ChangesBook, id_number}
+use Rattle.sok_store.specs.Calls.{Carries, ChangesBook, EndsOpen, FindsBook, IsCaused, MakesNone, Stops, id_number}
 use Rattle.sok_store.specs.Calls as calls
 use Rattle.sok_store.specs.Known.{ProvesKnown}
 use Rattle.sok_store.proofs.Calls.{finds_then, held, held_shown, keeps_turns, same_turns, shown, stops_later}

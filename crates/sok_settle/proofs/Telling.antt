@@ -13,7 +13,7 @@ use Rattle.sok_engine.specs.declared.fault.ToolFault.{ToolFault}
 use Rattle.sok_engine.specs.declared.fault.ToolFault.TheVariants as tool
 use Rattle.sok_engine.specs.Faults.{of_book, of_lurd}
 use Rattle.sok_store.specs.Faults.{IsOutside}
-use Rattle.sok_store.specs.Calls.{Carries, StoresChange, IsCaused, ShowsOn, Stops, ChangesBook, id_number}
+use Rattle.sok_store.specs.Calls.{Carries, ChangesBook, IsCaused, ShowsOn, Stops, StoresChange, id_number}
 use Rattle.sok_store.specs.Calls as calls
 use Rattle.sok_store.specs.Standing.{OffersTelling}
 use Rattle.sok_store.specs.declared.standing.Standing.{Standing}

@@ -7,7 +7,7 @@ use Rattle.sok_book.specs.Books.{Book}
 use Rattle.sok_engine.specs.declared.fault.ToolFault.{ToolFault}
 use Rattle.sok_engine.specs.declared.fault.ToolFault.TheVariants as tool
 use Rattle.sok_engine.specs.Written.{AppendsFront}
-use Rattle.sok_store.specs.Calls.{Carries, Stops, ChangesBook}
+use Rattle.sok_store.specs.Calls.{Carries, ChangesBook, Stops}
 use Rattle.sok_keep.specs.Causes.{IsCausedFault}
 
 -- a step from a book, with its line, well done or not, to a book

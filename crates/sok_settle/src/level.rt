@@ -8,7 +8,7 @@ ghost use Rattle.sok_board.specs.Refusals.{IsAcceptable};
 ghost use Rattle.sok_book.specs.Kept.{IsKeptPage};
 ghost use Rattle.sok_cert.specs.Claim.TheVariants as claim;
 ghost use Rattle.sok_search.specs.Faults.{IsBadLimit};
-ghost use Rattle.sok_search.specs.Outcomes.{IsLeastSolution, IsFoundWithProof};
+ghost use Rattle.sok_search.specs.Outcomes.{IsFoundWithProof, IsLeastSolution};
 ghost use Rattle.sok_store.specs.Known.{IsCertified};
 ghost use Rattle.sok_settle.specs.Steps.{GoesBy, GoesThrough, IsRecordIn, IsTriedAs};
 

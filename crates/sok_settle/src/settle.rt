@@ -7,7 +7,7 @@ ghost use Rattle.sok_book.specs.Kept.{IsKeptPage};
 ghost use Rattle.sok_book.specs.Records.{AreRecordsOf};
 ghost use Rattle.sok_engine.specs.declared.fault.ToolFault.TheVariants as tool;
 ghost use Rattle.sok_search.specs.Faults.{IsBadLimit};
-ghost use Rattle.sok_store.specs.Calls.{EndsOpen, Stops, ChangesBook};
+ghost use Rattle.sok_store.specs.Calls.{ChangesBook, EndsOpen, Stops};
 ghost use Rattle.sok_keep.specs.Causes.{IsCausedFault};
 ghost use Rattle.sok_settle.specs.Going.{GoesWhere};
 ghost use Rattle.sok_settle.specs.Settles.{SettlesSome, WritesSettling, settle_status};

@@ -29,21 +29,21 @@ use Rattle.sok_store.specs.Rows.{HoldsBook, IsKeptBook, StoresBook, leaves_of}
 use Rattle.sok_store.proofs.Finding.{stands_found, unknown_unfound}
 use Rattle.sok_store.proofs.KeptPages.{IsKeptPage-new}
 use Rattle.sok_store.proofs.KeptBooks.{IsKeptBook-push, leaves_of-push, length-leaves_of}
-use Rattle.sok_store.specs.Calls.{StoresChange, IsCaused, KeepsBook, MakesNone, Stops, id_number, title_kept}
+use Rattle.sok_store.specs.Calls.{IsCaused, KeepsBook, MakesNone, Stops, StoresChange, id_number, kept_if_given}
 use Rattle.sok_store.specs.Changing.{AddsPage, IsCausedAdding, IsFull, IsNewPage, StopsAdding}
 use Rattle.sok_store.specs.Running.{Admits, RunsAdding, RunsAddingPage}
 use Rattle.sok_store.proofs.Calls.{held, held_shown, rests_holds, rests_stops, shown, stops_later}
 use Rattle.sok_store.proofs.Caused.{cause_before, few_leaves, kept_apart}
 
-title_is : (title : Option (List ℕ)) → IfSome (title_kept title) IsTitle
+title_is : (title : Option (List ℕ)) → IfSome (kept_if_given title) IsTitle
 title_is None = tt
 title_is (Some title) = kept-are-titles title
 
 pub new_page_is : (book : Book) (rows : Rows) (text : List ℕ) (title : Option (List ℕ)) → text ≡ level_text rows → IsLevel rows → IsAcceptable rows
-    → IsUnknown book rows → IsNewPage book text (title_kept title) (new_page rows (title_kept title))
+    → IsUnknown book rows → IsNewPage book text (kept_if_given title) (new_page rows (kept_if_given title))
 new_page_is book rows text title is level accepted unknown = record {
-  leaf = ap (λ t. new_leaf t (title_kept title)) (sym is);
-  kept = IsKeptPage-new rows (title_kept title) level accepted (title_is title);
+  leaf = ap (λ t. new_leaf t (kept_if_given title)) (sym is);
+  kept = IsKeptPage-new rows (kept_if_given title) level accepted (title_is title);
   unknown = unknown;
 }
 
@@ -189,14 +189,14 @@ module _ (old mid : State) (rows : Rows) (text : List ℕ) (text_is : text ≡ l
         ((holds.0, shows), unknown_unfound book rows none)
 
     abbrev pub added_page : Page
-    added_page = new_page rows (title_kept title)
+    added_page = new_page rows (kept_if_given title)
 
-    page_is : (book : Book) → IsUnknown book rows → IsNewPage book text (title_kept title) added_page
+    page_is : (book : Book) → IsUnknown book rows → IsNewPage book text (kept_if_given title) added_page
     page_is book unknown = new_page_is book rows text title text_is level accepted unknown
 
     module _ (new : State) (early : HasCleanDisk new → HasCleanDisk mid) where
-      level_added : (result : Result ℤ BookFault) → IfOk result (AddsPage mid new text (title_kept title))
-          → IfOk result (λ id. StoresChange old new (λ book after. Adds book rows (title_kept title) (id_number id) after))
+      level_added : (result : Result ℤ BookFault) → IfOk result (AddsPage mid new text (kept_if_given title))
+          → IfOk result (λ id. StoresChange old new (λ book after. Adds book rows (kept_if_given title) (id_number id) after))
       level_added (Ok id) added = λ clean book holds.
           let (shows, unknown) = not_there (early clean) book holds in
           let (id_is, room, after) = added clean book added_page (held mid book shows) (page_is book unknown) in
@@ -215,9 +215,9 @@ module _ (old mid : State) (rows : Rows) (text : List ℕ) (text_is : text ≡ l
           ] in
           (cause, after)
 
-      level_caused : (result : Result ℤ BookFault) → IfErr result (IsCausedAdding mid new text (title_kept title))
+      level_caused : (result : Result ℤ BookFault) → IfErr result (IsCausedAdding mid new text (kept_if_given title))
           → (P Q : Trees → Type 0) → Survives old mid P → Survives mid new Q
-          → IfErr result (IsCaused old new (Admits rows (title_kept title)))
+          → IfErr result (IsCaused old new (Admits rows (kept_if_given title)))
       level_caused (Ok id) caused P Q one two = tt
       level_caused (Err fault) caused P Q one two = λ database clean book holds.
           let (shows, unknown) = not_there (early clean) book holds in
@@ -226,10 +226,10 @@ module _ (old mid : State) (rows : Rows) (text : List ℕ) (text_is : text ≡ l
             | inr cause ↦ inr (cause_before old mid new P Q one two clean cause)
           ]
 
-      level_stops : Rests old mid → StopsAdding mid new text (title_kept title)
-          → Stops old new (Admits rows (title_kept title))
+      level_stops : Rests old mid → StopsAdding mid new text (kept_if_given title)
+          → Stops old new (Admits rows (kept_if_given title))
       level_stops rests two =
-          stops_later old mid new (Admits rows (title_kept title)) (rests_stops old mid rests MakesNone) _
+          stops_later old mid new (Admits rows (kept_if_given title)) (rests_stops old mid rests MakesNone) _
           (λ clean db has book shows_old.
           let (shows, unknown) = not_there (early clean) book (held_shown old book shows_old) in
           let (room, after) = has book added_page (shown mid book shows) (page_is book unknown) in
@@ -237,8 +237,8 @@ module _ (old mid : State) (rows : Rows) (text : List ℕ) (text_is : text ≡ l
           two
 
       -- all of it
-      pub level_runs : Rests old mid → (result : Result ℤ BookFault) → RunsAddingPage mid new text (title_kept title) result
-          → RunsAdding old new rows (title_kept title) result
+      pub level_runs : Rests old mid → (result : Result ℤ BookFault) → RunsAddingPage mid new text (kept_if_given title) result
+          → RunsAdding old new rows (kept_if_given title) result
       level_runs rests result runs = record {
         done = level_added result runs.added;
         refused = level_refused result runs.refused;

@@ -7,7 +7,7 @@ use Rattle.sok_book.specs.declared.fault.BookFault.{BookFault}
 use Rattle.sok_book.specs.Books.{Book}
 use Rattle.sok_sql.specs.Connections.{Rests}
 use Rattle.sok_store.specs.Rows.{HasBook, HoldsBook, ShowsBook, StoresBook, leaves_of}
-use Rattle.sok_store.specs.Calls.{StoresChange, FindsBook, KeepsBook, MakesNone, ShowsOn, Stops, ChangesBook}
+use Rattle.sok_store.specs.Calls.{ChangesBook, FindsBook, KeepsBook, MakesNone, ShowsOn, Stops, StoresChange}
 
 -- what is shown is held
 pub held_shown : (s : State) (book : Book) → ShowsBook s book → HoldsBook s book

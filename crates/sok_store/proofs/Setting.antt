@@ -14,7 +14,7 @@ use Rattle.sok_book.specs.Commands.{with_page}
 use Rattle.sok_book.specs.Kept.{IsKeptPage}
 use Rattle.sok_sql.specs.Causes.{AreApart, IsMemory, IsTooBig}
 use Rattle.sok_sql.specs.Connections.{Holds, Shows}
-use Rattle.sok_sql.specs.Leaves.{Leaf, HasLeaves, leaf_with_best, leaf_with_verdict}
+use Rattle.sok_sql.specs.Leaves.{HasLeaves, Leaf, leaf_with_best, leaf_with_verdict}
 use Rattle.sok_sql.specs.Statements.{Updates, UpdatesLeaf}
 use Rattle.sok_store.specs.Faults.{IsOutside}
 use Rattle.sok_store.specs.Rows.{IsKeptBook, leaf_of, leaves_of, verdict_number}

@@ -17,9 +17,9 @@ id_number (pos n) = n
 id_number (negsuc n) = 0
 
 -- the title that is kept, if one is given
-abbrev pub title_kept : Option (List ℕ) → Option (List ℕ)
-title_kept None = None
-title_kept (Some title) = kept_title title
+abbrev pub kept_if_given : Option (List ℕ) → Option (List ℕ)
+kept_if_given None = None
+kept_if_given (Some title) = kept_title title
 
 -- the connection holds the book that it held before, and of it this is true
 abbrev pub KeepsBook : State → State → (Book → Type 0) → Type 0

@@ -13,7 +13,7 @@ use Rattle.sok_book.specs.Commands.{Adds, Offers, Proves}
 use Rattle.sok_book.specs.Records.{IsRecordAt}
 use Rattle.sok_book.specs.Refusals.{IsNotAdded, IsNotOffered, IsNotProved}
 use Rattle.sok_store.specs.Faults.{IsOutside}
-use Rattle.sok_store.specs.Calls.{StoresChange, FindsBook, IsCaused, KeepsBook, KeepsRefused, MakesNone, ShowsOn, Stops, id_number}
+use Rattle.sok_store.specs.Calls.{FindsBook, IsCaused, KeepsBook, KeepsRefused, MakesNone, ShowsOn, Stops, StoresChange, id_number}
 use Rattle.sok_store.specs.Known.{IsNotKnown, ProvesKnown}
 use Rattle.sok_store.specs.Standing.{OffersTelling}
 use Rattle.sok_store.specs.declared.standing.Standing.{Standing}

@@ -7,7 +7,7 @@ ghost use Rattle.sok_board.specs.declared.fault.BoardFault.{BoardFault};
 ghost use Rattle.sok_book.specs.Books.{Book};
 ghost use Rattle.sok_book.specs.Refusals.{IsNotAdded};
 ghost use Rattle.sok_store.specs.Faults.{IsOutside};
-ghost use Rattle.sok_store.specs.Calls.{title_kept};
+ghost use Rattle.sok_store.specs.Calls.{kept_if_given};
 ghost use Rattle.sok_store.specs.Running.{RunsAdding, RunsAddingPage};
 
 use crate::fault::fault_of;
@@ -33,7 +33,7 @@ pub(crate) fn add_to<S: Alter>(
     ensures untouched { IfErr result (λ fault. (cause : BoardFault)
         → fault ≡ BookFault.Level cause → conn.new ≡ conn.old) }
     ensures runs { RunsAdding (state S.Store conn.old) (state S.Store conn.new)
-        level.now (title_kept (option_map (λ bytes. bytes.now) title.entry)) result }
+        level.now (kept_if_given (option_map (λ bytes. bytes.now) title.entry)) result }
 {
     match judge_level(alloc, level) {
         Ok(()) => add_accepted(conn, alloc, level, title),
@@ -63,7 +63,7 @@ fn add_accepted<S: Alter>(
 ) -> Result<i64, BookFault>
     requires { IsAcceptable level.now }
     ensures runs { RunsAdding (state S.Store conn.old) (state S.Store conn.new)
-        level.now (title_kept (option_map (λ bytes. bytes.now) title.entry)) result }
+        level.now (kept_if_given (option_map (λ bytes. bytes.now) title.entry)) result }
     ensures other { IfErr result (λ fault. (cause : BoardFault) → fault ≢ BookFault.Level cause) }
 {
     // A level tells with its rows that it is one.
@@ -107,7 +107,7 @@ fn add_new<S: Alter>(
 /// The title that is kept, if one is given.
 fn kept(title: Option<&[u8]>) -> Option<&[u8]>
     ensures { option_map (λ bytes. bytes.now) result
-        ≡ title_kept (option_map (λ bytes. bytes.now) title.entry) }
+        ≡ kept_if_given (option_map (λ bytes. bytes.now) title.entry) }
 {
     match title {
         Some(title) => kept_title(title),

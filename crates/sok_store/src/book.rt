@@ -15,9 +15,9 @@ ghost use Rattle.sok_book.specs.Refusals.{IsNotAdded, IsNotOffered, IsNotProved}
 ghost use Rattle.sok_book.specs.declared.record.Offer.{Offer};
 ghost use Rattle.sok_cert.specs.Claim.{Claim};
 ghost use Rattle.sok_store.specs.Faults.{IsOutside};
-ghost use Rattle.sok_store.specs.Calls.{StoresChange, FindsBook, IsCaused, KeepsBook, KeepsRefused};
+ghost use Rattle.sok_store.specs.Calls.{FindsBook, IsCaused, KeepsBook, KeepsRefused, StoresChange};
 ghost use Rattle.sok_store.specs.Calls.{MakesNone, ShowsOn, Stops};
-ghost use Rattle.sok_store.specs.Calls.{id_number, title_kept};
+ghost use Rattle.sok_store.specs.Calls.{id_number, kept_if_given};
 ghost use Rattle.sok_store.specs.Known.{IsCertified, IsNotKnown, ProvesKnown};
 ghost use Rattle.sok_store.specs.Opening.{IsCausedOpening, IsUnopened, LeavesOpening, Opens};
 ghost use Rattle.sok_store.specs.Running.{Admits};
@@ -152,15 +152,15 @@ impl<S: Alter> Book<S> {
         ensures accepted { OnOk result (IsAcceptable level.now) }
         ensures added { IfOk result (λ id. StoresChange (state S.Store self.old) (state S.Store self.new)
             (λ book after. Adds book level.now
-            (title_kept (option_map (λ bytes. bytes.now) title.entry)) (id_number id) after)) }
+            (kept_if_given (option_map (λ bytes. bytes.now) title.entry)) (id_number id) after)) }
         ensures refused { IfErr result (KeepsRefused (state S.Store self.old) (state S.Store self.new)
             (λ book fault. IsNotAdded book level.now fault)) }
         ensures untouched { IfErr result (λ fault. (cause : BoardFault)
             → fault ≡ BookFault.Level cause → self.new ≡ self.old) }
         ensures stop { Stops (state S.Store self.old) (state S.Store self.new)
-            (Admits level.now (title_kept (option_map (λ bytes. bytes.now) title.entry))) }
+            (Admits level.now (kept_if_given (option_map (λ bytes. bytes.now) title.entry))) }
         ensures cause { IfErr result (IsCaused (state S.Store self.old) (state S.Store self.new)
-            (Admits level.now (title_kept (option_map (λ bytes. bytes.now) title.entry)))) }
+            (Admits level.now (kept_if_given (option_map (λ bytes. bytes.now) title.entry)))) }
     {
         add_to(&mut self.connection, self.alloc, level, title)
     }

@@ -6,7 +6,7 @@ use Rattle.sqlite.specs.State.{State}
 use Rattle.sok_book.specs.Books.{Book}
 use Rattle.sok_engine.specs.declared.fault.ToolFault.{ToolFault}
 use Rattle.sok_engine.specs.Certified.{Bytes}
-use Rattle.sok_store.specs.Calls.{KeepsBook, Stops, ChangesBook}
+use Rattle.sok_store.specs.Calls.{ChangesBook, KeepsBook, Stops}
 use Rattle.sok_store.proofs.Calls.{stops_less}
 use Rattle.sok_keep.specs.Causes.{IsCausedFault}
 use Rattle.sok_tool.specs.Databases.{IsWithoutBook, OfOpened, OpensFound, Place, WorksOn, bookless, busy, fileless, refused, unconnected, unread, worked}

@@ -9,7 +9,7 @@ use Rattle.sok_engine.specs.declared.fault.ToolFault.TheVariants as tool
 use Rattle.sok_engine.specs.Certified.{Bytes, Stays}
 use Rattle.sok_engine.specs.Faults.{of_book}
 use Rattle.sok_sql.specs.Connections.{IsKnown, IsSame}
-use Rattle.sok_store.specs.Calls.{Stops, ChangesBook}
+use Rattle.sok_store.specs.Calls.{ChangesBook, Stops}
 use Rattle.sok_store.specs.Opening.{IsCausedOpening, IsUnopened, Opens}
 use Rattle.sok_keep.specs.Causes.{IsCausedFault}
 use Rattle.sok_databases.specs.declared.databases.Access.{Access}

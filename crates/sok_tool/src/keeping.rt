@@ -7,7 +7,7 @@ ghost use Rattle.sqlite.specs.Held.{state};
 ghost use Rattle.sok_search.specs.Faults.{IsBadLimit};
 ghost use Rattle.sok_engine.specs.declared.fault.ToolFault.TheVariants as tool;
 ghost use Rattle.sok_files.specs.Files.{IsMade};
-ghost use Rattle.sok_store.specs.Calls.{Stops, ChangesBook};
+ghost use Rattle.sok_store.specs.Calls.{ChangesBook, Stops};
 ghost use Rattle.sok_keep.specs.Causes.{IsCausedFault};
 ghost use Rattle.sok_keep.specs.Shows.{IsBookText, IsShow};
 ghost use Rattle.sok_settle.specs.Settles.{SettlesSome, WritesSettling};

@@ -1,5 +1,5 @@
 use Rattle.sqlite.specs.Held.{state}
-use Rattle.sok_store.specs.Calls.{Carries, Stops, ChangesBook}
+use Rattle.sok_store.specs.Calls.{Carries, ChangesBook, Stops}
 use Rattle.sok_keep.specs.Adds.{AddsCount, AddsFirst}
 use Rattle.sok_keep.specs.Adding.{AddsSome}
 use Rattle.sok_keep.proofs.add.add_levels.Given as goal

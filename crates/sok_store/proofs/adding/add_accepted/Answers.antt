@@ -4,7 +4,7 @@ use Rattle.sqlite.specs.State.{HasCleanDisk}
 use Rattle.sok_rules.specs.Levels.{IsLevel}
 use Rattle.sok_text.specs.Canonical.{level_text}
 use Rattle.sok_book.specs.Commands.{Adds}
-use Rattle.sok_store.specs.Calls.{StoresChange, id_number, title_kept}
+use Rattle.sok_store.specs.Calls.{StoresChange, id_number, kept_if_given}
 use Rattle.sok_store.proofs.Calls.{rests_holds, rests_stops, stops_same}
 use Rattle.sok_store.proofs.Added.{is_there, level_runs}
 use Rattle.sok_store.proofs.Wide.{wide}
@@ -24,7 +24,7 @@ pub returns-in-Ok-Some-clause-runs : goal.returns-in-Ok-Some-clause-runs
 returns-in-Ok-Some-clause-runs g c =
     let old = state g.S.Store c.args.conn.now in
     let mid = state g.S.Store c.find.new.conn in
-    let title = title_kept (option_map (λ bytes. bytes.now) c.args.title) in
+    let title = kept_if_given (option_map (λ bytes. bytes.now) c.args.title) in
     let level : IsLevel c.args.level.now = record { proper = c.rows-rows.ensures.proper; trimmed = c.rows-rows.ensures.trimmed } in
     let text : c.as_str-text.result.now ≡ level_text c.args.level.now = c.as_str-text.ensures.value ∙ c.in-Ok.ensures in
     record {

@@ -1,6 +1,6 @@
 use Rattle.std.proofs.Common.{IfErr}
 use Rattle.sqlite.specs.Held.{state}
-use Rattle.sok_store.specs.Calls.{Stops, ChangesBook}
+use Rattle.sok_store.specs.Calls.{ChangesBook, Stops}
 use Rattle.sok_keep.specs.Causes.{IsCausedFault}
 use Rattle.sok_keep.specs.Proves.{ProvesBytes, WritesProof}
 use Rattle.sok_keep.proofs.Ids.{of_passed}

@@ -3,7 +3,7 @@ use Rattle.std.specs.Option.{option_map}
 use Rattle.std.specs.Prelude.{string_bytes}
 use Rattle.sqlite.specs.Held.{state}
 use Rattle.sok_files.specs.Files.{IsMade}
-use Rattle.sok_store.specs.Calls.{Stops, ChangesBook}
+use Rattle.sok_store.specs.Calls.{ChangesBook, Stops}
 use Rattle.sok_keep.specs.Causes.{IsCausedFault}
 use Rattle.sok_keep.proofs.Ids.{of_passed}
 use Rattle.sok_settle.specs.Settles.{SettlesSome, WritesSettling}

@@ -3,7 +3,7 @@ use Rattle.std.specs.Prelude.{option_map, string_bytes}
 use Rattle.sqlite.specs.Held.{state}
 use Rattle.sok_engine.specs.Certified.{Bytes}
 use Rattle.sok_files.specs.Files.{IsMade}
-use Rattle.sok_store.specs.Calls.{Stops, ChangesBook}
+use Rattle.sok_store.specs.Calls.{ChangesBook, Stops}
 use Rattle.sok_keep.specs.Causes.{IsCausedFault}
 use Rattle.sok_keep.proofs.Ids.{of_passed}
 use Rattle.sok_settle.specs.Keeping.{Keeping, no_certs}
