@@ -80,11 +80,12 @@ fn visit(
             mark(search, index, Note { origin, standing });
             Ok(())
         }
-        Err(stop) => {
+        Err(Stop::Cut) => {
             // It waits still.
             wait(&mut search.queue, index as u32, depth, note.standing)?;
-            Err(stop)
+            Err(Stop::Cut)
         }
+        Err(Stop::Memory) => Err(Stop::Memory),
     }
 }
 

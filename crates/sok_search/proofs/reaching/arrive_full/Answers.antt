@@ -63,3 +63,7 @@ returns-clause-cut c = λ _.
       full = c.requires.full;
       kept = refl;
     }
+
+-- nothing is pushed where the search is cut off; a body that goes on there is refused by this
+pub returns-clause-pushed : goal.returns-clause-pushed
+returns-clause-pushed c = tt

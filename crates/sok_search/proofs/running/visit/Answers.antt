@@ -1,4 +1,4 @@
-use Rattle.std.proofs.Common.{refl, sym, true≢false}
+use Rattle.std.proofs.Common.{ap, Err, refl, sym, true≢false}
 use Rattle.sok_search.specs.Steps.{holding}
 use Rattle.sok_search.specs.Views.{progress_of}
 use Rattle.sok_search.proofs.Adding.{taken-key}
@@ -43,7 +43,7 @@ returns-in-Ok-clause-turned c =
     c.args.note (assumption (c.in_ok-key.ensures, c.depth-depth.ensures, c.requires.noted)) c.requires.is_open
     (λ solved. true≢false (sym ((c.if-is_solved.ensures key.least).1 solved))) c.in-Ok.ensures.followed (progress_of c.mark.new.search) c.mark.ensures
 
-pub returns-clause-cut : goal.returns-clause-cut
-returns-clause-cut c = λ cut.
+pub returns-in-Err-Cut-clause-cut : goal.returns-in-Err-Cut-clause-cut
+returns-in-Err-Cut-clause-cut c = λ _.
     cut-waits c.args.setting.now.board.now c.args.limit c.args.index c.args.bound c.args.search.now.whole (progress_of c.expand.new.search) c.wait.new.queue
-    c.args.note.standing c.requires.is_open (c.in-Err.ensures.cut cut) c.in_ok-wait-in-Err.ensures
+    c.args.note.standing c.requires.is_open (c.in-Err-Cut.ensures.cut (ap Err c.in-Err-Cut.field-0-is)) c.in_ok-wait-in-Err-Cut.ensures
