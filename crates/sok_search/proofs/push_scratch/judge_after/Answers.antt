@@ -1,4 +1,4 @@
-use Rattle.std.proofs.Common.{[], ◌∷◌, inl, refl, subst, sym}
+use Rattle.std.proofs.Common.{ℕ, IfSome, Option, [], ◌∷◌, inl, refl, subst, sym}
 use Rattle.sok_board.specs.Area.{BoardView}
 use Rattle.sok_distance.specs.Pushing.{IsStuck}
 use Rattle.sok_search.proofs.Reasons.{stuck-among, stuck-crowd}
@@ -7,6 +7,7 @@ use Rattle.sok_region.specs.Layouts.{IsLaidOut}
 use Rattle.sok_price.specs.Matched.{TellsLeast}
 use Rattle.sok_state.specs.declared.scene.Scene.{Scene}
 use Rattle.sok_bar.specs.Bars.{Barring}
+use Rattle.sok_alone.specs.Losses.{IsLostBy}
 use Rattle.sok_search.proofs.push_scratch.judge_after.Goals as goal
 
 pub returns-then-stuck-clause-judged : goal.returns-then-stuck-clause-judged
@@ -34,9 +35,19 @@ pub returns-in-Some-clause-laid : goal.returns-in-Some-clause-laid
 returns-in-Some-clause-laid c =
     c.is_jammed.ensures.laid c.args.before.now (put_in_order c.args.from c.args.to c.args.before.now) c.requires.moved c.requires.laid
 
+pub returns-in-Some-clause-judged : goal.returns-in-Some-clause-judged
+returns-in-Some-clause-judged c losses player lost =
+    let after = put_in_order c.args.from c.args.to c.args.before.now in
+    subst (λ (o : Option ℕ). IfSome o (IsLostBy c.args.setting.now.board.now player after losses)) c.in-Some.is lost
+
 pub returns-in-Some-2-clause-laid : goal.returns-in-Some-2-clause-laid
 returns-in-Some-2-clause-laid c = subst (λ (scene : Scene). IsLaidOut c.args.setting.now.board.now c.args.before.now scene.layout) (sym c.bound_after.ensures.scene)
     (c.is_jammed.ensures.laid c.args.before.now (put_in_order c.args.from c.args.to c.args.before.now) c.requires.moved c.requires.laid)
+
+pub returns-in-Some-2-clause-judged : goal.returns-in-Some-2-clause-judged
+returns-in-Some-2-clause-judged c losses player lost =
+    let after = put_in_order c.args.from c.args.to c.args.before.now in
+    subst (TellsLeast c.args.setting.now.board.now after) c.in-Some-2.is c.in_ok-bound.ensures.least
 
 pub returns-in-None-clause-laid : goal.returns-in-None-clause-laid
 returns-in-None-clause-laid c = subst (λ (scene : Scene). IsLaidOut c.args.setting.now.board.now c.args.before.now scene.layout) (sym c.bound_after.ensures.scene)
