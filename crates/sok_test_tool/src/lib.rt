@@ -14,6 +14,7 @@
 //! | `letters` | a text of as many letters as may be offered |
 //! | `lines` | what lines of words ask for, and the texts that are printed for some of them |
 //! | `listing` | `list` on files |
+//! | `old_book` | a book that an earlier program wrote |
 //! | `pages` | what is shown of records |
 //! | `plays` | the replay of a text, its words and its streams |
 //! | `printing` | the line of each fault |
@@ -53,6 +54,8 @@ mod letters;
 mod lines;
 #[cfg(test)]
 mod listing;
+#[cfg(test)]
+mod old_book;
 #[cfg(test)]
 mod pages;
 #[cfg(test)]

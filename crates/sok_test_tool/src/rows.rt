@@ -65,6 +65,17 @@ pub(crate) fn words(alloc: Global, line: &str) -> Result<Vec<String>, AllocError
 
 /// Runs the program. It passes on nothing of the program's contract, which no test needs: each test
 /// that called it by itself would be checked over all that it says.
+pub(crate) fn run_watched<R: Read, W: Write, E: Write>(
+    watched: &Watched<'_, HostRuntime>,
+    words: &[String],
+    input: &mut R,
+    out: &mut W,
+    err: &mut E,
+) -> u8 {
+    run(watched, words, input, out, err)
+}
+
+/// Runs it, and tells nothing of what was noted.
 pub(crate) fn run_on<R: Read, W: Write, E: Write>(
     rt: &HostRuntime,
     words: &[String],
@@ -72,7 +83,7 @@ pub(crate) fn run_on<R: Read, W: Write, E: Write>(
     out: &mut W,
     err: &mut E,
 ) -> u8 {
-    run(&Watched::new(rt, &Notes::new()), words, input, out, err)
+    run_watched(&Watched::new(rt, &Notes::new()), words, input, out, err)
 }
 
 /// What the program leaves behind.

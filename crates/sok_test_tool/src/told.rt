@@ -1,10 +1,9 @@
 //! What is told beside an answer: what failed, and lines that are nearly of a board.
 
-use crate::rows::{prepare, put, words};
+use crate::rows::{prepare, put, run_watched, words};
 use sok_files::notes::Notes;
 use sok_files::watched::{Watched, WatchedOutput};
 use sok_sketch::tutorial::Row;
-use sok_tool::program::run;
 use std::alloc::AllocError;
 use std::fs;
 use std::io::Write;
@@ -71,17 +70,12 @@ const TOLD: [Row; 9] = [
 /// A byte order mark, a tab, a carriage return too many, and titles.
 const NEAR: &str = "\u{feff}#####\n#@$.#\n#####\n; #1\n#@\t$.#\n#####\r\r\nTitle: ##\n";
 
-/// Runs the program over watched files, and gives its status.
-fn run_watched<W: Write + Drop>(
-    rt: &HostRuntime,
-    words: &[String],
-    out: W,
-    err: &mut Vec<u8>,
-) -> u8 {
+/// Runs the program over watched files, tells what was noted, and gives its status.
+fn run_told<W: Write + Drop>(rt: &HostRuntime, words: &[String], out: W, err: &mut Vec<u8>) -> u8 {
     let notes = Notes::new();
     let mut out = WatchedOutput::new(out, "standard output", &notes);
     let watched = Watched::new(rt, &notes);
-    let status = run(&watched, words, &mut b"".as_slice(), &mut out, err);
+    let status = run_watched(&watched, words, &mut b"".as_slice(), &mut out, err);
     notes.tell(status, err);
     status
 }
@@ -92,7 +86,7 @@ fn is_told(rt: &HostRuntime, row: Row) -> Result<bool, AllocError> {
     let words = words(rt.alloc(), line)?;
     let mut err = Vec::new(rt.alloc());
     let mut room = [0u8; 64];
-    let is_ended = run_watched(rt, words.as_slice(), room.as_mut_slice(), &mut err) == status;
+    let is_ended = run_told(rt, words.as_slice(), room.as_mut_slice(), &mut err) == status;
     Ok(is_ended && room.starts_with(out.as_bytes()) && err.as_slice() == told.as_bytes())
 }
 
@@ -110,7 +104,7 @@ fn first_other(rt: &HostRuntime, rows: &[Row]) -> Result<Option<&'static str>, A
 fn told_when_full(rt: &HostRuntime) -> Result<Vec<u8>, AllocError> {
     let words = words(rt.alloc(), "sok list told/levels")?;
     let mut err = Vec::new(rt.alloc());
-    run_watched(rt, words.as_slice(), [0u8; 4].as_mut_slice(), &mut err);
+    run_told(rt, words.as_slice(), [0u8; 4].as_mut_slice(), &mut err);
     Ok(err)
 }
 
