@@ -43,7 +43,9 @@ pub fn close_alone(
     let lives = Table::new(alloc, setting.board.squares());
     let mut workspace = Workspace::new(alloc, setting.board);
     let first = workspace.normalizer.key(setting.board, own, player);
-    close_unless(alloc, setting, &lives, &mut workspace, &first, limit)
+    let found = close_unless(alloc, setting, &lives, &mut workspace, &first, limit);
+    lives.let_go();
+    found
 }
 
 /// The same from a state, but for states that are noted in a table at depth 0: where one is come to,
@@ -69,13 +71,8 @@ pub(crate) fn close_unless(
     let mut known = Known::new(alloc, setting.board.squares());
     let met = run_from(alloc, setting, lives, workspace, first, limit, &mut known);
     // The table is let go here once, and not at each exit.
-    let inner = {
-        let Known {
-            table: _table,
-            inner,
-        } = known;
-        inner
-    };
+    let Known { table, inner } = known;
+    table.let_go();
     match met? {
         Met::On => Ok(Some(Inners::with_lines(alloc, inner)?)),
         Met::Ended => Ok(None),

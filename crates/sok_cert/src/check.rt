@@ -66,16 +66,13 @@ fn judge_entries(
 {
     let distances = Distances::new(alloc, board)?;
     let mut roster = Roster::new(alloc, board);
-    enter_all(
-        alloc,
-        &Setting {
-            board,
-            distances: &distances,
-        },
-        claim,
-        entries,
-        &mut roster,
-    )
+    let setting = Setting {
+        board,
+        distances: &distances,
+    };
+    let judged = enter_all(alloc, &setting, claim, entries, &mut roster);
+    roster.let_go();
+    judged
 }
 
 /// Judges each entry by itself, on a roster without entries, and then all of them.

@@ -61,6 +61,11 @@ impl Progress {
         }
     }
 
+    /// Lets go of what was read.
+    pub(crate) fn let_go(self) {
+        self.roster.let_go();
+    }
+
     /// Reads one more piece.
     pub(crate) fn take(
         &mut self,

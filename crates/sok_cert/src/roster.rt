@@ -48,6 +48,11 @@ impl Roster {
         }
     }
 
+    /// Lets go of the roster.
+    pub(crate) fn let_go(self) {
+        self.roll.let_go();
+    }
+
     /// Judges one more entry.
     pub(crate) fn enter(
         &mut self,

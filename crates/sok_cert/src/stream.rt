@@ -117,20 +117,27 @@ impl<'a> Stream<'a> {
             distances,
             mut progress,
         } = self;
-        progress.take(
-            alloc,
-            &Setting {
-                board,
-                distances: &distances,
-            },
-            piece,
-        )?;
-        Ok(Stream {
-            alloc,
+        let setting = Setting {
             board,
-            distances,
-            progress,
-        })
+            distances: &distances,
+        };
+        match progress.take(alloc, &setting, piece) {
+            Ok(()) => Ok(Stream {
+                alloc,
+                board,
+                distances,
+                progress,
+            }),
+            Err(refused) => {
+                progress.let_go();
+                Err(refused)
+            }
+        }
+    }
+
+    /// Lets go of the stream.
+    pub fn let_go(self) {
+        self.progress.let_go();
     }
 
     /// Ends the text. Refused is one that is no certificate, for the fault that `read` names. It
@@ -166,13 +173,18 @@ fn ending<'a>(
         × (ended.board ≡ board.now) × (ended.roster ≡ rostered_of roster)) }
     ensures fault { IfErr result (λ fault. claim ≡ Err fault) }
 {
-    let claim = claim?;
-    Ok(Ended {
-        alloc,
-        board,
-        claim,
-        roster,
-    })
+    match claim {
+        Ok(claim) => Ok(Ended {
+            alloc,
+            board,
+            claim,
+            roster,
+        }),
+        Err(fault) => {
+            roster.let_go();
+            Err(fault)
+        }
+    }
 }
 
 impl Ended<'_> {
@@ -200,6 +212,7 @@ impl Ended<'_> {
             roster,
         } = self;
         let judged = roster.close(alloc, board);
+        roster.let_go();
         Accepted::of(alloc, board, claim, judged)
     }
 }

@@ -57,6 +57,11 @@ impl Roll {
         }
     }
 
+    /// Lets go of the roll.
+    pub fn let_go(self) {
+        self.table.let_go();
+    }
+
     /// How many states were entered.
     pub fn len(&self) -> usize
         ensures { result ≡ length self.now.marks }

@@ -34,7 +34,7 @@ pub(crate) fn stream_of<'a, R: Read>(
         let count = match reader.read(buffer) {
             Ok(count) => count,
             Err(_) => {
-                let_go(stream);
+                stream.let_go();
                 return Err(InputFault::ReadFailed);
             }
         };
@@ -44,13 +44,9 @@ pub(crate) fn stream_of<'a, R: Read>(
         stream = stream.take(&buffer[..count])?;
         total += count;
     }
-    let_go(stream);
+    stream.let_go();
     Err(InputFault::TooMuch)
 }
-
-/// Lets go of a stream. It stands apart: a function that does more takes much longer to prove where it
-/// lets go of one.
-fn let_go(_stream: Stream<'_>) {}
 
 /// Room for so many bytes.
 fn room_for(alloc: Global, bytes: usize) -> Result<Vec<u8>, AllocError>

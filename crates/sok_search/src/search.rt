@@ -25,9 +25,10 @@ pub(crate) struct Search {
     pub(crate) best: Option<u32>,
 }
 
-/// Lets go of a search. It stands apart: a function that does more takes much longer to prove where it
-/// lets go of one.
-pub(crate) fn let_go(_search: Search) {}
+/// Lets go of a search.
+pub(crate) fn let_go(search: Search) {
+    search.table.let_go();
+}
 
 /// Lets an index wait, if its standing is open.
 pub(crate) fn wait(

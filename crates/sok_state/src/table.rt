@@ -74,6 +74,10 @@ impl Table {
         Table { store }
     }
 
+    /// Lets go of the table. It stands apart: a function that does more takes much longer to prove
+    /// where it lets go of one.
+    pub fn let_go(self) {}
+
     /// How many keys the table has.
     pub fn len(&self) -> usize
         ensures count { result ≡ length self.now.entries }

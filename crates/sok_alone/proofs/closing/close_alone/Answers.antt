@@ -19,13 +19,13 @@ returns-clause-closed c =
     let is : IsKeyOf b (position_of b c.args.player c.args.boxes.now) c.key-first.result =
     subst (λ (own : List ℕ). IsKeyOf b (position_of b c.args.player own) c.key-first.result) c.in_ok-own.ensures.same c.key-first.ensures.key in
     let are = c.key-first.ensures.boxes ∙ c.in_ok-own.ensures.same in
-    IfOk-weaker c.close_unless.result _ _
-    (λ found closed. IfSome_then found closed (closed-walked b c.args.player boxes first c.args.limit are is)) c.close_unless.ensures.closed
+    IfOk-weaker c.close_unless-found.result _ _
+    (λ found closed. IfSome_then found closed (closed-walked b c.args.player boxes first c.args.limit are is)) c.close_unless-found.ensures.closed
 
 pub returns-clause-none : goal.returns-clause-none
 returns-clause-none c =
     let b = c.args.setting.now.board.now in
     let is : IsKeyOf b (position_of b c.args.player c.args.boxes.now) c.key-first.result =
     subst (λ (own : List ℕ). IsKeyOf b (position_of b c.args.player own) c.key-first.result) c.in_ok-own.ensures.same c.key-first.ensures.key in
-    none-ended c.close_unless.result (IsGivenUp b.rows (position_of b c.args.player c.args.boxes.now) c.args.limit)
-    c.new-lives.result c.new-lives.ensures.none (given-up-walked b.rows _ _ c.args.limit is.same) c.close_unless.ensures.none
+    none-ended c.close_unless-found.result (IsGivenUp b.rows (position_of b c.args.player c.args.boxes.now) c.args.limit)
+    c.new-lives.result c.new-lives.ensures.none (given-up-walked b.rows _ _ c.args.limit is.same) c.close_unless-found.ensures.none

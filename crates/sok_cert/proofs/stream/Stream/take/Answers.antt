@@ -7,10 +7,10 @@ pub invariant_of-result : goal.invariant_of-result
 invariant_of-result c =
     let known = c.self.invariant in
     let text = known.3.0 in
-    (known.0, known.1, c.in_ok-take.ensures.of_board, (text ++ c.args.piece.now, c.in_ok-take.ensures.stands text known.3.1))
+    (known.0, known.1, c.in-Ok.ensures.of_board, (text ++ c.args.piece.now, c.in-Ok.ensures.stands text known.3.1))
 
-pub returns-clause-stands : goal.returns-clause-stands
-returns-clause-stands c = λ text stands.
+pub returns-in-Ok-clause-stands : goal.returns-in-Ok-clause-stands
+returns-in-Ok-clause-stands c = λ text stands.
     let here = subst (λ (s : Streamed). StandsFor s.board text s.progress) (sym c.self.view_is) stands in
     subst (λ (s : Streamed). StandsFor s.board (text ++ c.args.piece.now) (progressed_of c.take.new.self)) c.self.view_is
-    (c.in_ok-take.ensures.stands text here)
+    (c.in-Ok.ensures.stands text here)
