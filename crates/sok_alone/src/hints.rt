@@ -17,7 +17,7 @@ const PAIRS: usize = 16_777_216;
 const TRIOS: usize = 65_521;
 
 /// What is known of the pushed box with one other box, or with two, after a push.
-#[derive(Clone, Copy, Debug)]
+#[derive(Clone, Copy)]
 pub(crate) enum Hint {
     /// They were not asked.
     Open,

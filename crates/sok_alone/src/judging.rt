@@ -20,7 +20,7 @@ use sok_state::key::Key;
 use std::alloc::Global;
 
 /// How a state stands.
-#[derive(Debug, Drop)]
+#[derive(Drop)]
 pub(crate) enum Judged {
     /// All boxes stand on goals.
     Solved,

@@ -41,7 +41,7 @@ const LOSSES: usize = 65_536;
 
 /// A state of some boxes alone that is never solved, where the player comes in it, and positions that
 /// show it.
-#[derive(Debug, Drop)]
+#[derive(Drop)]
 pub struct Loss {
     pub key: Key,
     pub region: Region,

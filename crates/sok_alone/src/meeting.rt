@@ -15,7 +15,7 @@ use std::alloc::Global;
 
 /// That a search goes on, or that it has ended: the boxes are solved in a state, or there are more
 /// states than its limit, or a state was noted at which it stops.
-#[derive(Clone, Copy, Debug)]
+#[derive(Clone, Copy)]
 pub(crate) enum Met {
     On,
     Ended,

@@ -17,7 +17,7 @@ use sok_field::field::Field;
 use sok_rules::cell::Dir;
 
 /// Which boxes may hold another: all of some, members of their list, or those in bit rows.
-#[derive(Clone, Copy, Debug)]
+#[derive(Clone, Copy)]
 pub(crate) enum Holders<'a> {
     Every,
     Members(&'a [u32]),

@@ -23,7 +23,7 @@ use std::alloc::Global;
 /// Boxes that are never solved from where the player stands, were they alone on the board: members
 /// of a position's boxes, by their indices from 0, and positions of them that are closed under
 /// pushes.
-#[derive(Clone, Copy, Debug)]
+#[derive(Clone, Copy)]
 pub struct Pattern<'a> {
     pub members: &'a [u32],
     pub inner: &'a Inners,

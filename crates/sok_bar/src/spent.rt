@@ -13,7 +13,7 @@ use sok_rules::fault::Memory;
 use std::alloc::Global;
 
 /// The pushes that are asked for are spent: each list of letters has at least 0.
-#[derive(Clone, Copy, Debug, PartialEq, Eq)]
+#[derive(Clone, Copy, PartialEq, Eq)]
 pub struct Spent;
 
 impl Bar for Spent {

@@ -28,7 +28,7 @@ use std::marker::Model;
 /// A level with its area: the squares, apart from walls, to which the player could walk if there
 /// were no boxes. They are numbered row by row and from left to right, from 0. A board is seen as
 /// the rows of its level and the squares of the area in order.
-#[derive(Debug, Drop)]
+#[derive(Drop)]
 pub struct Board {
     level: Level,
     squares: Vec<Spot>,

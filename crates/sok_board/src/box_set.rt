@@ -12,7 +12,7 @@ use std::alloc::Global;
 use std::marker::Model;
 
 /// The squares of at most 128 boxes, rising. Up to 16 of them are kept without an allocation.
-#[derive(Debug, Drop)]
+#[derive(Drop)]
 pub struct BoxSet {
     squares: SmallVec<Sq, 16>,
 }

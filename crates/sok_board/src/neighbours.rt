@@ -11,7 +11,7 @@ use sok_rules::fault::Memory;
 use std::alloc::Global;
 
 /// The numbers of the squares beside one, and None where a square has no number.
-#[derive(Clone, Copy, Debug)]
+#[derive(Clone, Copy)]
 pub(crate) struct Neighbours {
     pub(crate) left: Option<Sq>,
     pub(crate) up: Option<Sq>,

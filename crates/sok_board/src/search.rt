@@ -32,21 +32,21 @@ pub trait Ways {
 }
 
 /// Where a node was met from: by a letter from another one.
-#[derive(Debug, Clone, Copy)]
+#[derive(Clone, Copy)]
 pub(crate) struct Origin {
     from: u16,
     dir: Dir,
 }
 
 /// A node that was met, and by how many letters.
-#[derive(Debug, Clone, Copy)]
+#[derive(Clone, Copy)]
 pub(crate) struct Step {
     node: u16,
     depth: u16,
 }
 
 /// The lists of a search. A further search takes no memory where its nodes are no more.
-#[derive(Debug, Drop)]
+#[derive(Drop)]
 pub struct Flood {
     /// For each node how many letters lead there from the start, at least, and None where none do.
     pub depths: Vec<Option<u16>>,

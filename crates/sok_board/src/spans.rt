@@ -16,7 +16,7 @@ const WORD_BITS: u32 = 64;
 
 /// Squares of the area that lie side by side in a row, all of them before the column 64 or none, with
 /// numbers that follow each other. So the bits of one word stand for them in a bit row.
-#[derive(Clone, Copy, Debug)]
+#[derive(Clone, Copy)]
 pub struct Span {
     /// The leftmost square, and its number.
     pub first: Spot,

@@ -20,7 +20,7 @@ use std::alloc::Global;
 
 /// The numbers of squares in a table, those of the squares beside each square, the spans of the
 /// area, the numbers of the goals and of the boxes, rising, and that of the player.
-#[derive(Debug, Drop)]
+#[derive(Drop)]
 pub(crate) struct Numbering {
     pub(crate) numbers: Vec<Option<Sq>>,
     pub(crate) neighbours: Vec<Neighbours>,

@@ -5,7 +5,7 @@ use sok_rules::level::Level;
 use std::marker::Model;
 
 /// What is known of a level's best solution.
-#[derive(Clone, Copy, Debug, PartialEq, Eq)]
+#[derive(Clone, Copy, PartialEq, Eq)]
 pub enum Verdict {
     /// Nothing is proved.
     Untested,
@@ -16,7 +16,7 @@ pub enum Verdict {
 }
 
 /// What became of a solution that was offered.
-#[derive(Clone, Copy, Debug, PartialEq, Eq)]
+#[derive(Clone, Copy, PartialEq, Eq)]
 pub enum Offer {
     /// It is the best now.
     Stored,
@@ -25,7 +25,7 @@ pub enum Offer {
 }
 
 /// A solution as it is kept. It is seen as its letters and their numbers.
-#[derive(Debug, Drop)]
+#[derive(Drop)]
 pub struct Best {
     pub letters: Vec<Dir>,
     /// How many letters push a box.
@@ -44,7 +44,7 @@ impl Model for Best {
 }
 
 /// A level of a book, with what is known of it. It is seen as its id and its page.
-#[derive(Debug, Drop)]
+#[derive(Drop)]
 pub struct Record {
     /// From 1 on, without a gap.
     pub id: i64,

@@ -11,7 +11,7 @@ use sok_rules::fault::Memory;
 use std::alloc::Global;
 
 /// A text of all levels of a book.
-#[derive(Clone, Copy, Debug, PartialEq, Eq)]
+#[derive(Clone, Copy, PartialEq, Eq)]
 pub enum BookText {
     /// A line for each level.
     Overview,

@@ -13,7 +13,7 @@ use std::marker::Model;
 
 /// What a certificate that was accepted shows: a claim that is true of its level. It is made by
 /// `check`, and by the end of a `Stream`. It is seen as the level's rows and the claim.
-#[derive(Debug, Drop)]
+#[derive(Drop)]
 pub struct Accepted {
     level: Level,
     claim: Claim,

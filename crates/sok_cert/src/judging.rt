@@ -19,7 +19,7 @@ use sok_rules::fault::Memory;
 use std::alloc::Global;
 
 /// What is found of an entry.
-#[derive(Clone, Copy, Debug, PartialEq, Eq)]
+#[derive(Clone, Copy, PartialEq, Eq)]
 pub(crate) enum Finding {
     /// It may stand: its reason bars, or it is expanded with a box off a goal.
     Fine,

@@ -18,7 +18,7 @@ use sok_state::normalizer::Normalizer;
 use std::alloc::Global;
 
 /// The boxes and the state of a position.
-#[derive(Debug, Drop)]
+#[derive(Drop)]
 pub struct Located {
     pub boxes: BoxSet,
     pub key: Key,

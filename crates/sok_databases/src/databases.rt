@@ -13,7 +13,7 @@ use sok_files::watched::Watched;
 use sqlite::{Connection, FileStore};
 
 /// How a database is opened.
-#[derive(Clone, Copy, Debug, PartialEq, Eq)]
+#[derive(Clone, Copy, PartialEq, Eq)]
 pub enum Access {
     /// To be changed, and an empty one is made where none is there.
     Make,

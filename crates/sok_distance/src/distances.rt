@@ -18,7 +18,7 @@ use std::marker::Model;
 /// The distance of each square of a board to each goal: the fewest pushes that bring a box from
 /// the square to the goal when no other box is in its way and the player can come to each side of
 /// it. Distances are seen as the board that they were made of, and the entries, goal by goal.
-#[derive(Debug, Drop)]
+#[derive(Drop)]
 pub struct Distances {
     level: Level,
     squares: Vec<Spot>,

@@ -9,7 +9,7 @@ use std::io::Write;
 use std::marker::Model;
 
 /// A text to write, and the status to end with.
-#[derive(Debug, Drop)]
+#[derive(Drop)]
 pub struct Answer {
     text: Vec<u8>,
     status: u8,

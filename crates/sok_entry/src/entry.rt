@@ -8,7 +8,7 @@ use std::alloc::{AllocError, Global};
 use std::marker::Model;
 
 /// A claim, and positions with what shows that it holds from each of them.
-#[derive(Debug, Drop)]
+#[derive(Drop)]
 pub struct Certificate {
     pub claim: Claim,
     pub entries: Vec<Entry>,
@@ -16,7 +16,7 @@ pub struct Certificate {
 
 /// A position: the player and the boxes, by numbers of squares, with the pushes that were made
 /// before it. A well-formed entry has its boxes in rising order.
-#[derive(Debug, Drop)]
+#[derive(Drop)]
 pub struct Entry {
     pub depth: u32,
     pub player: u32,
@@ -25,7 +25,7 @@ pub struct Entry {
 }
 
 /// Why a position may stand in a certificate.
-#[derive(Debug, Drop)]
+#[derive(Drop)]
 pub enum Reason {
     /// Every push leads to another entry.
     Expanded,
@@ -46,7 +46,7 @@ pub enum Reason {
 
 /// A position of some boxes alone: the player and the boxes, by numbers of squares, with the pushes
 /// that were made before it. A well-formed one has its boxes in rising order.
-#[derive(Debug, Drop)]
+#[derive(Drop)]
 pub struct Inner {
     pub depth: u32,
     pub player: u32,
@@ -55,7 +55,7 @@ pub struct Inner {
 }
 
 /// Why a position of some boxes alone may stand in a pattern.
-#[derive(Debug, Drop)]
+#[derive(Drop)]
 pub enum InnerReason {
     /// Every push of these boxes alone leads to another position of the pattern.
     Expanded,
@@ -67,7 +67,7 @@ pub enum InnerReason {
 }
 
 /// Numbers in order. They are seen as a list.
-#[derive(Debug, Drop)]
+#[derive(Drop)]
 pub struct Numbers {
     items: Vec<u32>,
 }

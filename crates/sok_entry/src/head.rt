@@ -8,7 +8,7 @@ use crate::inners::Inners;
 
 /// The first line of a pattern: the position, the members, and how many lines of inner positions
 /// stand behind it.
-#[derive(Debug, Drop)]
+#[derive(Drop)]
 pub struct Head {
     pub depth: u32,
     pub player: u32,
@@ -18,7 +18,7 @@ pub struct Head {
 }
 
 /// What a line begins.
-#[derive(Debug, Drop)]
+#[derive(Drop)]
 pub enum Opening {
     /// An entry of which it is the only line.
     Whole(Entry),

@@ -10,12 +10,12 @@ use std::rc::Rc;
 
 /// Positions of some boxes alone, in order, which many entries may share, and their lines, if they
 /// are kept. They are seen as a list.
-#[derive(Debug, Drop)]
+#[derive(Drop)]
 pub struct Inners {
     shared: Rc<Shared>,
 }
 
-#[derive(Debug, Drop)]
+#[derive(Drop)]
 struct Shared {
     items: Vec<Inner>,
     lines: Option<Vec<u8>>,

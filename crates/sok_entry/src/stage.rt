@@ -19,7 +19,7 @@ use crate::version::Version;
 use std::alloc::{AllocError, Global};
 
 /// What comes next in a certificate of which some lines were read.
-#[derive(Debug, Drop)]
+#[derive(Drop)]
 pub enum Stage {
     /// The header.
     AtHeader,
@@ -38,7 +38,7 @@ pub enum Stage {
 }
 
 /// What a line is, behind those that were read.
-#[derive(Debug, Drop)]
+#[derive(Drop)]
 pub enum LineRead {
     /// The last line of an entry of a certificate with this claim, and what comes next.
     Listed(Claim, Entry, Stage),

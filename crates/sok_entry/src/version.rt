@@ -1,7 +1,7 @@
 //! The versions of a certificate's text.
 
 /// The version of a certificate's text. Its first line names it.
-#[derive(Clone, Copy, Debug, PartialEq, Eq)]
+#[derive(Clone, Copy, PartialEq, Eq)]
 pub enum Version {
     /// No entry is a pattern.
     One,

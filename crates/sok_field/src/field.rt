@@ -23,7 +23,7 @@ pub const COLUMNS: u32 = 128;
 /// A set of squares, two words for each row and a bit for each column. It is seen as a number for
 /// each row, which the test `has` reads. It takes no memory. Where no square lies in the upper half
 /// of the columns, only the words of the lower half are gone through.
-#[derive(Debug, Drop)]
+#[derive(Drop)]
 pub struct Field {
     low: Half,
     high: Half,

@@ -22,7 +22,7 @@ pub(crate) const COLUMNS: u32 = 64;
 
 /// Half of a set of squares, a word for each row and a bit for each column. It is seen as its words,
 /// which the test `has` reads. It takes no memory.
-#[derive(Debug, Drop)]
+#[derive(Drop)]
 pub(crate) struct Half {
     rows: [u64; ROWS],
     /// No square lies in a row from here on, so that a flood goes over the rows before alone.

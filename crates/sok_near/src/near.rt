@@ -14,7 +14,7 @@ use std::fmt;
 const NEAR_LIMIT: usize = 1000;
 
 /// A line that is nearly of a board.
-#[derive(Clone, Copy, Debug, Default, PartialEq, Eq)]
+#[derive(Clone, Copy, Default, PartialEq, Eq)]
 pub struct NearLine {
     /// Its number, from 1.
     pub line: u64,

@@ -16,7 +16,7 @@ use sok_rules::fault::Memory;
 use std::alloc::Global;
 
 /// What is found of boxes and goals.
-#[derive(Debug, Drop)]
+#[derive(Drop)]
 pub enum Match {
     /// A goal of its own for each box, by its index among the board's goals, such that their
     /// distances add up to the total; and prices of the boxes and of all goals, from 0 to

@@ -3,7 +3,7 @@
 use std::fmt;
 
 /// What comes of a run, or of a call in it.
-#[derive(Clone, Copy, Debug, PartialEq, Eq)]
+#[derive(Clone, Copy, PartialEq, Eq)]
 pub(crate) enum Told {
     /// It answered what it should, and left what it should.
     Same,

@@ -21,7 +21,7 @@ use std::marker::Model;
 
 /// The squares to which the player comes without a push, a bit for each. A region is seen as the
 /// list of its squares, rising. It takes no memory.
-#[derive(Debug, Drop)]
+#[derive(Drop)]
 pub struct Region {
     words: [u64; WORDS],
 }

@@ -17,7 +17,7 @@ pub const LIMIT: usize = 128;
 
 /// A level: at most 128 rows of at most 128 cells, each row with a wall and without floor at its
 /// end, with one player and at least one box. It is seen as its rows.
-#[derive(Debug, Drop)]
+#[derive(Drop)]
 pub struct Level {
     rows: Vec<Vec<Cell>>,
 }

@@ -9,7 +9,7 @@ use crate::scene::Scene;
 use std::alloc::Global;
 
 /// What became of a list of letters that was played to its end.
-#[derive(Clone, Copy, Debug, PartialEq, Eq)]
+#[derive(Clone, Copy, PartialEq, Eq)]
 pub struct Tally {
     /// Whether all boxes stand on goals at the end.
     pub solved: bool,

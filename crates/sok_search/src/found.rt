@@ -3,7 +3,7 @@
 use sok_rules::cell::Dir;
 
 /// What is found of a level. The certificate of it, where one is made, stands elsewhere.
-#[derive(Debug, Drop)]
+#[derive(Drop)]
 pub enum Found {
     /// Letters that solve the level with the fewest pushes.
     Solved { dirs: Vec<Dir>, pushes: u32 },

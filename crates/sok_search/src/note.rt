@@ -3,7 +3,7 @@
 use sok_state::push::Push;
 
 /// Where a state was come to from.
-#[derive(Clone, Copy, Debug, PartialEq, Eq)]
+#[derive(Clone, Copy, PartialEq, Eq)]
 pub(crate) struct Origin {
     /// The index of the state before.
     pub(crate) parent: u32,
@@ -12,7 +12,7 @@ pub(crate) struct Origin {
 }
 
 /// How a state stands in a search.
-#[derive(Clone, Copy, Debug, PartialEq, Eq)]
+#[derive(Clone, Copy, PartialEq, Eq)]
 pub(crate) enum Standing {
     /// It may still be expanded. No fewer more pushes than this solve from it.
     Open(u32),
@@ -25,7 +25,7 @@ pub(crate) enum Standing {
 }
 
 /// A note of a state: its origin, which the start lacks, and its standing.
-#[derive(Clone, Copy, Debug, PartialEq, Eq)]
+#[derive(Clone, Copy, PartialEq, Eq)]
 pub(crate) struct Note {
     pub(crate) origin: Option<Origin>,
     pub(crate) standing: Standing,

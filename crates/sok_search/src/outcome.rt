@@ -4,7 +4,7 @@ use sok_cert::entry::Certificate;
 use sok_rules::cell::Dir;
 
 /// What is answered of a level.
-#[derive(Debug, Drop)]
+#[derive(Drop)]
 pub enum Outcome {
     /// Letters that solve the level with the fewest pushes, and a certificate that none solve it
     /// with fewer.

@@ -6,7 +6,7 @@ ghost use Rattle.sok_search.specs.declared.stop.Stop.TheVariants as cause;
 use sok_rules::fault::Memory;
 
 /// Why a search stops before its end.
-#[derive(Clone, Copy, Debug)]
+#[derive(Clone, Copy)]
 pub(crate) enum Stop {
     /// It is cut off: its table is full and lacks a state that is reached.
     Cut,

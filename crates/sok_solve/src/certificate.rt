@@ -21,7 +21,7 @@ use std::marker::Model;
 
 /// The lines of the entries that were taken, and whether one of them is a pattern. Once they have
 /// more bytes than a certificate that is read, no more are kept.
-#[derive(Debug, Drop)]
+#[derive(Drop)]
 pub struct EntryLines {
     lines: Vec<u8>,
     has_pattern: bool,
@@ -74,7 +74,7 @@ impl Entries for EntryLines {
 
 /// A certificate, as it is written: the lines in front of its entries, and all others. It is seen as
 /// its text.
-#[derive(Debug, Drop)]
+#[derive(Drop)]
 pub struct ReadyCert {
     front: Vec<u8>,
     lines: Vec<u8>,

@@ -63,7 +63,7 @@ pub fn solve_bytes<R: Read, W: Write, C: Write>(
 }
 
 /// An answer, and the certificate that is written before it, where there is one.
-#[derive(Debug, Drop)]
+#[derive(Drop)]
 struct CertifiedAnswer {
     cert: Option<ReadyCert>,
     answer: Answer,

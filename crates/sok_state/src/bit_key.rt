@@ -11,7 +11,7 @@ use sok_rules::fault::Memory;
 
 /// A state as its `Key` tells it: the squares of its boxes as bits by their numbers, and the least
 /// square that the player can walk to. `N` words have a bit for each square of the board.
-#[derive(Clone, Copy, Debug, PartialEq, Eq, Hash)]
+#[derive(Clone, Copy, PartialEq, Eq, Hash)]
 pub(crate) struct BitKey<const N: usize> {
     boxes: [u64; N],
     least: Sq,

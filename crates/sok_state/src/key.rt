@@ -21,7 +21,7 @@ use std::alloc::Global;
 
 /// A state: the squares of its boxes, and the least square that the player can walk to. Positions
 /// of a board are the same state exactly where their keys are equal.
-#[derive(Debug, Drop)]
+#[derive(Drop)]
 pub struct Key {
     pub boxes: BoxSet,
     pub least: Sq,

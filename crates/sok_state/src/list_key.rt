@@ -15,7 +15,7 @@ pub(crate) const BOXES: usize = 16;
 
 /// A state as its `Key` tells it: the squares of its boxes, rising, and the least square that the
 /// player can walk to.
-#[derive(Debug, PartialEq, Eq, Hash, Drop)]
+#[derive(PartialEq, Eq, Hash, Drop)]
 pub(crate) struct ListKey {
     boxes: ArrayVec<Sq, BOXES>,
     least: Sq,

@@ -3,7 +3,7 @@
 use sok_book::record::Offer;
 
 /// What became of an offer, and the pushes and moves of the best solution after it.
-#[derive(Clone, Copy, Debug, PartialEq, Eq)]
+#[derive(Clone, Copy, PartialEq, Eq)]
 pub struct Standing {
     pub offer: Offer,
     pub pushes: u32,

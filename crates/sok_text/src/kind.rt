@@ -7,7 +7,7 @@ use crate::packed::is_packed_line;
 use crate::xsb::is_board_line;
 
 /// What a line is.
-#[derive(Clone, Copy, Debug, PartialEq, Eq)]
+#[derive(Clone, Copy, PartialEq, Eq)]
 pub enum Kind {
     /// A line of a board.
     Row,

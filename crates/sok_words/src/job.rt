@@ -37,7 +37,7 @@ pub enum Job {
 /// A command line that asks for nothing: the text to print, and the status to end with. That is 0
 /// for a request for help, whose text belongs on the output, 2 for words that are refused, and 6,
 /// without a text, where memory was refused.
-#[derive(Debug, Drop)]
+#[derive(Drop)]
 pub struct JobRefused {
     pub text: String,
     pub status: u8,
