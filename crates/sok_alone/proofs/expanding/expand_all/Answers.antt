@@ -1,3 +1,4 @@
+use Rattle.std.proofs.lemmas.Grind.{common_steps}
 use Rattle.std.proofs.Common.{arith}
 use Rattle.sok_alone.proofs.Growing.{Grows-refl}
 use Rattle.sok_alone.proofs.expanding.expand_all.Goals as goal
@@ -10,3 +11,6 @@ loop-index-init g c = record {
   within = omega arith;
   workspace = c.requires.1.1;
 }
+
+pub returns-clause-tells : goal.returns-clause-tells
+returns-clause-tells c = grind (arith, common_steps)

@@ -1,4 +1,5 @@
-use Rattle.std.proofs.Common.{ℕ, List, MatchBool, true≢false, sym, ◌∙◌, subst}
+use Rattle.std.proofs.lemmas.Grind.{common_steps}
+use Rattle.std.proofs.Common.{ℕ, List, MatchBool, true≢false, sym, ◌∙◌, subst, arith}
 use Rattle.sok_rules.specs.Play.{AllOnGoals}
 use Rattle.sok_board.specs.Area.{position_of}
 use Rattle.sok_cert.specs.Closed.{IsBarredBy, entry_position}
@@ -19,3 +20,6 @@ returns-then-is_expanded-clause-found c =
     (sym (sym c.is_expanded.ensures ∙ c.if-is_expanded.true))
     (λ solved. true≢false (sym ((c.is_solved.ensures e.player).1
     (subst (λ (bs : List ℕ). AllOnGoals b.rows (position_of b e.player bs)) (sym c.requires.boxes) solved)) ∙ c.if-is_solved.false))
+
+pub returns-clause-found : goal.returns-clause-found
+returns-clause-found c = grind (arith, common_steps)

@@ -1,4 +1,4 @@
-use Rattle.std.proofs.Common.{◌+◌, ◌∙◌, sym, subst}
+use Rattle.std.proofs.Common.{◌+◌, ◌∙◌, sym, subst, rules}
 use Rattle.sok_search.specs.Halted.{IsLeastOfFirst}
 use Rattle.sok_search.specs.Views.{progress_of}
 use Rattle.sok_search.proofs.Halting.{least-open, least-other}
@@ -15,3 +15,6 @@ loop-index-preserved c =
           (least-open p count least w.in-Some.pushes c.loop-index.invariant w.in-Some.ensures)
       | in_default w ↦ subst (IsLeastOfFirst p (count + 1)) (sym w.least-is) (least-other p count least c.loop-index.invariant w.in_default.ensures)
     ]
+
+pub returns : goal.returns
+returns c = search rules
