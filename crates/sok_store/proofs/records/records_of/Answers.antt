@@ -1,3 +1,4 @@
+use Rattle.std.proofs.lemmas.Grind.{common_steps}
 use Rattle.std.proofs.Common.{◌<◌, arith, length}
 use Rattle.std.specs.BTreeSet.{contains_text}
 use Rattle.sok_store.proofs.NextRow.{IsFirstBad-seen, IsSeen-more, few-seen}
@@ -20,3 +21,6 @@ returns-in-Err-clause-broken c =
     let within : l.row-index < length c.args.rows.now = omega arith in
     IsFirstBad-seen c.args.rows.now l.row-index l.records.items (contains_text l.texts) l.invariant c.row-item.result within c.row-item.is
     c.in-Err.fault c.in-Err.ensures.broken
+
+pub returns-clause-read : goal.returns-clause-read
+returns-clause-read c = grind (arith, common_steps)
