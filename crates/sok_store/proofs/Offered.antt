@@ -111,6 +111,6 @@ module _ (page : Page) (letters : List Dir) (best : BestColumns) (rows : Rows) (
 
 pub offer_refused : (id : ℕ) (letters : List Dir) (page : Page) (fault : BookFault) → (fault ≡ Memory) ⊎ IsNoSolution page.level letters fault
     → (book : Book) → IsKeptPage page → page_at book id ≡ Some page → (fault ≡ Memory) ⊎ ((fault ≢ Database) × IsNotOffered book id letters fault)
-offer_refused id letters page fault (inl memory) book kept at = inl memory
-offer_refused id letters page fault (inr none) book kept at =
+offer_refused id letters page fault (inl memory) book _ at = inl memory
+offer_refused id letters page fault (inr none) book _ at =
     inr ((λ database. subst (IsNoSolution page.level letters) database none), not_offered book id page letters fault at none)
