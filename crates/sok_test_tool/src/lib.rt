@@ -4,7 +4,7 @@
 //! |---|---|
 //! | `answering` | commands on a book in memory, with what they write (no test) |
 //! | `books` | levels with titles, and a book that is full |
-//! | `checking` | `check` on files |
+//! | `checking`, `listing`, `replaying`, `solving` | `check`, `list`, `replay`, `draw` and `solve` on files |
 //! | `checks` | the judgement of a certificate for a level of a collection |
 //! | `commands` | commands one after another, each on the book that the last one left |
 //! | `copies` | the commands that only read a book, also one that may not be written or is in use |
@@ -13,16 +13,13 @@
 //! | `keeping` | the commands on a book in a file |
 //! | `letters` | a text of as many letters as may be offered |
 //! | `lines` | what lines of words ask for, and the texts that are printed for some of them |
-//! | `listing` | `list` on files |
 //! | `old_book` | a book that an earlier program wrote |
 //! | `pages` | what is shown of records |
 //! | `plays` | the replay of a text, its words and its streams |
 //! | `printing` | the line of each fault |
 //! | `reads` | readers that fail, for the commands on a book |
 //! | `refusing` | help, the version, and words that ask for nothing |
-//! | `replaying` | `replay` and `draw` on files |
 //! | `rows` | command lines on the files of a folder (no test) |
-//! | `solving` | `solve` on files |
 //! | `statements` | each statement once, with ample memory |
 //! | `stops` | commands that are stopped, and the book that is found then |
 //! | `tables` | tables that are opened as a book, or that are not |

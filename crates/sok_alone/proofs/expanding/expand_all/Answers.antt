@@ -1,5 +1,5 @@
-use Rattle.std.proofs.lemmas.Grind.{common_steps}
 use Rattle.std.proofs.Common.{arith}
+use Rattle.std.proofs.lemmas.Grind.{common_steps}
 use Rattle.sok_alone.proofs.Growing.{Grows-refl}
 use Rattle.sok_alone.proofs.expanding.expand_all.Goals as goal
 

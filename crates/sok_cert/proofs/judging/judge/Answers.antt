@@ -1,5 +1,5 @@
-use Rattle.std.proofs.lemmas.Grind.{common_steps}
 use Rattle.std.proofs.Common.{ℕ, List, MatchBool, true≢false, sym, ◌∙◌, subst, arith}
+use Rattle.std.proofs.lemmas.Grind.{common_steps}
 use Rattle.sok_rules.specs.Play.{AllOnGoals}
 use Rattle.sok_board.specs.Area.{position_of}
 use Rattle.sok_cert.specs.Closed.{IsBarredBy, entry_position}

@@ -1,5 +1,5 @@
-use Rattle.std.proofs.lemmas.Grind.{common_steps}
 use Rattle.std.proofs.Common.{◌<◌, arith, length}
+use Rattle.std.proofs.lemmas.Grind.{common_steps}
 use Rattle.std.specs.BTreeSet.{contains_text}
 use Rattle.sok_store.proofs.NextRow.{IsFirstBad-seen, IsSeen-more, few-seen}
 use Rattle.sok_store.proofs.records.records_of.Goals as goal
