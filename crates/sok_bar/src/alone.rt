@@ -47,7 +47,7 @@ pub(crate) fn are_closed_alone(
     let mut roll = Roll::new(alloc, setting.board.squares());
     let mut normalizer = Normalizer::new(setting.board);
     let inner = inner.as_slice();
-    are_closed_by(
+    let closed = are_closed_by(
         alloc,
         setting,
         boxes,
@@ -55,7 +55,9 @@ pub(crate) fn are_closed_alone(
         inner,
         &mut roll,
         &mut normalizer,
-    )
+    );
+    roll.let_go();
+    closed
 }
 
 /// The same by a roll that is empty and has room for the board, with keys of the board. Both are
