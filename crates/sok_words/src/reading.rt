@@ -28,43 +28,29 @@ fn job_of(alloc: Global, name: &str, values: &ArgMatches<'_>) -> Result<Job, Job
 {
     match name {
         "list" => Ok(Job::List(text_of(alloc, values, "FILE")?)),
-        "replay" => {
-            let (file, number) = level_of(alloc, values)?;
-            Ok(Job::Replay(file, number, text_of(alloc, values, "TEXT")?))
-        }
+        "replay" => replay_of(alloc, values),
         "draw" => draw_of(alloc, values),
         "solve" => solve_of(alloc, values),
-        "check" => {
-            let (file, number) = level_of(alloc, values)?;
-            Ok(Job::Check(file, number, text_of(alloc, values, "CERT")?))
-        }
-        "add" => {
-            let db = text_of(alloc, values, "DB")?;
-            Ok(Job::Add(db, text_of(alloc, values, "FILE")?))
-        }
-        "offer" => {
-            let (db, id) = entry_of(alloc, values)?;
-            Ok(Job::Offer(db, id, text_of(alloc, values, "TEXT")?))
-        }
-        "offers" => {
-            let db = text_of(alloc, values, "DB")?;
-            Ok(Job::Offers(db, text_of(alloc, values, "FILE")?))
-        }
-        "prove" => {
-            let (db, id) = entry_of(alloc, values)?;
-            Ok(Job::Prove(db, id, text_of(alloc, values, "CERT")?))
-        }
+        "check" => check_of(alloc, values),
+        "add" => add_of(alloc, values),
+        "offer" => offer_of(alloc, values),
+        "offers" => offers_of(alloc, values),
+        "prove" => prove_of(alloc, values),
         "settle" => settle_of(alloc, values),
-        "show" => {
-            let db = text_of(alloc, values, "DB")?;
-            Ok(Job::Show(db, optional_id_of(values, "ID")))
-        }
-        "export" => {
-            let db = text_of(alloc, values, "DB")?;
-            Ok(Job::Export(db, flag_of(values, "solutions")))
-        }
+        "show" => show_of(alloc, values),
+        "export" => export_of(alloc, values),
         _ => Err(missing(alloc)),
     }
+}
+
+/// The job of `replay`.
+fn replay_of(alloc: Global, values: &ArgMatches<'_>) -> Result<Job, JobRefused>
+    ensures { (form : Form) → HasValues form (codes "replay") (rows_of (found_of values.now))
+        → Answers form result }
+{
+    let (file, number) = level_of(alloc, values)?;
+    let text = text_of(alloc, values, "TEXT")?;
+    Ok(Job::Replay(file, number, text))
 }
 
 /// The job of `draw`.
@@ -89,6 +75,56 @@ fn solve_of(alloc: Global, values: &ArgMatches<'_>) -> Result<Job, JobRefused>
     Ok(Job::Solve(file, number, limit, bound, path))
 }
 
+/// The job of `check`.
+fn check_of(alloc: Global, values: &ArgMatches<'_>) -> Result<Job, JobRefused>
+    ensures { (form : Form) → HasValues form (codes "check") (rows_of (found_of values.now))
+        → Answers form result }
+{
+    let (file, number) = level_of(alloc, values)?;
+    let cert = text_of(alloc, values, "CERT")?;
+    Ok(Job::Check(file, number, cert))
+}
+
+/// The job of `add`.
+fn add_of(alloc: Global, values: &ArgMatches<'_>) -> Result<Job, JobRefused>
+    ensures { (form : Form) → HasValues form (codes "add") (rows_of (found_of values.now))
+        → Answers form result }
+{
+    let db = text_of(alloc, values, "DB")?;
+    let file = text_of(alloc, values, "FILE")?;
+    Ok(Job::Add(db, file))
+}
+
+/// The job of `offer`.
+fn offer_of(alloc: Global, values: &ArgMatches<'_>) -> Result<Job, JobRefused>
+    ensures { (form : Form) → HasValues form (codes "offer") (rows_of (found_of values.now))
+        → Answers form result }
+{
+    let (db, id) = entry_of(alloc, values)?;
+    let text = text_of(alloc, values, "TEXT")?;
+    Ok(Job::Offer(db, id, text))
+}
+
+/// The job of `offers`.
+fn offers_of(alloc: Global, values: &ArgMatches<'_>) -> Result<Job, JobRefused>
+    ensures { (form : Form) → HasValues form (codes "offers") (rows_of (found_of values.now))
+        → Answers form result }
+{
+    let db = text_of(alloc, values, "DB")?;
+    let file = text_of(alloc, values, "FILE")?;
+    Ok(Job::Offers(db, file))
+}
+
+/// The job of `prove`.
+fn prove_of(alloc: Global, values: &ArgMatches<'_>) -> Result<Job, JobRefused>
+    ensures { (form : Form) → HasValues form (codes "prove") (rows_of (found_of values.now))
+        → Answers form result }
+{
+    let (db, id) = entry_of(alloc, values)?;
+    let cert = text_of(alloc, values, "CERT")?;
+    Ok(Job::Prove(db, id, cert))
+}
+
 /// The job of `settle`.
 fn settle_of(alloc: Global, values: &ArgMatches<'_>) -> Result<Job, JobRefused>
     ensures { (form : Form) → HasValues form (codes "settle") (rows_of (found_of values.now))
@@ -99,6 +135,26 @@ fn settle_of(alloc: Global, values: &ArgMatches<'_>) -> Result<Job, JobRefused>
     let from = id_of(alloc, values, "from")?;
     let folder = option_of(alloc, values, "certs")?;
     Ok(Job::Settle(db, limit, from, folder))
+}
+
+/// The job of `show`.
+fn show_of(alloc: Global, values: &ArgMatches<'_>) -> Result<Job, JobRefused>
+    ensures { (form : Form) → HasValues form (codes "show") (rows_of (found_of values.now))
+        → Answers form result }
+{
+    let db = text_of(alloc, values, "DB")?;
+    let id = optional_id_of(values, "ID");
+    Ok(Job::Show(db, id))
+}
+
+/// The job of `export`.
+fn export_of(alloc: Global, values: &ArgMatches<'_>) -> Result<Job, JobRefused>
+    ensures { (form : Form) → HasValues form (codes "export") (rows_of (found_of values.now))
+        → Answers form result }
+{
+    let db = text_of(alloc, values, "DB")?;
+    let solutions = flag_of(values, "solutions");
+    Ok(Job::Export(db, solutions))
 }
 
 /// A collection, and the number of a level in it.
