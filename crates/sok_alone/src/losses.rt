@@ -75,6 +75,11 @@ impl Losses {
         })
     }
 
+    /// Lets go of them.
+    pub fn let_go(self) {
+        self.asked.let_go();
+    }
+
     /// The loss at a place, as a pattern of some boxes. It refuses only for want of memory.
     pub fn pattern_at(
         &self,

@@ -27,6 +27,7 @@ pub(crate) struct Search {
 
 /// Lets go of a search.
 pub(crate) fn let_go(search: Search) {
+    search.losses.let_go();
     search.table.let_go();
 }
 
