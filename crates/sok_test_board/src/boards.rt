@@ -31,38 +31,41 @@ fn has_squares(alloc: Global, text: &str, squares: &[(u32, u32)]) -> Result<bool
     Ok(board.squares() == squares.len())
 }
 
+const CORRIDOR: &[(u32, u32)] = &[(1, 1), (1, 2), (1, 3)];
+
+const TWO_ROWS: &[(u32, u32)] = &[
+    (1, 1),
+    (1, 2),
+    (1, 3),
+    (1, 4),
+    (2, 1),
+    (2, 2),
+    (2, 3),
+    (2, 4),
+];
+
+const WITH_A_ROOM: &[(u32, u32)] = &[
+    (1, 4),
+    (1, 5),
+    (1, 6),
+    (2, 1),
+    (2, 2),
+    (2, 3),
+    (2, 4),
+    (2, 5),
+    (2, 6),
+    (3, 4),
+    (3, 5),
+    (3, 6),
+];
+
 #[test]
 fn squares_of_boards(rt: HostRuntime) -> Result<(), Fail> {
-    let corridor: &[(u32, u32)] = &[(1, 1), (1, 2), (1, 3)];
-    let two_rows: &[(u32, u32)] = &[
-        (1, 1),
-        (1, 2),
-        (1, 3),
-        (1, 4),
-        (2, 1),
-        (2, 2),
-        (2, 3),
-        (2, 4),
-    ];
-    let with_a_room: &[(u32, u32)] = &[
-        (1, 4),
-        (1, 5),
-        (1, 6),
-        (2, 1),
-        (2, 2),
-        (2, 3),
-        (2, 4),
-        (2, 5),
-        (2, 6),
-        (3, 4),
-        (3, 5),
-        (3, 6),
-    ];
-    for (text, squares) in [
-        (sketch::ONE_PUSH, corridor),
-        (sketch::ROOM_OF_TWO_ROWS, two_rows),
-        (sketch::CORRIDOR_OF_SIX_PUSHES, with_a_room),
-        (sketch::DECORATED, corridor),
+    for &(text, squares) in &[
+        (sketch::ONE_PUSH, CORRIDOR),
+        (sketch::ROOM_OF_TWO_ROWS, TWO_ROWS),
+        (sketch::CORRIDOR_OF_SIX_PUSHES, WITH_A_ROOM),
+        (sketch::DECORATED, CORRIDOR),
         (sketch::NO_BOX_INSIDE, &[(1, 1)]),
     ] {
         assert!(rt; has_squares(rt.alloc(), text, squares)?, "{text}");
@@ -78,14 +81,14 @@ fn starts(alloc: Global, text: &str, player: Sq, boxes: &[Sq], goals: &[Sq]) -> 
 
 #[test]
 fn starts_of_boards(rt: HostRuntime) -> Result<(), Fail> {
-    let cases: [(&str, Sq, &[Sq], &[Sq]); 5] = [
+    let cases: &[(&str, Sq, &[Sq], &[Sq])] = &[
         (sketch::ONE_PUSH, 0, &[1], &[2]),
         (sketch::ROOM_OF_TWO_ROWS, 6, &[5], &[7]),
         (sketch::CORRIDOR_OF_SIX_PUSHES, 4, &[5], &[3]),
         (sketch::DECORATED, 0, &[1], &[2]),
         (sketch::NO_BOX_INSIDE, 0, &[], &[]),
     ];
-    for (text, player, boxes, goals) in cases {
+    for &(text, player, boxes, goals) in cases {
         assert!(rt; starts(rt.alloc(), text, player, boxes, goals)?, "{text}");
     }
     Ok(())
@@ -102,7 +105,7 @@ fn beside_the_first(board: &Board, dir: Dir) -> Option<Sq> {
 #[test]
 fn squares_beside(rt: HostRuntime) -> Result<(), Fail> {
     let board = board(rt.alloc(), sketch::DECORATED)?;
-    for (dir, beside) in [
+    for &(dir, beside) in &[
         (Dir::Left, None),
         (Dir::Up, None),
         (Dir::Right, Some(1)),
@@ -122,7 +125,7 @@ fn lies_outside(board: &Board, row: u32, col: u32, cell: Option<Cell>) -> bool {
 #[test]
 fn spots_outside(rt: HostRuntime) -> Result<(), Fail> {
     let board = board(rt.alloc(), sketch::DECORATED)?;
-    for (row, col, cell) in [
+    for &(row, col, cell) in &[
         (0, 0, Some(Cell::Wall)),
         (1, 5, Some(Cell::BoxOn)),
         (9, 70, None),
@@ -143,13 +146,15 @@ fn told(alloc: Global, text: &str) -> Result<Told, Fail> {
     }
 }
 
+const OPEN: BoardFault = BoardFault::NotEnclosed(Spot { row: 1, col: 3 });
+
+const STRAY: BoardFault = BoardFault::BoxOutside(Spot { row: 1, col: 5 });
+
 #[test]
 fn refused_levels(rt: HostRuntime) -> Result<(), Fail> {
-    let open = BoardFault::NotEnclosed(Spot { row: 1, col: 3 });
-    let stray = BoardFault::BoxOutside(Spot { row: 1, col: 5 });
-    for (text, fault, number) in [
-        (sketch::OPEN_AT_THE_SIDE, open, 6),
-        (sketch::STRAY_BOX, stray, 7),
+    for &(text, fault, number) in &[
+        (sketch::OPEN_AT_THE_SIDE, OPEN, 6),
+        (sketch::STRAY_BOX, STRAY, 7),
         (sketch::NO_GOAL, BoardFault::TooFewGoals, 8),
     ] {
         assert!(rt; told(rt.alloc(), text)? == Err((fault, number)), "{text}");

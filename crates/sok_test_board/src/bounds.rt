@@ -13,7 +13,7 @@ use std::test::Fail;
 
 #[test]
 fn spent_pushes(rt: HostRuntime) -> Result<(), Fail> {
-    for (position, rest, answer) in [
+    for &(position, rest, answer) in &[
         (ON_THE_GOAL, Rest::AtLeast(0), true),
         (ON_THE_GOAL, Rest::AtLeast(1), false),
         (TO_THE_GOAL, Rest::Never, false),

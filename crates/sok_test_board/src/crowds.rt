@@ -68,7 +68,7 @@ const ALONE: [(Position<'_>, bool); 4] = [
 #[test]
 fn one_box_in_the_corridor(rt: HostRuntime) -> Result<(), Fail> {
     let crowd = Crowd { members: &[0] };
-    for (position, answer) in ALONE {
+    for &(position, answer) in &ALONE {
         let found = holds(&rt, rt.alloc(), &crowd, position, Rest::Never)?;
         assert_eq!(rt; found, answer);
     }

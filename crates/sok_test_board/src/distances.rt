@@ -35,7 +35,7 @@ fn tells_of(
 
 #[test]
 fn distances_to_goals(rt: HostRuntime) -> Result<(), Fail> {
-    for (text, goal, square, pushes) in [
+    for &(text, goal, square, pushes) in &[
         (sketch::BOX_BEYOND_THE_GOAL, 0, 1, Some(0)),
         (sketch::BOX_BEYOND_THE_GOAL, 0, 2, None),
         (sketch::ROOM_OF_TWO_ROWS, 0, 5, Some(2)),
@@ -77,13 +77,13 @@ fn are_stuck_on(alloc: Global, text: &str, stuck: &[Sq]) -> Result<bool, Fail> {
 
 #[test]
 fn stuck_squares(rt: HostRuntime) -> Result<(), Fail> {
-    let cases: [(&str, &[Sq]); 4] = [
+    let cases: &[(&str, &[Sq])] = &[
         (sketch::BOX_BEYOND_THE_GOAL, &[0, 2]),
         (sketch::ROOM_OF_TWO_ROWS, &[0, 1, 2, 3, 4]),
         (sketch::CORRIDOR_OF_SIX_PUSHES, &[0, 1, 2, 8, 9, 10, 11]),
         (sketch::TWO_BOXES_AND_THREE_GOALS, &[0, 1, 2, 3, 4, 5]),
     ];
-    for (text, stuck) in cases {
+    for &(text, stuck) in cases {
         assert!(rt; are_stuck_on(rt.alloc(), text, stuck)?, "{text}");
     }
     Ok(())

@@ -113,7 +113,7 @@ fn finds(
 
 #[test]
 fn boxes_that_are_found_frozen(rt: HostRuntime) -> Result<(), Fail> {
-    for (level, squares, square, told) in JAMMED {
+    for &(level, squares, square, told) in &JAMMED {
         assert!(rt;
             finds(&rt, rt.alloc(), level, squares, square, told)?,
             "{level}"
@@ -133,7 +133,7 @@ const FREE: [Free<'_>; 3] = [
 
 #[test]
 fn boxes_that_are_not_frozen(rt: HostRuntime) -> Result<(), Fail> {
-    for (level, squares, square) in FREE {
+    for &(level, squares, square) in &FREE {
         let jam = found(&rt, rt.alloc(), level, squares, square)?;
         assert!(rt; jam.is_none(), "{level}");
     }

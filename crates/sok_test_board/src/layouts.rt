@@ -43,7 +43,7 @@ fn jam_on(
 
 #[test]
 fn jams_over_layouts(rt: HostRuntime) -> Result<(), Fail> {
-    for (level, boxes, square, told) in [
+    for &(level, boxes, square, told) in &[
         (sketch::TWO_IN_A_ROW, [1, 2], 1, true),
         (sketch::ONE_OF_TWO_ON_A_GOAL, [2, 1], 1, true),
         (sketch::ONE_OF_TWO_ON_A_GOAL, [1, 2], 2, true),

@@ -57,7 +57,7 @@ fn set_in_turn(
 ) -> Result<(), Fail>
     requires { Serves board.now matching.old }
 {
-    for (squares, total) in SETS {
+    for &(squares, total) in &SETS {
         assert_set(rt, alloc, board, matching, squares, total)?;
     }
     Ok(())

@@ -71,7 +71,7 @@ const TALL: Room = Room {
 
 /// Whether a square is beside one that is marked.
 fn lies_beside(board: &Board, marks: &[bool], square: Sq) -> bool {
-    for dir in [Dir::Left, Dir::Up, Dir::Right, Dir::Down] {
+    for &dir in &[Dir::Left, Dir::Up, Dir::Right, Dir::Down] {
         if square as usize >= board.squares() {
             return false;
         }
@@ -137,7 +137,7 @@ fn agrees(rt: &impl Abort, alloc: Global, text: &str, count: usize) -> Result<bo
 
 #[test]
 fn narrow_regions(rt: HostRuntime) -> Result<(), Fail> {
-    for (text, count) in [
+    for &(text, count) in &[
         (SPIRAL, 57),
         (COMB, 44),
         (COMB_UPSIDE_DOWN, 37),
@@ -150,7 +150,7 @@ fn narrow_regions(rt: HostRuntime) -> Result<(), Fail> {
 
 #[test]
 fn large_regions(rt: HostRuntime) -> Result<(), Fail> {
-    for (room, count) in [
+    for &(room, count) in &[
         (rooms::ROOM_OF_1024, 1023),
         (rooms::ROOM_OF_128_BOXES, 32),
         (TALL, 123),

@@ -47,7 +47,7 @@ fn positions(
 
 /// Asserts of each two boxes how many positions of them alone are listed.
 fn ask_each(rt: &impl Abort, alloc: Global, setting: &Setting<'_>) -> Result<(), Fail> {
-    for (first, second, limit, answer) in CASES {
+    for &(first, second, limit, answer) in &CASES {
         let found = positions(rt, alloc, setting, first, second, limit)?;
         assert_eq!(rt; found, answer, "{first} and {second} within {limit}");
     }
@@ -117,9 +117,26 @@ fn ask_twice(
     cases: &[PushCase],
 ) -> Result<(), Fail> {
     let mut losses = Losses::new(alloc, setting.board)?;
+    let asked = ask_by(rt, alloc, setting, &mut losses, player, cases);
+    losses.let_go();
+    asked
+}
+
+/// The same by losses that are borrowed, since a proof lays out the drop of owned ones at each way
+/// out.
+fn ask_by(
+    rt: &impl Abort,
+    alloc: Global,
+    setting: &Setting<'_>,
+    losses: &mut Losses,
+    player: Sq,
+    cases: &[PushCase],
+) -> Result<(), Fail>
+    requires { KeepsLosses setting.now.board.now losses.old }
+{
     for _round in 0..2 {
         for case in cases {
-            let lost = is_lost(rt, alloc, setting, &mut losses, player, case)?;
+            let lost = is_lost(rt, alloc, setting, losses, player, case)?;
             assert_eq!(rt; lost, case.4, "{} to {}", case.1, case.3);
         }
     }

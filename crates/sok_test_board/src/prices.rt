@@ -63,7 +63,7 @@ fn is_priced(found: Match, least: u32, goals: &[usize], all: usize) -> bool {
 
 #[test]
 fn least_assignments(rt: HostRuntime) -> Result<(), Fail> {
-    for (text, least, goals, all) in LEAST {
+    for &(text, least, goals, all) in &LEAST {
         let found = assigned(rt.alloc(), text)?;
         assert!(rt; is_priced(found, least, goals, all), "{text}");
     }
@@ -85,7 +85,7 @@ fn is_crowd(found: Match, crowd: &[u32]) -> bool {
 
 #[test]
 fn crowds(rt: HostRuntime) -> Result<(), Fail> {
-    for (text, crowd) in CROWDS {
+    for &(text, crowd) in &CROWDS {
         let found = assigned(rt.alloc(), text)?;
         assert!(rt; is_crowd(found, crowd), "{text}");
     }

@@ -51,7 +51,7 @@ fn has_only_on(
 
 #[test]
 fn squares_of_regions(rt: HostRuntime) -> Result<(), Fail> {
-    let cases: [(&str, Sq, &[Sq]); 3] = [
+    let cases: &[(&str, Sq, &[Sq])] = &[
         (sketch::ROOM_OF_TWO_ROWS, 6, &[0, 1, 2, 3, 4, 6, 7]),
         (sketch::CORRIDOR_WITH_THE_BOX_ON_6, 5, &[3, 4, 5]),
         (
@@ -60,7 +60,7 @@ fn squares_of_regions(rt: HostRuntime) -> Result<(), Fail> {
             &[0, 1, 2, 7, 8, 9, 10, 11],
         ),
     ];
-    for (text, player, squares) in cases {
+    for &(text, player, squares) in cases {
         assert!(rt;
             has_only_on(&rt, rt.alloc(), text, player, squares)?,
             "{text}"
@@ -98,11 +98,13 @@ fn walk(
     Ok(region.walk(alloc, board, from, to)?)
 }
 
+/// Around the box of a room.
+const AROUND: &[Dir] = &[Dir::Up, Dir::Left, Dir::Left, Dir::Down];
+
 #[test]
 fn walks_in_regions(rt: HostRuntime) -> Result<(), Fail> {
-    let around: &[Dir] = &[Dir::Up, Dir::Left, Dir::Left, Dir::Down];
-    for (text, from, to, letters) in [
-        (sketch::ROOM_OF_TWO_ROWS, 6, 4, Some(around)),
+    for &(text, from, to, letters) in &[
+        (sketch::ROOM_OF_TWO_ROWS, 6, 4, Some(AROUND)),
         (sketch::ROOM_OF_TWO_ROWS, 6, 5, None),
         (sketch::ROOM_OF_TWO_ROWS, 5, 6, None),
         (sketch::CORRIDOR_WITH_THE_BOX_ON_6, 4, 8, None),
@@ -141,7 +143,7 @@ fn are_shortest(alloc: Global, board: &Board, region: &Region, from: Sq) -> Resu
         let Some(letters) = length(alloc, board, region, from, to as Sq)? else {
             continue;
         };
-        for dir in [Dir::Left, Dir::Up, Dir::Right, Dir::Down] {
+        for &dir in &[Dir::Left, Dir::Up, Dir::Right, Dir::Down] {
             if let Some(beside) = board.neighbour(to as Sq, dir) {
                 let further = length(alloc, board, region, from, beside)?;
                 if further.unwrap_or(0) > letters.saturating_add(1) {
@@ -167,7 +169,7 @@ fn assert_all_shortest(rt: &impl Abort, alloc: Global, text: &str, player: Sq) -
 
 #[test]
 fn walks_are_shortest(rt: HostRuntime) -> Result<(), Fail> {
-    for (text, player) in [
+    for &(text, player) in &[
         (sketch::ROOM_OF_TWO_ROWS, 6),
         (sketch::PILLARS, 0),
         (sketch::THREE_BOXES_IN_THE_OPEN, 0),

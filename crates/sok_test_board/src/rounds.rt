@@ -127,7 +127,7 @@ fn squares(text: &[&str], signs: &[u8]) -> Field {
 
 #[test]
 fn floods_across_the_seam(rt: HostRuntime) {
-    for text in ABOUT_THE_SEAM {
+    for &text in &ABOUT_THE_SEAM {
         let free = squares(text, b"s+-");
         let joined = squares(text, b"s+");
         let Some(from) = squares(text, b"s").first() else {
@@ -170,7 +170,7 @@ fn free_words(alloc: Global, text: &str) -> Result<[u64; 3], Fail> {
 
 #[test]
 fn free_squares_of_the_corridor(rt: HostRuntime) -> Result<(), Fail> {
-    for (text, free) in [
+    for &(text, free) in &[
         (sketch::CORRIDOR_OF_SIX_PUSHES, [112, 118, 112]),
         (sketch::CORRIDOR_WITH_THE_BOX_ON_6, [112, 110, 112]),
     ] {
@@ -182,7 +182,7 @@ fn free_squares_of_the_corridor(rt: HostRuntime) -> Result<(), Fail> {
 /// From the square on each side of the box, round by round until a round changes nothing.
 #[test]
 fn rounds_in_the_corridor(rt: HostRuntime) {
-    for (free, seen, after) in [
+    for &(free, seen, after) in &[
         ([112, 118, 112], [0, 4, 0], [0, 6, 0]),
         ([112, 118, 112], [0, 6, 0], [0, 6, 0]),
         ([112, 110, 112], [0, 64, 0], [64, 96, 64]),

@@ -55,7 +55,7 @@ fn one_box(rt: HostRuntime) -> Result<(), Fail> {
 /// Sets that need an allocation.
 #[test]
 fn many_boxes(rt: HostRuntime) -> Result<(), Fail> {
-    for (room, count) in [
+    for &(room, count) in &[
         (rooms::ROOM_OF_17_BOXES, 17),
         (rooms::ROOM_OF_128_BOXES, 128),
     ] {

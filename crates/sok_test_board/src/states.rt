@@ -45,7 +45,7 @@ fn keys_of_positions(rt: HostRuntime) -> Result<(), Fail> {
     let board = board(rt.alloc(), sketch::CORRIDOR_OF_SIX_PUSHES)?;
     // the box, the player, the least square of the player's region, and whether it is the state
     // with the box on 6 and the player on its left
-    for (square, player, least, same) in [
+    for &(square, player, least, same) in &[
         (5, 4, 3, false),
         (6, 3, 3, true),
         (6, 5, 3, true),
@@ -120,24 +120,33 @@ fn leads_to(
 
 #[test]
 fn pushes_of_states(rt: HostRuntime) -> Result<(), Fail> {
-    let (left, up, right, down) = (Dir::Left, Dir::Up, Dir::Right, Dir::Down);
     // in the second case the player comes to each side of both boxes, below which there is a wall
-    let cases: [(&str, &[Sq], Sq, &[(Sq, Dir)]); 3] = [
-        (sketch::CORRIDOR_OF_SIX_PUSHES, &[5], 4, &[(5, right)]),
+    let cases: &[(&str, &[Sq], Sq, &[(Sq, Dir)])] = &[
+        (sketch::CORRIDOR_OF_SIX_PUSHES, &[5], 4, &[(5, Dir::Right)]),
         (
             sketch::TWO_BOXES_AND_THREE_GOALS,
             &[8, 10],
             0,
-            &[(8, left), (8, right), (10, left), (10, right)],
+            &[
+                (8, Dir::Left),
+                (8, Dir::Right),
+                (10, Dir::Left),
+                (10, Dir::Right),
+            ],
         ),
         (
             sketch::BOX_IN_THE_OPEN,
             &[4],
             6,
-            &[(4, left), (4, up), (4, right), (4, down)],
+            &[
+                (4, Dir::Left),
+                (4, Dir::Up),
+                (4, Dir::Right),
+                (4, Dir::Down),
+            ],
         ),
     ];
-    for (text, boxes, player, told) in cases {
+    for &(text, boxes, player, told) in cases {
         assert!(rt;
             has_pushes(&rt, rt.alloc(), text, boxes, player, told)?,
             "{text}"
@@ -148,12 +157,12 @@ fn pushes_of_states(rt: HostRuntime) -> Result<(), Fail> {
 
 #[test]
 fn states_after_pushes(rt: HostRuntime) -> Result<(), Fail> {
-    let cases: [(&str, &[Sq], Sq, &[Sq], Sq); 3] = [
+    let cases: &[(&str, &[Sq], Sq, &[Sq], Sq)] = &[
         (sketch::CORRIDOR_OF_SIX_PUSHES, &[5], 4, &[6], 3),
         (sketch::TWO_BOXES_AND_THREE_GOALS, &[8, 10], 0, &[7, 10], 0),
         (sketch::BOX_IN_THE_OPEN, &[4], 6, &[3], 0),
     ];
-    for (text, boxes, player, boxes_after, least) in cases {
+    for &(text, boxes, player, boxes_after, least) in cases {
         assert!(rt;
             leads_to(&rt, rt.alloc(), text, boxes, player, boxes_after, least)?,
             "{text}"

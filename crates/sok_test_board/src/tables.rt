@@ -172,7 +172,7 @@ fn assert_keys(
     let after = key(rt, alloc, squares, boxes_after, 0)?;
     assert_pushed(rt, alloc, squares, table, push, &after)?;
     assert!(rt; table.len() == 3);
-    for (depth, lowered, kept) in [(3, false, 2), (2, false, 2), (1, true, 1)] {
+    for &(depth, lowered, kept) in &[(3, false, 2), (2, false, 2), (1, true, 1)] {
         assert!(rt; lowers(table, depth, lowered, kept), "{depth}");
     }
     Ok(())
@@ -189,7 +189,9 @@ fn assert_table(
 ) -> Result<(), Fail> {
     assert!(rt; squares <= SQUARE_LIMIT);
     let mut table = Table::new(alloc, squares);
-    assert_keys(rt, alloc, squares, &mut table, boxes, push, boxes_after)
+    let asserted = assert_keys(rt, alloc, squares, &mut table, boxes, push, boxes_after);
+    table.let_go();
+    asserted
 }
 
 /// Boards of as many squares as words have bits, and of one more: boxes on the first and the last
@@ -197,7 +199,7 @@ fn assert_table(
 /// boxes as a list has at most, one more, and one more behind what a table takes for a push.
 #[test]
 fn tables_of_each_width(rt: HostRuntime) -> Result<(), Fail> {
-    let cases: [(usize, &[Sq], (Sq, Sq), &[Sq]); 12] = [
+    let cases: &[(usize, &[Sq], (Sq, Sq), &[Sq])] = &[
         (64, &[0, 31, 63], (63, 62), &[0, 31, 62]),
         (65, &[0, 63], (63, 64), &[0, 64]),
         (128, &[0, 63, 64, 127], (0, 126), &[63, 64, 126, 127]),
@@ -238,7 +240,7 @@ fn tables_of_each_width(rt: HostRuntime) -> Result<(), Fail> {
             &[0, 1, 2, 3, 4, 5, 6, 7, 8, 9, 10, 11, 12, 13, 14, 63, 4_095],
         ),
     ];
-    for (squares, boxes, push, boxes_after) in cases {
+    for &(squares, boxes, push, boxes_after) in cases {
         assert_table(&rt, rt.alloc(), squares, boxes, push, boxes_after)?;
     }
     Ok(())
