@@ -202,7 +202,7 @@ pub(crate) const SLANTED_ROOM: &str = "\
 
 #[test]
 fn levels(rt: HostRuntime) -> Result<(), Fail> {
-    for (board, limit, pushes) in LEVELS {
+    for &(board, limit, pushes) in &LEVELS {
         let is_so = match pushes {
             Some(pushes) => is_solved(rt.alloc(), board, limit, pushes)?,
             None => is_unsolvable(rt.alloc(), board, limit)?,
@@ -232,7 +232,7 @@ fn is_answered(
 /// Answers that are no other: the text of the solution, or the limit, which has no certificate.
 #[test]
 fn whole_answers(rt: HostRuntime) -> Result<(), Fail> {
-    for (board, limit, text, status) in [
+    for &(board, limit, text, status) in &[
         (sketch::ONE_PUSH, 2, "solved 1 1\nR\n", 0),
         (sketch::SOLVED, 1, "solved 0 0\n\n", 0),
         (sketch::DECORATED, 2, "solved 1 1\nR\n", 0),
@@ -275,7 +275,7 @@ fn is_bounded_alone(alloc: Global, board: &str, limit: u32, line: &str) -> Resul
 /// is three pushes away.
 #[test]
 fn bounds_are_told(rt: HostRuntime) -> Result<(), Fail> {
-    for (limit, line, accepted) in [
+    for &(limit, line, accepted) in &[
         (1, "limit 1 at least 2\n", "accepted at least 2 pushes\n"),
         (2, "limit 2 at least 4\n", "accepted at least 4 pushes\n"),
     ] {

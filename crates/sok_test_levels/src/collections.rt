@@ -60,34 +60,34 @@ fn is_drawn(
     }
 }
 
+/// Lines that end with CR LF.
+const RETURNS: &str = "-#####\r\n-#@$.#\r\n-#####\r\n";
+
 /// Levels of a text by their numbers, or why there are none.
 #[test]
 fn levels_by_their_numbers(rt: HostRuntime) -> Result<(), Fail> {
-    let notes = NOTES.as_bytes();
-    let returns: &[u8] = b"-#####\r\n-#@$.#\r\n-#####\r\n";
-    for (text, n, told) in [
-        (notes, 0, Err(LevelFault::NoSuchLevel)),
-        (notes, 1, Ok(sketch::ONE_PUSH)),
-        (notes, 2, Err(LevelFault::ManyPlayers)),
-        (notes, 3, Ok(sketch::ONE_PUSH)),
-        (notes, 4, Err(LevelFault::NoSuchLevel)),
-        (returns, 1, Ok(" #####\n #@$.#\n #####\n")),
-        (returns, 2, Err(LevelFault::NoSuchLevel)),
-        (sketch::NO_PLAYER.as_bytes(), 1, Err(LevelFault::NoPlayer)),
+    for &(text, n, told) in &[
+        (NOTES, 0, Err(LevelFault::NoSuchLevel)),
+        (NOTES, 1, Ok(sketch::ONE_PUSH)),
+        (NOTES, 2, Err(LevelFault::ManyPlayers)),
+        (NOTES, 3, Ok(sketch::ONE_PUSH)),
+        (NOTES, 4, Err(LevelFault::NoSuchLevel)),
+        (RETURNS, 1, Ok(" #####\n #@$.#\n #####\n")),
+        (RETURNS, 2, Err(LevelFault::NoSuchLevel)),
+        (sketch::NO_PLAYER, 1, Err(LevelFault::NoPlayer)),
         (
-            sketch::TWO_PLAYERS_ONE_ON_A_GOAL.as_bytes(),
+            sketch::TWO_PLAYERS_ONE_ON_A_GOAL,
             1,
             Err(LevelFault::ManyPlayers),
         ),
-        (sketch::NO_BOX.as_bytes(), 1, Err(LevelFault::NoBox)),
+        (sketch::NO_BOX, 1, Err(LevelFault::NoBox)),
         // the first in the order of refusal
-        (
-            sketch::NEITHER_PLAYER_NOR_BOX.as_bytes(),
-            1,
-            Err(LevelFault::NoPlayer),
-        ),
+        (sketch::NEITHER_PLAYER_NOR_BOX, 1, Err(LevelFault::NoPlayer)),
     ] {
-        assert!(rt; is_drawn(rt.alloc(), text, n, told)?, "level {n}");
+        assert!(rt;
+            is_drawn(rt.alloc(), text.as_bytes(), n, told)?,
+            "level {n}"
+        );
     }
     Ok(())
 }
@@ -96,13 +96,14 @@ fn levels_by_their_numbers(rt: HostRuntime) -> Result<(), Fail> {
 #[test]
 fn titles_by_their_numbers(rt: HostRuntime) -> Result<(), Fail> {
     let collection = Collection::read(rt.alloc(), NOTES.as_bytes())?;
-    for (n, title) in [
+    let titles: &[(usize, Option<&[u8]>)] = &[
         (0, None),
-        (1, Some(b"First".as_slice())),
+        (1, Some(b"First")),
         (2, None),
-        (3, Some(b"Third".as_slice())),
+        (3, Some(b"Third")),
         (4, None),
-    ] {
+    ];
+    for &(n, title) in titles {
         assert!(rt; collection.title(n) == title, "level {n}");
     }
     Ok(())
@@ -127,7 +128,7 @@ fn levels_and_fault(alloc: Global, text: &[u8]) -> Result<(usize, Option<LevelFa
 /// Packed lines of many rows and of long rows, floor at the ends of which counts for nothing.
 #[test]
 fn packed_lines_at_their_limits(rt: HostRuntime) -> Result<(), Fail> {
-    for (part, times, behind, fault) in [
+    for &(part, times, behind, fault) in &[
         ("", 0, "128#|#@$.#", None),
         ("", 0, "128##|#@$.#", Some(LevelFault::TooWide)),
         ("", 0, "#127-#|#@$.#", Some(LevelFault::TooWide)),
@@ -181,8 +182,8 @@ fn rows_of(alloc: Global, collection: &Collection<'_>, n: usize) -> Result<usize
 /// How many levels a text has, and how many rows the first one.
 #[test]
 fn board_lines_and_notes(rt: HostRuntime) -> Result<(), Fail> {
-    for (text, levels, rows) in [
-        (b"".as_slice(), 0, None),
+    let cases: &[(&[u8], usize, Option<usize>)] = &[
+        (b"", 0, None),
         (b"#####\n#@$.#\n#####", 1, Some(3)),
         (b"#####\n#@$.#\n#####\r", 1, Some(2)),
         (b"#####\n#@$.#\n#####\r\r\n", 1, Some(2)),
@@ -213,7 +214,8 @@ fn board_lines_and_notes(rt: HostRuntime) -> Result<(), Fail> {
         (b"5#|#@$.#5", 0, None),
         (b"5#|#@$.#3|#", 0, None),
         (b"5-|@$.", 0, None),
-    ] {
+    ];
+    for &(text, levels, rows) in cases {
         assert!(rt; has_levels(rt.alloc(), text, levels, rows)?, "in {text:?}");
     }
     Ok(())

@@ -109,7 +109,7 @@ fn reads_that_fail(rt: HostRuntime) -> Result<(), Fail> {
 
 /// Fails each read of the other engines.
 fn fail_reads_of_engines(rt: &impl Abort, alloc: Global) {
-    for (engine, text, words) in [
+    for &(engine, text, words) in &[
         (Engine::List, ROOM_OF_TWO_ROWS, "1 4 6 1 1\n"),
         (Engine::Replay, ROOM_OF_TWO_ROWS, "solved 2 6\n"),
         (Engine::Find, ROOM_OF_TWO_ROWS, "solved 2 6\n"),

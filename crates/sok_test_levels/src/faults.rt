@@ -73,7 +73,7 @@ fn refuses(alloc: Global, board: &str, n: usize, limit: u32, fault: ToolFault) -
 
 #[test]
 fn refusals(rt: HostRuntime) {
-    for (board, n, limit, fault) in [
+    for &(board, n, limit, fault) in &[
         ("", 1, 10, ToolFault::Level(LevelFault::NoSuchLevel)),
         (
             sketch::ONE_PUSH,
@@ -178,7 +178,7 @@ fn full_writers(rt: HostRuntime) -> Result<(), Fail> {
 #[test]
 fn full_behind_a_block(rt: HostRuntime) -> Result<(), Fail> {
     let whole = answered(rt.alloc(), ZERKALO, 1_000)?;
-    for room in [8_000, 8_192, 9_000, 10_000] {
+    for &room in &[8_000, 8_192, 9_000, 10_000] {
         assert!(rt;
             is_full(rt.alloc(), ZERKALO, 1_000, &whole.cert, room),
             "{room}"

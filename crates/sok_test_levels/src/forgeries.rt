@@ -212,7 +212,7 @@ fn forge_for(rt: &impl Abort, alloc: Global, drawn: &str, fewest: u32) -> Result
 
 #[test]
 fn forged_certificates_of_four_levels(rt: HostRuntime) -> Result<(), Fail> {
-    for (drawn, fewest) in [
+    for &(drawn, fewest) in &[
         (sketch::ROOM_OF_TWO_ROWS, 2),
         (sketch::CORRIDOR_OF_SIX_PUSHES, 6),
         (sketch::TWO_BOXES_AND_THREE_GOALS, 2),

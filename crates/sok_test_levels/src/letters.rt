@@ -1,6 +1,7 @@
 //! Which letters a text spells, and the text of played letters.
 
 use sok_rules::cell::Dir;
+use sok_rules::cell::Dir::{Down, Left, Right, Up};
 use sok_rules::fault::PlayFault;
 use sok_rules::level::Level;
 use sok_sketch::sketch;
@@ -24,24 +25,23 @@ fn spells(alloc: Global, case: Case<'_>) -> Result<bool, AllocError> {
 
 #[test]
 fn letters_of_a_text(rt: HostRuntime) -> Result<(), Fail> {
-    let (left, up, right, down) = (Dir::Left, Dir::Up, Dir::Right, Dir::Down);
-    let cases: [Case<'_>; 26] = [
+    let cases: &[Case<'_>] = &[
         (0, "", Ok(&[])),
         (0, " \t\r\n", Ok(&[])),
-        (0, "r", Ok(&[right])),
-        (0, " U\nl", Ok(&[up, left])),
+        (0, "r", Ok(&[Right])),
+        (0, " U\nl", Ok(&[Up, Left])),
         (
             0,
             "lurdLURD",
-            Ok(&[left, up, right, down, left, up, right, down]),
+            Ok(&[Left, Up, Right, Down, Left, Up, Right, Down]),
         ),
         (0, "ulxR", Err(LurdFault::BadLetter(2))),
         (0, " x", Err(LurdFault::BadLetter(1))),
         (0, "u\0", Err(LurdFault::BadLetter(1))),
         // numbers repeat the letter behind them
-        (0, "\n\n2l 1U", Ok(&[left, left, up])),
-        (0, "02r", Ok(&[right, right])),
-        (999_998, "2D", Ok(&[down, down])),
+        (0, "\n\n2l 1U", Ok(&[Left, Left, Up])),
+        (0, "02r", Ok(&[Right, Right])),
+        (999_998, "2D", Ok(&[Down, Down])),
         (0, "2", Err(LurdFault::BadLetter(1))),
         (0, "2 r", Err(LurdFault::BadLetter(1))),
         (0, "0r", Err(LurdFault::BadLetter(0))),
@@ -58,7 +58,7 @@ fn letters_of_a_text(rt: HostRuntime) -> Result<(), Fail> {
         (1_000_000, "\nL", Err(LurdFault::TooLong)),
         (1_000_000, "Lx", Err(LurdFault::TooLong)),
     ];
-    for case in cases {
+    for &case in cases {
         assert!(rt; spells(rt.alloc(), case)?, "{} before {:?}", case.0, case.1);
     }
     Ok(())
@@ -75,13 +75,12 @@ fn prints(alloc: Global, level: &Level, letters: &[Dir], told: Result<&[u8], Pla
 /// Letters that push are in upper case, and letters that cannot be played have no text.
 #[test]
 fn text_of_played_letters(rt: HostRuntime) -> Result<(), Fail> {
-    let (left, up, right, down) = (Dir::Left, Dir::Up, Dir::Right, Dir::Down);
-    let cases: [(&[Dir], Result<&[u8], PlayFault>); 2] = [
-        (&[up, left, left, down, right, right], Ok(b"ulldRR")),
-        (&[right, right], Err(PlayFault::Blocked(1))),
+    let cases: &[(&[Dir], Result<&[u8], PlayFault>)] = &[
+        (&[Up, Left, Left, Down, Right, Right], Ok(b"ulldRR")),
+        (&[Right, Right], Err(PlayFault::Blocked(1))),
     ];
     let level = sketch::level(rt.alloc(), sketch::ROOM_OF_TWO_ROWS)?;
-    for (letters, told) in cases {
+    for &(letters, told) in cases {
         assert!(rt; prints(rt.alloc(), &level, letters, told), "{letters:?}");
     }
     Ok(())

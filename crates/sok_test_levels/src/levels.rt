@@ -7,20 +7,24 @@ use sok_sketch::sketch;
 use std::alloc::{AllocError, Global};
 use std::test::Fail;
 
+const WALLS: &[Cell] = &[Cell::Wall, Cell::Wall];
+
+const PLAYERS: &[Cell] = &[Cell::ManOff, Cell::ManOff];
+
+/// A player and a box.
+const BOTH: &[Cell] = &[Cell::ManOff, Cell::BoxOff];
+
 /// Rows without a wall, which no board line holds.
 #[test]
 fn rows_without_a_wall(rt: HostRuntime) -> Result<(), Fail> {
-    let walls = [Cell::Wall, Cell::Wall].as_slice();
-    let players = [Cell::ManOff, Cell::ManOff].as_slice();
-    let both = [Cell::ManOff, Cell::BoxOff].as_slice();
-    let cases: [(&[&[Cell]], LevelFault); 4] = [
-        (&[both], LevelFault::NoWall(0)),
-        (&[walls, &[Cell::Floor], both], LevelFault::NoWall(1)),
+    let cases: &[(&[&[Cell]], LevelFault)] = &[
+        (&[BOTH], LevelFault::NoWall(0)),
+        (&[WALLS, &[Cell::Floor], BOTH], LevelFault::NoWall(1)),
         // the first in the order of refusal
-        (&[players], LevelFault::NoWall(0)),
+        (&[PLAYERS], LevelFault::NoWall(0)),
         (&[], LevelFault::NoPlayer),
     ];
-    for (cells, fault) in cases {
+    for &(cells, fault) in cases {
         let mut rows = Vec::new(rt.alloc());
         for row in cells {
             rows.push(Vec::from_slice(rt.alloc(), row)?)?;
@@ -42,7 +46,7 @@ fn fault_of(alloc: Global, columns: usize, walls: usize) -> Result<Option<LevelF
 /// The widest and the tallest level, and one more. Floor at the end of a row does not count.
 #[test]
 fn sizes_of_levels(rt: HostRuntime) -> Result<(), Fail> {
-    for (columns, walls, fault) in [
+    for &(columns, walls, fault) in &[
         (128, 0, None),
         (129, 0, Some(LevelFault::TooWide)),
         (1, 126, None),
@@ -79,7 +83,7 @@ fn floor_at_row_ends_is_dropped(rt: HostRuntime) -> Result<(), Fail> {
     let level = level_with_floor(rt.alloc())?;
     let copy = level.copy(rt.alloc())?;
     assert!(rt; has_rows(&level, &[5, 6, 5, 1]) && has_rows(&copy, &[5, 6, 5, 1]));
-    for (row, col, cell) in [
+    for &(row, col, cell) in &[
         (1, 0, Some(Cell::Floor)),
         (1, 2, Some(Cell::ManOff)),
         (1, 3, Some(Cell::BoxOff)),

@@ -24,8 +24,8 @@ fn lists(alloc: Global, mut collection: &[u8], lines: &[u8]) -> bool {
 
 #[test]
 fn lists_levels_and_faults(rt: HostRuntime) -> Result<(), Fail> {
-    for (collection, lines) in [
-        (b"".as_slice(), b"".as_slice()),
+    let cases: &[(&[u8], &[u8])] = &[
+        (b"", b""),
         (
             COLLECTION,
             b"1 3 5 1 1 First\n2 fault 3 NoPlayer\n3 5 6 2 3 Third\n",
@@ -53,7 +53,8 @@ fn lists_levels_and_faults(rt: HostRuntime) -> Result<(), Fail> {
             b"; \xff\x00\xe9\n#####\n#@$.#\n#####\n",
             b"1 3 5 1 1 \xff\x00\xe9\n",
         ),
-    ] {
+    ];
+    for &(collection, lines) in cases {
         assert!(rt; lists(rt.alloc(), collection, lines), "of {collection:?}");
     }
     Ok(())
@@ -75,40 +76,21 @@ fn is_answered(
 
 #[test]
 fn replays_on_a_level_by_its_number(rt: HostRuntime) -> Result<(), Fail> {
-    for (n, text, line, answer) in [
-        (1, b"R".as_slice(), "solved 1 1\n", Ok(0)),
-        (3, b"l".as_slice(), "open 0 1\n", Ok(1)),
-        (
-            1,
-            b"x".as_slice(),
-            "",
-            Err(ToolFault::Lurd(LurdFault::BadLetter(0))),
-        ),
-        (
-            1,
-            b"rr".as_slice(),
-            "",
-            Err(ToolFault::Play(PlayFault::Blocked(1))),
-        ),
-        (
-            2,
-            b"x".as_slice(),
-            "",
-            Err(ToolFault::Level(LevelFault::NoPlayer)),
-        ),
-        (
-            4,
-            b"x".as_slice(),
-            "",
-            Err(ToolFault::Level(LevelFault::NoSuchLevel)),
-        ),
-    ] {
+    let cases: &[(usize, &[u8], &str, Result<u8, ToolFault>)] = &[
+        (1, b"R", "solved 1 1\n", Ok(0)),
+        (3, b"l", "open 0 1\n", Ok(1)),
+        (1, b"x", "", Err(ToolFault::Lurd(LurdFault::BadLetter(0)))),
+        (1, b"rr", "", Err(ToolFault::Play(PlayFault::Blocked(1)))),
+        (2, b"x", "", Err(ToolFault::Level(LevelFault::NoPlayer))),
+        (4, b"x", "", Err(ToolFault::Level(LevelFault::NoSuchLevel))),
+    ];
+    for &(n, text, line, answer) in cases {
         assert!(rt;
             is_answered(rt.alloc(), COLLECTION, n, text, line, answer),
             "{n}"
         );
     }
-    for packed in [b"6#|#4-#|#-$@.#|6#".as_slice(), b"6#|#4-#|#-$@.#|6#|"] {
+    for &packed in &[b"6#|#4-#|#-$@.#|6#".as_slice(), b"6#|#4-#|#-$@.#|6#|"] {
         let told = is_answered(rt.alloc(), packed, 1, b"ulldRR", "solved 2 6\n", Ok(0));
         assert!(rt; told, "{packed:?}");
     }

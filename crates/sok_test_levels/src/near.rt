@@ -70,7 +70,7 @@ const ROWS: [Row; 5] = [
 
 #[test]
 fn lines_near_a_board(rt: HostRuntime) -> Result<(), Fail> {
-    for (text, first, count) in ROWS {
+    for &(text, first, count) in &ROWS {
         assert!(rt; is_found(&scanned(text), first, count), "{text:?}");
         assert!(rt; is_found(&scanned_slowly(text), first, count), "{text:?}");
     }

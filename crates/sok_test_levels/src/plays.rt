@@ -82,7 +82,7 @@ fn assert_told(
 
 #[test]
 fn texts_on_boards(rt: HostRuntime) -> Result<(), Fail> {
-    for (board, text, told) in [
+    for &(board, text, told) in &[
         (sketch::ROOM_OF_TWO_ROWS, "ulldRR", Ok((true, 2, 6))),
         (sketch::ROOM_OF_TWO_ROWS, "ulldR", Ok((false, 1, 5))),
         (sketch::ROOM_OF_TWO_ROWS, "", Ok((false, 0, 0))),
@@ -170,7 +170,7 @@ fn act_in_turn(rt: &impl Abort, session: &mut Session, turns: &[Turn]) {
 fn letters_are_taken_back_and_played_again(rt: HostRuntime) -> Result<(), Fail> {
     let level = sketch::level(rt.alloc(), sketch::ROOM_BEYOND_THE_GOAL)?;
     let mut session = Session::new(rt.alloc(), &level)?;
-    let first: [Turn; 8] = [
+    let first: &[Turn] = &[
         (Act::Play(Dir::Right), Ok(true), 1, 1, "# @* #"),
         (Act::Undo, Ok(true), 0, 0, "#@$. #"),
         (Act::Redo, Ok(true), 1, 1, "# @* #"),
@@ -187,8 +187,8 @@ fn letters_are_taken_back_and_played_again(rt: HostRuntime) -> Result<(), Fail> 
         (Act::Redo, Ok(true), 1, 1, "# @* #"),
         (Act::Redo, Ok(false), 1, 1, "# @* #"),
     ];
-    act_in_turn(&rt, &mut session, &first);
-    let then: [Turn; 7] = [
+    act_in_turn(&rt, &mut session, first);
+    let then: &[Turn] = &[
         (Act::Play(Dir::Left), Ok(false), 1, 2, "#@ * #"),
         (Act::Undo, Ok(true), 1, 1, "# @* #"),
         // a letter that is played drops those undone
@@ -198,6 +198,6 @@ fn letters_are_taken_back_and_played_again(rt: HostRuntime) -> Result<(), Fail> 
         (Act::Undo, Ok(false), 0, 0, "#@$. #"),
         (Act::Redo, Ok(false), 0, 0, "#@$. #"),
     ];
-    act_in_turn(&rt, &mut session, &then);
+    act_in_turn(&rt, &mut session, then);
     Ok(())
 }

@@ -134,7 +134,7 @@ const LOWERED: &str = "\
 
 #[test]
 fn fewest_pushes(rt: HostRuntime) -> Result<(), Fail> {
-    for (board, limit, pushes) in [
+    for &(board, limit, pushes) in &[
         // as many as the level has states
         (sketch::ONE_PUSH, 2, Some(1)),
         (sketch::CORRIDOR_OF_SIX_PUSHES, 14, Some(6)),
@@ -159,7 +159,7 @@ fn fewest_pushes(rt: HostRuntime) -> Result<(), Fail> {
 /// Rooms of 96, 160, 1,024 and 4,096 squares, with the box beside the goal.
 #[test]
 fn large_rooms(rt: HostRuntime) -> Result<(), Fail> {
-    for (room, times) in [
+    for &(room, times) in &[
         (ROOM_OF_1024, 2),
         (ROOM_OF_1024, 4),
         (ROOM_OF_1024, 31),
@@ -181,13 +181,15 @@ fn fault_of(alloc: Global, board: &str, limit: u32) -> Result<Option<SolveFault>
     }
 }
 
+const BESIDE: SolveFault = SolveFault::Level(BoardFault::NotEnclosed(Spot { row: 1, col: 3 }));
+
+const STRAY: SolveFault = SolveFault::Level(BoardFault::BoxOutside(Spot { row: 1, col: 5 }));
+
 #[test]
 fn refusals(rt: HostRuntime) -> Result<(), Fail> {
-    let beside = SolveFault::Level(BoardFault::NotEnclosed(Spot { row: 1, col: 3 }));
-    let stray = SolveFault::Level(BoardFault::BoxOutside(Spot { row: 1, col: 5 }));
-    for (board, limit, fault) in [
-        (sketch::OPEN_AT_THE_SIDE, 10, beside),
-        (sketch::STRAY_BOX, 10, stray),
+    for &(board, limit, fault) in &[
+        (sketch::OPEN_AT_THE_SIDE, 10, BESIDE),
+        (sketch::STRAY_BOX, 10, STRAY),
         (
             sketch::NO_GOAL,
             10,
@@ -253,7 +255,7 @@ fn found_bound(alloc: Global, board: &str, limit: u32) -> Result<Option<u32>, Fa
 /// fewest pushes in the end.
 #[test]
 fn bounds(rt: HostRuntime) -> Result<(), Fail> {
-    for (board, limit, pushes) in [
+    for &(board, limit, pushes) in &[
         (sketch::CORRIDOR_OF_SIX_PUSHES, 1, Some(2)),
         (sketch::CORRIDOR_OF_SIX_PUSHES, 14, Some(6)),
         // nothing waits where the start is barred
@@ -267,7 +269,7 @@ fn bounds(rt: HostRuntime) -> Result<(), Fail> {
         Some(2)
     );
     let mut last = Some(0);
-    for limit in [1, 2, 4, 8, 16, 32, 64] {
+    for &limit in &[1, 2, 4, 8, 16, 32, 64] {
         let pushes = bound_of(&rt, rt.alloc(), LOWERED, limit)?;
         assert!(rt; last <= pushes && pushes <= Some(7));
         last = pushes;
@@ -321,7 +323,7 @@ fn three_lost_boxes_are_a_pattern(rt: HostRuntime) -> Result<(), Fail> {
 /// that is met where they are kept.
 #[test]
 fn fewer_states(rt: HostRuntime) -> Result<(), Fail> {
-    for (board, limit, pushes) in [
+    for &(board, limit, pushes) in &[
         (sketch::CORRIDOR_OF_SIX_PUSHES, 7, 6),
         (ZERKALO, 300, 20),
         (LOWERED, 30, 7),

@@ -62,7 +62,7 @@ fn assert_entries(rt: &impl Abort, entries: &[Entry], told: &[Told<'_>]) {
 fn each_form_of_entry(rt: HostRuntime) -> Result<(), Fail> {
     let certificate = read(rt.alloc(), ALL_FORMS.as_bytes())?;
     assert_eq!(rt; certificate.claim, Claim::Unsolvable);
-    let entries: [Told<'_>; 6] = [
+    let entries: &[Told<'_>] = &[
         (0, 12, &[1, 3], ('x', &[], &[])),
         (7, 0, &[], ('s', &[], &[])),
         (0, 0, &[8, 10], ('b', &[1, 1], &[0, 0, 0])),
@@ -70,7 +70,7 @@ fn each_form_of_entry(rt: HostRuntime) -> Result<(), Fail> {
         (0, 12, &[1, 3], ('c', &[0, 1], &[])),
         (1_000_000, 0, &[0, 4, 1_000_000], ('f', &[], &[])),
     ];
-    assert_entries(&rt, &certificate.entries, &entries);
+    assert_entries(&rt, &certificate.entries, entries);
     Ok(())
 }
 
@@ -138,12 +138,12 @@ fn patterns_are_read(rt: HostRuntime) -> Result<(), Fail> {
     let certificate = read(rt.alloc(), PATTERNS.as_bytes())?;
     assert_eq!(rt; certificate.claim, Claim::Pushes(9));
     assert_eq!(rt; certificate.entries.len(), 3);
-    let inside: [ToldInside<'_>; 3] = [
+    let inside: &[ToldInside<'_>] = &[
         (0, 9, &[10, 12], ('x', &[])),
         (1, 10, &[11, 12], ('f', &[0, 1])),
         (0, 9, &[10, 12], ('c', &[1])),
     ];
-    assert_pattern(&rt, &certificate.entries[0], &[1, 2], &inside)?;
+    assert_pattern(&rt, &certificate.entries[0], &[1, 2], inside)?;
     assert_pattern(&rt, &certificate.entries[1], &[0], &[])
 }
 
@@ -154,21 +154,25 @@ fn written(rt: &impl Abort, alloc: Global, text: &[u8]) -> Result<Vec<u8>, Fail>
     Ok(write(alloc, &certificate)?)
 }
 
+const SIX_PUSHES: &str =
+    "sokoban-certificate 1\npushes 6\nx 0 4 1 5\nx 1 5 1 6\nb 2 6 1 7 4 0\nend\n";
+
+/// An entry of which all pushes were made.
+const SPENT: &str = "sokoban-certificate 1\npushes 0\ns 0 1 1 2\nend\n";
+
 /// What is read is written with LF alone, and else with the same bytes.
 #[test]
 fn texts_are_written_again(rt: HostRuntime) -> Result<(), Fail> {
-    let six_pushes = "sokoban-certificate 1\npushes 6\nx 0 4 1 5\nx 1 5 1 6\nb 2 6 1 7 4 0\nend\n";
-    let spent = "sokoban-certificate 1\npushes 0\ns 0 1 1 2\nend\n";
-    for (text, again) in [
-        (six_pushes, six_pushes),
+    for &(text, again) in &[
+        (SIX_PUSHES, SIX_PUSHES),
         (ALL_FORMS, ALL_FORMS),
         (PATTERNS, PATTERNS),
-        ("sokoban-certificate 2\npushes 0\ns 0 1 1 2\nend\n", spent),
+        ("sokoban-certificate 2\npushes 0\ns 0 1 1 2\nend\n", SPENT),
         (
             "sokoban-certificate 1\r\npushes 0\r\ns 0 1 1 2\r\nend\r\n",
-            spent,
+            SPENT,
         ),
-        ("sokoban-certificate 1\r\npushes 0\ns 0 1 1 2\r\nend", spent),
+        ("sokoban-certificate 1\r\npushes 0\ns 0 1 1 2\r\nend", SPENT),
     ] {
         let bytes = written(&rt, rt.alloc(), text.as_bytes())?;
         assert_eq!(rt; bytes.as_slice(), again.as_bytes(), "{text}");
@@ -285,33 +289,45 @@ fn assert_fault(
     Ok(())
 }
 
+/// Ends with something behind the first of them.
+const ENDS_TWICE: [&str; 2] = ["end\nend\n", "b 0 0 1 1 1 0\nen\nend"];
+
+/// What stands behind the end.
+const MORE: [&str; 3] = [
+    "b 0 0 1 1 1 0\nend\n\n",
+    "b 0 0 1 1 1 0\nend\r\n\r\n",
+    "b 0 0 1 1 1 0\nend\n ",
+];
+
+/// A pattern, which only the second version has.
+const IN_VERSION_1: [&str; 1] = ["p 0 9 3 7 10 12 2 1 2 0\nend\n"];
+
+/// The last position of a pattern, and a line behind it that is no entry.
+const BEHIND_PATTERN: [&str; 1] = ["x 1 10 2 11 12\nx 0 9 2 10 12 9\n"];
+
+/// The first two lines of each version, and those with the front of a pattern.
+const FIRST: &str = "sokoban-certificate 1\npushes 1\n";
+
+const SECOND: &str = "sokoban-certificate 2\npushes 1\n";
+
+const INSIDE: &str = "sokoban-certificate 2\npushes 1\np 0 9 3 7 10 12 2 1 2 2\nx 0 9 2 10 12\n";
+
 #[test]
 fn first_fault_of_a_text(rt: HostRuntime) -> Result<(), Fail> {
-    let front = "sokoban-certificate 1\npushes 1\n";
-    let ends_twice: &[&str] = &["end\nend\n", "b 0 0 1 1 1 0\nen\nend"];
-    let more: &[&str] = &[
-        "b 0 0 1 1 1 0\nend\n\n",
-        "b 0 0 1 1 1 0\nend\r\n\r\n",
-        "b 0 0 1 1 1 0\nend\n ",
-    ];
-    let second = "sokoban-certificate 2\npushes 1\n";
-    let inside = "sokoban-certificate 2\npushes 1\np 0 9 3 7 10 12 2 1 2 2\nx 0 9 2 10 12\n";
-    let behind_pattern: &[&str] = &["x 1 10 2 11 12\nx 0 9 2 10 12 9\n"];
-    let in_version_1: &[&str] = &["p 0 9 3 7 10 12 2 1 2 0\nend\n"];
-    let cases: [(&str, &[&str], CertFault); 11] = [
+    let cases: &[(&str, &[&str], CertFault)] = &[
         ("", &NO_HEADERS, CertFault::Header),
-        (second, &NO_ENTRIES, CertFault::Line(3)),
-        (second, &NO_PATTERNS, CertFault::Line(3)),
-        (front, in_version_1, CertFault::Line(3)),
-        (inside, &NO_POSITIONS, CertFault::Line(5)),
-        (inside, &NO_PATTERN_END, CertFault::Truncated),
-        (inside, behind_pattern, CertFault::Line(6)),
-        (front, &NO_ENTRIES, CertFault::Line(3)),
-        (front, &NO_END, CertFault::Truncated),
-        (front, ends_twice, CertFault::Line(4)),
-        (front, more, CertFault::Line(5)),
+        (SECOND, &NO_ENTRIES, CertFault::Line(3)),
+        (SECOND, &NO_PATTERNS, CertFault::Line(3)),
+        (FIRST, &IN_VERSION_1, CertFault::Line(3)),
+        (INSIDE, &NO_POSITIONS, CertFault::Line(5)),
+        (INSIDE, &NO_PATTERN_END, CertFault::Truncated),
+        (INSIDE, &BEHIND_PATTERN, CertFault::Line(6)),
+        (FIRST, &NO_ENTRIES, CertFault::Line(3)),
+        (FIRST, &NO_END, CertFault::Truncated),
+        (FIRST, &ENDS_TWICE, CertFault::Line(4)),
+        (FIRST, &MORE, CertFault::Line(5)),
     ];
-    for (front, texts, fault) in cases {
+    for &(front, texts, fault) in cases {
         for behind in texts {
             assert_fault(&rt, rt.alloc(), front, behind, fault)?;
         }

@@ -25,7 +25,7 @@ fn moved(alloc: Global, board: &str, columns: usize) -> Result<String, AllocErro
 #[test]
 fn levels_about_two_columns(rt: HostRuntime) -> Result<(), Fail> {
     for columns in 57..64 {
-        for (board, limit, pushes) in [
+        for &(board, limit, pushes) in &[
             (RING_OF_BOXES, 1_140, 3),
             (GOALS_IN_THREE_CORNERS, 216, 4),
             (TWO_CHAMBERS, 54, 4),
