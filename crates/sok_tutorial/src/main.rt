@@ -45,13 +45,13 @@ fn shown(alloc: Global, page: &str) -> Result<String, AllocError> {
 /// What is typed in the session, and what is printed.
 fn session(alloc: Global) -> Result<String, AllocError> {
     let mut text = String::new(alloc);
-    for (path, typed) in FILES {
-        for part in ["$ cat > ", path, " << 'END'\n", typed, "END\n"] {
+    for &(path, typed) in &FILES {
+        for &part in &["$ cat > ", path, " << 'END'\n", typed, "END\n"] {
             text.push_str(part)?;
         }
     }
-    for (line, out, err, _status) in SESSION {
-        for part in ["$ ", line, "\n", out, err] {
+    for &(line, out, err, _status) in &SESSION {
+        for &part in &["$ ", line, "\n", out, err] {
             text.push_str(part)?;
         }
     }
