@@ -53,14 +53,17 @@ fn keeps(
     Ok(found == Ok(id) && is_titled(book, id, kept)?)
 }
 
+/// A title with blanks around it, and a line behind it.
+const WHOLE: &str = " \t A \t level \r\t\r\nmore";
+
 /// Adds boards with titles, one after the other.
 fn add_titled(rt: &impl Abort, alloc: Global, book: &mut Book<MemStore>) -> Result<(), Fail> {
-    let whole = " \t A \t level \r\t\r\nmore";
-    for (board, title, id, kept) in [
-        (ONE_PUSH, whole, 1, Some(b"A \t level".as_slice())),
-        (ONE_PUSH, "Another", 1, Some(b"A \t level".as_slice())),
+    let cases: &[(&str, &str, i64, Option<&[u8]>)] = &[
+        (ONE_PUSH, WHOLE, 1, Some(b"A \t level")),
+        (ONE_PUSH, "Another", 1, Some(b"A \t level")),
         (SOLVED, "\r \nmore", 2, None),
-    ] {
+    ];
+    for &(board, title, id, kept) in cases {
         assert!(rt; keeps(alloc, book, board, title, id, kept)?, "{title:?}");
     }
     Ok(())
@@ -109,7 +112,7 @@ fn add_both(
     book: &mut Book<MemStore>,
     there: &str,
 ) -> Result<(), Fail> {
-    for (board, found) in [(ONE_PUSH, Err(BookFault::BookFull)), (there, Ok(7))] {
+    for &(board, found) in &[(ONE_PUSH, Err(BookFault::BookFull)), (there, Ok(7))] {
         assert_eq!(rt; added(alloc, book, board, None)?, found);
     }
     Ok(())

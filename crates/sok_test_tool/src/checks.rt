@@ -128,7 +128,7 @@ fn is_answered(
 
 #[test]
 fn answers(rt: HostRuntime) -> Result<(), Fail> {
-    for (level, lines, line, status) in ANSWERS {
+    for &(level, lines, line, status) in &ANSWERS {
         assert!(rt; is_answered(&rt, level, lines, line, status)?, "{lines}");
     }
     Ok(())
@@ -153,7 +153,7 @@ fn is_refused(rt: &HostRuntime, boards: &str, n: usize, fault: ToolFault) -> boo
 /// What stops the judgement before the certificate is read, and the failing read of one.
 #[test]
 fn faults_of_levels_and_boards(rt: HostRuntime) -> Result<(), Fail> {
-    for (boards, n, fault) in [
+    for &(boards, n, fault) in &[
         ("", 1, ToolFault::Level(LevelFault::NoSuchLevel)),
         (
             sketch::ONE_PUSH,
@@ -189,7 +189,7 @@ fn faults_of_levels_and_boards(rt: HostRuntime) -> Result<(), Fail> {
     ] {
         assert!(rt; is_refused(&rt, boards, n, fault), "{boards}");
     }
-    for (room, fault) in [
+    for &(room, fault) in &[
         (rooms::ROOM_OF_4097, ToolFault::Board(BoardFault::TooLarge)),
         (
             rooms::ROOM_OF_129_BOXES,
@@ -250,7 +250,7 @@ fn stops_behind(rt: &HostRuntime, cert: &str, taken: usize, failure: Failure) ->
 #[test]
 fn writes_that_fail_once(rt: HostRuntime) -> Result<(), Fail> {
     let text = certificate(rt.alloc(), "pushes 1\nb 0 0 1 1 1 0\nend\n")?;
-    for failure in [Failure::Error, Failure::Nothing] {
+    for &failure in &[Failure::Error, Failure::Nothing] {
         for taken in 0..27 {
             assert!(rt; stops_behind(&rt, text.as_str(), taken, failure), "{taken}");
         }

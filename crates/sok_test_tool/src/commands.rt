@@ -121,20 +121,20 @@ const TOLD: &str = "\
 
 #[test]
 fn lines_of_offers_are_answered_one_by_one(rt: HostRuntime) -> Result<(), Fail> {
-    let rows = [
+    let rows = &[
         (Command::Offers("1 R\n"), "1 fault 30 NoLevel\n", Ok(3)),
         (Command::Add(ROOM_OF_TWO_ROWS), "1 id 1\n", Ok(0)),
         (Command::Offers(LINES), TOLD, Ok(3)),
         (Command::Offers("001 ulldRR\n\n"), "1 kept 2 6\n", Ok(0)),
         (Command::Offers(""), "", Ok(0)),
     ];
-    assert_eq!(rt; first_other(rt.alloc(), &rows)?, None);
+    assert_eq!(rt; first_other(rt.alloc(), rows)?, None);
     Ok(())
 }
 
 #[test]
 fn levels_without_a_push_and_a_lost_pair_are_proved(rt: HostRuntime) -> Result<(), Fail> {
-    let rows = [
+    let rows = &[
         (Command::Add(SOLVED), "1 id 1\n", Ok(0)),
         (Command::Add(BOX_BEYOND_THE_GOAL), "1 id 2\n", Ok(0)),
         (Command::Offer(1, ""), "stored 0 0\n", Ok(0)),
@@ -174,13 +174,13 @@ fn levels_without_a_push_and_a_lost_pair_are_proved(rt: HostRuntime) -> Result<(
             Ok(0),
         ),
     ];
-    assert_eq!(rt; first_other(rt.alloc(), &rows)?, None);
+    assert_eq!(rt; first_other(rt.alloc(), rows)?, None);
     Ok(())
 }
 
 #[test]
 fn faults_come_in_their_order(rt: HostRuntime) -> Result<(), Fail> {
-    let rows = [
+    let rows = &[
         (Command::Export, "", Ok(0)),
         (Command::Overview, "", Ok(0)),
         (
@@ -255,7 +255,7 @@ fn faults_come_in_their_order(rt: HostRuntime) -> Result<(), Fail> {
             Ok(0),
         ),
     ];
-    assert_eq!(rt; first_other(rt.alloc(), &rows)?, None);
+    assert_eq!(rt; first_other(rt.alloc(), rows)?, None);
     Ok(())
 }
 

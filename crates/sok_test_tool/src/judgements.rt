@@ -29,7 +29,7 @@ fn are_written(alloc: Global, room: &Level, letters: &[Dir], text: &str) -> Resu
 #[test]
 fn letters_are_judged_and_written(rt: HostRuntime) -> Result<(), Fail> {
     let room = level(rt.alloc(), ROOM_OF_TWO_ROWS)?;
-    for (text, written, answer) in [
+    for &(text, written, answer) in &[
         ("ulldrr", "ulldRR", Ok((2, 6))),
         ("rlulldrurrdlulldrr", "rlulldRurrdLulldRR", Ok((4, 18))),
         ("ulld", "ulld", Err(BookFault::NotSolved)),
@@ -54,7 +54,7 @@ fn proved(alloc: Global, board: &Board, best: Option<u64>) -> Result<Claim, Book
 #[test]
 fn a_proof_is_about_the_best(rt: HostRuntime) -> Result<(), Fail> {
     let board = board(rt.alloc(), ROOM_OF_TWO_ROWS)?;
-    for (best, answer) in [
+    for &(best, answer) in &[
         (None, Err(BookFault::NoBest)),
         (Some(4), Err(BookFault::ClaimDiffers)),
         (Some(2), Ok(Claim::Pushes(2))),

@@ -118,7 +118,7 @@ fn a_book_in_a_file(rt: HostRuntime) -> Result<(), Fail> {
     prepare(&rt, "books")?;
     let other = first_other(&rt, &ABSENT)?;
     assert_eq!(rt; other, None);
-    for path in ["books/book", "books/book-wal"] {
+    for &path in &["books/book", "books/book-wal"] {
         assert!(rt; fs::open(&rt, path).is_err(), "{path}");
     }
     let other = first_other(&rt, &COMMANDS)?;

@@ -21,7 +21,7 @@ fn asks_for(rt: &HostRuntime, line: &str, asked: &str) -> Result<bool, Fail> {
 /// Each form, and what it asks for.
 #[test]
 fn reads_each_form(rt: HostRuntime) -> Result<(), Fail> {
-    for (line, asked) in [
+    for &(line, asked) in &[
         ("sok list F", "List(\"F\")"),
         ("sok replay F 2 uR", "Replay(\"F\", 2, \"uR\")"),
         ("sok draw F 2", "Draw(\"F\", 2, \"\")"),
@@ -73,7 +73,7 @@ fn is_refused(rt: &HostRuntime, line: &str, status: u8, text: &str) -> Result<bo
 /// Lines that ask for nothing, with their status and a part of the text that is printed.
 #[test]
 fn refuses_what_it_does_not_know(rt: HostRuntime) -> Result<(), Fail> {
-    for (line, status, text) in [
+    for &(line, status, text) in &[
         ("sok --help", 0, "Exit status:"),
         ("sok help", 0, "Exit status:"),
         ("sok solve --help", 0, "--limit <S>"),

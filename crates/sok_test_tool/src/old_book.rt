@@ -444,7 +444,7 @@ fn a_book_of_an_earlier_program(rt: HostRuntime) -> Result<(), Fail> {
 /// The bytes of the file.
 fn file(alloc: Global) -> Result<Vec<u8>, AllocError> {
     let mut bytes = Vec::new(alloc);
-    for (place, part) in PARTS {
+    for &(place, part) in &PARTS {
         bytes.resize(place, 0)?;
         bytes.extend_from_slice(part)?;
     }

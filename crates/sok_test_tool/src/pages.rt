@@ -86,7 +86,7 @@ fn are_told(alloc: Global, records: &[Record], lines: &str) -> Result<bool, Fail
 
 /// Asserts what texts are made of both.
 fn assert_texts(rt: &impl Abort, alloc: Global, records: &[Record]) -> Result<(), Fail> {
-    for notes in ["", "Solution: ulldRR\nPushes: 2 optimal\n"] {
+    for &notes in &["", "Solution: ulldRR\nPushes: 2 optimal\n"] {
         assert!(rt; are_exported(alloc, records, notes)?, "{notes}");
     }
     let lines = "1 4 6 1 2 6 optimal A room\n2 3 5 1 - - untested\n";
@@ -103,7 +103,7 @@ fn records_are_shown_exported_and_told(rt: HostRuntime) -> Result<(), Fail> {
 
 #[test]
 fn titles_are_kept_in_one_line(rt: HostRuntime) -> Result<(), Fail> {
-    for (text, title) in [
+    for &(text, title) in &[
         (" \t A \t room \r\t\r\nmore", Some("A \t room")),
         ("\r \r", None),
         ("\nA room", None),

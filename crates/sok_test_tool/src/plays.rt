@@ -111,7 +111,7 @@ fn is_answered(
 
 #[test]
 fn texts_on_levels(rt: HostRuntime) -> Result<(), Fail> {
-    for (text, boards, line, status) in PLAYS {
+    for &(text, boards, line, status) in &PLAYS {
         assert!(rt;
             is_answered(&rt, text, boards, line, status)?,
             "{text}{boards}"
@@ -123,7 +123,7 @@ fn texts_on_levels(rt: HostRuntime) -> Result<(), Fail> {
 #[test]
 fn a_million_letters_and_no_more(rt: HostRuntime) -> Result<(), Fail> {
     let million = "ud".repeat(rt.alloc(), 500_000)?;
-    for (more, line, status) in [
+    for &(more, line, status) in &[
         ("\n", "open 0 1000000\n", 1),
         ("u\n", "fault 14 TooLong\n", 3),
     ] {
@@ -150,7 +150,7 @@ fn is_read(
 /// The input is read up to the read that fails, or to one past the limit of 16 MiB, and no further.
 #[test]
 fn reads_that_fail_and_inputs_without_end(rt: HostRuntime) -> Result<(), Fail> {
-    for (fails_at, reads, line, status) in [
+    for &(fails_at, reads, line, status) in &[
         (1, 1, "fault 50 ReadFailed\n", 5),
         (2, 2, "fault 50 ReadFailed\n", 5),
         (0, 1_048_577, "fault 52 TooMuch\n", 3),
@@ -174,7 +174,7 @@ fn stops_behind(rt: &HostRuntime, input: &str, taken: usize, failure: Failure) -
 #[test]
 fn writes_that_fail_once(rt: HostRuntime) -> Result<(), Fail> {
     let input = joined(rt.alloc(), "ulldRR\n", sketch::ROOM_OF_TWO_ROWS)?;
-    for failure in [Failure::Error, Failure::Nothing] {
+    for &failure in &[Failure::Error, Failure::Nothing] {
         for taken in 0..11 {
             assert!(rt;
                 stops_behind(&rt, input.as_str(), taken, failure),

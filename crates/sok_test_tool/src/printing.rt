@@ -10,7 +10,7 @@ use std::fmt::InlineText;
 
 #[test]
 fn faults_are_displayed(rt: HostRuntime) {
-    for (fault, text) in [
+    for &(fault, text) in &[
         (ToolFault::Level(LevelFault::TooWide), "fault 1 TooWide"),
         (ToolFault::Level(LevelFault::TooTall), "fault 2 TooTall"),
         (ToolFault::Level(LevelFault::NoPlayer), "fault 3 NoPlayer"),

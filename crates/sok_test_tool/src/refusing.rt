@@ -62,7 +62,7 @@ const REFUSALS: [(&str, &str, u8); 36] = [
 
 #[test]
 fn help_the_version_and_words_that_ask_for_nothing(rt: HostRuntime) -> Result<(), Fail> {
-    for (line, part, status) in REFUSALS {
+    for &(line, part, status) in &REFUSALS {
         let told = is_told(&rt, line, part, status)?;
         assert!(rt; told, "{line}");
     }

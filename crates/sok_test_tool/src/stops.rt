@@ -241,7 +241,7 @@ fn stop_each(
 
 /// Stops a command at each call to the log, and at each to the database.
 fn stop_both(rt: &impl Abort, alloc: Global, before: &Stopping, stop: &Stop) -> Result<(), Fail> {
-    for to_log in [true, false] {
+    for &to_log in &[true, false] {
         assert!(rt; stop_each(rt, alloc, before, to_log, stop)?);
     }
     Ok(())

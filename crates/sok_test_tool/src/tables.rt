@@ -43,7 +43,7 @@ fn fault_with(alloc: Global, change: &str) -> Result<Option<BookFault>, Fail> {
 
 #[test]
 fn the_first_bad_row_is_named(rt: HostRuntime) -> Result<(), Fail> {
-    for (change, id) in [
+    for &(change, id) in &[
         ("id = 3", 3),
         ("id = 1", 1),
         ("id = 0", 0),
@@ -91,7 +91,7 @@ fn the_first_bad_row_is_named(rt: HostRuntime) -> Result<(), Fail> {
 
 #[test]
 fn tables_that_keep_the_rules_are_opened(rt: HostRuntime) -> Result<(), Fail> {
-    for change in [
+    for &change in &[
         "id = 2",
         "title = NULL",
         "title = x'4109FF'",

@@ -19,14 +19,14 @@ const MADE: [&str; 8] = [
 
 #[test]
 fn the_session_of_the_tutorial(rt: HostRuntime) -> Result<(), Fail> {
-    for (path, typed) in FILES {
+    for &(path, typed) in &FILES {
         fs::write(&rt, path, typed)?;
     }
     let other = first_other(&rt, &SESSION)?;
-    for path in MADE {
+    for &path in &MADE {
         let _ = fs::remove_file(&rt, path);
     }
-    for (path, _typed) in FILES {
+    for &(path, _typed) in &FILES {
         let _ = fs::remove_file(&rt, path);
     }
     assert_eq!(rt; other, None);
