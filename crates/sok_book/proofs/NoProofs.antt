@@ -4,15 +4,17 @@ use Rattle.sok_board.specs.Area.{BoardView}
 use Rattle.sok_cert.specs.CertFault.{CertFault}
 use Rattle.sok_cert.specs.CertFault.TheVariants as cert
 use Rattle.sok_cert.specs.Claim.{Claim}
+use Rattle.sok_cert.specs.Claim.TheVariants.{Pushes, Unsolvable}
 use Rattle.sok_cert.specs.Entry.{Entry}
 use Rattle.sok_cert.specs.Reading.{GoesWrong}
 use Rattle.sok_cert.specs.Text.{SpellsCertificate}
 use Rattle.sok_cert.specs.Verdicts.{IsRefusedText}
 use Rattle.sok_cert.proofs.Readings.{Spells-one}
 use Rattle.sok_book.specs.Commands.{Meets}
+use Rattle.sok_book.specs.declared.fault.BookFault.{BookFault}
 use Rattle.sok_book.specs.declared.fault.BookFault.TheVariants as book
 use Rattle.sok_book.specs.Faults.{of_certificate}
-use Rattle.sok_book.specs.Refusals.{IsNoProof}
+use Rattle.sok_book.specs.Refusals.{Differs, IsNoProof}
 
 pub IsNoProof-text : (b : BoardView) (best : Option ℕ) (bytes : List ℕ) (fault : CertFault) → (fault ≡ cert.Memory) ⊎ GoesWrong bytes fault
     → (of_certificate fault ≡ book.Memory) ⊎ IsNoProof b best bytes (of_certificate fault)
@@ -36,3 +38,12 @@ IsNoProof-list b best bytes claim entries fault spelled meets (inr unshown) = in
     refused = unshown.refused;
   }),
 )
+
+-- the claim of the certificate that the text spells is not
+pub IsNoProof-claim : (b : BoardView) (best : Option ℕ) (bytes : List ℕ) (claim : Claim) (entries : List Entry) (fault : BookFault)
+    → SpellsCertificate bytes claim entries → Differs claim best fault → IsNoProof b best bytes fault
+IsNoProof-claim b best bytes (Pushes k) entries book.NoBest spelled differs = (Pushes k, entries, spelled, differs)
+IsNoProof-claim b best bytes (Pushes k) entries book.ClaimDiffers spelled differs = (Pushes k, entries, spelled, differs)
+IsNoProof-claim b best bytes (Pushes k) entries fault spelled differs = absurd differs
+IsNoProof-claim b best bytes Unsolvable entries book.ClaimDiffers spelled differs = (Unsolvable, entries, spelled, differs)
+IsNoProof-claim b best bytes Unsolvable entries fault spelled differs = absurd differs

@@ -32,7 +32,10 @@ pub fn judge_proof(
 {
     let ended = certificate_of(alloc, board, bytes)?;
     match difference(ended.claim(), best) {
-        Some(fault) => Err(fault),
+        Some(fault) => {
+            ended.let_go();
+            Err(fault)
+        }
         None => Ok(ended.judge()?.claim()),
     }
 }

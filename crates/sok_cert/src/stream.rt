@@ -195,6 +195,11 @@ impl Ended<'_> {
         self.claim
     }
 
+    /// Lets go of it.
+    pub fn let_go(self) {
+        self.roster.let_go();
+    }
+
     /// Judges the certificate, as `check` does with what `read` tells of its text.
     pub fn judge(self) -> Result<Accepted, CertFault>
         ensures claim { IfOk result (λ accepted. accepted.claim ≡ self.entry.claim) }
