@@ -3,7 +3,7 @@
 use crate::keeping::place_of;
 use crate::rows::{first_other, prepare};
 use sok_sketch::tutorial::Row;
-use sqlite::{Connection, File, FileStore};
+use sqlite::{Alter, Connection};
 use std::fs::{self, Permissions};
 use std::os::unix::fs::{PermissionsExt, symlink};
 use std::test::Fail;
@@ -136,7 +136,7 @@ fn a_book_that_may_not_be_written(rt: HostRuntime) -> Result<(), Fail> {
 
 /// Gives the first level another title. The change stands in the log alone as long as the database
 /// is open.
-fn begin(connection: &mut Connection<FileStore<File>>) -> Result<(), Fail> {
+fn begin<S: Alter>(connection: &mut Connection<S>) -> Result<(), Fail> {
     connection.execute("UPDATE level SET title = x'426567756e' WHERE id = 1", &[])?;
     Ok(())
 }
@@ -157,9 +157,9 @@ fn is_in_the_log(rt: &HostRuntime) -> Result<bool, Fail> {
 
 /// Changes the book, and looks at it while that is in the log: the first row of which something else
 /// is told. The book is copied as it is then.
-fn look_meanwhile(
+fn look_meanwhile<S: Alter>(
     rt: &HostRuntime,
-    connection: &mut Connection<FileStore<File>>,
+    connection: &mut Connection<S>,
 ) -> Result<Option<&'static str>, Fail> {
     begin(connection)?;
     cut(rt)?;
@@ -169,14 +169,23 @@ fn look_meanwhile(
     first_changed(rt, "copies/book", &CHANGED)
 }
 
+/// The same, and the connection is closed then. It is one to a store of any kind, so that the
+/// contracts of its calls are read once, and not for the store that is a file.
+fn look_while_open<S: Alter + Drop>(
+    rt: &HostRuntime,
+    mut connection: Connection<S>,
+) -> Result<Option<&'static str>, Fail> {
+    let other = look_meanwhile(rt, &mut connection);
+    drop(connection);
+    other
+}
+
 #[test]
 fn a_book_that_another_has_open(rt: HostRuntime) -> Result<(), Fail> {
     let other = make(&rt)?;
     assert_eq!(rt; other, None);
-    let mut connection = Connection::open(&rt, "copies/book")?;
-    let other = look_meanwhile(&rt, &mut connection);
-    drop(connection);
-    assert_eq!(rt; other?, None);
+    let other = look_while_open(&rt, Connection::open(&rt, "copies/book")?)?;
+    assert_eq!(rt; other, None);
     let other = first_changed(&rt, "copies/cut", &CUT)?;
     assert_eq!(rt; other, None);
     fs::remove_dir_all(&rt, "copies")?;
