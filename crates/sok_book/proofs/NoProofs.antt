@@ -39,7 +39,7 @@ IsNoProof-list b best bytes claim entries fault spelled meets (inr unshown) = in
   }),
 )
 
--- the claim of the certificate that the text spells is not
+-- the certificate that the text spells is not about the best
 pub IsNoProof-claim : (b : BoardView) (best : Option ℕ) (bytes : List ℕ) (claim : Claim) (entries : List Entry) (fault : BookFault)
     → SpellsCertificate bytes claim entries → Differs claim best fault → IsNoProof b best bytes fault
 IsNoProof-claim b best bytes (Pushes k) entries book.NoBest spelled differs = (Pushes k, entries, spelled, differs)

@@ -146,8 +146,10 @@ fn told(alloc: Global, text: &str) -> Result<Told, Fail> {
     }
 }
 
+/// Why there is no board of the level that is open at the side.
 const OPEN: BoardFault = BoardFault::NotEnclosed(Spot { row: 1, col: 3 });
 
+/// And why there is none of the level with a box outside.
 const STRAY: BoardFault = BoardFault::BoxOutside(Spot { row: 1, col: 5 });
 
 #[test]

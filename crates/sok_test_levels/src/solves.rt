@@ -181,14 +181,16 @@ fn fault_of(alloc: Global, board: &str, limit: u32) -> Result<Option<SolveFault>
     }
 }
 
-const BESIDE: SolveFault = SolveFault::Level(BoardFault::NotEnclosed(Spot { row: 1, col: 3 }));
+/// Why the level that is open at the side is not solved.
+const OPEN: SolveFault = SolveFault::Level(BoardFault::NotEnclosed(Spot { row: 1, col: 3 }));
 
+/// And why the level with a box outside is not.
 const STRAY: SolveFault = SolveFault::Level(BoardFault::BoxOutside(Spot { row: 1, col: 5 }));
 
 #[test]
 fn refusals(rt: HostRuntime) -> Result<(), Fail> {
     for &(board, limit, fault) in &[
-        (sketch::OPEN_AT_THE_SIDE, 10, BESIDE),
+        (sketch::OPEN_AT_THE_SIDE, 10, OPEN),
         (sketch::STRAY_BOX, 10, STRAY),
         (
             sketch::NO_GOAL,
