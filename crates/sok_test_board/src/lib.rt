@@ -8,19 +8,16 @@
 //! | `crowds` | crowds as a reason |
 //! | `distances` | how far a box is from each goal, and where it is stuck |
 //! | `jams` | frozen boxes as a reason, and which are found |
-//! | `layouts` | a layout after pushes and back, and jams over it |
 //! | `matching` | a matching that is kept from one set of boxes to the next |
-//! | `mazes` | regions of spirals, combs and wide rooms |
 //! | `pairs` | pairs of boxes that are never solved, taken alone |
 //! | `positions` | positions, and whether a reason holds of one (no test) |
 //! | `prices` | which goal each box could go to at the least cost, and crowds |
-//! | `pushes` | the pushes of a state that is opened |
 //! | `regions` | where the player comes without a push, and by which letters |
 //! | `rounds` | rounds of squares, in rows of words |
 //! | `sets` | sets of boxes |
 //! | `setting` | squares that are there, and boxes and a player on them (no test) |
 //! | `states` | the states of a level, and their pushes |
-//! | `tables` | tables of states, as narrow and as wide as there are |
+//! | `tables` | tables of states |
 #![tactic(auto)]
 
 #[cfg(test)]
@@ -34,19 +31,13 @@ mod distances;
 #[cfg(test)]
 mod jams;
 #[cfg(test)]
-mod layouts;
-#[cfg(test)]
 mod matching;
-#[cfg(test)]
-mod mazes;
 #[cfg(test)]
 mod pairs;
 #[cfg(test)]
 mod positions;
 #[cfg(test)]
 mod prices;
-#[cfg(test)]
-mod pushes;
 #[cfg(test)]
 mod regions;
 #[cfg(test)]

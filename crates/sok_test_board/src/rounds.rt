@@ -2,7 +2,7 @@
 
 use crate::setting::board;
 use sok_field::drawing::free_squares;
-use sok_field::field::{COLUMNS, Field};
+use sok_field::field::Field;
 use sok_field::spread::spread_wide;
 use sok_rules::cell::Spot;
 use sok_sketch::sketch;
@@ -92,61 +92,6 @@ fn a_round_across_the_seam(rt: HostRuntime) {
     let mut high: [u64; 1] = [0];
     spread_wide(&[1 << 63], &[0], &free, &free, &mut low, &mut high);
     assert!(rt; low == [13_835_058_055_282_163_712] && high == [1]);
-}
-
-/// Squares about the columns 63 and 64, those of the first sign in column 61: the start of a flood,
-/// free squares that are joined to it (`+`), and others.
-const ABOUT_THE_SEAM: [&[&str]; 8] = [
-    &["s+++++#--"],
-    &["--#+++++s"],
-    &["s+#---", "++#---"],
-    &["---#+s", "---#++"],
-    // beside one another only at a corner
-    &["s++###", "###---"],
-    &["###---", "+s+###"],
-    // over the seam and back, and over it again
-    &["s+++#", "###+#", "#+++#", "#+###", "#++++"],
-    &["+++++", "#+###", "#+++#", "###+#", "-#+s#"],
-];
-
-/// The squares of a text with one of these signs.
-fn squares(text: &[&str], signs: &[u8]) -> Field {
-    let mut field = Field::new();
-    for (row, line) in text.iter().enumerate() {
-        for (col, sign) in line.bytes().enumerate() {
-            if row < 8 && col < 16 && signs.contains(&sign) {
-                field.put(Spot {
-                    row: row as u32,
-                    col: 61 + col as u32,
-                });
-            }
-        }
-    }
-    field
-}
-
-#[test]
-fn floods_across_the_seam(rt: HostRuntime) {
-    for &text in &ABOUT_THE_SEAM {
-        let free = squares(text, b"s+-");
-        let joined = squares(text, b"s+");
-        let Some(from) = squares(text, b"s").first() else {
-            assert!(rt; false, "no start in {text:?}");
-            return;
-        };
-        assert!(rt; from.col < COLUMNS && free.has(from), "{text:?}");
-        let mut seen = Field::new();
-        seen.flood(&free, from);
-        for row in 0..8 {
-            for col in 56..80 {
-                let spot = Spot { row, col };
-                assert!(rt;
-                    seen.has(spot) == joined.has(spot),
-                    "{row} {col} of {text:?}"
-                );
-            }
-        }
-    }
 }
 
 /// The word of a row of squares.

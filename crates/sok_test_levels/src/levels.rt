@@ -1,6 +1,6 @@
 //! Which rows are a level.
 
-use sok_rules::cell::{Cell, Spot};
+use sok_rules::cell::Cell;
 use sok_rules::fault::LevelFault;
 use sok_rules::level::Level;
 use sok_sketch::sketch;
@@ -56,46 +56,6 @@ fn sizes_of_levels(rt: HostRuntime) -> Result<(), Fail> {
     ] {
         let found = fault_of(rt.alloc(), columns, walls)?;
         assert_eq!(rt; found, fault, "{columns} columns, {walls} rows");
-    }
-    Ok(())
-}
-
-/// A level with floor at the ends of its rows, and a last row with much of it.
-fn level_with_floor(alloc: Global) -> Result<Level, Fail> {
-    let mut board = String::from_str(alloc, "#####  \n #@$.#\n#####\n#")?;
-    board.push_str(" ".repeat(alloc, 100)?.as_str())?;
-    Ok(sketch::level(alloc, board.as_str())?)
-}
-
-/// Whether the rows of a level have these lengths.
-fn has_rows(level: &Level, lengths: &[usize]) -> bool {
-    let rows = level.rows();
-    for (row, length) in rows.iter().zip(lengths) {
-        if row.len() != *length {
-            return false;
-        }
-    }
-    rows.len() == lengths.len()
-}
-
-#[test]
-fn floor_at_row_ends_is_dropped(rt: HostRuntime) -> Result<(), Fail> {
-    let level = level_with_floor(rt.alloc())?;
-    let copy = level.copy(rt.alloc())?;
-    assert!(rt; has_rows(&level, &[5, 6, 5, 1]) && has_rows(&copy, &[5, 6, 5, 1]));
-    for &(row, col, cell) in &[
-        (1, 0, Some(Cell::Floor)),
-        (1, 2, Some(Cell::ManOff)),
-        (1, 3, Some(Cell::BoxOff)),
-        (0, 5, None),
-        (1, 6, None),
-        (4, 0, None),
-    ] {
-        let spot = Spot { row, col };
-        assert!(rt;
-            level.cell(spot) == cell && copy.cell(spot) == cell,
-            "{spot:?}"
-        );
     }
     Ok(())
 }

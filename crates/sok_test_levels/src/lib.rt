@@ -11,7 +11,6 @@
 //! | `forgeries` | certificates that are forged |
 //! | `letters` | which letters a text spells, and the text of played letters |
 //! | `levels` | which rows are a level |
-//! | `limits` | which certificates have a text |
 //! | `lines` | the list of a collection's levels, and the replay of a text: all that is written |
 //! | `near` | which lines of a text are nearly of a board |
 //! | `patterns` | certificates with patterns, judged |
@@ -38,8 +37,6 @@ mod forgeries;
 mod letters;
 #[cfg(test)]
 mod levels;
-#[cfg(test)]
-mod limits;
 #[cfg(test)]
 mod lines;
 #[cfg(test)]

@@ -169,6 +169,7 @@ fn act_in_turn(rt: &impl Abort, session: &mut Session, turns: &[Turn]) {
 #[test]
 fn letters_are_taken_back_and_played_again(rt: HostRuntime) -> Result<(), Fail> {
     let level = sketch::level(rt.alloc(), sketch::ROOM_BEYOND_THE_GOAL)?;
+    let level = level.copy(rt.alloc())?;
     let mut session = Session::new(rt.alloc(), &level)?;
     let first: &[Turn] = &[
         (Act::Play(Dir::Right), Ok(true), 1, 1, "# @* #"),

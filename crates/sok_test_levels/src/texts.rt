@@ -1,7 +1,5 @@
 //! Which texts are certificates, and writing them again.
 
-use sok_cert::claim::Claim;
-use sok_cert::entry::{Entry, Inner, InnerReason, Reason};
 use sok_cert::fault::CertFault;
 use sok_cert::limits::fits;
 use sok_cert::reading::read;
@@ -23,57 +21,6 @@ f 1000000 0 3 0 4 1000000 0
 end
 ";
 
-/// The letter of a reason, and its prices of boxes and of goals, or its members.
-fn parts(reason: &Reason) -> (char, &[u32], &[u32]) {
-    match reason {
-        Reason::Expanded => ('x', &[], &[]),
-        Reason::Spent => ('s', &[], &[]),
-        Reason::Bound { u, v } => ('b', u.as_slice(), v.as_slice()),
-        Reason::Crowd { members } => ('c', members.as_slice(), &[]),
-        Reason::Frozen { members } => ('f', members.as_slice(), &[]),
-        Reason::Pattern { members, .. } => ('p', members.as_slice(), &[]),
-    }
-}
-
-/// An entry's depth, player, boxes and reason.
-type Told<'a> = (u32, u32, &'a [u32], (char, &'a [u32], &'a [u32]));
-
-/// Whether an entry tells this.
-fn tells(entry: &Entry, told: &Told<'_>) -> bool {
-    let (depth, player, boxes, (letter, first, second)) = *told;
-    let (found, left, right) = parts(&entry.reason);
-    entry.depth == depth
-        && entry.player == player
-        && entry.boxes.as_slice() == boxes
-        && found == letter
-        && left == first
-        && right == second
-}
-
-/// Asserts what entries tell.
-fn assert_entries(rt: &impl Abort, entries: &[Entry], told: &[Told<'_>]) {
-    assert_eq!(rt; entries.len(), told.len());
-    for (index, (entry, told)) in entries.iter().zip(told).enumerate() {
-        assert!(rt; tells(entry, told), "entry {index}");
-    }
-}
-
-#[test]
-fn each_form_of_entry(rt: HostRuntime) -> Result<(), Fail> {
-    let certificate = read(rt.alloc(), ALL_FORMS.as_bytes())?;
-    assert_eq!(rt; certificate.claim, Claim::Unsolvable);
-    let entries: &[Told<'_>] = &[
-        (0, 12, &[1, 3], ('x', &[], &[])),
-        (7, 0, &[], ('s', &[], &[])),
-        (0, 0, &[8, 10], ('b', &[1, 1], &[0, 0, 0])),
-        (3, 1, &[2], ('b', &[4], &[])),
-        (0, 12, &[1, 3], ('c', &[0, 1], &[])),
-        (1_000_000, 0, &[0, 4, 1_000_000], ('f', &[], &[])),
-    ];
-    assert_entries(&rt, &certificate.entries, entries);
-    Ok(())
-}
-
 /// A pattern with positions of each form, one with none, and an entry that is no pattern.
 const PATTERNS: &str = "\
 sokoban-certificate 2
@@ -86,66 +33,6 @@ p 1 4 1 5 1 0 0
 s 9 4 1 5
 end
 ";
-
-/// The letter of an inner position, and its members.
-fn inner_parts(reason: &InnerReason) -> (char, &[u32]) {
-    match reason {
-        InnerReason::Expanded => ('x', &[]),
-        InnerReason::Crowd { members } => ('c', members.as_slice()),
-        InnerReason::Frozen { members } => ('f', members.as_slice()),
-    }
-}
-
-/// An inner position's depth, player, boxes and reason.
-type ToldInside<'a> = (u32, u32, &'a [u32], (char, &'a [u32]));
-
-/// Whether an inner position tells this.
-fn tells_inside(position: &Inner, told: &ToldInside<'_>) -> bool {
-    let (depth, player, boxes, (letter, members)) = *told;
-    let (found, listed) = inner_parts(&position.reason);
-    position.depth == depth
-        && position.player == player
-        && position.boxes.as_slice() == boxes
-        && found == letter
-        && listed == members
-}
-
-/// Asserts what inner positions tell.
-fn assert_inside(rt: &impl Abort, inner: &[Inner], told: &[ToldInside<'_>]) {
-    assert_eq!(rt; inner.len(), told.len());
-    for (index, (position, told)) in inner.iter().zip(told).enumerate() {
-        assert!(rt; tells_inside(position, told), "position {index}");
-    }
-}
-
-/// Asserts that an entry is a pattern of these members, with these positions.
-fn assert_pattern(
-    rt: &impl Abort,
-    entry: &Entry,
-    told: &[u32],
-    inside: &[ToldInside<'_>],
-) -> Result<(), Fail> {
-    let Reason::Pattern { members, inner } = &entry.reason else {
-        return Err(Fail::from("no pattern"));
-    };
-    assert_eq!(rt; members.as_slice(), told);
-    assert_inside(rt, inner.as_slice(), inside);
-    Ok(())
-}
-
-#[test]
-fn patterns_are_read(rt: HostRuntime) -> Result<(), Fail> {
-    let certificate = read(rt.alloc(), PATTERNS.as_bytes())?;
-    assert_eq!(rt; certificate.claim, Claim::Pushes(9));
-    assert_eq!(rt; certificate.entries.len(), 3);
-    let inside: &[ToldInside<'_>] = &[
-        (0, 9, &[10, 12], ('x', &[])),
-        (1, 10, &[11, 12], ('f', &[0, 1])),
-        (0, 9, &[10, 12], ('c', &[1])),
-    ];
-    assert_pattern(&rt, &certificate.entries[0], &[1, 2], inside)?;
-    assert_pattern(&rt, &certificate.entries[1], &[0], &[])
-}
 
 /// The bytes that are written of a certificate that is read.
 fn written(rt: &impl Abort, alloc: Global, text: &[u8]) -> Result<Vec<u8>, Fail> {

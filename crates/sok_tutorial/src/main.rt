@@ -1,5 +1,5 @@
 //! Compares the tutorial's page with the session that the tests play: the commands in its blocks,
-//! and what is shown under each.
+//! and what is shown under each. The collection that it types lies beside it as a file.
 #![tactic(auto)]
 
 use sok_sketch::tutorial::{FILES, SESSION};
@@ -8,9 +8,14 @@ use std::process::ExitCode;
 use std::{fs, io};
 
 fn main(rt: HostRuntime) -> io::Result<ExitCode> {
-    let page = page(&rt)?;
+    let page = text_at(&rt, "TUTORIAL.md")?;
     let shown = shown(rt.alloc(), page.as_str())?;
     let session = session(rt.alloc())?;
+    let (path, typed) = FILES[0];
+    if text_at(&rt, path)?.as_str() != typed {
+        println!(rt; "The file {path} should be:\n{typed}")?;
+        return Ok(ExitCode::from(1));
+    }
     if shown.as_str() == session.as_str() {
         println!(rt; "The tutorial shows the session that the tests play.")?;
         return Ok(ExitCode::from(0));
@@ -19,11 +24,11 @@ fn main(rt: HostRuntime) -> io::Result<ExitCode> {
     Ok(ExitCode::from(1))
 }
 
-/// The tutorial, which lies in this folder or in its folder `data`.
-fn page(rt: &HostRuntime) -> io::Result<String> {
-    match fs::read_to_string(rt, "TUTORIAL.md") {
-        Ok(page) => Ok(page),
-        Err(_) => fs::read_to_string(rt, "data/TUTORIAL.md"),
+/// A file of the tutorial, which lies in this folder or in its folder `data`.
+fn text_at(rt: &HostRuntime, name: &str) -> io::Result<String> {
+    match fs::read_to_string(rt, name) {
+        Ok(text) => Ok(text),
+        Err(_) => fs::read_to_string(rt, format!(in rt.alloc(); "data/{name}")?.as_str()),
     }
 }
 
