@@ -1,12 +1,13 @@
 //! The Sokoban workbench, over the words and streams of its process.
 #![tactic(auto)]
 
+use sok_databases::guarded::Guarded;
 use sok_engine::fault::ToolFault;
 use sok_files::ending::ended;
 use sok_files::notes::Notes;
 use sok_files::watched::{Watched, WatchedInput, WatchedOutput};
 use sok_tool::program::run;
-use std::io::{ErrorKind, Write};
+use std::io::{ErrorKind, Read, Write};
 use std::process::ExitCode;
 use std::{env, io};
 
@@ -30,8 +31,22 @@ fn main(rt: HostRuntime) -> ExitCode {
 fn run_watched<E: Write>(rt: &HostRuntime, words: &[String], err: &mut E) -> u8 {
     let notes = Notes::new();
     let mut input = WatchedInput::new(rt.stdin(), "standard input", &notes);
-    let mut out = WatchedOutput::new(rt.stdout(), "standard output", &notes);
-    let status = run(&Watched::new(rt, &notes), words, &mut input, &mut out, err);
+    let watched = Watched::new(rt, &notes);
+    let out = WatchedOutput::new(rt.stdout(), "standard output", &notes);
+    let mut out = Guarded::new(&watched, out);
+    let status = run_on(&watched, words, &mut input, &mut out, err);
     notes.tell(status, err);
     status
+}
+
+/// Runs the program over streams of any kind. It passes on nothing of the contract, which is proved
+/// once for all of them and would be too long at these.
+fn run_on<R: Read, W: Write, E: Write>(
+    watched: &Watched<'_, HostRuntime>,
+    words: &[String],
+    input: &mut R,
+    out: &mut W,
+    err: &mut E,
+) -> u8 {
+    run(watched, words, input, out, err)
 }

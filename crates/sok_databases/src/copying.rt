@@ -16,11 +16,12 @@ ghost use Rattle.sqlite.specs.Start.{FindsIn};
 ghost use Rattle.sqlite.specs.Files.{file_state};
 
 use crate::book_file::BookFile;
-use crate::opening::{Unopened, in_turn};
+use crate::opening::{Unfit, Unopened, in_turn};
+use crate::standing::{file_at, front_of, log_front};
 use sqlite::{Connection, Error, ErrorCode, FileStore, Files, Options};
 use sqlite_disk::{Disk, Memory};
 use std::alloc::Global;
-use std::fs::{self, File};
+use std::fs;
 use std::io::{self, ErrorKind, Read};
 use std::os::unix::fs::MetadataExt;
 
@@ -47,32 +48,24 @@ struct Contents {
 fn read(rt: &HostRuntime, path: &str) -> Result<Contents, Unopened> {
     let log_path = format!(in rt.alloc(); "{path}-wal")?;
     let journal_path = format!(in rt.alloc(); "{path}-journal")?;
-    let begun = front_of(rt, log_path.as_str())?;
+    let begun = log_front(rt, log_path.as_str())?;
     let written = written_at(rt, path)?;
     let Some(db) = bytes_of(rt, path)? else {
-        return Err(Unopened::UNFIT);
+        return Err(Unopened::Unread(io::Error::from(ErrorKind::NotFound)));
     };
-    let log = bytes_of(rt, log_path.as_str())?.unwrap_or(Vec::new(rt.alloc()));
+    let log = match bytes_of(rt, log_path.as_str()) {
+        Ok(log) => log.unwrap_or(Vec::new(rt.alloc())),
+        Err(cause) => return Err(cause.of_log()),
+    };
     // A rollback journal, which only SQLite can play back: one that is empty, or begins with a zero,
     // has nothing to play back.
     if front_of(rt, journal_path.as_str())?[0] != 0 {
-        return Err(Unopened::UNFIT);
+        return Err(Unopened::Unfit(Unfit::Journal));
     }
-    if front_of(rt, log_path.as_str())? != begun || written_at(rt, path)? != written {
+    if log_front(rt, log_path.as_str())? != begun || written_at(rt, path)? != written {
         return Err(Unopened::BUSY);
     }
     Ok(Contents { log, db })
-}
-
-/// A file, if there is one. Another thing than a file of one name is refused, as where a database is
-/// opened.
-fn file_at(rt: &HostRuntime, path: &str) -> Result<Option<File>, Unopened> {
-    match fs::symlink_metadata(rt, path) {
-        Ok(found) if found.is_file() && found.nlink() == 1 => Ok(Some(fs::open(rt, path)?)),
-        Ok(_) => Err(Unopened::UNFIT),
-        Err(error) if error.kind() == ErrorKind::NotFound => Ok(None),
-        Err(error) => Err(Unopened::Unread(error)),
-    }
 }
 
 /// The bytes of a file, if there is one.
@@ -83,15 +76,6 @@ fn bytes_of(rt: &HostRuntime, path: &str) -> Result<Option<Vec<u8>>, Unopened> {
     let mut bytes = Vec::new(rt.alloc());
     file.read_to_end(&mut bytes)?;
     Ok(Some(bytes))
-}
-
-/// The first bytes of a file, of a log the header: zeros where it ends before, or there is none.
-fn front_of(rt: &HostRuntime, path: &str) -> Result<[u8; 32], Unopened> {
-    let mut front = [0; 32];
-    if let Some(mut file) = file_at(rt, path)? {
-        let _ = file.read(&mut front)?;
-    }
-    Ok(front)
 }
 
 /// When a file was last written: seconds, and nanoseconds.

@@ -1,6 +1,6 @@
 //! Databases by their paths.
 
-ghost use Rattle.std.specs.Prelude.{◌≡◌, ◌⊎◌, ℕ, List, IfErr, IfOk, ⊤};
+ghost use Rattle.std.specs.Prelude.{◌≡◌, ◌⊎◌, ℕ, List, IfErr, IfOk, MatchBool, ⊤};
 ghost use Rattle.sok_book.specs.declared.fault.BookFault.TheVariants as refusal;
 ghost use Rattle.sok_engine.specs.declared.fault.ToolFault.{ToolFault};
 ghost use Rattle.sok_engine.specs.declared.fault.ToolFault.TheVariants as tool;
@@ -9,6 +9,7 @@ ghost use Rattle.sok_databases.specs.declared.databases.Access.{Access};
 use crate::book_file::BookFile;
 use crate::opening::{Unopened, open};
 use sok_engine::fault::ToolFault;
+use sok_files::notes::OpenedFile;
 use sok_files::watched::Watched;
 use sqlite::{Connection, FileStore};
 
@@ -19,6 +20,8 @@ pub enum Access {
     Make,
     /// To be changed. It is refused where none is there, and none is made.
     Change,
+    /// The same, seldom: each change is copied into the database file at once.
+    Settle,
     /// To be read, as it was last committed. It may be in use, and one that can't be written: nothing
     /// is written to it or beside it. It is refused where none is there.
     Read,
@@ -38,6 +41,12 @@ pub trait Databases {
     // This connection to the database at this path was given back.
     ghost closes_as: { Self → List ℕ → Self.Opened → Type 0 };
 
+    // The path of the database that was opened last led to its file.
+    ghost stood: { Self → Type 0 };
+
+    // It may lead to another one.
+    ghost moves: { Self → Type 0 };
+
     /// Opens the database at a path, or makes an empty one where none is there and one may be made.
     /// Where it can't be opened, for another cause than memory, that is `Database`.
     fn database(&self, path: &str, access: Access) -> Result<Self::Opened, ToolFault>
@@ -45,6 +54,11 @@ pub trait Databases {
         ensures refuses { IfErr result (refuses self.now path.now) }
         ensures refused { IfErr result
             (λ fault. (fault ≡ tool.Memory) ⊎ (fault ≡ tool.Book refusal.Database)) };
+
+    /// Whether the path of the database that was opened last to be changed still leads to its file, if
+    /// one was. Else the book that has the path now lacks what is done.
+    fn stands(&self) -> bool
+        ensures { MatchBool result (stood self.now) (moves self.now) };
 
     /// Takes a connection back, when the work on the database at a path is done.
     fn close(&self, path: &str, connection: Self::Opened)
@@ -61,18 +75,26 @@ impl Databases for Watched<'_, HostRuntime> {
 
     ghost closes_as = { λ _ _ _. ⊤ };
 
+    ghost stood = { λ _. ⊤ };
+
+    ghost moves = { λ _. ⊤ };
+
     fn database(
         &self,
         path: &str,
         access: Access,
     ) -> Result<Connection<FileStore<BookFile>>, ToolFault> {
-        match open(self.inner(), path, access) {
+        match noted(self, path, access) {
             Ok(connection) => Ok(connection),
             Err(cause) => {
-                self.fail(path, Some(cause.error()));
+                cause.note(self, path);
                 Err(cause.fault())
             }
         }
+    }
+
+    fn stands(&self) -> bool {
+        self.notes().database_stands(self.inner())
     }
 
     fn close(&self, path: &str, connection: Connection<FileStore<BookFile>>)
@@ -87,4 +109,19 @@ impl Databases for Watched<'_, HostRuntime> {
         // Where nothing else failed, it was the database, or it was not at fault and is not told.
         self.fail(path, cause);
     }
+}
+
+/// Opens a database, and notes its file if it is to be changed.
+fn noted(
+    watched: &Watched<'_, HostRuntime>,
+    path: &str,
+    access: Access,
+) -> Result<Connection<FileStore<BookFile>>, Unopened> {
+    let connection = open(watched.inner(), path, access)?;
+    if access != Access::Read {
+        watched
+            .notes()
+            .set_database(OpenedFile::at(watched.inner(), path)?);
+    }
+    Ok(connection)
 }

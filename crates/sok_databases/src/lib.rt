@@ -6,10 +6,14 @@
 //! | `book_file` | the files of a database: those of the machine, or copies in memory |
 //! | `copying` | copies of databases in memory (private) |
 //! | `databases` | databases by their paths |
-//! | `opening` | what stands at a path of the machine, and how it is opened (private) |
+//! | `guarded` | the output of a command that changes a book |
+//! | `opening` | how a database in files of the machine is opened (private) |
+//! | `standing` | what stands at its path, and beside it (private) |
 #![tactic(auto)]
 
 pub mod book_file;
 mod copying;
 pub mod databases;
+pub mod guarded;
 mod opening;
+mod standing;

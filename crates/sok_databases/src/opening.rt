@@ -7,25 +7,66 @@ ghost use Rattle.sok_engine.specs.declared.fault.ToolFault.TheVariants as tool;
 use crate::book_file::BookFile;
 use crate::copying::copy;
 use crate::databases::Access;
+use crate::standing::{Found, found_at, has_log, is_dangling};
 use sok_book::fault::BookFault;
 use sok_engine::fault::ToolFault;
+use sok_files::notes::Name;
+use sok_files::watched::Watched;
 use sok_store::fault::fault_of;
 use sqlite::{Connection, Error, ErrorCode, FileStore, Files, Options, Unknown};
 use sqlite_std_file::OpenError;
 use std::alloc::AllocError;
 use std::fmt::InlineText;
 use std::hash::{BuildHasher, RandomState};
-use std::io::{self, ErrorKind, Read};
+use std::io::{self, ErrorKind};
+use std::thread;
 use std::time::Duration;
-use std::{fs, thread};
+
+/// Why nothing that stands at a path, or beside it, is opened.
+#[derive(Clone, Copy)]
+pub(crate) enum Unfit {
+    NoPath,
+    Dangling,
+    Folder,
+    NoFile,
+    OtherName,
+    NoDatabase,
+    NoBook,
+    Journal,
+    NoLog,
+    LostDatabase,
+    NoSeed,
+}
+
+impl Unfit {
+    fn words(self) -> &'static str {
+        match self {
+            Unfit::NoPath => "SQLite reads this word as no path",
+            Unfit::Dangling => "a link with this name leads nowhere",
+            Unfit::Folder => "a folder has this name",
+            Unfit::NoFile => "what has this name is no file",
+            Unfit::OtherName => "the file has another name, too",
+            Unfit::NoDatabase => "the file is no database",
+            Unfit::NoBook => "there is no book in this database",
+            Unfit::Journal => "a rollback journal is beside it, which only SQLite can play back",
+            Unfit::NoLog => "the file is no log of a database",
+            Unfit::LostDatabase => "it has changes of a database that is not there",
+            Unfit::NoSeed => "no random number can be had",
+        }
+    }
+}
 
 /// Why a database is not opened.
 #[derive(Clone, Copy)]
 pub(crate) enum Unopened {
     /// There is no file that can be read, and none may be made.
     Unread(io::Error),
-    /// The file begins as no database does. Opened as one it would keep an empty log beside it.
-    Other,
+    /// What stands there is nothing that is opened.
+    Unfit(Unfit),
+    /// Its log can't be read.
+    LogUnread(io::Error),
+    /// What has the name of its log is none of it.
+    LogUnfit(Unfit),
     /// It was refused.
     Refused(Error),
 }
@@ -41,11 +82,6 @@ impl Unopened {
         ErrorCode::DatabaseBusy,
     ));
 
-    /// What stands there is nothing that is opened.
-    pub(crate) const UNFIT: Unopened = Unopened::Refused(Error::SqliteFailure(
-        ErrorCode::CannotOpen,
-    ));
-
     pub(crate) fn fault(self) -> ToolFault
         ensures { (result ≡ tool.Memory) ⊎ (result ≡ tool.Book refusal.Database) }
     {
@@ -55,12 +91,34 @@ impl Unopened {
         }
     }
 
+    /// The same of a log in place of its database.
+    pub(crate) fn of_log(self) -> Unopened {
+        match self {
+            Unopened::Unread(error) => Unopened::LogUnread(error),
+            Unopened::Unfit(cause) => Unopened::LogUnfit(cause),
+            other => other,
+        }
+    }
+
     /// The cause in words.
     pub(crate) fn error(self) -> io::Error {
         match self {
-            Unopened::Unread(error) => error,
-            Unopened::Other => io::Error::other("the file is no database"),
+            Unopened::Unread(error) | Unopened::LogUnread(error) => error,
+            Unopened::Unfit(cause) | Unopened::LogUnfit(cause) => io::Error::other(cause.words()),
             Unopened::Refused(error) => io::Error::other(InlineText::<80>::of(error).as_str()),
+        }
+    }
+
+    /// Notes the cause, by the path of the database or that of its log.
+    pub(crate) fn note<F>(self, watched: &Watched<'_, F>, path: &str) {
+        match self {
+            Unopened::LogUnread(_) | Unopened::LogUnfit(_) => {
+                watched.fail(
+                    Name::of(format_args!("{path}-wal")).as_str(),
+                    Some(self.error()),
+                );
+            }
+            _ => watched.fail(path, Some(self.error())),
         }
     }
 }
@@ -85,40 +143,97 @@ impl From<OpenError> for Unopened {
         match error {
             OpenError::OutOfMemory => Unopened::MEMORY,
             OpenError::Busy => Unopened::BUSY,
-            OpenError::Io(error) if error.kind() == ErrorKind::OutOfMemory => Unopened::MEMORY,
-            _ => Unopened::UNFIT,
+            OpenError::HotJournal => Unopened::Unfit(Unfit::Journal),
+            OpenError::Io(error) => Unopened::from(error),
         }
     }
 }
 
-/// Opens the database at a path, or makes an empty one where none is there and one may be made. One
-/// that is only read is a copy in memory.
+/// Opens the database at a path, or makes an empty one where none is there and one may be made. It is
+/// first read into memory, where that is seen to have a book, so that nothing is written to another
+/// program's database. One that is only read is this copy.
 pub(crate) fn open(
     rt: &HostRuntime,
     path: &str,
     access: Access,
 ) -> Result<Connection<FileStore<BookFile>>, Unopened> {
+    if path == ":memory:" || path.starts_with("file:") {
+        return Err(Unopened::Unfit(Unfit::NoPath));
+    }
     match found_at(rt, path) {
-        Found::Nothing(error) if access != Access::Make => Err(Unopened::Unread(error)),
-        Found::Other => Err(Unopened::Other),
-        // words that SQLite reads as no path
-        _ if path == ":memory:" || path.starts_with("file:") => Err(Unopened::UNFIT),
-        _ if access == Access::Read => copy(rt, path),
-        _ => in_turn(rt, || connect(rt, path)),
+        Found::Nothing(_) if is_dangling(rt, path) => { Err(Unopened::Unfit(Unfit::Dangling)) }
+        Found::Nothing(error) if access == Access::Make && error.kind() == ErrorKind::NotFound => {
+            make(rt, path)
+        }
+        Found::Nothing(error) => Err(Unopened::Unread(error)),
+        Found::Empty if access == Access::Make => make(rt, path),
+        Found::Empty => Err(Unopened::Unfit(Unfit::NoBook)),
+        Found::Database => open_there(rt, path, access),
+        Found::Other => Err(Unopened::Unfit(Unfit::NoDatabase)),
+    }
+}
+
+/// Makes a database where there is none, or an empty file.
+fn make(rt: &HostRuntime, path: &str) -> Result<Connection<FileStore<BookFile>>, Unopened> {
+    if has_log(rt, path)? {
+        return Err(Unopened::LogUnfit(Unfit::LostDatabase));
+    }
+    in_turn(rt, || connect(rt, path, Access::Make))
+}
+
+/// Opens a database that is there.
+fn open_there(
+    rt: &HostRuntime,
+    path: &str,
+    access: Access,
+) -> Result<Connection<FileStore<BookFile>>, Unopened> {
+    let copied = copy(rt, path)?;
+    let schema = copied.schema();
+    let has_levels = schema
+        .tables
+        .as_slice()
+        .iter()
+        .any(|table| table.name.as_slice() == b"level".as_slice());
+    if !has_levels && (access != Access::Make || !schema.tables.as_slice().is_empty()) {
+        return Err(Unopened::Unfit(Unfit::NoBook));
+    }
+    if access == Access::Read {
+        return Ok(copied);
+    }
+    drop(copied);
+    in_turn(rt, || connect(rt, path, access))
+}
+
+/// How many pages the log of a database may have before it is copied into the database file. A page
+/// takes up to two waits for the disk, and a copy four. So many lines of offers lose a twentieth of
+/// their speed by it, and on a disk that answers within 8 ms what was done stands in the file within a
+/// second. A settling, which writes seldom, has each change copied at once.
+fn pages_of_log(access: Access) -> usize {
+    match access {
+        Access::Settle => 1,
+        _ => 128,
     }
 }
 
 /// Opens a database in its own files, and makes those that are missing.
-fn connect(rt: &HostRuntime, path: &str) -> Result<Connection<FileStore<BookFile>>, Unopened> {
+fn connect(
+    rt: &HostRuntime,
+    path: &str,
+    access: Access,
+) -> Result<Connection<FileStore<BookFile>>, Unopened> {
     let Files { log, db } = sqlite_std_file::open(rt, path, Unknown)?;
     let Ok(state) = RandomState::new(rt) else {
-        return Err(Unopened::UNFIT);
+        return Err(Unopened::Unfit(Unfit::NoSeed));
     };
     let files = Files {
         log: BookFile::Machine(log),
         db: BookFile::Machine(db),
     };
-    match Connection::open_files(rt.alloc(), files, Options::new(state.hash_one(&0u8))) {
+    let options = Options {
+        checkpoint_frames: pages_of_log(access),
+        ..Options::new(state.hash_one(&0u8))
+    };
+    match Connection::open_files(rt.alloc(), files, options) {
         Ok(connection) => Ok(connection),
         Err((error, _)) => Err(Unopened::Refused(error)),
     }
@@ -146,32 +261,4 @@ pub(crate) fn in_turn<T, F: Fn() -> Result<T, Unopened>>(
         }
     }
     Err(Unopened::BUSY)
-}
-
-/// What stands at a path.
-#[derive(Clone, Copy)]
-enum Found {
-    /// No file that can be opened.
-    Nothing(io::Error),
-    /// What may be a database: also an empty file, and one that can't be read.
-    Database,
-    /// A file that begins as no database does.
-    Other,
-}
-
-/// What a database begins with, where its file is not empty. While one is made its first byte is 0,
-/// and so it stays where that was cut off: the next open makes it anew.
-const FRONT: [u8; 16] = *b"SQLite format 3\0";
-
-fn found_at(rt: &HostRuntime, path: &str) -> Found {
-    let mut file = match fs::open(rt, path) {
-        Ok(file) => file,
-        Err(error) => return Found::Nothing(error),
-    };
-    let mut front = [0; 16];
-    match file.read(&mut front) {
-        Ok(0) | Err(_) => Found::Database,
-        Ok(_) if front[0] == 0 || front == FRONT => Found::Database,
-        Ok(_) => Found::Other,
-    }
 }

@@ -15,6 +15,7 @@ ghost use Rattle.sok_files.specs.Solving.{SolvesLevel, SolvesTo};
 
 use crate::file::{create, open};
 use crate::folder::Folder;
+use crate::own::Own;
 use sok_engine::fault::ToolFault;
 use sok_judge::check::check_bytes;
 use sok_play::drawing::draw_bytes;
@@ -86,7 +87,7 @@ pub fn check<F: Folder + AllocGlobal, W: Write>(
 }
 
 /// Solves the n-th level of a collection. The certificate is written to a file, if a path is given;
-/// else none is made. That file is never the collection's, which would be emptied.
+/// else none is made. That file holds nothing yet, or a certificate, and is not the collection's.
 pub fn solve<F: Folder + AllocGlobal, W: Write>(
     rt: &F,
     path: &str,
@@ -124,8 +125,7 @@ fn find<F: Folder + AllocGlobal, W: Write>(
     find_bytes(rt.alloc(), &mut input, n as usize, limit, bound, out)
 }
 
-/// Solves a level, and writes the certificate to a file that is made for it, if that is another than
-/// the collection's.
+/// Solves a level, and writes the certificate to a file that is made for it.
 fn solve_with_file<F: Folder + AllocGlobal, W: Write>(
     rt: &F,
     path: &str,
@@ -141,11 +141,8 @@ fn solve_with_file<F: Folder + AllocGlobal, W: Write>(
         × IsMade F.Output.contents (F.makes rt.now cert_path.now) cert)
         (record { old = W.contents out.old; new = W.contents out.new }) result }
 {
-    if rt.is_one(path, cert_path) {
-        return Err(ToolFault::WriteFailed);
-    }
     let mut input = open(rt, path)?;
-    let mut cert_out = create(rt, cert_path)?;
+    let mut cert_out = create(rt, cert_path, &Own::collection(path))?;
     solve_bytes(
         rt.alloc(),
         &mut input,

@@ -1,9 +1,10 @@
 //! Opening and making the files that a command names.
 
-ghost use Rattle.std.specs.Prelude.{◌≡◌, MatchResult, OnErr};
+ghost use Rattle.std.specs.Prelude.{◌≡◌, ◌≢◌, MatchResult, OnErr, OnOk};
 ghost use Rattle.sok_engine.specs.declared.fault.ToolFault.TheVariants as tool;
 
 use crate::folder::Folder;
+use crate::own::Own;
 use sok_engine::fault::ToolFault;
 
 /// Opens a file that is there.
@@ -19,11 +20,14 @@ pub fn open<F: Folder>(folder: &F, path: &str) -> Result<F::Input, ToolFault>
     }
 }
 
-/// Makes a file, or empties it.
-pub fn create<F: Folder>(folder: &F, path: &str) -> Result<F::Output, ToolFault>
-    ensures { MatchResult result (F.makes folder.now path.now) (λ fault. fault ≡ tool.WriteFailed) }
+/// Makes a file for a certificate, or empties the one that is there, if that holds one and is not the
+/// run's own.
+pub fn create<F: Folder>(folder: &F, path: &str, own: &Own<'_>) -> Result<F::Output, ToolFault>
+    ensures made { MatchResult result
+        (F.makes folder.now path.now) (λ fault. fault ≡ tool.WriteFailed) }
+    ensures apart { OnOk result (path.now ≢ own.now.path.now) }
 {
-    match folder.create(path) {
+    match folder.create(path, own) {
         Ok(file) => Ok(file),
         Err(_) => Err(ToolFault::WriteFailed),
     }

@@ -7,7 +7,9 @@
 //! | `ending` | how a run ends, and what it tells on the error stream |
 //! | `file` | opening and making the files that a command names |
 //! | `folder` | files by their paths |
+//! | `machine` | those of the machine (private) |
 //! | `notes` | what is told beside the answer |
+//! | `own` | the file that a run has open beside its certificates |
 //! | `watched` | files and streams that are watched |
 #![tactic(auto)]
 
@@ -15,5 +17,7 @@ pub mod command;
 pub mod ending;
 pub mod file;
 pub mod folder;
+mod machine;
 pub mod notes;
+pub mod own;
 pub mod watched;

@@ -6,7 +6,9 @@ use sok_near::near::NearLine;
 use sok_near::scan::NearScan;
 use std::cell::{Cell, RefCell};
 use std::fmt::{self, InlineText, Write as _};
+use std::fs;
 use std::io::{self, Write};
+use std::os::unix::fs::MetadataExt;
 
 /// The path of a file, or the name of a stream, as it is told: of one with more than 1,000 bytes the
 /// front, and three dots.
@@ -30,6 +32,32 @@ impl fmt::Display for Failure {
     }
 }
 
+/// A file that was opened, by its path, its device and its number.
+#[derive(Drop)]
+pub struct OpenedFile {
+    path: String,
+    device: u64,
+    number: u64,
+}
+
+impl OpenedFile {
+    /// The file that is at a path.
+    pub fn at(rt: &HostRuntime, path: &str) -> io::Result<OpenedFile> {
+        let found = fs::metadata(rt, path)?;
+        Ok(OpenedFile {
+            path: String::from_str(rt.alloc(), path)?,
+            device: found.dev(),
+            number: found.ino(),
+        })
+    }
+
+    /// Whether its path leads to it.
+    fn is_there(&self, rt: &HostRuntime) -> io::Result<bool> {
+        let found = fs::metadata(rt, self.path.as_str())?;
+        Ok(found.dev() == self.device && found.ino() == self.number)
+    }
+}
+
 /// What is noted while a command runs.
 #[derive(Drop)]
 pub struct Notes {
@@ -37,6 +65,8 @@ pub struct Notes {
     /// Whether the text that is read is no collection, once it has begun.
     is_other: Cell<Option<bool>>,
     near: RefCell<NearScan>,
+    /// The file that was opened as a database to be changed.
+    database: RefCell<Option<OpenedFile>>,
 }
 
 impl Notes {
@@ -46,6 +76,41 @@ impl Notes {
             failure: Cell::new(None),
             is_other: Cell::new(None),
             near: RefCell::new(NearScan::new()),
+            database: RefCell::new(None),
+        }
+    }
+
+    /// Notes the file that was opened as a database to be changed.
+    pub fn set_database(&self, file: OpenedFile) {
+        if let Ok(mut database) = self.database.try_borrow_mut() {
+            *database = Some(file);
+        }
+    }
+
+    /// Whether the path of that file still leads to it, if there is one. Where it does not, that is
+    /// noted as a failure.
+    pub fn database_stands(&self, rt: &HostRuntime) -> bool {
+        match self.database.try_borrow() {
+            Ok(database) => match &*database {
+                Some(file) => self.stands(rt, file),
+                None => true,
+            },
+            Err(_) => true,
+        }
+    }
+
+    fn stands(&self, rt: &HostRuntime, file: &OpenedFile) -> bool {
+        match file.is_there(rt) {
+            Ok(true) => true,
+            Ok(false) => {
+                let cause = io::Error::other("another file has this name now");
+                self.fail(Name::of(file.path.as_str()), Some(cause));
+                false
+            }
+            Err(error) => {
+                self.fail(Name::of(file.path.as_str()), Some(error));
+                false
+            }
         }
     }
 

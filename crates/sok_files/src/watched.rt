@@ -5,6 +5,7 @@ ghost use Rattle.std.specs.Prelude.{◌≡◌};
 
 use crate::folder::Folder;
 use crate::notes::{Name, Notes};
+use crate::own::Own;
 use std::alloc::Global;
 use std::io::{self, ErrorKind, Read, Write};
 
@@ -27,6 +28,11 @@ impl<'a, F> Watched<'a, F> {
         ensures { result.now ≡ self.now.inner.now }
     {
         self.inner
+    }
+
+    /// What is noted.
+    pub fn notes(&self) -> &'a Notes {
+        self.notes
     }
 
     /// Notes that what is at a path failed.
@@ -54,6 +60,10 @@ impl<'a, F: Folder> Folder for Watched<'a, F> {
 
     ghost makes = { λ watched path file. F.makes watched.inner.now path file.inner };
 
+    ghost takes = { λ watched path. F.takes watched.inner.now path };
+
+    ghost bars = { λ watched path. F.bars watched.inner.now path };
+
     fn open(&self, path: &str) -> io::Result<WatchedInput<'a, F::Input>> {
         match self.inner.open(path) {
             Ok(file) => Ok(WatchedInput::new(file, path, self.notes)),
@@ -64,9 +74,29 @@ impl<'a, F: Folder> Folder for Watched<'a, F> {
         }
     }
 
-    fn create(&self, path: &str) -> io::Result<WatchedOutput<'a, F::Output>> {
-        match self.inner.create(path) {
+    fn create(&self, path: &str, own: &Own<'_>) -> io::Result<WatchedOutput<'a, F::Output>> {
+        match self.inner.create(path, own) {
             Ok(file) => Ok(WatchedOutput::new(file, path, self.notes)),
+            Err(error) => {
+                self.fail(path, Some(error));
+                Err(error)
+            }
+        }
+    }
+
+    fn has_certificate(&self, path: &str) -> io::Result<bool> {
+        match self.inner.has_certificate(path) {
+            Ok(whole) => Ok(whole),
+            Err(error) => {
+                self.fail(path, Some(error));
+                Err(error)
+            }
+        }
+    }
+
+    fn try_folder(&self, path: &str) -> io::Result<()> {
+        match self.inner.try_folder(path) {
+            Ok(()) => Ok(()),
             Err(error) => {
                 self.fail(path, Some(error));
                 Err(error)
@@ -78,15 +108,8 @@ impl<'a, F: Folder> Folder for Watched<'a, F> {
         self.inner.remove(path);
     }
 
-    fn is_one(&self, path: &str, other: &str) -> bool {
-        let is_one = self.inner.is_one(path, other);
-        if is_one {
-            self.fail(
-                other,
-                Some(io::Error::other("the collection is in this file")),
-            );
-        }
-        is_one
+    fn note(&self, path: &str, cause: &'static str) {
+        self.fail(path, Some(io::Error::other(cause)));
     }
 }
 

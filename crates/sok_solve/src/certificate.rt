@@ -1,6 +1,6 @@
 //! The text of a certificate, which is made as its entries are found.
 
-ghost use Rattle.std.specs.Prelude.{List, ◌≡◌, ◌∷◌, ◌++◌, [], OnErr, OnOk};
+ghost use Rattle.std.specs.Prelude.{List, ◌≡◌, ◌∷◌, ◌++◌, [], IsTrue, OnErr, OnOk};
 ghost use Rattle.std.specs.Io.KnownBytes.{Appends};
 ghost use Rattle.sok_engine.specs.Written.{AppendsFront};
 ghost use Rattle.sok_cert.specs.Entry.{Entry};
@@ -109,6 +109,16 @@ impl ReadyCert {
             return Err(ToolFault::TooMuch);
         }
         Ok(ReadyCert { front, lines })
+    }
+
+    /// Whether these bytes are its text.
+    pub fn is(&self, bytes: &[u8]) -> bool
+        ensures { IsTrue result → bytes.now ≡ self.now }
+    {
+        match bytes.strip_prefix(self.front.as_slice()) {
+            Some(lines) => lines == self.lines.as_slice(),
+            None => false,
+        }
     }
 
     /// Writes the text. Where a write fails, a front of it is written.

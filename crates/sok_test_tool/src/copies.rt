@@ -80,13 +80,35 @@ const CUT: [Row; 1] = [(
 
 const NO_DATABASE: &str = "fault 32 Database\n";
 
-/// A database with a rollback journal, one of two names, a folder, and an empty file, which is an
-/// empty book.
-const OTHERS: [Row; 4] = [
+/// A database with a rollback journal, one of two names, a folder, and an empty file.
+const OTHERS: [Row; 6] = [
     ("sok show copies/torn", "", NO_DATABASE, 5),
+    ("sok offer copies/torn 1 R", "", NO_DATABASE, 5),
     ("sok show copies/twin", "", NO_DATABASE, 5),
     ("sok show copies", "", NO_DATABASE, 5),
-    ("sok show copies/empty", "", "", 0),
+    ("sok show copies/empty", "", NO_DATABASE, 5),
+    ("sok offer copies/empty 1 R", "", NO_DATABASE, 5),
+];
+
+/// Another program's database, which no command changes.
+const FOREIGN: [Row; 6] = [
+    ("sok add copies/songs copies/levels", "", NO_DATABASE, 5),
+    ("sok offer copies/songs 1 R", "", NO_DATABASE, 5),
+    ("sok offers copies/songs copies/cert", "", NO_DATABASE, 5),
+    ("sok prove copies/songs 1 copies/cert", "", NO_DATABASE, 5),
+    ("sok settle copies/songs", "", NO_DATABASE, 5),
+    ("sok show copies/songs", "", NO_DATABASE, 5),
+];
+
+/// A book whose name is that of another's log, which is not made over it.
+const LOG: [Row; 2] = [
+    ("sok add copies/name copies/levels", "", NO_DATABASE, 5),
+    (
+        "sok show copies/name-wal",
+        "1 3 5 1 1 1 untested First\n2 4 6 1 - - untested The room\n",
+        "",
+        0,
+    ),
 ];
 
 /// Makes the book, and a link to it.
@@ -211,6 +233,30 @@ fn what_is_no_book_of_its_own(rt: HostRuntime) -> Result<(), Fail> {
     assert_eq!(rt; other, None);
     assert!(rt; fs::read(&rt, "copies/empty")?.is_empty());
     assert!(rt; fs::open(&rt, "copies/empty-wal").is_err());
+    fs::copy(&rt, "copies/book", "copies/name-wal")?;
+    let other = first_other(&rt, &LOG)?;
+    assert_eq!(rt; other, None);
+    fs::remove_dir_all(&rt, "copies")?;
+    Ok(())
+}
+
+/// Makes a table of songs.
+fn make_songs<S: Alter>(connection: &mut Connection<S>) -> Result<(), Fail> {
+    connection.execute("CREATE TABLE song (name TEXT NOT NULL) STRICT", &[])?;
+    Ok(())
+}
+
+/// The same, and the connection is closed then.
+fn make_songs_and_close<S: Alter + Drop>(mut connection: Connection<S>) -> Result<(), Fail> {
+    make_songs(&mut connection)
+}
+
+#[test]
+fn another_programs_database_stays(rt: HostRuntime) -> Result<(), Fail> {
+    prepare(&rt, "copies")?;
+    make_songs_and_close(Connection::open(&rt, "copies/songs")?)?;
+    let other = first_changed(&rt, "copies/songs", &FOREIGN)?;
+    assert_eq!(rt; other, None);
     fs::remove_dir_all(&rt, "copies")?;
     Ok(())
 }

@@ -229,7 +229,7 @@ fn levels_of_a_book_are_settled(rt: HostRuntime) -> Result<(), Fail> {
 }
 
 /// The same with certificates: of each level that is settled there is one, and of no other.
-const CERTIFIES: [Row; 11] = [
+const CERTIFIES: [Row; 18] = [
     (
         "sok add kept/book kept/unsettled",
         "1 id 1\n2 id 2\n3 id 3\n4 id 4\n",
@@ -282,6 +282,44 @@ const CERTIFIES: [Row; 11] = [
         0,
     ),
     ("sok settle kept/book --certs kept", "", "", 0),
+    // a whole certificate is not replaced by another, and nothing else is written over
+    (
+        "sok add kept/other kept/levels",
+        "1 id 1\n2 fault 4 ManyPlayers\n3 fault 8 TooFewGoals\n4 id 2\n",
+        "",
+        0,
+    ),
+    ("sok settle kept/other --certs kept", "", MAKE_FAILED, 5),
+    (
+        "sok show kept/other",
+        "1 3 5 1 - - untested First\n2 4 6 1 - - untested The room\n",
+        "",
+        0,
+    ),
+    (
+        "sok solve kept/levels 1 --cert kept/other",
+        "",
+        MAKE_FAILED,
+        5,
+    ),
+    (
+        "sok solve kept/levels 9 --cert kept/other",
+        "",
+        MAKE_FAILED,
+        5,
+    ),
+    (
+        "sok solve kept/levels 1 --cert kept/levels",
+        "",
+        MAKE_FAILED,
+        5,
+    ),
+    (
+        "sok check kept/unsettled 1 kept/1.cert",
+        "accepted at least 2 pushes\n",
+        "",
+        0,
+    ),
 ];
 
 #[test]
@@ -309,7 +347,7 @@ const BAD_BOOK: &str = "fault 34 BadBook 2\n";
 
 const TOO_MUCH: &str = "fault 52 TooMuch\n";
 
-const UNREADABLE: [Row; 7] = [
+const UNREADABLE: [Row; 8] = [
     ("sok show faulty/book 1", "", BAD_BOOK, 5),
     ("sok offer faulty/book 1 R", "", BAD_BOOK, 5),
     // the rows are read before the file is
@@ -317,8 +355,9 @@ const UNREADABLE: [Row; 7] = [
     ("sok list faulty/large", "", TOO_MUCH, 3),
     ("sok check faulty/large 1 faulty/cert", "", TOO_MUCH, 3),
     ("sok replay faulty/levels 1 R", "solved 1 1\n", "", 0),
-    // a database whose making was cut off
-    ("sok show faulty/half 1", "", "fault 30 NoLevel\n", 3),
+    // a database whose making was cut off, which is made anew
+    ("sok show faulty/half 1", "", NO_DATABASE, 5),
+    ("sok add faulty/half faulty/cert", "", "", 0),
 ];
 
 /// A file of a byte more than a collection may have.

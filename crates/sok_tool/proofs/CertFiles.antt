@@ -1,20 +1,21 @@
--- A certificate is kept in a file of a folder, or can't be written.
-use Rattle.std.proofs.Common.{ℕ, ℤ, ◌≡◌, List, Result, Ok, Err, MatchResult, subst, sym}
-use Rattle.std.specs.Io.KnownBytes.{Appends}
+-- A certificate is kept in a file of a folder, or is not.
+use Rattle.std.proofs.Common.{ℕ, ℤ, ◌≡◌, ◌⊎◌, inl, inr, List, Result, Ok, Err, MatchResult, subst, sym}
 use Rattle.sok_cert.specs.Claim.{Claim}
 use Rattle.sok_cert.specs.Entry.{Entry}
 use Rattle.sok_cert.specs.Text.{text_of}
-use Rattle.sok_engine.specs.Certified.{Bytes}
 use Rattle.sok_engine.specs.declared.fault.ToolFault.{ToolFault}
 use Rattle.sok_engine.specs.declared.fault.ToolFault.TheVariants as tool
+use Rattle.sok_files.specs.Files.{Files}
 use Rattle.sok_settle.specs.Keeping.{TellsKept}
-use Rattle.sok_tool.specs.Certs.{cert_path, keeping_in}
+use Rattle.sok_tool.specs.Certs.{KeepsText, cert_path, keeping_in}
 
-module _ (makes : List ℕ → Bytes → Type 0) (folder : List ℕ) (id : ℤ) (shown : Claim) (entries : List Entry) where
-  pub TellsKept-written : {X : Type 0} (path text : List ℕ) (result : Result X ToolFault) → path ≡ cert_path folder id → text ≡ text_of shown entries
-      → MatchResult result (λ _. (made : Bytes) × makes path made × Appends made.old made.new text) (λ fault. fault ≡ tool.WriteFailed)
-      → TellsKept (keeping_in makes folder) id shown entries result
-  TellsKept-written path text (Ok x) path_is text_is (made, at, appends) =
-      (made, subst (λ p. makes p made) path_is at, subst (Appends made.old made.new) text_is appends)
-  TellsKept-written {X = X} path text (Err fault) path_is text_is is =
-      subst (λ f. TellsKept {X = X} (keeping_in makes folder) id shown entries (Err f)) (sym is) tt
+module _ (files : Files) (db folder : List ℕ) (id : ℤ) (shown : Claim) (entries : List Entry) where
+  -- the text of a certificate is kept at its path, or memory or a file was refused
+  pub TellsKept-text : {X : Type 0} (path text : List ℕ) (result : Result X ToolFault) → path ≡ cert_path folder id → text ≡ text_of shown entries
+      → MatchResult result (λ _. KeepsText files db path text) (λ fault. (fault ≡ tool.Memory) ⊎ (fault ≡ tool.WriteFailed))
+      → TellsKept (keeping_in files db folder) id shown entries result
+  TellsKept-text path text (Ok x) path_is text_is kept = subst (λ p. KeepsText files db p (text_of shown entries)) path_is (subst (KeepsText files db path) text_is kept)
+  TellsKept-text {X = X} path text (Err fault) path_is text_is (inl is) =
+      subst (λ f. TellsKept {X = X} (keeping_in files db folder) id shown entries (Err f)) (sym is) tt
+  TellsKept-text {X = X} path text (Err fault) path_is text_is (inr is) =
+      subst (λ f. TellsKept {X = X} (keeping_in files db folder) id shown entries (Err f)) (sym is) tt

@@ -9,30 +9,31 @@ use Rattle.sok_engine.specs.Certified.{Bytes}
 use Rattle.sok_store.specs.Calls.{ChangesBook, KeepsBook, Stops}
 use Rattle.sok_store.proofs.Calls.{stops_less}
 use Rattle.sok_keep.specs.Causes.{IsCausedFault}
-use Rattle.sok_tool.specs.Databases.{IsWithoutBook, OfOpened, OpensFound, Place, WorksOn, bookless, busy, fileless, refused, unconnected, unread, worked}
+use Rattle.sok_tool.specs.Databases.{IsNeverLacking, IsTold, IsWithoutBook, OfOpened, OpensFound, Place, WorksOn, bookless, busy, fileless, refused, unconnected, unread, worked}
 
--- a command without a file lacks none
-pub fileless_too : (db : Place) (lacks : Type 0) (told : ToolFault) → IsWithoutBook db ⊥ told → IsWithoutBook db lacks told
-fileless_too db lacks told (unread memory) = unread memory
-fileless_too db lacks told (unconnected says why) = unconnected says why
-fileless_too db lacks told (fileless none found kept left why) = absurd none
-fileless_too db lacks told (busy found kept left inside why) = busy found kept left inside why
-fileless_too db lacks told (bookless found left kept given why) = bookless found left kept given why
+-- a command that names nothing beside its database lacks nothing
+pub fileless_too : (db : Place) (Lacks : ToolFault → Type 0) (told : ToolFault) → IsWithoutBook db IsNeverLacking told → IsWithoutBook db Lacks told
+fileless_too db Lacks told (unread memory) = unread memory
+fileless_too db Lacks told (unconnected says why) = unconnected says why
+fileless_too db Lacks told (fileless none found kept left) = absurd none
+fileless_too db Lacks told (busy found kept left inside why) = busy found kept left inside why
+fileless_too db Lacks told (bookless found left kept given why) = bookless found left kept given why
 
-module _ (db : Place) (lacks : Type 0) (MayMake : Book → Book → Type 0) where
+module _ (db : Place) (Lacks : ToolFault → Type 0) (MayMake : Book → Book → Type 0) where
   -- where there is no book nothing is written
-  pub without_book : (Makes : Book → Book → Type 0) (held : Option (List ℕ)) (fault : ToolFault) (result : Result ℕ ToolFault)
-      → IsErrAnd result (λ told. told ≡ fault) → IsWithoutBook db lacks fault → WorksOn db lacks MayMake Makes (record { old = held; new = held }) result
+  pub without_book : (Makes : Result ℕ ToolFault → Book → Book → Type 0) (held : Option (List ℕ)) (fault : ToolFault) (result : Result ℕ ToolFault)
+      → IsErrAnd result (λ told. told ≡ fault) → IsWithoutBook db Lacks fault → WorksOn db Lacks MayMake Makes (record { old = held; new = held }) result
   without_book Makes held fault result is none =
       let (told, errs, same) = err_from_is_err_and result is in
       refused fault none (errs ∙ ap Err same) (Keeps-refl held)
 
   -- and where there is one, its connection is given back
-  pub works : (Makes : Book → Book → Type 0) (out : Bytes) (result : Result ℕ ToolFault) (opened left given : db.Connection) → OpensFound db opened
-      → given ≡ left → db.closes_as given → ChangesBook (db.shows opened) (db.shows left) Makes → Stops (db.shows opened) (db.shows left) MayMake
-      → IfErr result (IsCausedFault (db.shows opened) (db.shows left) MayMake) → WorksOn db lacks MayMake Makes out result
-  works Makes out result opened left given (found, kept, opens) same back turns stop cause =
-      worked found opened left kept (subst db.closes_as same back) (λ is. opens (omega (arith, is, stop.clean))) turns stop cause
+  pub works : (Makes : Result ℕ ToolFault → Book → Book → Type 0) (out : Bytes) (ended result : Result ℕ ToolFault) → IsTold db.moves ended result
+      → (opened left given : db.Connection) → OpensFound db opened → given ≡ left → db.closes_as given
+      → ChangesBook (db.shows opened) (db.shows left) (Makes ended) → Stops (db.shows opened) (db.shows left) MayMake
+      → IfErr ended (IsCausedFault (db.shows opened) (db.shows left) MayMake) → WorksOn db Lacks MayMake Makes out result
+  works Makes out ended result told opened left given (found, kept, opens) same back turns stop cause =
+      worked ended found opened left told kept (subst db.closes_as same back) (λ is. opens (omega (arith, is, stop.clean))) turns stop cause
 
 -- what is made of a book is also something else
 pub ChangesBook-weaker : (old new : State) (P Q : Book → Book → Type 0) → ((book after : Book) → P book after → Q book after) → ChangesBook old new P → ChangesBook old new Q
@@ -52,14 +53,15 @@ caused_weaker old new P Q weaker (Err fault) caused = λ told same clean book ho
 pub KeepsBook-changes : (old new : State) (P : Book → Type 0) → KeepsBook old new P → ChangesBook old new (λ book after. (after ≡ book) × P book)
 KeepsBook-changes old new P keeps clean book holds = let (is, held) = keeps clean book holds in (book, (refl, is), held)
 
-module _ (db : Place) (lacks : Type 0) (reads : Option (List ℕ) → Type 0) (known : Option (List ℕ)) (is : reads known) where
+module _ (db : Place) (Lacks : ToolFault → Type 0) (reads : Option (List ℕ) → Type 0) (known : Option (List ℕ)) (is : reads known) where
   -- what is made of the book and of what a file has left is made of such a file
-  pub works_with_file : (MayMake Makes : Option (List ℕ) → Book → Book → Type 0) (out : Bytes) (result : Result ℕ ToolFault) (opened left given : db.Connection)
-      → OpensFound db opened → given ≡ left → db.closes_as given → ChangesBook (db.shows opened) (db.shows left) (Makes known)
-      → Stops (db.shows opened) (db.shows left) (MayMake known) → IfErr result (IsCausedFault (db.shows opened) (db.shows left) (MayMake known))
-      → WorksOn db lacks (λ book after. OfOpened reads (λ k. MayMake k book after)) (λ book after. OfOpened reads (λ k. Makes k book after)) out result
-  works_with_file MayMake Makes out result opened left given opens same back turns stop cause =
-      works db lacks (λ book after. OfOpened reads (λ k. MayMake k book after)) (λ book after. OfOpened reads (λ k. Makes k book after)) out result opened left given
-      opens same back (ChangesBook-weaker (db.shows opened) (db.shows left) (Makes known) _ (λ book after made. (known, is, made)) turns)
+  pub works_with_file : (MayMake : Option (List ℕ) → Book → Book → Type 0) (Makes : Option (List ℕ) → Result ℕ ToolFault → Book → Book → Type 0) (out : Bytes)
+      (ended result : Result ℕ ToolFault) → IsTold db.moves ended result → (opened left given : db.Connection)
+      → OpensFound db opened → given ≡ left → db.closes_as given → ChangesBook (db.shows opened) (db.shows left) (Makes known ended)
+      → Stops (db.shows opened) (db.shows left) (MayMake known) → IfErr ended (IsCausedFault (db.shows opened) (db.shows left) (MayMake known))
+      → WorksOn db Lacks (λ book after. OfOpened reads (λ k. MayMake k book after)) (λ e book after. OfOpened reads (λ k. Makes k e book after)) out result
+  works_with_file MayMake Makes out ended result told opened left given opens same back turns stop cause =
+      works db Lacks (λ book after. OfOpened reads (λ k. MayMake k book after)) (λ e book after. OfOpened reads (λ k. Makes k e book after)) out ended result told
+      opened left given opens same back (ChangesBook-weaker (db.shows opened) (db.shows left) (Makes known ended) _ (λ book after made. (known, is, made)) turns)
       (stops_less (db.shows opened) (db.shows left) (MayMake known) _ (λ book after made. (known, is, made)) stop)
-      (caused_weaker (db.shows opened) (db.shows left) (MayMake known) _ (λ book after made. (known, is, made)) result cause)
+      (caused_weaker (db.shows opened) (db.shows left) (MayMake known) _ (λ book after made. (known, is, made)) ended cause)

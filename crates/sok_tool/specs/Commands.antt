@@ -10,7 +10,7 @@ use Rattle.sok_engine.specs.Inputs.{Within}
 use Rattle.sok_engine.specs.Limits.{cert_limit, input_limit}
 use Rattle.sok_engine.specs.Written.{Answers, Writes}
 use Rattle.sok_files.specs.Endings.{Ends, Runs}
-use Rattle.sok_files.specs.Files.{Files, IsMade, OfFile, OfFiles}
+use Rattle.sok_files.specs.Files.{Files, OfFile, OfFiles}
 use Rattle.sok_files.specs.Solving.{SolvesLevel}
 use Rattle.sok_judge.specs.Checks.{IsCheck}
 use Rattle.sok_keep.specs.Adds.{AddsBytes, WritesAdding}
@@ -26,12 +26,8 @@ use Rattle.sok_book.specs.declared.text.BookText.TheVariants.{Overview, Export}
 use Rattle.sok_store.specs.Calls.{MakesNone}
 use Rattle.sok_words.specs.declared.job.Job.{Job}
 use Rattle.sok_words.specs.Forms.{Form, IsPlain, Means, add, check, draw, export, from_of, id_value, limit_of, list, offer, offers, prove, replay, settle, show, solve}
-use Rattle.sok_tool.specs.Certs.{keeping_of}
-use Rattle.sok_tool.specs.Databases.{Databases, OfOpened, WorksOn, at, made_at, read_at}
-
--- of the files that may be opened so, and of those that may be made
-abbrev pub files_by : {O : Type 0} → (List ℕ → Option (List ℕ) → Type 0) → (List ℕ → Type 0) → (O → Option (List ℕ)) → (List ℕ → O → Type 0) → Files
-files_by reads lacks contents makes = record { reads = reads; lacks = lacks; makes = λ path. IsMade contents (makes path) }
+use Rattle.sok_tool.specs.Certs.{IsFolderless, keeping_of}
+use Rattle.sok_tool.specs.Databases.{Databases, IsFileless, IsNeverLacking, OfOpened, WorksOn, at, made_at, read_at, settled_at}
 
 -- a text is played on a level of a file: it is replayed, or the level behind it is drawn
 abbrev pub RunsPlay : (ℕ → List ℕ → List ℕ → Answers) → (Option (List ℕ) → Type 0) → ℕ → Bytes → Result ℕ ToolFault → List ℕ → Type 0
@@ -45,37 +41,37 @@ RunsCheck files file n cert out result =
 -- the levels of a file are added
 abbrev pub RunsAdd : Files → Databases → List ℕ → List ℕ → Bytes → Result ℕ ToolFault → Type 0
 RunsAdd files databases db file out result =
-    WorksOn (made_at databases db) (files.lacks file) (λ book after. OfOpened (files.reads file) (λ known. AddsBytes known book after))
-    (λ book after. OfOpened (files.reads file) (λ known. WritesAdding book known after out.old out.new result)) out result
+    WorksOn (made_at databases db) (IsFileless (files.lacks file)) (λ book after. OfOpened (files.reads file) (λ known. AddsBytes known book after))
+    (λ ended book after. OfOpened (files.reads file) (λ known. WritesAdding book known after out.old out.new ended)) out result
 
 -- a text is offered to the level with an id
 abbrev pub RunsOffer : Databases → List ℕ → ℤ → Bytes → Result ℕ ToolFault → List ℕ → Type 0
 RunsOffer databases db id out result text =
-    WorksOn (at databases db) ⊥ (OffersText id text) (λ book after. WritesOffer book id text after out.old out.new result) out result
+    WorksOn (at databases db) IsNeverLacking (OffersText id text) (λ ended book after. WritesOffer book id text after out.old out.new ended) out result
 
 -- the lines of a file are offered
 abbrev pub RunsOffers : Files → Databases → List ℕ → List ℕ → Bytes → Result ℕ ToolFault → Type 0
 RunsOffers files databases db file out result =
-    WorksOn (at databases db) (files.lacks file) (λ book after. OfOpened (files.reads file) (λ known. OffersBytes known book after))
-    (λ book after. OfOpened (files.reads file) (λ known. WritesOffers book known after out.old out.new result)) out result
+    WorksOn (at databases db) (IsFileless (files.lacks file)) (λ book after. OfOpened (files.reads file) (λ known. OffersBytes known book after))
+    (λ ended book after. OfOpened (files.reads file) (λ known. WritesOffers book known after out.old out.new ended)) out result
 
 -- the certificate in a file is judged for the level with an id
 abbrev pub RunsProve : Files → Databases → List ℕ → ℤ → List ℕ → Bytes → Result ℕ ToolFault → Type 0
 RunsProve files databases db id cert out result =
-    WorksOn (at databases db) (files.lacks cert) (λ book after. OfOpened (files.reads cert) (λ known. ProvesBytes id known book after))
-    (λ book after. OfOpened (files.reads cert) (λ known. WritesProof book id known after out.old out.new result)) out result
+    WorksOn (at databases db) (IsFileless (files.lacks cert)) (λ book after. OfOpened (files.reads cert) (λ known. ProvesBytes id known book after))
+    (λ ended book after. OfOpened (files.reads cert) (λ known. WritesProof book id known after out.old out.new ended)) out result
 
 -- the levels that nothing is proved of are settled, within a limit that is not refused, from an id on, with their certificates in a folder, if one is given
 abbrev pub RunsSettle : Files → Databases → List ℕ → ℕ → ℤ → Option (List ℕ) → Bytes → Result ℕ ToolFault → Type 0
 RunsSettle files databases db limit from folder out result =
-    WorksOn (at databases db) ⊥ (SettlesSome (keeping_of files.makes folder) limit from)
-    (λ book after. (IsBadLimit limit → result ≡ Err tool.BadLimit)
-    × WritesSettling (keeping_of files.makes folder) limit from book after out.old out.new result) out result
+    WorksOn (settled_at databases db) (IsFolderless files folder) (SettlesSome (keeping_of files db folder) limit from)
+    (λ ended book after. (IsBadLimit limit → ended ≡ Err tool.BadLimit)
+    × WritesSettling (keeping_of files db folder) limit from book after out.old out.new ended) out result
 
 -- the book is only read, and such an answer is written
 abbrev pub RunsShowing : Databases → List ℕ → (Book → Answers) → Bytes → Result ℕ ToolFault → Type 0
 RunsShowing databases db P out result =
-    WorksOn (read_at databases db) ⊥ MakesNone (λ book after. (after ≡ book) × Writes (P book) out.old out.new result) out result
+    WorksOn (read_at databases db) IsNeverLacking MakesNone (λ ended book after. (after ≡ book) × Writes (P book) out.old out.new ended) out result
 
 -- the program ends with the status of what is done so, or with that of the fault
 abbrev pub EndsWith : (Result ℕ ToolFault → Type 0) → Bytes → ℕ → Type 0

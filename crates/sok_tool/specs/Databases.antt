@@ -15,50 +15,62 @@ use Rattle.sok_keep.specs.Causes.{IsCausedFault}
 use Rattle.sok_databases.specs.declared.databases.Access.{Access}
 use Rattle.sok_databases.specs.declared.databases.Access.TheVariants as accesses
 
--- of the database at one path: the connections to it, what each shows, which one may be opened there, how it may be refused, and which one is given back
+-- Of the database at one path: the connections to it, what each shows, which one may be opened there, how it may be refused, which one is given back, and
+-- whether another file may have the path by then.
 pub record Place : Type 1 where
   pub Connection : Type 0
   pub shows : Connection → State
   pub opens_as : Connection → Type 0
   pub refuses : ToolFault → Type 0
   pub closes_as : Connection → Type 0
+  pub moves : Type 0
 
-abbrev pub place : {C : Type 0} → (C → State) → (C → Type 0) → (ToolFault → Type 0) → (C → Type 0) → Place
-place {C} shows opens_as refuses closes_as = record { Connection = C; shows = shows; opens_as = opens_as; refuses = refuses; closes_as = closes_as }
+abbrev pub place : {C : Type 0} → (C → State) → (C → Type 0) → (ToolFault → Type 0) → (C → Type 0) → Type 0 → Place
+place {C} shows opens_as refuses closes_as moves =
+    record { Connection = C; shows = shows; opens_as = opens_as; refuses = refuses; closes_as = closes_as; moves = moves }
 
--- of the databases at all paths: `opens_as` of those that are there, `makes` also of those that are made, and `reads` of those that are only read
+-- of the databases at all paths: `opens_as` of those that are there, `settles` of those that are changed seldom, `makes` also of those that are made, and
+-- `reads` of those that are only read
 pub record Databases : Type 1 where
   pub Connection : Type 0
   pub shows : Connection → State
   pub opens_as : List ℕ → Connection → Type 0
+  pub settles : List ℕ → Connection → Type 0
   pub makes : List ℕ → Connection → Type 0
   pub reads : List ℕ → Connection → Type 0
   pub refuses : List ℕ → ToolFault → Type 0
   pub closes_as : List ℕ → Connection → Type 0
+  pub moves : Type 0
 
 -- of those that may be opened so, each as it is to be changed, made or read
-abbrev pub databases_by : {C : Type 0} → (C → State) → (Access → List ℕ → C → Type 0) → (List ℕ → ToolFault → Type 0) → (List ℕ → C → Type 0) → Databases
-databases_by {C} shows opens_as refuses closes_as = record {
+abbrev pub databases_by : {C : Type 0} → (C → State) → (Access → List ℕ → C → Type 0) → (List ℕ → ToolFault → Type 0) → (List ℕ → C → Type 0) → Type 0 → Databases
+databases_by {C} shows opens_as refuses closes_as moves = record {
   Connection = C;
   shows = shows;
   opens_as = opens_as accesses.Change;
+  settles = opens_as accesses.Settle;
   makes = opens_as accesses.Make;
   reads = opens_as accesses.Read;
   refuses = refuses;
   closes_as = closes_as;
+  moves = moves;
 }
 
 -- of the one that is at a path
 abbrev pub at : Databases → List ℕ → Place
-at databases path = place databases.shows (databases.opens_as path) (databases.refuses path) (databases.closes_as path)
+at databases path = place databases.shows (databases.opens_as path) (databases.refuses path) (databases.closes_as path) databases.moves
+
+-- the same, to be changed seldom
+abbrev pub settled_at : Databases → List ℕ → Place
+settled_at databases path = place databases.shows (databases.settles path) (databases.refuses path) (databases.closes_as path) databases.moves
 
 -- of the one that is there, or is made
 abbrev pub made_at : Databases → List ℕ → Place
-made_at databases path = place databases.shows (databases.makes path) (databases.refuses path) (databases.closes_as path)
+made_at databases path = place databases.shows (databases.makes path) (databases.refuses path) (databases.closes_as path) databases.moves
 
 -- of the one that is there, and is only read
 abbrev pub read_at : Databases → List ℕ → Place
-read_at databases path = place databases.shows (databases.reads path) (databases.refuses path) (databases.closes_as path)
+read_at databases path = place databases.shows (databases.reads path) (databases.refuses path) (databases.closes_as path) databases.moves
 
 -- this is true of what a file has left that may be opened
 abbrev pub OfOpened : (Option (List ℕ) → Type 0) → (Option (List ℕ) → Type 0) → Type 0
@@ -71,25 +83,37 @@ IsNoBook found left told =
     (cause : BookFault) × (told ≡ of_book cause) × IsUnopened found left cause × (HasCleanDisk left → IsKnown found → IsSame found left)
     × IsCausedOpening found left cause
 
--- Why a command on a book has none to work on. Memory was refused for its words; the database is refused; its file can't be opened, or the database is in a
--- transaction, and the connection is given back as it was found; or what was found is no book, and the connection is given back.
-pub data IsWithoutBook (db : Place) (lacks : Type 0) (told : ToolFault) : Type 0 where
-  unread : told ≡ tool.Memory → IsWithoutBook db lacks told
-  unconnected : db.refuses told → (told ≡ tool.Memory) ⊎ (told ≡ tool.Book refusal.Database) → IsWithoutBook db lacks told
-  fileless : lacks → (found : db.Connection) → db.opens_as found → db.closes_as found → told ≡ tool.ReadFailed → IsWithoutBook db lacks told
+-- its file is not there, or it has none
+abbrev pub IsFileless : Type 0 → ToolFault → Type 0
+IsFileless lacks told = lacks × (told ≡ tool.ReadFailed)
+
+abbrev pub IsNeverLacking : ToolFault → Type 0
+IsNeverLacking told = ⊥
+
+-- Why a command on a book has none to work on. Memory was refused for its words; the database is refused; what it names beside that is lacking, or the
+-- database is in a transaction, and the connection is given back as it was found; or what was found is no book, and the connection is given back.
+pub data IsWithoutBook (db : Place) (Lacks : ToolFault → Type 0) (told : ToolFault) : Type 0 where
+  unread : told ≡ tool.Memory → IsWithoutBook db Lacks told
+  unconnected : db.refuses told → (told ≡ tool.Memory) ⊎ (told ≡ tool.Book refusal.Database) → IsWithoutBook db Lacks told
+  fileless : Lacks told → (found : db.Connection) → db.opens_as found → db.closes_as found → IsWithoutBook db Lacks told
   busy : (found : db.Connection) → db.opens_as found → db.closes_as found → IsTrue (db.shows found).in_transaction → told ≡ tool.Book refusal.Database
-      → IsWithoutBook db lacks told
-  bookless : (found left : db.Connection) → db.opens_as found → db.closes_as left → IsNoBook (db.shows found) (db.shows left) told → IsWithoutBook db lacks told
+      → IsWithoutBook db Lacks told
+  bookless : (found left : db.Connection) → db.opens_as found → db.closes_as left → IsNoBook (db.shows found) (db.shows left) told → IsWithoutBook db Lacks told
 
 -- a book was opened, that of exactly the rows that were found in what may be opened
 abbrev pub OpensFound : (db : Place) → db.Connection → Type 0
 OpensFound db opened = (found : db.Connection) × db.opens_as found × (HasCleanDisk (db.shows opened) → Opens (db.shows found) (db.shows opened))
 
--- How a command on a book ends. Where it has none nothing is written. Else a book was opened, and the command makes so of it; a stop in the middle leaves
--- the book that was opened, or one that the command may make, and it tells `Database` only with a cause.
-pub data WorksOn (db : Place) (lacks : Type 0) (MayMake Makes : Book → Book → Type 0) (out : Bytes) (result : Result ℕ ToolFault) : Type 0 where
-  refused : (told : ToolFault) → IsWithoutBook db lacks told → result ≡ Err told → Stays out → WorksOn db lacks MayMake Makes out result
-  worked : (found opened left : db.Connection) → db.opens_as found → db.closes_as left
-      → (HasCleanDisk (db.shows left) → Opens (db.shows found) (db.shows opened)) → ChangesBook (db.shows opened) (db.shows left) Makes
-      → Stops (db.shows opened) (db.shows left) MayMake → IfErr result (IsCausedFault (db.shows opened) (db.shows left) MayMake)
-      → WorksOn db lacks MayMake Makes out result
+-- How a command ended is told. Or it is not told, since another file has the path of the database by then.
+abbrev pub IsTold : Type 0 → Result ℕ ToolFault → Result ℕ ToolFault → Type 0
+IsTold moves ended told = (told ≡ ended) ⊎ (moves × (told ≡ Err (tool.Book refusal.Database)))
+
+-- How a command on a book ends. Where it has none nothing is written. Else a book was opened, and the command makes so of it, as it ended, which is told; a
+-- stop in the middle leaves the book that was opened, or one that the command may make, and it ends with `Database` only with a cause.
+pub data WorksOn (db : Place) (Lacks : ToolFault → Type 0) (MayMake : Book → Book → Type 0) (Makes : Result ℕ ToolFault → Book → Book → Type 0) (out : Bytes)
+    (result : Result ℕ ToolFault) : Type 0 where
+  refused : (told : ToolFault) → IsWithoutBook db Lacks told → result ≡ Err told → Stays out → WorksOn db Lacks MayMake Makes out result
+  worked : (ended : Result ℕ ToolFault) (found opened left : db.Connection) → IsTold db.moves ended result → db.opens_as found → db.closes_as left
+      → (HasCleanDisk (db.shows left) → Opens (db.shows found) (db.shows opened)) → ChangesBook (db.shows opened) (db.shows left) (Makes ended)
+      → Stops (db.shows opened) (db.shows left) MayMake → IfErr ended (IsCausedFault (db.shows opened) (db.shows left) MayMake)
+      → WorksOn db Lacks MayMake Makes out result

@@ -1,32 +1,36 @@
 //! The certificates of a book's levels, in files.
 
-ghost use Rattle.std.specs.Prelude.{◌≡◌, IfOk, MatchResult, string_bytes};
+ghost use Rattle.std.specs.Prelude.{◌≡◌, ◌≢◌, ◌⊎◌, List, Option, IfOk, IfSome, MatchResult, string_bytes, ℕ};
 ghost use Rattle.std.specs.Io.KnownBytes.{Appends};
 ghost use Rattle.sok_engine.specs.Certified.{Bytes};
 ghost use Rattle.sok_engine.specs.declared.fault.ToolFault.TheVariants as tool;
-ghost use Rattle.sok_files.specs.Files.{IsMade};
-ghost use Rattle.sok_tool.specs.Certs.{cert_path, keeping_in};
+ghost use Rattle.sok_files.specs.Files.{IsMade, files_by};
+ghost use Rattle.sok_tool.specs.Certs.{KeepsText, cert_path, keeping_in};
 
 use sok_cert::claim::Claim;
 use sok_engine::fault::ToolFault;
-use sok_files::file::create;
+use sok_engine::input::{InputFault, read_certificate};
+use sok_files::file::{create, open};
 use sok_files::folder::Folder;
+use sok_files::own::Own;
 use sok_settle::certs::Certs;
 use sok_solve::certificate::{EntryLines, ReadyCert};
 use std::alloc::{AllocError, Global};
 
-/// A folder for certificates: that of the level with an id is its file `ID.cert`.
+/// A folder for certificates: that of the level with an id is its file `ID.cert`. None is written into
+/// the file of the book.
 #[derive(Drop)]
 pub(crate) struct CertFolder<'a, F> {
     pub(crate) files: &'a F,
     pub(crate) path: &'a str,
+    pub(crate) own: Own<'a>,
 }
 
 impl<F: Folder> Certs for CertFolder<'_, F> {
     type Taking = EntryLines;
 
     ghost keeping = { λ certs. keeping_in
-        (λ path. IsMade F.Output.contents (F.makes certs.files.now path)) certs.path.now };
+        (files_by (F.reads certs.files.now) (F.lacks certs.files.now) F.Output.contents (F.makes certs.files.now) (F.takes certs.files.now) (F.bars certs.files.now)) certs.own.path.now certs.path.now };
 
     fn begin(&self, alloc: Global) -> EntryLines {
         EntryLines::new(alloc)
@@ -41,7 +45,7 @@ impl<F: Folder> Certs for CertFolder<'_, F> {
     ) -> Result<(), ToolFault> {
         let cert = ReadyCert::new(alloc, claim, taken)?;
         let path = path_of(alloc, self.path, id)?;
-        write_to(self.files, path.as_str(), &cert)
+        keep_at(alloc, self.files, path.as_str(), &self.own, &cert)
     }
 }
 
@@ -52,15 +56,66 @@ fn path_of(alloc: Global, folder: &str, id: i64) -> Result<String, AllocError>
     format!(in alloc; "{folder}/{id}.cert")
 }
 
+/// Keeps a certificate in the file at a path. A whole one that stands there is never replaced by
+/// another.
+fn keep_at<F: Folder>(
+    alloc: Global,
+    files: &F,
+    path: &str,
+    own: &Own<'_>,
+    cert: &ReadyCert,
+) -> Result<(), ToolFault>
+    ensures { MatchResult result
+        (λ _. KeepsText (files_by (F.reads files.now) (F.lacks files.now) F.Output.contents (F.makes files.now) (F.takes files.now) (F.bars files.now))
+        own.now.path.now path.now cert.now)
+        (λ fault. (fault ≡ tool.Memory) ⊎ (fault ≡ tool.WriteFailed)) }
+{
+    match files.has_certificate(path) {
+        Ok(true) => keep_same(alloc, files, path, cert),
+        Ok(false) => write_to(files, path, own, cert),
+        Err(_) => Err(ToolFault::WriteFailed),
+    }
+}
+
+/// Keeps a certificate where a whole one stands, if that is the same.
+fn keep_same<F: Folder>(
+    alloc: Global,
+    files: &F,
+    path: &str,
+    cert: &ReadyCert,
+) -> Result<(), ToolFault>
+    ensures { MatchResult result
+        (λ _. (known : Option (List ℕ)) × F.reads files.now path.now known × IfSome known (λ all. all ≡ cert.now))
+        (λ fault. (fault ≡ tool.Memory) ⊎ (fault ≡ tool.WriteFailed)) }
+{
+    let Ok(mut there) = open(files, path) else {
+        return Err(ToolFault::WriteFailed);
+    };
+    match read_certificate(alloc, &mut there) {
+        Ok(bytes) if cert.is(bytes.as_slice()) => Ok(()),
+        Err(InputFault::Memory) => Err(ToolFault::Memory),
+        _ => {
+            files.note(path, "another certificate is in this file");
+            Err(ToolFault::WriteFailed)
+        }
+    }
+}
+
 /// Writes a certificate to a file that is made for it. None stays that can't be written whole, if it
 /// can be taken away.
-fn write_to<F: Folder>(files: &F, path: &str, cert: &ReadyCert) -> Result<(), ToolFault>
+fn write_to<F: Folder>(
+    files: &F,
+    path: &str,
+    own: &Own<'_>,
+    cert: &ReadyCert,
+) -> Result<(), ToolFault>
     ensures { MatchResult result
-        (λ _. (made : Bytes) × IsMade F.Output.contents (F.makes files.now path.now) made
+        (λ _. (made : Bytes) × (path.now ≢ own.now.path.now)
+        × IsMade F.Output.contents (F.makes files.now path.now) made
         × Appends made.old made.new cert.now)
         (λ fault. fault ≡ tool.WriteFailed) }
 {
-    let mut file = create(files, path)?;
+    let mut file = create(files, path, own)?;
     match cert.write(&mut file) {
         Ok(()) => Ok(()),
         Err(_) => {

@@ -6,16 +6,18 @@ ghost use Rattle.std.specs.Prelude.{◌≡◌, Err, IfErr, IfOk, option_map, str
 ghost use Rattle.sqlite.specs.Held.{state};
 ghost use Rattle.sok_search.specs.Faults.{IsBadLimit};
 ghost use Rattle.sok_engine.specs.declared.fault.ToolFault.TheVariants as tool;
-ghost use Rattle.sok_files.specs.Files.{IsMade};
+ghost use Rattle.sok_files.specs.Files.{files_by};
 ghost use Rattle.sok_store.specs.Calls.{ChangesBook, Stops};
 ghost use Rattle.sok_keep.specs.Causes.{IsCausedFault};
 ghost use Rattle.sok_keep.specs.Shows.{IsBookText, IsShow};
 ghost use Rattle.sok_settle.specs.Settles.{SettlesSome, WritesSettling};
 ghost use Rattle.sok_tool.specs.Commands.{RunsAdd, RunsOffer, RunsOffers, RunsProve, RunsSettle};
-ghost use Rattle.sok_tool.specs.Commands.{RunsShowing, files_by};
-ghost use Rattle.sok_tool.specs.Databases.{IsWithoutBook, OpensFound, databases_by, place};
-ghost use Rattle.sok_tool.specs.Certs.{keeping_of};
+ghost use Rattle.sok_tool.specs.Commands.{RunsShowing};
+ghost use Rattle.sok_tool.specs.Databases.{IsFileless, IsNeverLacking, IsTold, IsWithoutBook, OpensFound};
+ghost use Rattle.sok_tool.specs.Databases.{databases_by, place};
+ghost use Rattle.sok_tool.specs.Certs.{IsFolderless, keeping_of};
 ghost use Rattle.sok_databases.specs.declared.databases.Access.{Access};
+ghost use Rattle.sok_databases.specs.declared.databases.Access.TheVariants as accesses;
 
 use crate::certs::CertFolder;
 use sok_book::fault::BookFault;
@@ -24,6 +26,7 @@ use sok_databases::databases::{Access, Databases};
 use sok_engine::fault::ToolFault;
 use sok_files::file::open;
 use sok_files::folder::Folder;
+use sok_files::own::Own;
 use sok_keep::add::add_bytes;
 use sok_keep::offer::offer_bytes;
 use sok_keep::prove::prove_bytes;
@@ -41,12 +44,13 @@ pub(crate) fn add<
     F: Folder + Databases<Opened = Connection<S>> + AllocGlobal,
     W: Write,
 >(rt: &F, db: &str, path: &str, out: &mut W) -> Result<u8, ToolFault>
-    ensures { RunsAdd (files_by (F.reads rt.now) (F.lacks rt.now) F.Output.contents (F.makes rt.now))
-        (databases_by (state S.Store) (F.opens_as rt.now) (F.refuses rt.now) (F.closes_as rt.now))
+    ensures { RunsAdd (files_by (F.reads rt.now) (F.lacks rt.now) F.Output.contents (F.makes rt.now) (F.takes rt.now) (F.bars rt.now))
+        (databases_by (state S.Store) (F.opens_as rt.now) (F.refuses rt.now) (F.closes_as rt.now) (F.moves rt.now))
         db.now path.now (record { old = W.contents out.old; new = W.contents out.new }) result }
 {
     let (mut book, mut input) = book_and_file(rt, db, Access::Make, path)?;
-    let told = add_bytes(rt.alloc(), &mut book, &mut input, out);
+    let ended = add_bytes(rt.alloc(), &mut book, &mut input, out);
+    let told = told_by(rt, ended);
     rt.close(db, book.into_connection());
     told
 }
@@ -60,11 +64,12 @@ pub(crate) fn offer<S: Alter + Drop, F: Databases<Opened = Connection<S>> + Allo
     out: &mut W,
 ) -> Result<u8, ToolFault>
     ensures { RunsOffer
-        (databases_by (state S.Store) (F.opens_as rt.now) (F.refuses rt.now) (F.closes_as rt.now))
+        (databases_by (state S.Store) (F.opens_as rt.now) (F.refuses rt.now) (F.closes_as rt.now) (F.moves rt.now))
         db.now id (record { old = W.contents out.old; new = W.contents out.new }) result text.now }
 {
     let mut book = book_of(rt, db, Access::Change)?;
-    let told = offer_bytes(rt.alloc(), &mut book, id, text, out);
+    let ended = offer_bytes(rt.alloc(), &mut book, id, text, out);
+    let told = told_by(rt, ended);
     rt.close(db, book.into_connection());
     told
 }
@@ -75,12 +80,13 @@ pub(crate) fn offers<
     F: Folder + Databases<Opened = Connection<S>> + AllocGlobal,
     W: Write,
 >(rt: &F, db: &str, path: &str, out: &mut W) -> Result<u8, ToolFault>
-    ensures { RunsOffers (files_by (F.reads rt.now) (F.lacks rt.now) F.Output.contents (F.makes rt.now))
-        (databases_by (state S.Store) (F.opens_as rt.now) (F.refuses rt.now) (F.closes_as rt.now))
+    ensures { RunsOffers (files_by (F.reads rt.now) (F.lacks rt.now) F.Output.contents (F.makes rt.now) (F.takes rt.now) (F.bars rt.now))
+        (databases_by (state S.Store) (F.opens_as rt.now) (F.refuses rt.now) (F.closes_as rt.now) (F.moves rt.now))
         db.now path.now (record { old = W.contents out.old; new = W.contents out.new }) result }
 {
     let (mut book, mut input) = book_and_file(rt, db, Access::Change, path)?;
-    let told = offers_bytes(rt.alloc(), &mut book, &mut input, out);
+    let ended = offers_bytes(rt.alloc(), &mut book, &mut input, out);
+    let told = told_by(rt, ended);
     rt.close(db, book.into_connection());
     told
 }
@@ -91,12 +97,13 @@ pub(crate) fn prove<
     F: Folder + Databases<Opened = Connection<S>> + AllocGlobal,
     W: Write,
 >(rt: &F, db: &str, id: i64, path: &str, out: &mut W) -> Result<u8, ToolFault>
-    ensures { RunsProve (files_by (F.reads rt.now) (F.lacks rt.now) F.Output.contents (F.makes rt.now))
-        (databases_by (state S.Store) (F.opens_as rt.now) (F.refuses rt.now) (F.closes_as rt.now))
+    ensures { RunsProve (files_by (F.reads rt.now) (F.lacks rt.now) F.Output.contents (F.makes rt.now) (F.takes rt.now) (F.bars rt.now))
+        (databases_by (state S.Store) (F.opens_as rt.now) (F.refuses rt.now) (F.closes_as rt.now) (F.moves rt.now))
         db.now id path.now (record { old = W.contents out.old; new = W.contents out.new }) result }
 {
     let (mut book, mut cert_input) = book_and_file(rt, db, Access::Change, path)?;
-    let told = prove_bytes(rt.alloc(), &mut book, id, &mut cert_input, out);
+    let ended = prove_bytes(rt.alloc(), &mut book, id, &mut cert_input, out);
+    let told = told_by(rt, ended);
     rt.close(db, book.into_connection());
     told
 }
@@ -115,12 +122,13 @@ pub(crate) fn settle<
     folder: Option<String>,
     out: &mut W,
 ) -> Result<u8, ToolFault>
-    ensures { RunsSettle (files_by (F.reads rt.now) (F.lacks rt.now) F.Output.contents (F.makes rt.now))
-        (databases_by (state S.Store) (F.opens_as rt.now) (F.refuses rt.now) (F.closes_as rt.now))
+    ensures { RunsSettle (files_by (F.reads rt.now) (F.lacks rt.now) F.Output.contents (F.makes rt.now) (F.takes rt.now) (F.bars rt.now))
+        (databases_by (state S.Store) (F.opens_as rt.now) (F.refuses rt.now) (F.closes_as rt.now) (F.moves rt.now))
         db.now limit from (option_map (λ s. string_bytes s) folder) (record { old = W.contents out.old; new = W.contents out.new }) result }
 {
-    let mut book = book_of(rt, db, Access::Change)?;
-    let told = settle_book(rt, &mut book, limit, from, folder, out);
+    let mut book = book_and_folder(rt, db, &folder)?;
+    let ended = settle_book(rt, &mut book, db, limit, from, folder, out);
+    let told = told_by(rt, ended);
     rt.close(db, book.into_connection());
     told
 }
@@ -129,21 +137,22 @@ pub(crate) fn settle<
 fn settle_book<S: Alter, F: Folder + AllocGlobal, W: Write>(
     rt: &F,
     book: &mut Book<S>,
+    db: &str,
     limit: u32,
     from: i64,
     folder: Option<String>,
     out: &mut W,
 ) -> Result<u8, ToolFault>
     ensures writes { ChangesBook (state S.Store book.old) (state S.Store book.new) (λ pages after.
-        WritesSettling (keeping_of (λ path. IsMade F.Output.contents (F.makes rt.now path))
+        WritesSettling (keeping_of (files_by (F.reads rt.now) (F.lacks rt.now) F.Output.contents (F.makes rt.now) (F.takes rt.now) (F.bars rt.now)) db.now
         (option_map (λ s. string_bytes s) folder)) limit from pages after
         (W.contents out.old) (W.contents out.new) result) }
     ensures bad_limit { IsBadLimit limit → result ≡ Err tool.BadLimit }
     ensures stop { Stops (state S.Store book.old) (state S.Store book.new)
-        (SettlesSome (keeping_of (λ path. IsMade F.Output.contents (F.makes rt.now path))
+        (SettlesSome (keeping_of (files_by (F.reads rt.now) (F.lacks rt.now) F.Output.contents (F.makes rt.now) (F.takes rt.now) (F.bars rt.now)) db.now
         (option_map (λ s. string_bytes s) folder)) limit from) }
     ensures cause { IfErr result (IsCausedFault (state S.Store book.old) (state S.Store book.new)
-        (SettlesSome (keeping_of (λ path. IsMade F.Output.contents (F.makes rt.now path))
+        (SettlesSome (keeping_of (files_by (F.reads rt.now) (F.lacks rt.now) F.Output.contents (F.makes rt.now) (F.takes rt.now) (F.bars rt.now)) db.now
         (option_map (λ s. string_bytes s) folder)) limit from)) }
 {
     match folder {
@@ -151,6 +160,7 @@ fn settle_book<S: Alter, F: Folder + AllocGlobal, W: Write>(
             let certs = CertFolder {
                 files: rt,
                 path: folder.as_str(),
+                own: Own::book(db),
             };
             settle_bytes(rt.alloc(), book, limit, from, &certs, out)
         }
@@ -166,7 +176,7 @@ pub(crate) fn show<S: Alter + Drop, F: Databases<Opened = Connection<S>> + Alloc
     out: &mut W,
 ) -> Result<u8, ToolFault>
     ensures { RunsShowing
-        (databases_by (state S.Store) (F.opens_as rt.now) (F.refuses rt.now) (F.closes_as rt.now))
+        (databases_by (state S.Store) (F.opens_as rt.now) (F.refuses rt.now) (F.closes_as rt.now) (F.moves rt.now))
         db.now (λ book. IsShow book id) (record { old = W.contents out.old; new = W.contents out.new }) result }
 {
     let mut book = book_of(rt, db, Access::Read)?;
@@ -183,13 +193,24 @@ pub(crate) fn tell<S: Alter + Drop, F: Databases<Opened = Connection<S>> + Alloc
     out: &mut W,
 ) -> Result<u8, ToolFault>
     ensures { RunsShowing
-        (databases_by (state S.Store) (F.opens_as rt.now) (F.refuses rt.now) (F.closes_as rt.now))
+        (databases_by (state S.Store) (F.opens_as rt.now) (F.refuses rt.now) (F.closes_as rt.now) (F.moves rt.now))
         db.now (IsBookText text) (record { old = W.contents out.old; new = W.contents out.new }) result }
 {
     let mut book = book_of(rt, db, Access::Read)?;
     let told = book_bytes(rt.alloc(), &mut book, text, out);
     rt.close(db, book.into_connection());
     told
+}
+
+/// What is told of how a command on a book ended. A write that failed since another file has the
+/// database's path by then is a fault of the database.
+fn told_by<F: Databases>(rt: &F, ended: Result<u8, ToolFault>) -> Result<u8, ToolFault>
+    ensures { IsTold (F.moves rt.now) ended result }
+{
+    match ended {
+        Err(ToolFault::WriteFailed) if !rt.stands() => Err(ToolFault::Book(BookFault::Database)),
+        _ => ended,
+    }
 }
 
 /// Opens the database at a path as a book.
@@ -199,10 +220,10 @@ fn book_of<S: Alter + Drop, F: Databases<Opened = Connection<S>> + AllocGlobal>(
     access: Access,
 ) -> Result<Book<S>, ToolFault>
     ensures opens { IfOk result (OpensFound (place (state S.Store)
-        (F.opens_as rt.now access db.now) (F.refuses rt.now db.now) (F.closes_as rt.now db.now))) }
+        (F.opens_as rt.now access db.now) (F.refuses rt.now db.now) (F.closes_as rt.now db.now) (F.moves rt.now))) }
     ensures refused { IfErr result
         (IsWithoutBook (place (state S.Store)
-        (F.opens_as rt.now access db.now) (F.refuses rt.now db.now) (F.closes_as rt.now db.now)) ⊥) }
+        (F.opens_as rt.now access db.now) (F.refuses rt.now db.now) (F.closes_as rt.now db.now) (F.moves rt.now)) IsNeverLacking) }
 {
     let found = rt.database(db, access)?;
     opened(rt, db, found)
@@ -216,11 +237,11 @@ fn book_and_file<S: Alter + Drop, F: Folder + Databases<Opened = Connection<S>> 
     path: &str,
 ) -> Result<(Book<S>, F::Input), ToolFault>
     ensures opens { IfOk result (λ both. OpensFound (place (state S.Store)
-        (F.opens_as rt.now access db.now) (F.refuses rt.now db.now) (F.closes_as rt.now db.now)) both.0) }
+        (F.opens_as rt.now access db.now) (F.refuses rt.now db.now) (F.closes_as rt.now db.now) (F.moves rt.now)) both.0) }
     ensures reads { IfOk result (λ both. F.reads rt.now path.now (F.Input.remaining both.1)) }
     ensures refused { IfErr result
         (IsWithoutBook (place (state S.Store)
-        (F.opens_as rt.now access db.now) (F.refuses rt.now db.now) (F.closes_as rt.now db.now)) (F.lacks rt.now path.now)) }
+        (F.opens_as rt.now access db.now) (F.refuses rt.now db.now) (F.closes_as rt.now db.now) (F.moves rt.now)) (IsFileless (F.lacks rt.now path.now))) }
 {
     let connection = rt.database(db, access)?;
     match open(rt, path) {
@@ -232,6 +253,29 @@ fn book_and_file<S: Alter + Drop, F: Folder + Databases<Opened = Connection<S>> 
     }
 }
 
+/// Opens the database at a path, then looks at the folder for certificates, if one is given, and then
+/// opens the book.
+fn book_and_folder<S: Alter + Drop, F: Folder + Databases<Opened = Connection<S>> + AllocGlobal>(
+    rt: &F,
+    db: &str,
+    folder: &Option<String>,
+) -> Result<Book<S>, ToolFault>
+    ensures opens { IfOk result (OpensFound (place (state S.Store)
+        (F.opens_as rt.now accesses.Settle db.now) (F.refuses rt.now db.now) (F.closes_as rt.now db.now) (F.moves rt.now))) }
+    ensures refused { IfErr result (IsWithoutBook (place (state S.Store)
+        (F.opens_as rt.now accesses.Settle db.now) (F.refuses rt.now db.now) (F.closes_as rt.now db.now) (F.moves rt.now))
+        (IsFolderless (files_by (F.reads rt.now) (F.lacks rt.now) F.Output.contents (F.makes rt.now) (F.takes rt.now) (F.bars rt.now)) (option_map (λ s. string_bytes s) folder.now))) }
+{
+    let connection = rt.database(db, Access::Settle)?;
+    if let Some(folder) = folder {
+        if rt.try_folder(folder.as_str()).is_err() {
+            rt.close(db, connection);
+            return Err(ToolFault::WriteFailed);
+        }
+    }
+    opened(rt, db, connection)
+}
+
 /// Opens a database as a book. Where that is refused the connection is given back. A connection in
 /// a transaction, which no database is opened as, is `Database`.
 fn opened<S: Alter + Drop, F: Databases<Opened = Connection<S>> + AllocGlobal>(
@@ -241,10 +285,10 @@ fn opened<S: Alter + Drop, F: Databases<Opened = Connection<S>> + AllocGlobal>(
 ) -> Result<Book<S>, ToolFault>
     ensures opens { (access : Access) → F.opens_as rt.now access db.now connection
         → IfOk result (OpensFound (place (state S.Store)
-        (F.opens_as rt.now access db.now) (F.refuses rt.now db.now) (F.closes_as rt.now db.now))) }
+        (F.opens_as rt.now access db.now) (F.refuses rt.now db.now) (F.closes_as rt.now db.now) (F.moves rt.now))) }
     ensures refused { (access : Access) → F.opens_as rt.now access db.now connection
         → IfErr result (IsWithoutBook (place (state S.Store)
-        (F.opens_as rt.now access db.now) (F.refuses rt.now db.now) (F.closes_as rt.now db.now)) ⊥) }
+        (F.opens_as rt.now access db.now) (F.refuses rt.now db.now) (F.closes_as rt.now db.now) (F.moves rt.now)) IsNeverLacking) }
 {
     if !connection.is_autocommit() {
         rt.close(db, connection);

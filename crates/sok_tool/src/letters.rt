@@ -75,7 +75,7 @@ pub(crate) fn offer<
     W: Write,
 >(rt: &F, db: &str, id: i64, word: &str, input: &mut R, out: &mut W) -> Result<u8, ToolFault>
     ensures { OnLetters word.now (R.remaining input.old) (RunsOffer
-        (databases_by (state S.Store) (F.opens_as rt.now) (F.refuses rt.now) (F.closes_as rt.now))
+        (databases_by (state S.Store) (F.opens_as rt.now) (F.refuses rt.now) (F.closes_as rt.now) (F.moves rt.now))
         db.now id (record { old = W.contents out.old; new = W.contents out.new }) result)
         (record { old = W.contents out.old; new = W.contents out.new }) result }
 {

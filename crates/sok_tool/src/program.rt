@@ -7,7 +7,8 @@ ghost use Rattle.sok_play.specs.Plays.{IsPlay};
 ghost use Rattle.sok_words.specs.Forms.{Form, IsPlain, words_of};
 ghost use Rattle.sok_files.specs.Endings.{Runs};
 ghost use Rattle.sqlite.specs.Held.{state};
-ghost use Rattle.sok_tool.specs.Commands.{Serves, ServesJob, files_by};
+ghost use Rattle.sok_files.specs.Files.{files_by};
+ghost use Rattle.sok_tool.specs.Commands.{Serves, ServesJob};
 ghost use Rattle.sok_tool.specs.Databases.{databases_by};
 
 use crate::keeping::{add, offers, prove, settle, show, tell};
@@ -46,8 +47,8 @@ pub fn run<
         (W.contents out.old) (W.contents out.new) (E.contents err.old) (E.contents err.new) result }
     ensures serves { (program : List ℕ) (form : Form) → IsPlain form
         → map (λ word. string_bytes word) words.now ≡ program ∷ words_of form
-        → Serves (files_by (F.reads rt.now) (F.lacks rt.now) F.Output.contents (F.makes rt.now))
-        (databases_by (state S.Store) (F.opens_as rt.now) (F.refuses rt.now) (F.closes_as rt.now)) form
+        → Serves (files_by (F.reads rt.now) (F.lacks rt.now) F.Output.contents (F.makes rt.now) (F.takes rt.now) (F.bars rt.now))
+        (databases_by (state S.Store) (F.opens_as rt.now) (F.refuses rt.now) (F.closes_as rt.now) (F.moves rt.now)) form
         (record { old = W.contents out.old; new = W.contents out.new })
         (record { old = E.contents err.old; new = E.contents err.new }) result }
 {
@@ -68,8 +69,8 @@ fn served<
     W: Write,
     E: Write,
 >(rt: &F, job: Job, input: &mut R, out: &mut W, err: &mut E) -> u8
-    ensures { ServesJob (files_by (F.reads rt.now) (F.lacks rt.now) F.Output.contents (F.makes rt.now))
-        (databases_by (state S.Store) (F.opens_as rt.now) (F.refuses rt.now) (F.closes_as rt.now)) job
+    ensures { ServesJob (files_by (F.reads rt.now) (F.lacks rt.now) F.Output.contents (F.makes rt.now) (F.takes rt.now) (F.bars rt.now))
+        (databases_by (state S.Store) (F.opens_as rt.now) (F.refuses rt.now) (F.closes_as rt.now) (F.moves rt.now)) job
         (record { old = W.contents out.old; new = W.contents out.new })
         (record { old = E.contents err.old; new = E.contents err.new }) result }
 {

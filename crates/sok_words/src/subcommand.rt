@@ -87,7 +87,8 @@ Writes one of these:
   limit S at least K   the same, with --bound: no letters solve the level with fewer than K
                        pushes (status 4)
 The certificate shows it to whoever checks it, but for limit S, with which it stays empty. With
---cert more states are kept than without, so a limit may be met that suffices without. A fault is
+--cert more states are kept than without, so a limit may be met that suffices without. PATH may be
+missing, empty, or hold a certificate: any other file stays, with fault 51 WriteFailed. A fault is
 status 3 or 5, and of memory 6.
 
 Example: sok solve small.xsb 1 --cert first.cert",
@@ -114,7 +115,8 @@ Writes a line for each level (status 0, also where levels are faulty):
   N id ID                 its id in the book: that of the same level, if it is there already
   N fault NUMBER NAME ..  the level's fault: it is not added; the levels behind it are
 A fault of the file or of the book is status 3 or 5, and of memory 6; the lines before it stand,
-and so do their levels in the book.
+and so do their levels in the book. It makes DB where there is no file, or an empty one.
+DB-wal is the log of DB: changes stand there first, and within a second in DB.
 
 Example: sok add small.db small.xsb",
             places: &[DB, FILE],
@@ -144,6 +146,7 @@ offer. Blank lines are passed over. For each other line it writes one, as soon a
                            with no decimal number
 The status is 0 where each line is stored or kept, and else 3. A fault of the file or of the book is
 status 3 or 5, and of memory 6: the lines before it stand, and what they tell is kept.
+DB-wal is the log of DB: changes stand there first, and within a second in DB.
 
 Example: sok offers small.db small.lurd",
             places: &[DB, OFFERS],
@@ -175,7 +178,9 @@ Writes a line for each level with verdict untested, in order of ids, as soon as 
   ID fault 52 TooMuch      its certificate, which --certs asks for, has more than 268,435,456 bytes:
                            nothing is kept of it
 The status is 0 where no line is one of the last three, and else 4. A fault is status 3 or 5, and of
-memory 6: the lines before it stand, and what they tell is kept.
+memory 6: the lines before it stand, and what they tell is kept. A whole certificate in FOLDER is
+never replaced by another: that is fault 51 WriteFailed, and the level stays as it was.
+DB-wal is the log of DB: changes stand there first, and within a second in DB.
 
 Examples: sok settle small.db
           sok settle small.db --limit 1000000 --from 2

@@ -1,4 +1,4 @@
-use Rattle.std.proofs.Common.{◌≢◌, ◌∙◌, inl, inr, Err, ap, refl, sym, true≢false}
+use Rattle.std.proofs.Common.{◌≢◌, ◌∙◌, inl, inr, Err, ap, refl, sym}
 use Rattle.std.proofs.KnownBytes.{Keeps-refl}
 use Rattle.std.proofs.lemmas.Result.{err_from_is_err_and}
 use Rattle.sok_engine.specs.Inputs.{Within}
@@ -16,16 +16,13 @@ returns-in_err-input g c =
 pub returns-in_err-cert_out : goal.returns-in_err-cert_out
 returns-in_err-cert_out g c =
     let p = err_from_is_err_and c.from_residual-in_err-cert_out.result c.from_residual-in_err-cert_out.ensures.1 in
-    rw (p.1, p.2) (inl (inr (inr (ap Err c.in_err-cert_out.ensures)), Keeps-refl _))
-
-pub returns-then-is_one : goal.returns-then-is_one
-returns-then-is_one g c = inl (inr (inr refl), Keeps-refl _)
+    rw (p.1, p.2) (inl (inr (inr (ap Err c.in_err-cert_out.ensures.made)), Keeps-refl _))
 
 pub returns : goal.returns
 returns g c =
     let reads = g.F.Folder.reads c.args.rt.now c.args.path.now in
     let makes = IsMade g.F.Output.Write.contents (g.F.Folder.makes c.args.rt.now c.args.cert_path.now) in
-    let other : c.args.path.now ≢ c.args.cert_path.now = λ same. true≢false (sym (c.is_one.ensures same) ∙ c.if-is_one.false) in
+    let other : c.args.path.now ≢ c.args.cert_path.now = λ same. c.in_ok-cert_out.ensures.apart (sym same ∙ sym c.collection.ensures) in
     SolvesTo-file reads (Within input_limit (IsSolve c.args.n c.args.limit c.args.bound)) (λ cert. (c.args.path.now ≢ c.args.cert_path.now) × makes cert) _ _ _
     c.solve_bytes.result c.in_ok-input.ensures.opened
-    (other, (c.in_ok-cert_out.cert_out, c.solve_bytes.new.cert_out, c.in_ok-cert_out.ensures, refl)) c.solve_bytes.ensures
+    (other, (c.in_ok-cert_out.cert_out, c.solve_bytes.new.cert_out, c.in_ok-cert_out.ensures.made, refl)) c.solve_bytes.ensures

@@ -13,4 +13,4 @@ returns-in_err-opened-in-Ok-clause-refused g c =
 
 pub returns-in-Err-clause-refused : goal.returns-in-Err-clause-refused
 returns-in-Err-clause-refused g c =
-    fileless c.in-Err.ensures.lacks c.in_ok-connection.connection c.in_ok-connection.ensures.opened c.close.ensures c.in-Err.ensures.opened
+    fileless (c.in-Err.ensures.lacks, c.in-Err.ensures.opened) c.in_ok-connection.connection c.in_ok-connection.ensures.opened c.close.ensures

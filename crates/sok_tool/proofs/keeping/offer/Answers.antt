@@ -12,7 +12,7 @@ returns-in_err-book g c = without_book _ _ _ _ _ _ _ c.from_residual.ensures.1 c
 
 pub returns : goal.returns
 returns g c =
-    let call = c.offer_bytes-told in
+    let call = c.offer_bytes-ended in
     let before = g.W.Write.contents c.args.out.now in
     let later = g.W.Write.contents call.new.out in
     let offers = of_passed (λ id. ChangesBook (state g.S.Store c.in_ok-book.book) (state g.S.Store call.new.book)
@@ -21,5 +21,5 @@ returns g c =
     call.ensures.stop in
     let cause = of_passed (λ id. IfErr call.result (IsCausedFault (state g.S.Store c.in_ok-book.book) (state g.S.Store call.new.book) (OffersText id c.args.text.now)))
     c.args.id c.ranges.id call.ensures.cause in
-    works _ _ _ _ _ _ c.in_ok-book.book call.new.book _ c.in_ok-book.ensures.opens c.into_connection.ensures c.close.ensures
+    works _ _ _ (λ ended book after. WritesOffer book c.args.id c.args.text.now after before later ended) _ _ _ c.told_by-told.ensures c.in_ok-book.book call.new.book _ c.in_ok-book.ensures.opens c.into_connection.ensures c.close.ensures
     offers stop cause

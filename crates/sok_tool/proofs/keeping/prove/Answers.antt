@@ -12,7 +12,7 @@ returns-in_err-book g c = without_book _ _ _ _ _ _ _ c.from_residual.ensures.1 c
 
 pub returns : goal.returns
 returns g c =
-    let call = c.prove_bytes-told in
+    let call = c.prove_bytes-ended in
     let known = g.F.Input.Read.remaining c.in_ok-book.cert_input in
     let before = g.W.Write.contents c.args.out.now in
     let later = g.W.Write.contents call.new.out in
@@ -22,5 +22,5 @@ returns g c =
     let cause = of_passed (λ id. IfErr call.result (IsCausedFault (state g.S.Store c.in_ok-book.book) (state g.S.Store call.new.book) (ProvesBytes id known)))
     c.args.id c.ranges.id call.ensures.cause in
     works_with_file _ _ _ known c.in_ok-book.ensures.reads (ProvesBytes c.args.id)
-    (λ known book after. WritesProof book c.args.id known after before later call.result) _ _ c.in_ok-book.book call.new.book _ c.in_ok-book.ensures.opens
+    (λ known ended book after. WritesProof book c.args.id known after before later ended) _ _ _ c.told_by-told.ensures c.in_ok-book.book call.new.book _ c.in_ok-book.ensures.opens
     c.into_connection.ensures c.close.ensures proves stop cause

@@ -1,8 +1,10 @@
-use Rattle.std.proofs.Common.{IfErr}
+use Rattle.std.proofs.Common.{◌≡◌, Err, IfErr}
+use Rattle.sok_engine.specs.declared.fault.ToolFault.TheVariants as tool
+use Rattle.sok_search.specs.Faults.{IsBadLimit}
 use Rattle.std.specs.Option.{option_map}
 use Rattle.std.specs.Prelude.{string_bytes}
 use Rattle.sqlite.specs.Held.{state}
-use Rattle.sok_files.specs.Files.{IsMade}
+use Rattle.sok_files.specs.Files.{files_by}
 use Rattle.sok_store.specs.Calls.{ChangesBook, Stops}
 use Rattle.sok_keep.specs.Causes.{IsCausedFault}
 use Rattle.sok_keep.proofs.Ids.{of_passed}
@@ -16,9 +18,9 @@ returns-in_err-book g c = without_book _ _ _ _ _ _ _ c.from_residual.ensures.1 c
 
 pub returns : goal.returns
 returns g c =
-    let call = c.settle_book-told in
+    let call = c.settle_book-ended in
     let limit = c.args.limit in
-    let keeping = keeping_of (λ path. IsMade g.F.Output.Write.contents (g.F.Folder.makes c.args.rt.now path))
+    let keeping = keeping_of (files_by (g.F.Folder.reads c.args.rt.now) (g.F.Folder.lacks c.args.rt.now) g.F.Output.Write.contents (g.F.Folder.makes c.args.rt.now) (g.F.Folder.takes c.args.rt.now) (g.F.Folder.bars c.args.rt.now)) c.args.db.now
     (option_map (λ s. string_bytes s) c.args.folder) in
     let old = state g.S.Store c.in_ok-book.book in
     let new = state g.S.Store call.new.book in
@@ -28,7 +30,8 @@ returns g c =
     c.ranges.from call.ensures.writes in
     let stop = of_passed (λ from. Stops old new (SettlesSome keeping limit from)) c.args.from c.ranges.from call.ensures.stop in
     let cause = of_passed (λ from. IfErr call.result (IsCausedFault old new (SettlesSome keeping limit from))) c.args.from c.ranges.from call.ensures.cause in
-    works _ _ _ _ _ _ c.in_ok-book.book call.new.book _ c.in_ok-book.ensures.opens c.into_connection.ensures c.close.ensures
+    works _ _ _ (λ ended book after. (IsBadLimit limit → ended ≡ Err tool.BadLimit) × WritesSettling keeping limit c.args.from book after before later ended) _ _ _
+    c.told_by-told.ensures c.in_ok-book.book call.new.book _ c.in_ok-book.ensures.opens c.into_connection.ensures c.close.ensures
     (ChangesBook-weaker old new (λ book after. WritesSettling keeping limit c.args.from book after before later call.result) _
     (λ book after made. (call.ensures.bad_limit, made)) settles)
     stop cause

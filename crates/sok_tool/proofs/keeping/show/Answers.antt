@@ -1,3 +1,4 @@
+use Rattle.std.proofs.Common.{◌≡◌, inl, refl}
 use Rattle.sqlite.specs.Held.{state}
 use Rattle.sok_engine.specs.Written.{Writes}
 use Rattle.sok_store.specs.Calls.{KeepsBook}
@@ -16,5 +17,5 @@ returns g c =
     let later = g.W.Write.contents call.new.out in
     let shown = of_passed (λ id. KeepsBook (state g.S.Store c.in_ok-book.book) (state g.S.Store call.new.book) (λ book. Writes (IsShow book id) before later call.result))
     c.args.id c.ranges.id call.ensures.writes in
-    works _ _ _ _ _ _ c.in_ok-book.book call.new.book _ c.in_ok-book.ensures.opens c.into_connection.ensures c.close.ensures
+    works _ _ _ (λ ended book after. (after ≡ book) × Writes (IsShow book c.args.id) before later ended) _ _ _ (inl refl) c.in_ok-book.book call.new.book _ c.in_ok-book.ensures.opens c.into_connection.ensures c.close.ensures
     (KeepsBook-changes _ _ _ shown) call.ensures.stop call.ensures.cause

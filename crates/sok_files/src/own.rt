@@ -1,0 +1,41 @@
+//! A file that a run has open beside its certificates, into which none is written.
+
+ghost use Rattle.std.specs.Prelude.{◌≡◌};
+
+use std::fmt::InlineText;
+use std::io;
+
+/// The collection, or the book, of a run: where it is, and what it is called in a cause.
+#[derive(Clone, Copy)]
+pub struct Own<'a> {
+    pub path: &'a str,
+    pub name: &'static str,
+}
+
+impl<'a> Own<'a> {
+    /// The collection at a path.
+    pub fn collection(path: &'a str) -> Own<'a>
+        ensures { result.path.now ≡ path.now }
+    {
+        Own {
+            path,
+            name: "the collection",
+        }
+    }
+
+    /// The book in the database at a path.
+    pub fn book(path: &'a str) -> Own<'a>
+        ensures { result.path.now ≡ path.now }
+    {
+        Own {
+            path,
+            name: "the book",
+        }
+    }
+
+    /// Why nothing else is written into its file.
+    pub(crate) fn error(&self) -> io::Error {
+        let name = self.name;
+        io::Error::other(InlineText::<40>::of(format_args!("{name} is in this file")).as_str())
+    }
+}

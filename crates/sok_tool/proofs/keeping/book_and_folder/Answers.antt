@@ -1,0 +1,25 @@
+use Rattle.std.proofs.Common.{◌≡◌, ◌∙◌, OnErr, Result, Ok, Err, refl, subst, sym, true, true≢false}
+use Rattle.std.proofs.lemmas.Result.{IfErr-weaker}
+use Rattle.std.specs.Option.{IsSomeAnd, option_map}
+use Rattle.std.specs.Prelude.{string_bytes}
+use Rattle.std.specs.Result.{is_err}
+use Rattle.sok_databases.specs.declared.databases.Access.TheVariants as accesses
+use Rattle.sok_tool.specs.Databases.{fileless}
+use Rattle.sok_tool.proofs.Working.{fileless_too}
+use Rattle.sok_tool.proofs.keeping.book_and_folder.Goals as goal
+
+-- what holds on an error holds of one
+of_err : {T E : Type 0} (P : Type 0) (r : Result T E) → is_err r ≡ true → OnErr r P → P
+of_err P (Ok x) is holds = absurd (true≢false (sym is))
+of_err P (Err e) is holds = holds
+
+pub returns-then-is_err-clause-refused : goal.returns-then-is_err-clause-refused
+returns-then-is_err-clause-refused g c =
+    let bars = g.F.Folder.bars c.args.rt.now in
+    let barred = of_err (bars c.as_str.result.now) c.try_folder.result (sym c.is_err.ensures.value ∙ c.if-is_err.true) c.try_folder.ensures in
+    let folder = subst (λ o. IsSomeAnd (option_map (λ s. string_bytes s) o) bars) (sym c.in-Some.is) (subst bars c.as_str.ensures.value barred) in
+    fileless (folder, refl) c.in_ok-connection.connection c.in_ok-connection.ensures.opened c.close.ensures
+
+pub returns-clause-refused : goal.returns-clause-refused
+returns-clause-refused g c =
+    IfErr-weaker c.opened.result _ _ (fileless_too _ _) (c.opened.ensures.refused accesses.Settle c.in_ok-connection.ensures.opened)
