@@ -1,10 +1,9 @@
 //! Databases by their paths.
 
-ghost use Rattle.std.specs.Prelude.{◌≡◌, ◌⊎◌, ℕ, List, IfErr, IfOk, MatchBool, ⊤};
+ghost use Rattle.std.specs.Prelude.{◌≡◌, ◌⊎◌, IfErr, IfOk, MatchBool, ⊤};
 ghost use Rattle.sok_book.specs.declared.fault.BookFault.TheVariants as refusal;
-ghost use Rattle.sok_engine.specs.declared.fault.ToolFault.{ToolFault};
 ghost use Rattle.sok_engine.specs.declared.fault.ToolFault.TheVariants as tool;
-ghost use Rattle.sok_databases.specs.declared.databases.Access.{Access};
+ghost use Rattle.sok_databases.specs.Known.{KnownDatabases, MayOpen, unknown_databases};
 
 use crate::book_file::BookFile;
 use crate::opening::{Unopened, open};
@@ -31,53 +30,33 @@ pub enum Access {
 pub trait Databases {
     type Opened: Drop;
 
-    // The database at this path may be opened as this connection: one that is there, one that is
-    // made, or what is read of one.
-    ghost opens_as: { Self → Access → List ℕ → Self.Opened → Type 0 };
-
-    // The database at this path may be refused, and this is told.
-    ghost refuses: { Self → List ℕ → ToolFault → Type 0 };
-
-    // This connection to the database at this path was given back.
-    ghost closes_as: { Self → List ℕ → Self.Opened → Type 0 };
-
-    // The path of the database that was opened last led to its file.
-    ghost stood: { Self → Type 0 };
-
-    // It may lead to another one.
-    ghost moves: { Self → Type 0 };
+    // What is known of the databases, and which of them may be made or changed.
+    ghost databases: { Self → KnownDatabases Self.Opened };
 
     /// Opens the database at a path, or makes an empty one where none is there and one may be made.
     /// Where it can't be opened, for another cause than memory, that is `Database`.
     fn database(&self, path: &str, access: Access) -> Result<Self::Opened, ToolFault>
-        ensures opened { IfOk result (opens_as self.now access path.now) }
-        ensures refuses { IfErr result (refuses self.now path.now) }
+        requires { MayOpen (databases self.now) access path.now }
+        ensures opened { IfOk result ((databases self.now).opens_as access path.now) }
+        ensures refuses { IfErr result ((databases self.now).refuses path.now) }
         ensures refused { IfErr result
             (λ fault. (fault ≡ tool.Memory) ⊎ (fault ≡ tool.Book refusal.Database)) };
 
     /// Whether the path of the database that was opened last to be changed still leads to its file, if
     /// one was. Else the book that has the path now lacks what is done.
     fn stands(&self) -> bool
-        ensures { MatchBool result (stood self.now) (moves self.now) };
+        ensures { MatchBool result (databases self.now).stood (databases self.now).moves };
 
     /// Takes a connection back, when the work on the database at a path is done.
     fn close(&self, path: &str, connection: Self::Opened)
-        ensures { closes_as self.now path.now connection };
+        ensures { (databases self.now).closes_as path.now connection };
 }
 
 /// Those of the machine, of which no contract knows what they hold. Why one can't be opened is noted.
 impl Databases for Watched<'_, HostRuntime> {
     type Opened = Connection<FileStore<BookFile>>;
 
-    ghost opens_as = { λ _ _ _ _. ⊤ };
-
-    ghost refuses = { λ _ _ _. ⊤ };
-
-    ghost closes_as = { λ _ _ _. ⊤ };
-
-    ghost stood = { λ _. ⊤ };
-
-    ghost moves = { λ _. ⊤ };
+    ghost databases = { λ _. unknown_databases };
 
     fn database(
         &self,

@@ -29,7 +29,7 @@ impl<F: Databases, W: Write> Write for Guarded<'_, F, W> {
     fn write(&mut self, buf: &[u8]) -> io::Result<usize>
         ensures bound { WritesAtMost result buf.now }
         ensures bytes { WriteAppends (W.contents self.old.out) (W.contents self.new.out) result buf.now }
-        ensures stood { OnOk result (F.stood self.old.databases.now) }
+        ensures stood { OnOk result (F.databases self.old.databases.now).stood }
     {
         if !self.databases.stands() {
             return Err(io::Error::from(ErrorKind::Other));

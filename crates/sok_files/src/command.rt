@@ -1,7 +1,7 @@
 //! Each command on its files, which are opened, or made, in the order in which the words name them,
 //! before anything is read.
 
-ghost use Rattle.std.specs.Prelude.{◌≡◌, ◌≢◌, option_map, string_bytes};
+ghost use Rattle.std.specs.Prelude.{◌≡◌, ◌≢◌, IfSome, option_map, string_bytes};
 ghost use Rattle.sok_engine.specs.Inputs.{Within};
 ghost use Rattle.sok_engine.specs.Limits.{cert_limit, input_limit};
 ghost use Rattle.sok_engine.specs.Written.{Writes};
@@ -31,7 +31,7 @@ pub fn list<F: Folder + AllocGlobal, W: Write>(
     path: &str,
     out: &mut W,
 ) -> Result<u8, ToolFault>
-    ensures { Writes (OfFile (F.reads rt.now path.now) (Within input_limit IsListing))
+    ensures { Writes (OfFile ((F.files rt.now).reads path.now) (Within input_limit IsListing))
         (W.contents out.old) (W.contents out.new) result }
 {
     let mut input = open(rt, path)?;
@@ -46,7 +46,7 @@ pub fn replay<F: Folder + AllocGlobal, W: Write>(
     text: &[u8],
     out: &mut W,
 ) -> Result<u8, ToolFault>
-    ensures { Writes (OfFile (F.reads rt.now path.now) (Within input_limit (IsReplay n text.now)))
+    ensures { Writes (OfFile ((F.files rt.now).reads path.now) (Within input_limit (IsReplay n text.now)))
         (W.contents out.old) (W.contents out.new) result }
 {
     let mut input = open(rt, path)?;
@@ -61,7 +61,7 @@ pub fn draw<F: Folder + AllocGlobal, W: Write>(
     text: &[u8],
     out: &mut W,
 ) -> Result<u8, ToolFault>
-    ensures { Writes (OfFile (F.reads rt.now path.now) (Within input_limit (IsDrawing n text.now)))
+    ensures { Writes (OfFile ((F.files rt.now).reads path.now) (Within input_limit (IsDrawing n text.now)))
         (W.contents out.old) (W.contents out.new) result }
 {
     let mut input = open(rt, path)?;
@@ -77,7 +77,7 @@ pub fn check<F: Folder + AllocGlobal, W: Write>(
     cert_path: &str,
     out: &mut W,
 ) -> Result<u8, ToolFault>
-    ensures { Writes (OfFiles (F.reads rt.now path.now) (F.reads rt.now cert_path.now)
+    ensures { Writes (OfFiles ((F.files rt.now).reads path.now) ((F.files rt.now).reads cert_path.now)
         (λ text. Within input_limit (IsCheck cert_limit n text)))
         (W.contents out.old) (W.contents out.new) result }
 {
@@ -97,8 +97,9 @@ pub fn solve<F: Folder + AllocGlobal, W: Write>(
     cert_path: Option<String>,
     out: &mut W,
 ) -> Result<u8, ToolFault>
-    ensures { SolvesLevel path.now (F.reads rt.now path.now)
-        (λ place. IsMade F.Output.contents (F.makes rt.now place)) n limit bound
+    requires { IfSome (option_map (λ s. string_bytes s) cert_path) (F.files rt.now).may_make }
+    ensures { SolvesLevel path.now ((F.files rt.now).reads path.now)
+        (λ place. IsMade F.Output.contents ((F.files rt.now).makes place)) n limit bound
         (option_map (λ s. string_bytes s) cert_path)
         (record { old = W.contents out.old; new = W.contents out.new }) result }
 {
@@ -118,7 +119,7 @@ fn find<F: Folder + AllocGlobal, W: Write>(
     out: &mut W,
 ) -> Result<u8, ToolFault>
     ensures { Writes
-        (OfFile (F.reads rt.now path.now) (Within input_limit (IsFind n limit bound)))
+        (OfFile ((F.files rt.now).reads path.now) (Within input_limit (IsFind n limit bound)))
         (W.contents out.old) (W.contents out.new) result }
 {
     let mut input = open(rt, path)?;
@@ -135,10 +136,11 @@ fn solve_with_file<F: Folder + AllocGlobal, W: Write>(
     cert_path: &str,
     out: &mut W,
 ) -> Result<u8, ToolFault>
+    requires { (F.files rt.now).may_make cert_path.now }
     ensures { SolvesTo
-        (OfFile (F.reads rt.now path.now) (Within input_limit (IsSolve n limit bound)))
+        (OfFile ((F.files rt.now).reads path.now) (Within input_limit (IsSolve n limit bound)))
         (λ cert. (path.now ≢ cert_path.now)
-        × IsMade F.Output.contents (F.makes rt.now cert_path.now) cert)
+        × IsMade F.Output.contents ((F.files rt.now).makes cert_path.now) cert)
         (record { old = W.contents out.old; new = W.contents out.new }) result }
 {
     let mut input = open(rt, path)?;

@@ -10,9 +10,9 @@ use sok_engine::fault::ToolFault;
 /// Opens a file that is there.
 pub fn open<F: Folder>(folder: &F, path: &str) -> Result<F::Input, ToolFault>
     ensures opened { MatchResult result
-        (λ file. F.reads folder.now path.now (F.Input.remaining file))
+        (λ file. (F.files folder.now).reads path.now (F.Input.remaining file))
         (λ fault. fault ≡ tool.ReadFailed) }
-    ensures lacks { OnErr result (F.lacks folder.now path.now) }
+    ensures lacks { OnErr result ((F.files folder.now).lacks path.now) }
 {
     match folder.open(path) {
         Ok(file) => Ok(file),
@@ -23,8 +23,9 @@ pub fn open<F: Folder>(folder: &F, path: &str) -> Result<F::Input, ToolFault>
 /// Makes a file for a certificate, or empties the one that is there, if that holds one and is not the
 /// run's own.
 pub fn create<F: Folder>(folder: &F, path: &str, own: &Own<'_>) -> Result<F::Output, ToolFault>
+    requires { (F.files folder.now).may_make path.now }
     ensures made { MatchResult result
-        (F.makes folder.now path.now) (λ fault. fault ≡ tool.WriteFailed) }
+        ((F.files folder.now).makes path.now) (λ fault. fault ≡ tool.WriteFailed) }
     ensures apart { OnOk result (path.now ≢ own.now.path.now) }
 {
     match folder.create(path, own) {

@@ -1,10 +1,11 @@
 //! Files by their paths.
 
-ghost use Rattle.std.specs.Prelude.{ℕ, ◌≢◌, List, Option, IfOk, MatchBool, MatchResult, OnErr, OnOk, ⊤};
+ghost use Rattle.std.specs.Prelude.{◌≢◌, IfOk, MatchBool, MatchResult, OnErr, OnOk, pos, ⊤};
+ghost use Rattle.sok_files.specs.Files.{Files, cert_path, unknown_files};
 
 use crate::machine;
 use crate::own::Own;
-use std::fs::{self, File};
+use std::fs::File;
 use std::io::{self, Read, Write};
 
 /// Files by their paths, as those of the machine.
@@ -13,43 +14,36 @@ pub trait Folder {
 
     type Output: Write + Drop;
 
-    // A file that is opened at this path may have these bytes left, as far as they are known.
-    ghost reads: { Self → List ℕ → Option (List ℕ) → Type 0 };
-
-    // There may be no file at this path that can be opened.
-    ghost lacks: { Self → List ℕ → Type 0 };
-
-    // This file may be the one that is made at this path.
-    ghost makes: { Self → List ℕ → Self.Output → Type 0 };
-
-    // No whole certificate stood at this path.
-    ghost takes: { Self → List ℕ → Type 0 };
-
-    // There may be no folder at this path in which files can be made.
-    ghost bars: { Self → List ℕ → Type 0 };
+    // What is known of the files, and which of them may be made, emptied or removed.
+    ghost files: { Self → Files Self.Output };
 
     /// Opens a file that is there.
     fn open(&self, path: &str) -> io::Result<Self::Input>
         ensures { MatchResult result
-            (λ file. reads self.now path.now (Self.Input.remaining file))
-            (λ _. lacks self.now path.now) };
+            (λ file. (files self.now).reads path.now (Self.Input.remaining file))
+            (λ _. (files self.now).lacks path.now) };
 
     /// Makes a file for a certificate, or empties the one that is there. It is refused where that
     /// holds anything else, and where it is the run's own.
     fn create(&self, path: &str, own: &Own<'_>) -> io::Result<Self::Output>
-        ensures made { IfOk result (λ file. makes self.now path.now file) }
+        requires { (files self.now).may_make path.now }
+        ensures made { IfOk result (λ file. (files self.now).makes path.now file) }
         ensures apart { OnOk result (path.now ≢ own.now.path.now) };
 
     /// Whether a whole certificate stands at a path.
     fn has_certificate(&self, path: &str) -> io::Result<bool>
-        ensures { IfOk result (λ whole. MatchBool whole ⊤ (takes self.now path.now)) };
+        ensures { IfOk result (λ whole. MatchBool whole ⊤ ((files self.now).lacks_certificate path.now)) };
 
-    /// Refuses what is no folder, and one in which no file can be made.
+    /// Refuses what is no folder, and one in which no file can be made. That is seen by making the one
+    /// that a level with the id 0 would have, which no level has, and taking it away again.
     fn try_folder(&self, path: &str) -> io::Result<()>
-        ensures { OnErr result (bars self.now path.now) };
+        requires { (files self.now).may_make (cert_path path.now (pos 0)) }
+        ensures { OnErr result ((files self.now).lacks_folder path.now) };
 
-    /// Takes away a file that was made and could not be written whole, if it can.
-    fn remove(&self, path: &str);
+    /// Takes away a file that was made at a path and could not be written whole, if it is there still
+    /// and can be taken away.
+    fn remove(&self, path: &str, file: &Self::Output)
+        requires { (files self.now).may_make path.now };
 
     /// Notes why what is at a path is not used.
     fn note(&self, path: &str, cause: &'static str);
@@ -61,15 +55,7 @@ impl Folder for HostRuntime {
 
     type Output = File;
 
-    ghost reads = { λ _ _ _. ⊤ };
-
-    ghost lacks = { λ _ _. ⊤ };
-
-    ghost makes = { λ _ _ _. ⊤ };
-
-    ghost takes = { λ _ _. ⊤ };
-
-    ghost bars = { λ _ _. ⊤ };
+    ghost files = { λ _. unknown_files };
 
     fn open(&self, path: &str) -> io::Result<File> {
         machine::opened(self, path)
@@ -90,8 +76,8 @@ impl Folder for HostRuntime {
         machine::try_folder(self, path)
     }
 
-    fn remove(&self, path: &str) {
-        let _ = fs::remove_file(self, path);
+    fn remove(&self, path: &str, file: &File) {
+        machine::remove(self, path, file);
     }
 
     fn note(&self, _path: &str, _cause: &'static str) {}

@@ -4,7 +4,7 @@ use crate::own::Own;
 use std::fs::{self, File, Metadata, OpenOptions};
 use std::io::{self, ErrorKind, Read};
 use std::os::fd::AsRawFd;
-use std::os::unix::fs::{FileExt, MetadataExt};
+use std::os::unix::fs::{FileExt, FileTypeExt, MetadataExt};
 
 /// What each certificate begins with.
 const FRONT: [u8; 19] = *b"sokoban-certificate";
@@ -33,7 +33,9 @@ fn above_streams(file: File) -> io::Result<File> {
 pub(crate) fn for_certificate(rt: &HostRuntime, path: &str, own: &Own<'_>) -> io::Result<File> {
     match fs::metadata(rt, path) {
         Ok(found) if found.is_file() => emptied(rt, path, own),
-        // A device keeps nothing, and a folder is refused.
+        // A disk keeps more than a certificate.
+        Ok(found) if found.file_type().is_block_device() => Err(no_certificate()),
+        // What else is no file keeps nothing, and a folder is refused.
         Ok(_) => above_streams(to_write().open(rt, path)?),
         Err(error) if error.kind() == ErrorKind::NotFound => made(rt, path),
         Err(error) => Err(error),
@@ -72,6 +74,17 @@ fn emptied(rt: &HostRuntime, path: &str, own: &Own<'_>) -> io::Result<File> {
     }
     file.set_len(0)?;
     Ok(file)
+}
+
+/// Empties a file that was made at a path, and takes it away if it is there still, and not behind a link.
+pub(crate) fn remove(rt: &HostRuntime, path: &str, file: &File) {
+    let _ = file.set_len(0);
+    let (Ok(made), Ok(there)) = (file.metadata(), fs::symlink_metadata(rt, path)) else {
+        return;
+    };
+    if made.is_file() && are_one(&made, &there) {
+        let _ = fs::remove_file(rt, path);
+    }
 }
 
 fn no_certificate() -> io::Error {

@@ -2,6 +2,7 @@
 //! read. So the contracts are those of what is watched.
 
 ghost use Rattle.std.specs.Prelude.{◌≡◌};
+ghost use Rattle.sok_files.specs.Files.{with_makes};
 
 use crate::folder::Folder;
 use crate::notes::{Name, Notes};
@@ -54,15 +55,8 @@ impl<'a, F: Folder> Folder for Watched<'a, F> {
 
     type Output = WatchedOutput<'a, F::Output>;
 
-    ghost reads = { λ watched path known. F.reads watched.inner.now path known };
-
-    ghost lacks = { λ watched path. F.lacks watched.inner.now path };
-
-    ghost makes = { λ watched path file. F.makes watched.inner.now path file.inner };
-
-    ghost takes = { λ watched path. F.takes watched.inner.now path };
-
-    ghost bars = { λ watched path. F.bars watched.inner.now path };
+    ghost files = { λ watched. with_makes (F.files watched.inner.now)
+        (λ path file. (F.files watched.inner.now).makes path file.inner) };
 
     fn open(&self, path: &str) -> io::Result<WatchedInput<'a, F::Input>> {
         match self.inner.open(path) {
@@ -104,8 +98,8 @@ impl<'a, F: Folder> Folder for Watched<'a, F> {
         }
     }
 
-    fn remove(&self, path: &str) {
-        self.inner.remove(path);
+    fn remove(&self, path: &str, file: &WatchedOutput<'a, F::Output>) {
+        self.inner.remove(path, &file.inner);
     }
 
     fn note(&self, path: &str, cause: &'static str) {

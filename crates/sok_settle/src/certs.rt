@@ -18,6 +18,9 @@ pub trait Certs {
     // Which certificates may be kept, and which refused.
     ghost keeping: { Self → Keeping };
 
+    // They may be kept where they go.
+    ghost may_keep: { Self → Type 0 };
+
     /// What takes the entries of one more, of which none was taken yet.
     fn begin(&self, alloc: Global) -> Self::Taking
         ensures { Self.Taking.took [] result };
@@ -32,6 +35,7 @@ pub trait Certs {
         claim: &Claim,
         taken: Self::Taking,
     ) -> Result<(), ToolFault>
+        requires { may_keep self.now }
         ensures { (entries : List Entry) → Self.Taking.took entries taken
             → TellsKept (keeping self.now) id claim.now entries result };
 }
@@ -63,6 +67,8 @@ impl Certs for NoCerts {
     type Taking = Nothing;
 
     ghost keeping = { λ _. no_certs };
+
+    ghost may_keep = { λ _. ⊤ };
 
     fn begin(&self, _alloc: Global) -> Nothing {
         Nothing

@@ -41,6 +41,7 @@ pub(crate) fn settle_kept<S: Alter, C: Certs, W: Write>(
     out: &mut W,
 ) -> Result<bool, ToolFault>
     requires good_limit { IsBadLimit limit → ⊥ }
+    requires may_keep { C.may_keep certs.now }
     requires kept { IsKeptPage kept.now.page }
     ensures { GoesThrough (IsRecordIn kept.now) (C.keeping certs.now) limit from kept.now.id
         (state S.Store book.old) (state S.Store book.new)
@@ -67,6 +68,7 @@ fn settle_level<S: Alter, C: Certs, W: Write>(
     out: &mut W,
 ) -> Result<bool, ToolFault>
     requires good_limit { IsBadLimit limit → ⊥ }
+    requires may_keep { C.may_keep certs.now }
     requires accepted { IsAcceptable level.now }
     ensures { (from : ℤ) → GoesThrough (IsTriedAs from id level.now) (C.keeping certs.now)
         limit from id (state S.Store book.old) (state S.Store book.new)
@@ -92,6 +94,7 @@ fn settle_by<S: Alter, C: Certs, W: Write>(
     taken: C::Taking,
     out: &mut W,
 ) -> Result<bool, ToolFault>
+    requires may_keep { C.may_keep certs.now }
     requires accepted { IsAcceptable level.now }
     requires shown { IsFoundWithProof (λ entries. C.Taking.took entries taken) level.now limit false found }
     ensures { (from : ℤ) → GoesThrough (IsTriedAs from id level.now) (C.keeping certs.now)

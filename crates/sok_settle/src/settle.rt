@@ -45,6 +45,7 @@ pub fn settle_bytes<S: Alter, C: Certs, W: Write>(
     certs: &C,
     out: &mut W,
 ) -> Result<u8, ToolFault>
+    requires { C.may_keep certs.now }
     ensures writes { ChangesBook (state S.Store book.old) (state S.Store book.new) (λ pages after.
         WritesSettling (C.keeping certs.now) limit from pages after
         (W.contents out.old) (W.contents out.new) result) }
@@ -82,6 +83,7 @@ fn settle_all<S: Alter, C: Certs, W: Write>(
     out: &mut W,
 ) -> Result<u8, ToolFault>
     requires good_limit { IsBadLimit limit → ⊥ }
+    requires may_keep { C.may_keep certs.now }
     requires kept { All (λ (kept : PageWithId). IsKeptPage kept.page) records.now }
     ensures { GoesWhere (λ pages. AreRecordsOf pages records.now)
         (state S.Store book.old) (state S.Store book.new) (λ pages after.

@@ -5,11 +5,12 @@ use Rattle.sok_cert.specs.Entry.{Entry}
 use Rattle.sok_cert.specs.Text.{text_of}
 use Rattle.sok_engine.specs.declared.fault.ToolFault.{ToolFault}
 use Rattle.sok_engine.specs.declared.fault.ToolFault.TheVariants as tool
-use Rattle.sok_files.specs.Files.{Files}
+use Rattle.sok_engine.specs.Certified.{Bytes}
+use Rattle.sok_files.specs.Files.{Files, cert_path}
 use Rattle.sok_settle.specs.Keeping.{TellsKept}
-use Rattle.sok_tool.specs.Certs.{KeepsText, cert_path, keeping_in}
+use Rattle.sok_tool.specs.Certs.{KeepsText, keeping_in}
 
-module _ (files : Files) (db folder : List ℕ) (id : ℤ) (shown : Claim) (entries : List Entry) where
+module _ (files : Files Bytes) (db folder : List ℕ) (id : ℤ) (shown : Claim) (entries : List Entry) where
   -- the text of a certificate is kept at its path, or memory or a file was refused
   pub TellsKept-text : {X : Type 0} (path text : List ℕ) (result : Result X ToolFault) → path ≡ cert_path folder id → text ≡ text_of shown entries
       → MatchResult result (λ _. KeepsText files db path text) (λ fault. (fault ≡ tool.Memory) ⊎ (fault ≡ tool.WriteFailed))

@@ -47,7 +47,7 @@ plain_from : (id : ℤ) (from : Option (List ℕ)) → IfSome from IsId → id �
 plain_from id None plain is = subst (λ i. FitsSigned w64 i) (sym is) (fits (pos 1) (omega arith))
 plain_from id (Some number) plain is = plain_id id number plain is
 
-module _ (files : Files) (databases : Databases) (out err : Bytes) (exit : ℕ) where
+module _ (files : Files Bytes) (databases : Databases) (out err : Bytes) (exit : ℕ) where
   -- where memory was refused, nothing is written
   pub Serves-memory : (form : Form) → Ends (Err tool.Memory) err.old err.new exit → Stays out → Serves files databases form out err exit
   Serves-memory (list file) ends kept = (Err tool.Memory, kept, ends)

@@ -1,6 +1,5 @@
 -- The certificates of the levels of a book that are settled, in files.
-use Rattle.std.specs.Prelude.{ℕ, ℤ, ◌≡◌, ◌≢◌, ◌<◌, ◌⊎◌, List, ◌++◌, Option, Some, None, IfSome, IsSomeAnd, codes, length, ⊤}
-use Rattle.std.specs.Fmt.{signed_decimal}
+use Rattle.std.specs.Prelude.{ℕ, ℤ, ◌≡◌, ◌≢◌, ◌<◌, ◌⊎◌, List, Option, Some, None, IfSome, IsSomeAnd, length, ⊤}
 use Rattle.std.specs.Io.KnownBytes.{Appends}
 use Rattle.sok_cert.specs.Claim.{Claim}
 use Rattle.sok_cert.specs.Entry.{Entry}
@@ -9,22 +8,18 @@ use Rattle.sok_engine.specs.declared.fault.ToolFault.{ToolFault}
 use Rattle.sok_engine.specs.declared.fault.ToolFault.TheVariants as tool
 use Rattle.sok_engine.specs.Certified.{Bytes}
 use Rattle.sok_engine.specs.Limits.{cert_limit}
-use Rattle.sok_files.specs.Files.{Files}
+use Rattle.sok_files.specs.Files.{Files, cert_path}
 use Rattle.sok_settle.specs.Keeping.{Keeping, no_certs}
-
--- the path of that of the level with an id, in a folder
-abbrev pub cert_path : List ℕ → ℤ → List ℕ
-cert_path folder id = folder ++ (codes "/" ++ (signed_decimal id ++ codes ".cert"))
 
 -- A text was written to a file that was made at a path, which is another than the database's and at which no whole certificate stood. Or it is what the file
 -- has that is there.
-abbrev pub KeepsText : Files → List ℕ → List ℕ → List ℕ → Type 0
+abbrev pub KeepsText : Files Bytes → List ℕ → List ℕ → List ℕ → Type 0
 KeepsText files db path text =
-    ((made : Bytes) × (path ≢ db) × files.takes path × files.makes path made × Appends made.old made.new text)
+    ((made : Bytes) × (path ≢ db) × files.lacks_certificate path × files.makes path made × Appends made.old made.new text)
     ⊎ ((known : Option (List ℕ)) × files.reads path known × IfSome known (λ all. all ≡ text))
 
 -- that of the level with an id is kept in a folder
-abbrev pub KeepsCert : Files → List ℕ → List ℕ → ℤ → Claim → List Entry → Type 0
+abbrev pub KeepsCert : Files Bytes → List ℕ → List ℕ → ℤ → Claim → List Entry → Type 0
 KeepsCert files db folder id shown entries = KeepsText files db (cert_path folder id) (text_of shown entries)
 
 -- why one is refused: it is too long; or a file can't be made or written
@@ -33,14 +28,14 @@ RefusesCert id shown entries tool.TooMuch = cert_limit < length (text_of shown e
 RefusesCert id shown entries fault = ⊤
 
 -- certificates in the files of a folder, beside the database of their book
-abbrev pub keeping_in : Files → List ℕ → List ℕ → Keeping
+abbrev pub keeping_in : Files Bytes → List ℕ → List ℕ → Keeping
 keeping_in files db folder = record { keeps = KeepsCert files db folder; refuses = RefusesCert }
 
 -- or none, where no folder is given
-abbrev pub keeping_of : Files → List ℕ → Option (List ℕ) → Keeping
+abbrev pub keeping_of : Files Bytes → List ℕ → Option (List ℕ) → Keeping
 keeping_of files db (Some folder) = keeping_in files db folder
 keeping_of files db None = no_certs
 
 -- a folder is given, and there is none in which files can be made
-abbrev pub IsFolderless : Files → Option (List ℕ) → ToolFault → Type 0
-IsFolderless files folder told = IsSomeAnd folder files.bars × (told ≡ tool.WriteFailed)
+abbrev pub IsFolderless : Files Bytes → Option (List ℕ) → ToolFault → Type 0
+IsFolderless files folder told = IsSomeAnd folder files.lacks_folder × (told ≡ tool.WriteFailed)

@@ -19,6 +19,7 @@ use Rattle.sok_keep.specs.Proves.{ProvesBytes, WritesProof}
 use Rattle.sok_keep.specs.Shows.{IsBookText, IsShow}
 use Rattle.sok_settle.specs.Offers.{OffersBytes, WritesOffers}
 use Rattle.sok_settle.specs.Settles.{SettlesSome, WritesSettling}
+use Rattle.sok_databases.specs.declared.databases.Access.TheVariants as accesses
 use Rattle.sok_play.specs.Drawings.{IsDrawing}
 use Rattle.sok_play.specs.Listing.{IsListing}
 use Rattle.sok_play.specs.Plays.{IsReplay}
@@ -27,58 +28,58 @@ use Rattle.sok_store.specs.Calls.{MakesNone}
 use Rattle.sok_words.specs.declared.job.Job.{Job}
 use Rattle.sok_words.specs.Forms.{Form, IsPlain, Means, add, check, draw, export, from_of, id_value, limit_of, list, offer, offers, prove, replay, settle, show, solve}
 use Rattle.sok_tool.specs.Certs.{IsFolderless, keeping_of}
-use Rattle.sok_tool.specs.Databases.{Databases, IsFileless, IsNeverLacking, OfOpened, WorksOn, at, made_at, read_at, settled_at}
+use Rattle.sok_tool.specs.Databases.{Databases, IsFileless, IsNeverLacking, OfOpened, WorksOn, at}
 
 -- a text is played on a level of a file: it is replayed, or the level behind it is drawn
 abbrev pub RunsPlay : (ℕ → List ℕ → List ℕ → Answers) → (Option (List ℕ) → Type 0) → ℕ → Bytes → Result ℕ ToolFault → List ℕ → Type 0
 RunsPlay P reads n out result text = Writes (OfFile reads (Within input_limit (P n text))) out.old out.new result
 
 -- a certificate is judged for a level
-abbrev pub RunsCheck : Files → List ℕ → ℕ → List ℕ → Bytes → Result ℕ ToolFault → Type 0
+abbrev pub RunsCheck : Files Bytes → List ℕ → ℕ → List ℕ → Bytes → Result ℕ ToolFault → Type 0
 RunsCheck files file n cert out result =
     Writes (OfFiles (files.reads file) (files.reads cert) (λ text. Within input_limit (IsCheck cert_limit n text))) out.old out.new result
 
 -- the levels of a file are added
-abbrev pub RunsAdd : Files → Databases → List ℕ → List ℕ → Bytes → Result ℕ ToolFault → Type 0
+abbrev pub RunsAdd : Files Bytes → Databases → List ℕ → List ℕ → Bytes → Result ℕ ToolFault → Type 0
 RunsAdd files databases db file out result =
-    WorksOn (made_at databases db) (IsFileless (files.lacks file)) (λ book after. OfOpened (files.reads file) (λ known. AddsBytes known book after))
+    WorksOn (at databases accesses.Make db) (IsFileless (files.lacks file)) (λ book after. OfOpened (files.reads file) (λ known. AddsBytes known book after))
     (λ ended book after. OfOpened (files.reads file) (λ known. WritesAdding book known after out.old out.new ended)) out result
 
 -- a text is offered to the level with an id
 abbrev pub RunsOffer : Databases → List ℕ → ℤ → Bytes → Result ℕ ToolFault → List ℕ → Type 0
 RunsOffer databases db id out result text =
-    WorksOn (at databases db) IsNeverLacking (OffersText id text) (λ ended book after. WritesOffer book id text after out.old out.new ended) out result
+    WorksOn (at databases accesses.Change db) IsNeverLacking (OffersText id text) (λ ended book after. WritesOffer book id text after out.old out.new ended) out result
 
 -- the lines of a file are offered
-abbrev pub RunsOffers : Files → Databases → List ℕ → List ℕ → Bytes → Result ℕ ToolFault → Type 0
+abbrev pub RunsOffers : Files Bytes → Databases → List ℕ → List ℕ → Bytes → Result ℕ ToolFault → Type 0
 RunsOffers files databases db file out result =
-    WorksOn (at databases db) (IsFileless (files.lacks file)) (λ book after. OfOpened (files.reads file) (λ known. OffersBytes known book after))
+    WorksOn (at databases accesses.Change db) (IsFileless (files.lacks file)) (λ book after. OfOpened (files.reads file) (λ known. OffersBytes known book after))
     (λ ended book after. OfOpened (files.reads file) (λ known. WritesOffers book known after out.old out.new ended)) out result
 
 -- the certificate in a file is judged for the level with an id
-abbrev pub RunsProve : Files → Databases → List ℕ → ℤ → List ℕ → Bytes → Result ℕ ToolFault → Type 0
+abbrev pub RunsProve : Files Bytes → Databases → List ℕ → ℤ → List ℕ → Bytes → Result ℕ ToolFault → Type 0
 RunsProve files databases db id cert out result =
-    WorksOn (at databases db) (IsFileless (files.lacks cert)) (λ book after. OfOpened (files.reads cert) (λ known. ProvesBytes id known book after))
+    WorksOn (at databases accesses.Change db) (IsFileless (files.lacks cert)) (λ book after. OfOpened (files.reads cert) (λ known. ProvesBytes id known book after))
     (λ ended book after. OfOpened (files.reads cert) (λ known. WritesProof book id known after out.old out.new ended)) out result
 
 -- the levels that nothing is proved of are settled, within a limit that is not refused, from an id on, with their certificates in a folder, if one is given
-abbrev pub RunsSettle : Files → Databases → List ℕ → ℕ → ℤ → Option (List ℕ) → Bytes → Result ℕ ToolFault → Type 0
+abbrev pub RunsSettle : Files Bytes → Databases → List ℕ → ℕ → ℤ → Option (List ℕ) → Bytes → Result ℕ ToolFault → Type 0
 RunsSettle files databases db limit from folder out result =
-    WorksOn (settled_at databases db) (IsFolderless files folder) (SettlesSome (keeping_of files db folder) limit from)
+    WorksOn (at databases accesses.Settle db) (IsFolderless files folder) (SettlesSome (keeping_of files db folder) limit from)
     (λ ended book after. (IsBadLimit limit → ended ≡ Err tool.BadLimit)
     × WritesSettling (keeping_of files db folder) limit from book after out.old out.new ended) out result
 
 -- the book is only read, and such an answer is written
 abbrev pub RunsShowing : Databases → List ℕ → (Book → Answers) → Bytes → Result ℕ ToolFault → Type 0
 RunsShowing databases db P out result =
-    WorksOn (read_at databases db) IsNeverLacking MakesNone (λ ended book after. (after ≡ book) × Writes (P book) out.old out.new ended) out result
+    WorksOn (at databases accesses.Read db) IsNeverLacking MakesNone (λ ended book after. (after ≡ book) × Writes (P book) out.old out.new ended) out result
 
 -- the program ends with the status of what is done so, or with that of the fault
 abbrev pub EndsWith : (Result ℕ ToolFault → Type 0) → Bytes → ℕ → Type 0
 EndsWith Does err exit = (result : Result ℕ ToolFault) × Does result × Ends result err.old err.new exit
 
 -- what becomes of the output, of the files and of the book that a form names, with its values
-abbrev pub Serves : Files → Databases → Form → Bytes → Bytes → ℕ → Type 0
+abbrev pub Serves : Files Bytes → Databases → Form → Bytes → Bytes → ℕ → Type 0
 Serves files databases (list file) out err exit = Runs (OfFile (files.reads file) (Within input_limit IsListing)) out.old out.new err.old err.new exit
 Serves files databases (replay file number text) out err exit =
     EndsWith (λ result. RunsPlay IsReplay (files.reads file) (digits_value 10 number) out result text) err exit
@@ -97,5 +98,5 @@ Serves files databases (show db None) out err exit = EndsWith (RunsShowing datab
 Serves files databases (export db solutions) out err exit = EndsWith (RunsShowing databases db (IsBookText (Export solutions)) out) err exit
 
 -- and what becomes of them for a job of such a form
-abbrev pub ServesJob : Files → Databases → Job → Bytes → Bytes → ℕ → Type 0
+abbrev pub ServesJob : Files Bytes → Databases → Job → Bytes → Bytes → ℕ → Type 0
 ServesJob files databases job out err exit = (form : Form) → IsPlain form → Means form job → Serves files databases form out err exit

@@ -13,7 +13,7 @@ use Rattle.sok_store.specs.Calls.{ChangesBook, Stops}
 use Rattle.sok_store.specs.Opening.{IsCausedOpening, IsUnopened, Opens}
 use Rattle.sok_keep.specs.Causes.{IsCausedFault}
 use Rattle.sok_databases.specs.declared.databases.Access.{Access}
-use Rattle.sok_databases.specs.declared.databases.Access.TheVariants as accesses
+use Rattle.sok_databases.specs.Known.{KnownDatabases}
 
 -- Of the database at one path: the connections to it, what each shows, which one may be opened there, how it may be refused, which one is given back, and
 -- whether another file may have the path by then.
@@ -25,52 +25,29 @@ pub record Place : Type 1 where
   pub closes_as : Connection → Type 0
   pub moves : Type 0
 
-abbrev pub place : {C : Type 0} → (C → State) → (C → Type 0) → (ToolFault → Type 0) → (C → Type 0) → Type 0 → Place
-place {C} shows opens_as refuses closes_as moves =
-    record { Connection = C; shows = shows; opens_as = opens_as; refuses = refuses; closes_as = closes_as; moves = moves }
+abbrev pub place : {C : Type 0} → (C → State) → KnownDatabases C → Access → List ℕ → Place
+place {C} shows known access path = record {
+  Connection = C;
+  shows = shows;
+  opens_as = known.opens_as access path;
+  refuses = known.refuses path;
+  closes_as = known.closes_as path;
+  moves = known.moves;
+}
 
--- of the databases at all paths: `opens_as` of those that are there, `settles` of those that are changed seldom, `makes` also of those that are made, and
--- `reads` of those that are only read
+-- of the databases at all paths
 pub record Databases : Type 1 where
   pub Connection : Type 0
   pub shows : Connection → State
-  pub opens_as : List ℕ → Connection → Type 0
-  pub settles : List ℕ → Connection → Type 0
-  pub makes : List ℕ → Connection → Type 0
-  pub reads : List ℕ → Connection → Type 0
-  pub refuses : List ℕ → ToolFault → Type 0
-  pub closes_as : List ℕ → Connection → Type 0
-  pub moves : Type 0
+  pub known : KnownDatabases Connection
 
--- of those that may be opened so, each as it is to be changed, made or read
-abbrev pub databases_by : {C : Type 0} → (C → State) → (Access → List ℕ → C → Type 0) → (List ℕ → ToolFault → Type 0) → (List ℕ → C → Type 0) → Type 0 → Databases
-databases_by {C} shows opens_as refuses closes_as moves = record {
-  Connection = C;
-  shows = shows;
-  opens_as = opens_as accesses.Change;
-  settles = opens_as accesses.Settle;
-  makes = opens_as accesses.Make;
-  reads = opens_as accesses.Read;
-  refuses = refuses;
-  closes_as = closes_as;
-  moves = moves;
-}
+-- of those of which so much is known
+abbrev pub databases_by : {C : Type 0} → (C → State) → KnownDatabases C → Databases
+databases_by {C} shows known = record { Connection = C; shows = shows; known = known }
 
--- of the one that is at a path
-abbrev pub at : Databases → List ℕ → Place
-at databases path = place databases.shows (databases.opens_as path) (databases.refuses path) (databases.closes_as path) databases.moves
-
--- the same, to be changed seldom
-abbrev pub settled_at : Databases → List ℕ → Place
-settled_at databases path = place databases.shows (databases.settles path) (databases.refuses path) (databases.closes_as path) databases.moves
-
--- of the one that is there, or is made
-abbrev pub made_at : Databases → List ℕ → Place
-made_at databases path = place databases.shows (databases.makes path) (databases.refuses path) (databases.closes_as path) databases.moves
-
--- of the one that is there, and is only read
-abbrev pub read_at : Databases → List ℕ → Place
-read_at databases path = place databases.shows (databases.reads path) (databases.refuses path) (databases.closes_as path) databases.moves
+-- of the one at a path, opened so
+abbrev pub at : Databases → Access → List ℕ → Place
+at databases access path = place databases.shows databases.known access path
 
 -- this is true of what a file has left that may be opened
 abbrev pub OfOpened : (Option (List ℕ) → Type 0) → (Option (List ℕ) → Type 0) → Type 0

@@ -4,8 +4,8 @@ ghost use Rattle.std.specs.Prelude.{◌≡◌, ◌≢◌, ◌⊎◌, List, Optio
 ghost use Rattle.std.specs.Io.KnownBytes.{Appends};
 ghost use Rattle.sok_engine.specs.Certified.{Bytes};
 ghost use Rattle.sok_engine.specs.declared.fault.ToolFault.TheVariants as tool;
-ghost use Rattle.sok_files.specs.Files.{IsMade, files_by};
-ghost use Rattle.sok_tool.specs.Certs.{KeepsText, cert_path, keeping_in};
+ghost use Rattle.sok_files.specs.Files.{IsMade, MayKeep, cert_path, files_by};
+ghost use Rattle.sok_tool.specs.Certs.{KeepsText, keeping_in};
 
 use sok_cert::claim::Claim;
 use sok_engine::fault::ToolFault;
@@ -30,7 +30,9 @@ impl<F: Folder> Certs for CertFolder<'_, F> {
     type Taking = EntryLines;
 
     ghost keeping = { λ certs. keeping_in
-        (files_by (F.reads certs.files.now) (F.lacks certs.files.now) F.Output.contents (F.makes certs.files.now) (F.takes certs.files.now) (F.bars certs.files.now)) certs.own.path.now certs.path.now };
+        (files_by F.Output.contents (F.files certs.files.now)) certs.own.path.now certs.path.now };
+
+    ghost may_keep = { λ certs. MayKeep (F.files certs.files.now) certs.path.now };
 
     fn begin(&self, alloc: Global) -> EntryLines {
         EntryLines::new(alloc)
@@ -65,8 +67,9 @@ fn keep_at<F: Folder>(
     own: &Own<'_>,
     cert: &ReadyCert,
 ) -> Result<(), ToolFault>
+    requires { (F.files files.now).may_make path.now }
     ensures { MatchResult result
-        (λ _. KeepsText (files_by (F.reads files.now) (F.lacks files.now) F.Output.contents (F.makes files.now) (F.takes files.now) (F.bars files.now))
+        (λ _. KeepsText (files_by F.Output.contents (F.files files.now))
         own.now.path.now path.now cert.now)
         (λ fault. (fault ≡ tool.Memory) ⊎ (fault ≡ tool.WriteFailed)) }
 {
@@ -85,7 +88,7 @@ fn keep_same<F: Folder>(
     cert: &ReadyCert,
 ) -> Result<(), ToolFault>
     ensures { MatchResult result
-        (λ _. (known : Option (List ℕ)) × F.reads files.now path.now known × IfSome known (λ all. all ≡ cert.now))
+        (λ _. (known : Option (List ℕ)) × (F.files files.now).reads path.now known × IfSome known (λ all. all ≡ cert.now))
         (λ fault. (fault ≡ tool.Memory) ⊎ (fault ≡ tool.WriteFailed)) }
 {
     let Ok(mut there) = open(files, path) else {
@@ -109,9 +112,10 @@ fn write_to<F: Folder>(
     own: &Own<'_>,
     cert: &ReadyCert,
 ) -> Result<(), ToolFault>
+    requires { (F.files files.now).may_make path.now }
     ensures { MatchResult result
         (λ _. (made : Bytes) × (path.now ≢ own.now.path.now)
-        × IsMade F.Output.contents (F.makes files.now path.now) made
+        × IsMade F.Output.contents ((F.files files.now).makes path.now) made
         × Appends made.old made.new cert.now)
         (λ fault. fault ≡ tool.WriteFailed) }
 {
@@ -119,7 +123,7 @@ fn write_to<F: Folder>(
     match cert.write(&mut file) {
         Ok(()) => Ok(()),
         Err(_) => {
-            files.remove(path);
+            files.remove(path, &file);
             Err(ToolFault::WriteFailed)
         }
     }

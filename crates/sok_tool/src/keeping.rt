@@ -2,11 +2,11 @@
 //! then the book. Only `add` makes a database that is not there, and a command that changes nothing
 //! only reads it.
 
-ghost use Rattle.std.specs.Prelude.{◌≡◌, Err, IfErr, IfOk, option_map, string_bytes};
+ghost use Rattle.std.specs.Prelude.{◌≡◌, Err, IfErr, IfOk, IfSome, option_map, string_bytes};
 ghost use Rattle.sqlite.specs.Held.{state};
 ghost use Rattle.sok_search.specs.Faults.{IsBadLimit};
 ghost use Rattle.sok_engine.specs.declared.fault.ToolFault.TheVariants as tool;
-ghost use Rattle.sok_files.specs.Files.{files_by};
+ghost use Rattle.sok_files.specs.Files.{MayKeep, files_by};
 ghost use Rattle.sok_store.specs.Calls.{ChangesBook, Stops};
 ghost use Rattle.sok_keep.specs.Causes.{IsCausedFault};
 ghost use Rattle.sok_keep.specs.Shows.{IsBookText, IsShow};
@@ -16,6 +16,7 @@ ghost use Rattle.sok_tool.specs.Commands.{RunsShowing};
 ghost use Rattle.sok_tool.specs.Databases.{IsFileless, IsNeverLacking, IsTold, IsWithoutBook, OpensFound};
 ghost use Rattle.sok_tool.specs.Databases.{databases_by, place};
 ghost use Rattle.sok_tool.specs.Certs.{IsFolderless, keeping_of};
+ghost use Rattle.sok_databases.specs.Known.{MayOpen};
 ghost use Rattle.sok_databases.specs.declared.databases.Access.{Access};
 ghost use Rattle.sok_databases.specs.declared.databases.Access.TheVariants as accesses;
 
@@ -44,8 +45,9 @@ pub(crate) fn add<
     F: Folder + Databases<Opened = Connection<S>> + AllocGlobal,
     W: Write,
 >(rt: &F, db: &str, path: &str, out: &mut W) -> Result<u8, ToolFault>
-    ensures { RunsAdd (files_by (F.reads rt.now) (F.lacks rt.now) F.Output.contents (F.makes rt.now) (F.takes rt.now) (F.bars rt.now))
-        (databases_by (state S.Store) (F.opens_as rt.now) (F.refuses rt.now) (F.closes_as rt.now) (F.moves rt.now))
+    requires { (F.databases rt.now).may_change db.now }
+    ensures { RunsAdd (files_by F.Output.contents (F.files rt.now))
+        (databases_by (state S.Store) (F.databases rt.now))
         db.now path.now (record { old = W.contents out.old; new = W.contents out.new }) result }
 {
     let (mut book, mut input) = book_and_file(rt, db, Access::Make, path)?;
@@ -63,8 +65,9 @@ pub(crate) fn offer<S: Alter + Drop, F: Databases<Opened = Connection<S>> + Allo
     text: &[u8],
     out: &mut W,
 ) -> Result<u8, ToolFault>
+    requires { (F.databases rt.now).may_change db.now }
     ensures { RunsOffer
-        (databases_by (state S.Store) (F.opens_as rt.now) (F.refuses rt.now) (F.closes_as rt.now) (F.moves rt.now))
+        (databases_by (state S.Store) (F.databases rt.now))
         db.now id (record { old = W.contents out.old; new = W.contents out.new }) result text.now }
 {
     let mut book = book_of(rt, db, Access::Change)?;
@@ -80,8 +83,9 @@ pub(crate) fn offers<
     F: Folder + Databases<Opened = Connection<S>> + AllocGlobal,
     W: Write,
 >(rt: &F, db: &str, path: &str, out: &mut W) -> Result<u8, ToolFault>
-    ensures { RunsOffers (files_by (F.reads rt.now) (F.lacks rt.now) F.Output.contents (F.makes rt.now) (F.takes rt.now) (F.bars rt.now))
-        (databases_by (state S.Store) (F.opens_as rt.now) (F.refuses rt.now) (F.closes_as rt.now) (F.moves rt.now))
+    requires { (F.databases rt.now).may_change db.now }
+    ensures { RunsOffers (files_by F.Output.contents (F.files rt.now))
+        (databases_by (state S.Store) (F.databases rt.now))
         db.now path.now (record { old = W.contents out.old; new = W.contents out.new }) result }
 {
     let (mut book, mut input) = book_and_file(rt, db, Access::Change, path)?;
@@ -97,8 +101,9 @@ pub(crate) fn prove<
     F: Folder + Databases<Opened = Connection<S>> + AllocGlobal,
     W: Write,
 >(rt: &F, db: &str, id: i64, path: &str, out: &mut W) -> Result<u8, ToolFault>
-    ensures { RunsProve (files_by (F.reads rt.now) (F.lacks rt.now) F.Output.contents (F.makes rt.now) (F.takes rt.now) (F.bars rt.now))
-        (databases_by (state S.Store) (F.opens_as rt.now) (F.refuses rt.now) (F.closes_as rt.now) (F.moves rt.now))
+    requires { (F.databases rt.now).may_change db.now }
+    ensures { RunsProve (files_by F.Output.contents (F.files rt.now))
+        (databases_by (state S.Store) (F.databases rt.now))
         db.now id path.now (record { old = W.contents out.old; new = W.contents out.new }) result }
 {
     let (mut book, mut cert_input) = book_and_file(rt, db, Access::Change, path)?;
@@ -122,8 +127,10 @@ pub(crate) fn settle<
     folder: Option<String>,
     out: &mut W,
 ) -> Result<u8, ToolFault>
-    ensures { RunsSettle (files_by (F.reads rt.now) (F.lacks rt.now) F.Output.contents (F.makes rt.now) (F.takes rt.now) (F.bars rt.now))
-        (databases_by (state S.Store) (F.opens_as rt.now) (F.refuses rt.now) (F.closes_as rt.now) (F.moves rt.now))
+    requires change { (F.databases rt.now).may_change db.now }
+    requires keep { IfSome (option_map (λ s. string_bytes s) folder) (MayKeep (F.files rt.now)) }
+    ensures { RunsSettle (files_by F.Output.contents (F.files rt.now))
+        (databases_by (state S.Store) (F.databases rt.now))
         db.now limit from (option_map (λ s. string_bytes s) folder) (record { old = W.contents out.old; new = W.contents out.new }) result }
 {
     let mut book = book_and_folder(rt, db, &folder)?;
@@ -143,16 +150,17 @@ fn settle_book<S: Alter, F: Folder + AllocGlobal, W: Write>(
     folder: Option<String>,
     out: &mut W,
 ) -> Result<u8, ToolFault>
+    requires { IfSome (option_map (λ s. string_bytes s) folder) (MayKeep (F.files rt.now)) }
     ensures writes { ChangesBook (state S.Store book.old) (state S.Store book.new) (λ pages after.
-        WritesSettling (keeping_of (files_by (F.reads rt.now) (F.lacks rt.now) F.Output.contents (F.makes rt.now) (F.takes rt.now) (F.bars rt.now)) db.now
+        WritesSettling (keeping_of (files_by F.Output.contents (F.files rt.now)) db.now
         (option_map (λ s. string_bytes s) folder)) limit from pages after
         (W.contents out.old) (W.contents out.new) result) }
     ensures bad_limit { IsBadLimit limit → result ≡ Err tool.BadLimit }
     ensures stop { Stops (state S.Store book.old) (state S.Store book.new)
-        (SettlesSome (keeping_of (files_by (F.reads rt.now) (F.lacks rt.now) F.Output.contents (F.makes rt.now) (F.takes rt.now) (F.bars rt.now)) db.now
+        (SettlesSome (keeping_of (files_by F.Output.contents (F.files rt.now)) db.now
         (option_map (λ s. string_bytes s) folder)) limit from) }
     ensures cause { IfErr result (IsCausedFault (state S.Store book.old) (state S.Store book.new)
-        (SettlesSome (keeping_of (files_by (F.reads rt.now) (F.lacks rt.now) F.Output.contents (F.makes rt.now) (F.takes rt.now) (F.bars rt.now)) db.now
+        (SettlesSome (keeping_of (files_by F.Output.contents (F.files rt.now)) db.now
         (option_map (λ s. string_bytes s) folder)) limit from)) }
 {
     match folder {
@@ -176,7 +184,7 @@ pub(crate) fn show<S: Alter + Drop, F: Databases<Opened = Connection<S>> + Alloc
     out: &mut W,
 ) -> Result<u8, ToolFault>
     ensures { RunsShowing
-        (databases_by (state S.Store) (F.opens_as rt.now) (F.refuses rt.now) (F.closes_as rt.now) (F.moves rt.now))
+        (databases_by (state S.Store) (F.databases rt.now))
         db.now (λ book. IsShow book id) (record { old = W.contents out.old; new = W.contents out.new }) result }
 {
     let mut book = book_of(rt, db, Access::Read)?;
@@ -193,7 +201,7 @@ pub(crate) fn tell<S: Alter + Drop, F: Databases<Opened = Connection<S>> + Alloc
     out: &mut W,
 ) -> Result<u8, ToolFault>
     ensures { RunsShowing
-        (databases_by (state S.Store) (F.opens_as rt.now) (F.refuses rt.now) (F.closes_as rt.now) (F.moves rt.now))
+        (databases_by (state S.Store) (F.databases rt.now))
         db.now (IsBookText text) (record { old = W.contents out.old; new = W.contents out.new }) result }
 {
     let mut book = book_of(rt, db, Access::Read)?;
@@ -205,7 +213,7 @@ pub(crate) fn tell<S: Alter + Drop, F: Databases<Opened = Connection<S>> + Alloc
 /// What is told of how a command on a book ended. A write that failed since another file has the
 /// database's path by then is a fault of the database.
 fn told_by<F: Databases>(rt: &F, ended: Result<u8, ToolFault>) -> Result<u8, ToolFault>
-    ensures { IsTold (F.moves rt.now) ended result }
+    ensures { IsTold (F.databases rt.now).moves ended result }
 {
     match ended {
         Err(ToolFault::WriteFailed) if !rt.stands() => Err(ToolFault::Book(BookFault::Database)),
@@ -219,11 +227,10 @@ fn book_of<S: Alter + Drop, F: Databases<Opened = Connection<S>> + AllocGlobal>(
     db: &str,
     access: Access,
 ) -> Result<Book<S>, ToolFault>
-    ensures opens { IfOk result (OpensFound (place (state S.Store)
-        (F.opens_as rt.now access db.now) (F.refuses rt.now db.now) (F.closes_as rt.now db.now) (F.moves rt.now))) }
+    requires { MayOpen (F.databases rt.now) access db.now }
+    ensures opens { IfOk result (OpensFound (place (state S.Store) (F.databases rt.now) access db.now)) }
     ensures refused { IfErr result
-        (IsWithoutBook (place (state S.Store)
-        (F.opens_as rt.now access db.now) (F.refuses rt.now db.now) (F.closes_as rt.now db.now) (F.moves rt.now)) IsNeverLacking) }
+        (IsWithoutBook (place (state S.Store) (F.databases rt.now) access db.now) IsNeverLacking) }
 {
     let found = rt.database(db, access)?;
     opened(rt, db, found)
@@ -236,12 +243,11 @@ fn book_and_file<S: Alter + Drop, F: Folder + Databases<Opened = Connection<S>> 
     access: Access,
     path: &str,
 ) -> Result<(Book<S>, F::Input), ToolFault>
-    ensures opens { IfOk result (λ both. OpensFound (place (state S.Store)
-        (F.opens_as rt.now access db.now) (F.refuses rt.now db.now) (F.closes_as rt.now db.now) (F.moves rt.now)) both.0) }
-    ensures reads { IfOk result (λ both. F.reads rt.now path.now (F.Input.remaining both.1)) }
+    requires { MayOpen (F.databases rt.now) access db.now }
+    ensures opens { IfOk result (λ both. OpensFound (place (state S.Store) (F.databases rt.now) access db.now) both.0) }
+    ensures reads { IfOk result (λ both. (F.files rt.now).reads path.now (F.Input.remaining both.1)) }
     ensures refused { IfErr result
-        (IsWithoutBook (place (state S.Store)
-        (F.opens_as rt.now access db.now) (F.refuses rt.now db.now) (F.closes_as rt.now db.now) (F.moves rt.now)) (IsFileless (F.lacks rt.now path.now))) }
+        (IsWithoutBook (place (state S.Store) (F.databases rt.now) access db.now) (IsFileless ((F.files rt.now).lacks path.now))) }
 {
     let connection = rt.database(db, access)?;
     match open(rt, path) {
@@ -260,11 +266,11 @@ fn book_and_folder<S: Alter + Drop, F: Folder + Databases<Opened = Connection<S>
     db: &str,
     folder: &Option<String>,
 ) -> Result<Book<S>, ToolFault>
-    ensures opens { IfOk result (OpensFound (place (state S.Store)
-        (F.opens_as rt.now accesses.Settle db.now) (F.refuses rt.now db.now) (F.closes_as rt.now db.now) (F.moves rt.now))) }
-    ensures refused { IfErr result (IsWithoutBook (place (state S.Store)
-        (F.opens_as rt.now accesses.Settle db.now) (F.refuses rt.now db.now) (F.closes_as rt.now db.now) (F.moves rt.now))
-        (IsFolderless (files_by (F.reads rt.now) (F.lacks rt.now) F.Output.contents (F.makes rt.now) (F.takes rt.now) (F.bars rt.now)) (option_map (λ s. string_bytes s) folder.now))) }
+    requires change { (F.databases rt.now).may_change db.now }
+    requires keep { IfSome (option_map (λ s. string_bytes s) folder.now) (MayKeep (F.files rt.now)) }
+    ensures opens { IfOk result (OpensFound (place (state S.Store) (F.databases rt.now) accesses.Settle db.now)) }
+    ensures refused { IfErr result (IsWithoutBook (place (state S.Store) (F.databases rt.now) accesses.Settle db.now)
+        (IsFolderless (files_by F.Output.contents (F.files rt.now)) (option_map (λ s. string_bytes s) folder.now))) }
 {
     let connection = rt.database(db, Access::Settle)?;
     if let Some(folder) = folder {
@@ -283,12 +289,10 @@ fn opened<S: Alter + Drop, F: Databases<Opened = Connection<S>> + AllocGlobal>(
     db: &str,
     connection: Connection<S>,
 ) -> Result<Book<S>, ToolFault>
-    ensures opens { (access : Access) → F.opens_as rt.now access db.now connection
-        → IfOk result (OpensFound (place (state S.Store)
-        (F.opens_as rt.now access db.now) (F.refuses rt.now db.now) (F.closes_as rt.now db.now) (F.moves rt.now))) }
-    ensures refused { (access : Access) → F.opens_as rt.now access db.now connection
-        → IfErr result (IsWithoutBook (place (state S.Store)
-        (F.opens_as rt.now access db.now) (F.refuses rt.now db.now) (F.closes_as rt.now db.now) (F.moves rt.now)) IsNeverLacking) }
+    ensures opens { (access : Access) → (F.databases rt.now).opens_as access db.now connection
+        → IfOk result (OpensFound (place (state S.Store) (F.databases rt.now) access db.now)) }
+    ensures refused { (access : Access) → (F.databases rt.now).opens_as access db.now connection
+        → IfErr result (IsWithoutBook (place (state S.Store) (F.databases rt.now) access db.now) IsNeverLacking) }
 {
     if !connection.is_autocommit() {
         rt.close(db, connection);

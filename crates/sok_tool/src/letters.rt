@@ -41,7 +41,7 @@ pub(crate) fn replay<F: Folder + AllocGlobal, R: Read, W: Write>(
     out: &mut W,
 ) -> Result<u8, ToolFault>
     ensures { OnLetters word.now (R.remaining input.old)
-        (RunsPlay IsReplay (F.reads rt.now path.now) n
+        (RunsPlay IsReplay ((F.files rt.now).reads path.now) n
         (record { old = W.contents out.old; new = W.contents out.new }) result)
         (record { old = W.contents out.old; new = W.contents out.new }) result }
 {
@@ -59,7 +59,7 @@ pub(crate) fn draw<F: Folder + AllocGlobal, R: Read, W: Write>(
     out: &mut W,
 ) -> Result<u8, ToolFault>
     ensures { OnLetters word.now (R.remaining input.old)
-        (RunsPlay IsDrawing (F.reads rt.now path.now) n
+        (RunsPlay IsDrawing ((F.files rt.now).reads path.now) n
         (record { old = W.contents out.old; new = W.contents out.new }) result)
         (record { old = W.contents out.old; new = W.contents out.new }) result }
 {
@@ -74,8 +74,9 @@ pub(crate) fn offer<
     R: Read,
     W: Write,
 >(rt: &F, db: &str, id: i64, word: &str, input: &mut R, out: &mut W) -> Result<u8, ToolFault>
+    requires { (F.databases rt.now).may_change db.now }
     ensures { OnLetters word.now (R.remaining input.old) (RunsOffer
-        (databases_by (state S.Store) (F.opens_as rt.now) (F.refuses rt.now) (F.closes_as rt.now) (F.moves rt.now))
+        (databases_by (state S.Store) (F.databases rt.now))
         db.now id (record { old = W.contents out.old; new = W.contents out.new }) result)
         (record { old = W.contents out.old; new = W.contents out.new }) result }
 {

@@ -1,15 +1,17 @@
 //! The program: its words, its streams and its exit status.
 
-ghost use Rattle.std.specs.Prelude.{◌≡◌, ◌≤◌, ◌∷◌, ℕ, List, length, map, string_bytes};
+ghost use Rattle.std.specs.Prelude.{◌≡◌, ◌≤◌, ◌<◌, ◌∷◌, ℕ, List, length, map, string_bytes};
 ghost use Rattle.sok_engine.specs.Inputs.{OfReader, Within};
 ghost use Rattle.sok_engine.specs.Limits.{input_limit};
 ghost use Rattle.sok_play.specs.Plays.{IsPlay};
+ghost use Rattle.sok_words.specs.declared.job.Job.{Job};
 ghost use Rattle.sok_words.specs.Forms.{Form, IsPlain, words_of};
 ghost use Rattle.sok_files.specs.Endings.{Runs};
 ghost use Rattle.sqlite.specs.Held.{state};
 ghost use Rattle.sok_files.specs.Files.{files_by};
 ghost use Rattle.sok_tool.specs.Commands.{Serves, ServesJob};
 ghost use Rattle.sok_tool.specs.Databases.{databases_by};
+ghost use Rattle.sok_tool.specs.Rights.{ChangesAt, MakesAt, MayAsk};
 
 use crate::keeping::{add, offers, prove, settle, show, tell};
 use crate::letters::{draw, offer, replay};
@@ -42,13 +44,19 @@ pub fn run<
     W: Write,
     E: Write,
 >(rt: &F, words: &[String], input: &mut R, out: &mut W, err: &mut E) -> u8
+    requires makes { 1 < length words.now → (path : List ℕ) (job : Job)
+        → MayAsk (map (λ word. string_bytes word) words.now) job → MakesAt job path
+        → (F.files rt.now).may_make path }
+    requires changes { 1 < length words.now → (path : List ℕ) (job : Job)
+        → MayAsk (map (λ word. string_bytes word) words.now) job → ChangesAt job path
+        → (F.databases rt.now).may_change path }
     ensures plays { length words.now ≤ 1
         → Runs (OfReader (R.remaining input.old) (Within input_limit IsPlay))
         (W.contents out.old) (W.contents out.new) (E.contents err.old) (E.contents err.new) result }
     ensures serves { (program : List ℕ) (form : Form) → IsPlain form
         → map (λ word. string_bytes word) words.now ≡ program ∷ words_of form
-        → Serves (files_by (F.reads rt.now) (F.lacks rt.now) F.Output.contents (F.makes rt.now) (F.takes rt.now) (F.bars rt.now))
-        (databases_by (state S.Store) (F.opens_as rt.now) (F.refuses rt.now) (F.closes_as rt.now) (F.moves rt.now)) form
+        → Serves (files_by F.Output.contents (F.files rt.now))
+        (databases_by (state S.Store) (F.databases rt.now)) form
         (record { old = W.contents out.old; new = W.contents out.new })
         (record { old = E.contents err.old; new = E.contents err.new }) result }
 {
@@ -69,8 +77,10 @@ fn served<
     W: Write,
     E: Write,
 >(rt: &F, job: Job, input: &mut R, out: &mut W, err: &mut E) -> u8
-    ensures { ServesJob (files_by (F.reads rt.now) (F.lacks rt.now) F.Output.contents (F.makes rt.now) (F.takes rt.now) (F.bars rt.now))
-        (databases_by (state S.Store) (F.opens_as rt.now) (F.refuses rt.now) (F.closes_as rt.now) (F.moves rt.now)) job
+    requires makes { (path : List ℕ) → MakesAt job path → (F.files rt.now).may_make path }
+    requires changes { (path : List ℕ) → ChangesAt job path → (F.databases rt.now).may_change path }
+    ensures { ServesJob (files_by F.Output.contents (F.files rt.now))
+        (databases_by (state S.Store) (F.databases rt.now)) job
         (record { old = W.contents out.old; new = W.contents out.new })
         (record { old = E.contents err.old; new = E.contents err.new }) result }
 {

@@ -11,19 +11,19 @@ use Rattle.sok_files.proofs.command.check.Goals as goal
 pub returns-in_err-input : goal.returns-in_err-input
 returns-in_err-input g c =
     let p = err_from_is_err_and c.from_residual.result c.from_residual.ensures.1 in
-    let reads = g.F.Folder.reads c.args.rt.now in
+    let reads = (g.F.Folder.files c.args.rt.now).reads in
     let judged : List ℕ → List ℕ → Answers = λ text. Within input_limit (IsCheck cert_limit c.args.n text) in
     rw (p.1, p.2) (Writes-unopened (OfFiles (reads c.args.path.now) (reads c.args.cert_path.now) judged) _ _ c.in_err-input.ensures.opened)
 
 pub returns-in_err-cert_input : goal.returns-in_err-cert_input
 returns-in_err-cert_input g c =
     let p = err_from_is_err_and c.from_residual-in_err-cert_input.result c.from_residual-in_err-cert_input.ensures.1 in
-    let reads = g.F.Folder.reads c.args.rt.now in
+    let reads = (g.F.Folder.files c.args.rt.now).reads in
     let judged : List ℕ → List ℕ → Answers = λ text. Within input_limit (IsCheck cert_limit c.args.n text) in
     rw (p.1, p.2) (Writes-unopened (OfFiles (reads c.args.path.now) (reads c.args.cert_path.now) judged) _ _ c.in_err-cert_input.ensures.opened)
 
 pub returns : goal.returns
 returns g c =
-    let reads = g.F.Folder.reads c.args.rt.now in
+    let reads = (g.F.Folder.files c.args.rt.now).reads in
     Writes-files (reads c.args.path.now) (reads c.args.cert_path.now) input_limit (IsCheck cert_limit c.args.n) _ _ _ _ c.check_bytes.result
     c.in_ok-input.ensures.opened c.in_ok-cert_input.ensures.opened c.check_bytes.ensures.writes

@@ -10,9 +10,9 @@ pub returns-in_err-input : goal.returns-in_err-input
 returns-in_err-input g c =
     let p = err_from_is_err_and c.from_residual.result c.from_residual.ensures.1 in
     let replay = Within input_limit (IsReplay c.args.n c.args.text.now) in
-    rw (p.1, p.2) (Writes-unopened (OfFile (g.F.Folder.reads c.args.rt.now c.args.path.now) replay) _ _ c.in_err-input.ensures.opened)
+    rw (p.1, p.2) (Writes-unopened (OfFile ((g.F.Folder.files c.args.rt.now).reads c.args.path.now) replay) _ _ c.in_err-input.ensures.opened)
 
 pub returns : goal.returns
 returns g c =
-    Writes-file (g.F.Folder.reads c.args.rt.now c.args.path.now) (Within input_limit (IsReplay c.args.n c.args.text.now)) _ _ _ c.replay_bytes.result
+    Writes-file ((g.F.Folder.files c.args.rt.now).reads c.args.path.now) (Within input_limit (IsReplay c.args.n c.args.text.now)) _ _ _ c.replay_bytes.result
     c.in_ok-input.ensures.opened c.replay_bytes.ensures

@@ -20,8 +20,8 @@ returns-in_err-cert_out g c =
 
 pub returns : goal.returns
 returns g c =
-    let reads = g.F.Folder.reads c.args.rt.now c.args.path.now in
-    let makes = IsMade g.F.Output.Write.contents (g.F.Folder.makes c.args.rt.now c.args.cert_path.now) in
+    let reads = (g.F.Folder.files c.args.rt.now).reads c.args.path.now in
+    let makes = IsMade g.F.Output.Write.contents ((g.F.Folder.files c.args.rt.now).makes c.args.cert_path.now) in
     let other : c.args.path.now ≢ c.args.cert_path.now = λ same. c.in_ok-cert_out.ensures.apart (sym same ∙ sym c.collection.ensures) in
     SolvesTo-file reads (Within input_limit (IsSolve c.args.n c.args.limit c.args.bound)) (λ cert. (c.args.path.now ≢ c.args.cert_path.now) × makes cert) _ _ _
     c.solve_bytes.result c.in_ok-input.ensures.opened

@@ -20,7 +20,7 @@ pub returns : goal.returns
 returns g c =
     let call = c.settle_book-ended in
     let limit = c.args.limit in
-    let keeping = keeping_of (files_by (g.F.Folder.reads c.args.rt.now) (g.F.Folder.lacks c.args.rt.now) g.F.Output.Write.contents (g.F.Folder.makes c.args.rt.now) (g.F.Folder.takes c.args.rt.now) (g.F.Folder.bars c.args.rt.now)) c.args.db.now
+    let keeping = keeping_of (files_by g.F.Output.Write.contents (g.F.Folder.files c.args.rt.now)) c.args.db.now
     (option_map (λ s. string_bytes s) c.args.folder) in
     let old = state g.S.Store c.in_ok-book.book in
     let new = state g.S.Store call.new.book in

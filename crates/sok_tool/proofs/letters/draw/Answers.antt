@@ -11,6 +11,6 @@ returns-in_err-letters g c = none_read _ _ _ _ _ _ c.from_residual.ensures.1 c.i
 
 pub returns : goal.returns
 returns g c =
-    on_read _ _ (λ letters. Writes (OfFile (g.F.Folder.reads c.args.rt.now c.args.path.now) (Within input_limit (IsDrawing c.args.n letters)))
+    on_read _ _ (λ letters. Writes (OfFile ((g.F.Folder.files c.args.rt.now).reads c.args.path.now) (Within input_limit (IsDrawing c.args.n letters)))
     (g.W.Write.contents c.args.out.now) (g.W.Write.contents c.draw.new.out) c.draw.result) _ _ _ c.as_slice.result.now c.as_slice.ensures.value
     c.in_ok-letters.ensures.letters c.draw.ensures

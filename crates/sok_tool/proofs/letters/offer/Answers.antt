@@ -16,7 +16,7 @@ returns g c =
     let later = g.W.Write.contents c.offer.new.out in
     let db = c.args.db.now in
     let Works : ℤ → List ℕ → Type 0 = λ id letters. WorksOn (place (state g.S.Store)
-    (g.F.Databases.opens_as c.args.rt.now accesses.Change db) (g.F.Databases.refuses c.args.rt.now db) (g.F.Databases.closes_as c.args.rt.now db) (g.F.Databases.moves c.args.rt.now)) IsNeverLacking
+    (g.F.Databases.databases c.args.rt.now) accesses.Change db) IsNeverLacking
     (OffersText id letters) (λ ended book after. WritesOffer book id letters after before later ended)
     (record { old = before; new = later }) c.offer.result in
     on_read _ _ (Works c.args.id) _ _ _ c.as_slice.result.now c.as_slice.ensures.value c.in_ok-letters.ensures.letters

@@ -5,12 +5,18 @@ use Rattle.sok_tool.specs.Databases.{databases_by}
 use Rattle.sok_tool.proofs.Serving.{Serves-memory, too_few}
 use Rattle.sok_tool.proofs.program.run.Goals as goal
 
+pub served-requires-clause-makes : goal.served-requires-clause-makes
+served-requires-clause-makes g c = λ path makes. c.requires.makes (omega (arith, c.if-words-le1.false)) path c.in-Ok.job c.in-Ok.ensures.answers makes
+
+pub served-requires-clause-changes : goal.served-requires-clause-changes
+served-requires-clause-changes g c = λ path changes. c.requires.changes (omega (arith, c.if-words-le1.false)) path c.in-Ok.job c.in-Ok.ensures.answers changes
+
 pub returns-in-Err-clause-serves : goal.returns-in-Err-clause-serves
 returns-in-Err-clause-serves g c = λ program form plain words.
     let memory : c.in-Err.refusal.status ≡ 6 = c.in-Err.ensures.answers program form plain words in
     let rt = c.args.rt.now in
-    let files = files_by (g.F.Folder.reads rt) (g.F.Folder.lacks rt) g.F.Output.Write.contents (g.F.Folder.makes rt) (g.F.Folder.takes rt) (g.F.Folder.bars rt) in
-    let databases = databases_by (state g.S.Store) (g.F.Databases.opens_as rt) (g.F.Databases.refuses rt) (g.F.Databases.closes_as rt) (g.F.Databases.moves rt) in
+    let files = files_by g.F.Output.Write.contents (g.F.Folder.files rt) in
+    let databases = databases_by (state g.S.Store) (g.F.Databases.databases rt) in
     Serves-memory files databases _ _ c.refused.result form (c.refused.ensures.memory memory) (c.refused.ensures.silent (λ none. omega (arith, memory, none)))
 
 pub returns-in-Ok-clause-serves : goal.returns-in-Ok-clause-serves

@@ -1,7 +1,6 @@
 use Rattle.std.proofs.Common.{◌≡◌, ◌∙◌}
-use Rattle.sok_files.specs.Files.{files_by}
+use Rattle.sok_files.specs.Files.{cert_path, files_by}
 use Rattle.sok_keep.proofs.Ids.{of_passed}
-use Rattle.sok_tool.specs.Certs.{cert_path}
 use Rattle.sok_tool.proofs.CertFiles.{TellsKept-text}
 use Rattle.sok_tool.proofs.certs.CertFolderCerts.keep.Goals as goal
 
@@ -10,7 +9,7 @@ returns g c = λ entries took.
     let folder = c.args.self.now.path.now in
     let path = c.as_str.result.now in
     let rt = c.args.self.now.files.now in
-    TellsKept-text (files_by (g.F.Folder.reads rt) (g.F.Folder.lacks rt) g.F.Output.Write.contents (g.F.Folder.makes rt) (g.F.Folder.takes rt) (g.F.Folder.bars rt)) c.args.self.now.own.path.now folder c.args.id
+    TellsKept-text (files_by g.F.Output.Write.contents (g.F.Folder.files rt)) c.args.self.now.own.path.now folder c.args.id
     c.args.claim.now entries path c.in_ok-cert.cert c.keep_at.result
     (of_passed (λ id. path ≡ cert_path folder id) c.args.id c.ranges.id (c.as_str.ensures.value ∙ c.in_ok-path.ensures)) (c.in_ok-cert.ensures entries took).0
     c.keep_at.ensures
