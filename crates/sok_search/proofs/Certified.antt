@@ -16,7 +16,7 @@ use Rattle.sok_search.specs.declared.note.Note.{Note}
 use Rattle.sok_search.specs.declared.note.Standing.{Standing}
 use Rattle.sok_search.specs.declared.note.Standing.TheVariants.{Open, Expanded, Dead, Lost}
 use Rattle.sok_search.specs.Finished.{AreDone, AreFirstEntries, AreTaken, HasText, IsAtMost, IsDone, IsEntryAt, IsEntryOf, TakesEntry, claim_of}
-use Rattle.sok_search.specs.Halted.{IsLeastOpen}
+use Rattle.sok_search.specs.Halted.{IsOpenAt}
 use Rattle.sok_search.specs.Limits.{state_limit}
 use Rattle.sok_search.specs.Searches.{Progress, IsBeaten, IsSearch, IsState, Stands}
 use Rattle.sok_search.proofs.StatesByIndex.{key-within}
@@ -24,7 +24,7 @@ use Rattle.sok_search.proofs.StatesByIndex.{key-within}
 none_waits : (queue : List ℕ) (i : ℕ) → queue ≡ [] → Contains queue i → ⊥
 none_waits queue i none (k, within, is) = let empty = ap length none in omega (arith, empty, within)
 
-beaten-at_most : (best : Option ℕ) (n : ℕ) → IsBeaten best n → IsAtMost (claim_of best) n
+pub beaten-at_most : (best : Option ℕ) (n : ℕ) → IsBeaten best n → IsAtMost (claim_of best) n
 beaten-at_most None n none = none
 beaten-at_most (Some k) n beaten = beaten
 
@@ -52,9 +52,10 @@ stands-least b p i key depth least (Expanded bound) enough stands = tt
 stands-least b p i key depth least Dead enough dead = dead
 stands-least b p i key depth least (Lost place) enough lost = lost
 
-pub done-least : (b : BoardView) (limit : ℕ) (p : Progress) (least : ℕ) → IsSearch b limit p → IsLeastOpen p least → AreDone b (Pushes least) p
-done-least b limit p least search of_all i key depth note state =
-    stands-least b p i key depth least note.standing (λ bound is. of_all.below i (depth + bound) (key-within p i key state.there)
+pub done-least : (b : BoardView) (limit : ℕ) (p : Progress) (least : ℕ) → IsSearch b limit p
+    → ((i n : ℕ) → i < length p.table → IsOpenAt p i n → least ≤ n) → AreDone b (Pushes least) p
+done-least b limit p least search below i key depth note state =
+    stands-least b p i key depth least note.standing (λ bound is. below i (depth + bound) (key-within p i key state.there)
     (record { key = key; depth = depth; note = note; state = state; bound = bound; is_open = is; needs = refl }))
     (search.noted i key depth note state).stands
 

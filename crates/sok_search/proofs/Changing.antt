@@ -14,7 +14,7 @@ use Rattle.sok_state.specs.Tables.{Entries, HasDistinctKeys}
 use Rattle.sok_search.specs.declared.note.Note.{Note}
 use Rattle.sok_search.specs.declared.note.Standing.{Standing}
 use Rattle.sok_search.specs.declared.note.Standing.TheVariants.{Open, Expanded, Dead, Lost}
-use Rattle.sok_search.specs.Searches.{Progress, IsBeaten, IsCome, IsNoted, IsSearch, IsSolvedIn, IsState, Stands}
+use Rattle.sok_search.specs.Searches.{Progress, IsBeaten, Frame, IsCome, IsNoted, IsReached, IsSearch, IsState, Stands}
 use Rattle.sok_search.specs.Steps.{Grows, IsAdded, IsChanged, IsJudgedIn, Queues}
 use Rattle.sok_search.proofs.StatesByIndex.{key-within}
 use Rattle.sok_search.proofs.Invariant.{come-along, IsUnchanged, best-along, keeps, later-same}
@@ -95,8 +95,10 @@ fit-noted b p q i key depth note same grows queues fit = record {
 same_best : (b : BoardView) (p q : Progress) → q.best ≡ p.best → (n : ℕ) → IsBeaten p.best n → IsBeaten q.best n
 same_best b p q same n beaten = subst (λ best. IsBeaten best n) (sym same) beaten
 
-best-of : (b : BoardView) (p q : Progress) → Grows p.table q.table → q.best ≡ p.best → IfSome p.best (IsSolvedIn b p) → IfSome q.best (IsSolvedIn b q)
-best-of b p q grows same best = subst (λ o. IfSome o (IsSolvedIn b q)) (sym same) (best-along b p q grows p.best best)
+best-of : (b : BoardView) (p q : Progress) → q.frame ≡ p.frame → Grows p.table q.table → q.best ≡ p.best → IfSome p.best (IsReached b p)
+    → IfSome q.best (IsReached b q)
+best-of b p q frame grows same best =
+    subst (λ o. IfSome o (IsReached b q)) (sym same) (best-along b p q (ap (λ (f : Frame). f.aim) frame) grows p.best best)
 
 differs : (keys : List Key) (key : Key) → (Contains keys key → ⊥) → All (λ k. All (λ other. k ≢ other) (key ∷ [])) keys
 differs keys key absent = λ k d within n other_d n_within same.
@@ -185,7 +187,7 @@ module _ (b : BoardView) (limit : ℕ) (p q : Progress) (key : Key) (depth : ℕ
         ];
         grows = added-grows;
         better = same_best b p q added.best;
-        best = best-of b p q added-grows added.best search.best;
+        best = best-of b p q added.frame added-grows added.best search.best;
         each = added-cases fit;
       })
 
@@ -261,6 +263,6 @@ module _ (b : BoardView) (limit : ℕ) (p q : Progress) (index : ℕ) (key : Key
         ];
         grows = changed-grows;
         better = same_best b p q changed.best;
-        best = best-of b p q changed-grows changed.best search.best;
+        best = best-of b p q changed.frame changed-grows changed.best search.best;
         each = changed-cases (fit-noted b p q index key depth note changed.frame changed-grows changed.queue fit);
       })

@@ -14,21 +14,21 @@ use Rattle.sok_cert.specs.Text.{FitsClaim, FitsEntry}
 use Rattle.sok_state.specs.declared.push.Push.{Push}
 use Rattle.sok_cert.specs.Closed.{IsClosed, IsTrueOf}
 use Rattle.sok_search.specs.Finished.{AreFirstEntries, claim_of}
-use Rattle.sok_search.specs.Halted.{IsLeastOpen}
+use Rattle.sok_search.specs.Halted.{IsLeastOpen, IsOpenAt}
 use Rattle.sok_search.specs.Limits.{state_limit}
-use Rattle.sok_search.specs.Outcomes.{Certifies, OfClaim, HasSearched, IsCutShort, IsLeastSolution, IsProvedSolved, IsProvedUnsolvable, ShowsLeast}
-use Rattle.sok_search.specs.Searches.{Progress, IsSearch}
+use Rattle.sok_search.specs.Outcomes.{Certifies, OfClaim, HasSearched, IsCutShortBeside, IsLeastSolution, IsProvedSolved, IsProvedUnsolvable, ShowsLeast}
+use Rattle.sok_search.specs.Searches.{Progress, IsBeaten, IsSearch}
 use Rattle.sok_search.specs.Walkthroughs.{IsSolvedAt, IsSolvedWith, IsSolvedWithin, IsSolvingTrace, TracesBack}
-use Rattle.sok_search.proofs.Certified.{done-finished, done-least}
+use Rattle.sok_search.proofs.Certified.{beaten-at_most, done-finished, done-least}
 use Rattle.sok_search.proofs.Finishing.{entries-closed}
 use Rattle.sok_search.proofs.StatesByIndex.{key-within, noted-at}
 use Rattle.sok_search.proofs.Shown.{shows}
 
 -- a search that has come to its end
 pub searched : (b : BoardView) (limit : ℕ) (p : Progress) (best : Option ℕ) → IsSearch b limit p → p.queue ≡ [] → p.best ≡ best
-    → HasSearched b.rows limit best
-searched b limit p best search finished is =
-    record { board = b; rows_are = refl; known = p; search = search; finished = finished; best_is = is }
+    → p.frame.aim.upper ≡ None → HasSearched b.rows limit best
+searched b limit p best search finished is alone =
+    record { board = b; rows_are = refl; known = p; search = search; finished = finished; best_is = is; alone = alone }
 
 -- the index of a solved state is one of the notes
 pub solved-noted : (b : BoardView) (limit : ℕ) (p : Progress) (k index : ℕ) → IsSearch b limit p → IsSolvedAt b p k index → index < length p.notes
@@ -62,7 +62,7 @@ solved-within b limit p k index trace w search solved traces with_pushes =
 
 module _ (b : BoardView) (accepted : IsAccepted b) (limit : ℕ) (p : Progress) (search : IsSearch b limit p) where
   -- a whole search gives a closed list
-  certifies : p.frame.whole ≡ true → (shown : Claim) (entries : List Entry) → FitsClaim shown → AreFirstEntries b shown p (length p.table) entries
+  certifies : p.frame.aim.whole ≡ true → (shown : Claim) (entries : List Entry) → FitsClaim shown → AreFirstEntries b shown p (length p.table) entries
       → All FitsEntry entries → Certifies b.rows limit shown entries
   certifies whole shown entries fits are fit =
       let closed = entries-closed b accepted limit shown p entries search whole are in
@@ -76,6 +76,7 @@ module _ (b : BoardView) (accepted : IsAccepted b) (limit : ℕ) (p : Progress) 
   module _ (none : p.queue ≡ []) where
     shows-best : (best : Option ℕ) → p.best ≡ best → IsTrueOf b.rows (claim_of best)
     shows-best best is = shows b accepted limit p search (claim_of best) (done-finished b limit p (claim_of best) search none (ap claim_of (sym is)))
+        (λ n beaten. beaten-at_most best n (subst (λ o. IsBeaten o n) is (search.upper n beaten)))
 
     pub unsolvable : p.best ≡ None → IsUnsolvable b.rows
     unsolvable is = shows-best None is
@@ -95,12 +96,12 @@ module _ (b : BoardView) (accepted : IsAccepted b) (limit : ℕ) (p : Progress) 
           ends = within.solved.ends;
         }
 
-    pub shown-unsolvable : p.frame.whole ≡ true → (entries : List Entry) → p.best ≡ None
+    pub shown-unsolvable : p.frame.aim.whole ≡ true → (entries : List Entry) → p.best ≡ None
         → AreFirstEntries b claim.Unsolvable p (length p.table) entries → All FitsEntry entries → IsProvedUnsolvable b.rows limit entries
     shown-unsolvable whole entries is are fit =
         record { unsolvable = unsolvable is; certified = certifies whole claim.Unsolvable entries tt are fit }
 
-    pub shown-solved : p.frame.whole ≡ true → length p.table ≤ state_limit → (k : ℕ) (w : List Dir) (entries : List Entry) → p.best ≡ Some k
+    pub shown-solved : p.frame.aim.whole ≡ true → length p.table ≤ state_limit → (k : ℕ) (w : List Dir) (entries : List Entry) → p.best ≡ Some k
         → AreFirstEntries b (claim.Pushes k) p (length p.table) entries → All FitsEntry entries → IsSolvedWithin b (length p.table) k w
         → IsProvedSolved b.rows limit w k entries
     shown-solved whole small k w entries is are fit within =
@@ -110,16 +111,34 @@ module _ (b : BoardView) (accepted : IsAccepted b) (limit : ℕ) (p : Progress) 
         let below = within.small in
         record { solution = solution; certified = certifies whole (claim.Pushes k) entries (omega (arith, above, counted, below, small)) are fit }
 
+    -- beside a solution with so many pushes
+    module _ (u : ℕ) (upper : p.frame.aim.upper ≡ Some u) where
+      within-upper : (best : Option ℕ) → p.best ≡ best → IsBeaten best u
+      within-upper best is = subst (λ o. IsBeaten o u) is (search.upper u (subst (λ o. IsBeaten o u) (sym upper) (omega arith)))
+
+      pub optimal : (k : ℕ) → p.best ≡ Some k → u ≤ k → AtLeast b.rows u
+      optimal k is above w solves = let least : AtLeast b.rows k = shows-best (Some k) is in let enough = least w solves in omega (arith, above, enough)
+
+      pub never-none : p.best ≡ None → ⊥
+      never-none = within-upper None
+
   -- it was cut off, and so much is needed in each open state
+  at-least : (least : ℕ) → ((i n : ℕ) → i < length p.table → IsOpenAt p i n → least ≤ n) → ((n : ℕ) → IsBeaten p.frame.aim.upper n → least ≤ n) → AtLeast b.rows least
+  at-least least below beside = shows b accepted limit p search (claim.Pushes least) (done-least b limit p least search below) beside
+
+  pub no-fewer : (u least : ℕ) → p.frame.aim.upper ≡ Some u → IsLeastOpen p least → u ≤ least → AtLeast b.rows u
+  no-fewer u least upper of_all above = at-least u (λ i n within at. let enough = of_all.below i n within at in omega (arith, enough, above))
+      (λ n beaten. subst (λ o. IsBeaten o n) upper beaten)
+
   module _ (more : MoreStatesThan b.rows limit) (full : limit ≤ length p.table) (least : ℕ) (of_all : IsLeastOpen p least) where
-    pub cut-short : IsCutShort b.rows limit limit least
-    cut-short = record {
+    pub cut-short : (upper : Option ℕ) → p.frame.aim.upper ≡ upper → ((n : ℕ) → IsBeaten upper n → least ≤ n) → IsCutShortBeside b.rows limit upper limit least
+    cut-short upper is beside = record {
       past = record { more = more; is = refl };
-      at_least = shows b accepted limit p search (claim.Pushes least) (done-least b limit p least search of_all);
-      halted = record { board = b; rows_are = refl; known = p; search = search; full = full; least_is = of_all };
+      at_least = at-least least of_all.below (λ n beaten. beside n (subst (λ o. IsBeaten o n) is beaten));
+      halted = record { board = b; rows_are = refl; known = p; search = search; full = full; least_is = of_all; beside = is };
     }
 
-    pub shown-least : p.frame.whole ≡ true → (entries : List Entry) → AreFirstEntries b (claim.Pushes least) p (length p.table) entries
+    pub shown-least : p.frame.aim.whole ≡ true → (entries : List Entry) → AreFirstEntries b (claim.Pushes least) p (length p.table) entries
         → All FitsEntry entries → Certifies b.rows limit (claim.Pushes least) entries
     shown-least whole entries are fit = certifies whole (claim.Pushes least) entries of_all.small are fit
 

@@ -137,12 +137,12 @@ reasoned-standing b claim p i e made standing.Dead stands why = reasoned-bars b 
 reasoned-standing b claim p i e made (standing.Lost place) stands why = reasoned-bars b claim e (bars-made b claim p i e made why)
 
 -- a whole search leaves no push out
-found-whole : (b : BoardView) (p : Progress) → p.frame.whole ≡ true → (key : Key) (depth : ℕ) (push : Push) → IsMet b p key depth push
+found-whole : (b : BoardView) (p : Progress) → p.frame.aim.whole ≡ true → (key : Key) (depth : ℕ) (push : Push) → IsMet b p key depth push
     → IsFound b p.table key depth push
 found-whole b p whole key depth push (inl found) = found
 found-whole b p whole key depth push (inr left) = absurd (true≢false (sym whole ∙ left.part))
 
-followed-standing : (b : BoardView) → IsAccepted b → (claim : Claim) (p : Progress) → p.frame.whole ≡ true → (entries : List Entry)
+followed-standing : (b : BoardView) → IsAccepted b → (claim : Claim) (p : Progress) → p.frame.aim.whole ≡ true → (entries : List Entry)
     → IsLooking node_of b (length (boxes_of b)) entries p.table → (i : ℕ) (e : Entry) → Contains entries e
     → (made : Made b claim p i e) (s : Standing) → Stands b p i made.key made.depth s → IsReasonOf b claim made.key.least made.key.boxes made.depth s e.reason
     → IsTrue (is_expanded e.reason) → IsFollowed node_of b entries (node_of e)
@@ -170,7 +170,7 @@ apart-made b accepted claim p distinct i j e f of_e of_f same =
 
 -- the law
 pub entries-closed : (b : BoardView) → IsAccepted b → (limit : ℕ) (claim : Claim) (p : Progress) (entries : List Entry)
-    → IsSearch b limit p → p.frame.whole ≡ true
+    → IsSearch b limit p → p.frame.aim.whole ≡ true
     → AreFirstEntries b claim p (length p.table) entries → IsClosed b claim entries
 entries-closed b accepted limit claim p entries search whole are =
     let looking = looking-made b accepted limit claim p entries search are in

@@ -23,7 +23,7 @@ pub followed-none : (b : BoardView) (limit : ℕ) (p : Progress) (index : ℕ) (
     → HasFollowed b limit p index key depth (Before pushes 0) p
 followed-none b limit p index key depth pushes search = record {
   search = search;
-  whole = refl;
+  aim = refl;
   stay = λ i other deep note near state. state;
   met = λ push (k, below, there). absurd (omega (arith, below));
   no_more = omega arith;
@@ -34,7 +34,7 @@ pub followed-more : (b : BoardView) (limit : ℕ) (p q r : Progress) (index : �
     → IsPushed b limit (holding index q) key depth push (holding index r) → HasFollowed b limit p index key depth (Before pushes (n + 1)) r
 followed-more b limit p q r index key depth pushes n push there before pushed = record {
   search = pushed.search;
-  whole = pushed.whole ∙ before.whole;
+  aim = pushed.aim ∙ before.aim;
   stay = λ i other deep note near state.
       let one = before.stay i other deep note near state in
       let two = pushed.stay i other deep note near (record { there = one.there; depth_is = one.depth_is; note_is = one.note_is }) in
@@ -43,7 +43,7 @@ followed-more b limit p q r index key depth pushes n push there before pushed = 
     | inl same ↦
         let is : push ≡ other = same_Some push other (sym there ∙ ap (slice_get pushes) (sym same) ∙ at) in
         subst (IsMet b r key depth) is pushed.met
-    | inr apart ↦ met-along b q r pushed.whole pushed.grows key depth other (before.met other (k, omega (arith, below, apart), at))
+    | inr apart ↦ met-along b q r pushed.aim pushed.grows key depth other (before.met other (k, omega (arith, below, apart), at))
   ];
   no_more = let one = before.no_more in let two = pushed.no_more in omega (arith, one, two);
 }
@@ -53,7 +53,7 @@ pub followed-along : (b : BoardView) (limit : ℕ) (p q : Progress) (index : ℕ
     → ((push : Push) → Other push → Followed push) → HasFollowed b limit p index key depth Followed q → HasFollowed b limit p index key depth Other q
 followed-along b limit p q index key depth Followed Other covers followed = record {
   search = followed.search;
-  whole = followed.whole;
+  aim = followed.aim;
   stay = followed.stay;
   met = λ push other.
       followed.met push (covers push other);

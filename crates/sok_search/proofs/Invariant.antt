@@ -10,11 +10,12 @@ use Rattle.sok_closed.specs.Lookup.{IsFound}
 use Rattle.sok_alone.specs.declared.losses.Losses.{Losses}
 use Rattle.sok_alone.specs.Losses.{KeepsLosses, KeepsPlaces, losses_of}
 use Rattle.sok_alone.proofs.Losing.{lost-kept}
+use Rattle.sok_search.specs.declared.aim.Aim.{Aim}
 use Rattle.sok_search.specs.declared.note.Note.{Note}
 use Rattle.sok_search.specs.declared.note.Origin.{Origin}
 use Rattle.sok_search.specs.declared.note.Standing.{Standing}
 use Rattle.sok_search.specs.declared.note.Standing.TheVariants.{Open, Expanded, Dead, Lost}
-use Rattle.sok_search.specs.Searches.{Frame, Progress, IsBeaten, IsBegun, IsCome, IsFrom, IsLater, IsMet, IsNoted, IsSearch, IsSolvedIn, IsState, Stands}
+use Rattle.sok_search.specs.Searches.{Frame, Progress, IsBeaten, IsBegun, IsCome, IsFrom, IsLater, IsLeftOut, IsMet, IsNoted, IsReached, IsSearch, IsSolvedIn, IsState, Stands}
 use Rattle.sok_search.specs.Steps.{Grows, knowing}
 
 pub Grows-refl : (table : Entries) → Grows table table
@@ -35,10 +36,10 @@ found-along b old new grows key depth push found =
       near = omega (arith, near, was);
     }
 
-pub met-along : (b : BoardView) (p q : Progress) → q.frame.whole ≡ p.frame.whole → Grows p.table q.table → (key : Key) (depth : ℕ) (push : Push) → IsMet b p key depth push
+pub met-along : (b : BoardView) (p q : Progress) → q.frame.aim ≡ p.frame.aim → Grows p.table q.table → (key : Key) (depth : ℕ) (push : Push) → IsMet b p key depth push
     → IsMet b q key depth push
 met-along b p q same grows key depth push (inl found) = inl (found-along b p.table q.table grows key depth push found)
-met-along b p q same grows key depth push (inr left) = inr (record { part = same ∙ left.part; nowhere = left.nowhere })
+met-along b p q same grows key depth push (inr left) = inr (subst (λ aim. IsLeftOut b aim key depth push) (sym same) left)
 
 pub from-along : (b : BoardView) (p q : Progress) → Grows p.table q.table → (key : Key) (depth : ℕ) (origin : Origin) → IsFrom b p key depth origin
     → IsFrom b q key depth origin
@@ -72,7 +73,7 @@ pub stands-along : (b : BoardView) (p q : Progress) → IsLater b p.frame q.fram
 stands-along b p q same grows better i key depth (Open bound) waits (prices, inl waited) = (prices, inl (waits waited))
 stands-along b p q same grows better i key depth (Open bound) waits (prices, inr beaten) = (prices, inr (better (depth + bound) beaten))
 stands-along b p q same grows better i key depth (Expanded bound) waits (prices, unsolved, met) =
-    (prices, unsolved, λ push legal. met-along b p q same.whole grows key depth push (met push legal))
+    (prices, unsolved, λ push legal. met-along b p q same.aim grows key depth push (met push legal))
 stands-along b p q same grows better i key depth Dead waits dead = dead
 stands-along b p q same grows better i key depth (Lost place) waits lost =
     lost-kept b key.least key.boxes (losses_of p.frame.losses) place lost (losses_of q.frame.losses) same.kept
@@ -109,14 +110,16 @@ solved-along b p q grows k one =
       solved = one.solved;
     }
 
-pub best-along : (b : BoardView) (p q : Progress) → Grows p.table q.table → (best : Option ℕ) → IfSome best (IsSolvedIn b p) → IfSome best (IsSolvedIn b q)
-best-along b p q grows None one = one
-best-along b p q grows (Some k) one = solved-along b p q grows k one
+pub best-along : (b : BoardView) (p q : Progress) → q.frame.aim ≡ p.frame.aim → Grows p.table q.table → (best : Option ℕ) → IfSome best (IsReached b p)
+    → IfSome best (IsReached b q)
+best-along b p q same grows None one = one
+best-along b p q same grows (Some k) (inl beside) = inl (ap (λ (aim : Aim). aim.upper) same ∙ beside)
+best-along b p q same grows (Some k) (inr one) = inr (solved-along b p q grows k one)
 
 -- the same frame
 pub later-same : (b : BoardView) (old new : Frame) → new ≡ old → IsLater b old new
 later-same b old new same =
-    subst (IsLater b old) (sym same) (record { room = refl; whole = refl; kept = λ place loss there. there; losses = λ losses. losses })
+    subst (IsLater b old) (sym same) (record { room = refl; aim = refl; kept = λ place loss there. there; losses = λ losses. losses })
 
 -- a step after which each state is as it was, or is noted anew
 pub record IsStep (b : BoardView) (limit : ℕ) (p q : Progress) : Type 0 where
@@ -127,7 +130,7 @@ pub record IsStep (b : BoardView) (limit : ℕ) (p q : Progress) : Type 0 where
   pub queued : (i : ℕ) → Contains q.queue i → i < length q.table
   pub grows : Grows p.table q.table
   pub better : (n : ℕ) → IsBeaten p.best n → IsBeaten q.best n
-  pub best : IfSome q.best (IsSolvedIn b q)
+  pub best : IfSome q.best (IsReached b q)
   pub each : (i : ℕ) (key : Key) (depth : ℕ) (note : Note) → IsState q i key depth note → IsUnchanged p q i key depth note ⊎ IsNoted b q i key depth note
 
 pub keeps : (b : BoardView) (limit : ℕ) (p q : Progress) → IsSearch b limit p → IsStep b limit p q → IsSearch b limit q
@@ -144,6 +147,7 @@ keeps b limit p q search after = record {
     | inr noted ↦ noted
   ];
   best = after.best;
+  upper = λ n beaten. after.better n (search.upper n (subst (λ (aim : Aim). IsBeaten aim.upper n) after.frame.aim beaten));
 }
 
 -- more is known of boxes taken alone
@@ -152,14 +156,14 @@ pub keeps-knowing : (b : BoardView) (limit : ℕ) (p : Progress) (losses : Losse
 keeps-knowing b limit p losses search keeps_losses kept =
     let q = knowing losses p in
     keeps b limit p q search (record {
-      frame = record { room = refl; whole = refl; kept = kept; losses = λ before. keeps_losses };
+      frame = record { room = refl; aim = refl; kept = kept; losses = λ before. keeps_losses };
       distinct = search.distinct;
       a_note_each = search.a_note_each;
       few = search.few;
       queued = search.queued;
       grows = Grows-refl p.table;
       better = λ n beaten. beaten;
-      best = best-along b p q (Grows-refl p.table) p.best search.best;
+      best = best-along b p q refl (Grows-refl p.table) p.best search.best;
       each = λ i key depth note state. inl (record {
         state = record { there = state.there; depth_is = state.depth_is; note_is = state.note_is };
         waits = λ waits. waits;
@@ -181,7 +185,7 @@ keeps-queue b limit p queue search queued each =
       queued = queued;
       grows = Grows-refl p.table;
       better = λ n beaten. beaten;
-      best = best-along b p q (Grows-refl p.table) p.best search.best;
+      best = best-along b p q refl (Grows-refl p.table) p.best search.best;
       each = λ i key depth note state.
           let at : IsState p i key depth note = record { there = state.there; depth_is = state.depth_is; note_is = state.note_is } in
           elim (each i key depth note at) [

@@ -1,6 +1,9 @@
--- A push that brings a box to where it reaches no goal, or is lost with one or two others: nothing solves after it, so it may be left out.
-use Rattle.std.proofs.Common.{ℕ, ◌≡◌, ◌∙◌, inl, inr, refl, sym, ap, subst, true, Some, arith}
-use Rattle.sok_rules.specs.Play.{NeverFrom, Position}
+-- A push that brings a box to where it reaches no goal, or is lost with one or two others: nothing solves after it, so it may be left out. And so may one after
+-- which a bound leaves no fewer pushes than a solution has that is known.
+use Rattle.std.proofs.Common.{ℕ, ◌≡◌, ◌≤◌, ◌+◌, ◌∙◌, inl, inr, refl, sym, ap, subst, true, Option, Some, None, arith}
+use Rattle.sok_rules.specs.Play.{NeverFrom, Position, pushes}
+use Rattle.sok_rules.specs.States.{Same}
+use Rattle.sok_rules.proofs.Walking.{Same-sym}
 use Rattle.sok_board.specs.Area.{BoardView, InArea, IsAccepted, beside, position_of, spot_of}
 use Rattle.sok_board.proofs.AreaLaws.{InArea-spot_of}
 use Rattle.sok_board.proofs.Beside.{beside-within}
@@ -8,13 +11,17 @@ use Rattle.sok_board.proofs.Positions.{listed_box}
 use Rattle.sok_distance.specs.Pushing.{IsStuck}
 use Rattle.sok_board.specs.BoxSets.{put_in_order}
 use Rattle.sok_board.proofs.Moves.{IsMoved-put}
+use Rattle.sok_bar.specs.declared.rest.Rest.TheVariants.{AtLeast, Never}
+use Rattle.sok_bar.specs.Bars.{Barring}
 use Rattle.sok_bar.proofs.Kept.{never_stuck}
+use Rattle.sok_bar.proofs.ReasonLaws.{reasons-bar}
+use Rattle.sok_closed.proofs.Looking.{standing-after}
 use Rattle.sok_state.specs.declared.key.Key.{Key}
 use Rattle.sok_state.specs.declared.push.Push.{Push}
-use Rattle.sok_state.specs.Keys.{IsKey}
-use Rattle.sok_state.specs.Pushes.{IsLegal}
+use Rattle.sok_state.specs.Keys.{IsKey, IsKeyOf, key_position}
+use Rattle.sok_state.specs.Pushes.{IsLegal, LeadsTo}
 use Rattle.sok_state.proofs.LegalPushes.{LeadsTo-position}
-use Rattle.sok_search.specs.Searches.{Progress, IsLeftOut, IsSearch, LeadsNowhere}
+use Rattle.sok_search.specs.Searches.{Progress, HasBound, IsBeaten, IsDead, IsLeftOut, IsSearch, LeadsNowhere, LeadsToNoFewer}
 use Rattle.sok_search.specs.Steps.{IsPushed, holding}
 use Rattle.sok_search.proofs.Invariant.{Grows-refl}
 
@@ -39,12 +46,37 @@ lost-nowhere b accepted key state push to ahead never after leads =
     (LeadsTo-position b accepted.numbered key push to (put_in_order push.from to key.boxes) after state.is.placed ahead (IsMoved-put push.from to key.boxes) leads)
     never
 
+-- where nothing solves there are no fewer pushes
+pub nowhere-no_fewer : (b : BoardView) (upper : Option ℕ) (key : Key) (depth : ℕ) (push : Push) → LeadsNowhere b key push → LeadsToNoFewer b upper key depth push
+nowhere-no_fewer b upper key depth push nowhere after leads w solves = absurd (nowhere after leads w solves)
+
+more-beaten : (upper : Option ℕ) (n more : ℕ) → n ≤ more → IsBeaten upper n → IsBeaten upper more
+more-beaten None n more near beaten = beaten
+more-beaten (Some k) n more near beaten = omega (arith, near, beaten)
+
+-- nor where the boxes of the next state are dead, or a bound of them says so
+module _ (b : BoardView) (accepted : IsAccepted b) (key next : Key) (push : Push) (is : (after : Position) → LeadsTo b key push after → IsKeyOf b after next)
+    (state : IsKey b next) where
+  same-after : (after : Position) → LeadsTo b key push after → Same b.rows (key_position b next) after
+  same-after after leads = Same-sym b.rows after (key_position b next) (standing-after b key push after leads) (is after leads).same
+
+  pub dead-nowhere : IsDead b next.boxes → LeadsNowhere b key push
+  dead-nowhere (why, of_boxes, bars) after leads w solves =
+      (reasons-bar b accepted next.least next.boxes why Never state.is.placed (bars next.least Never)).each after (same-after after leads) w solves
+
+  pub bounded-no_fewer : (bound : ℕ) → HasBound b next.boxes bound → (upper : Option ℕ) (depth : ℕ) → IsBeaten upper (depth + 1 + bound)
+      → LeadsToNoFewer b upper key depth push
+  bounded-no_fewer bound ((u, v, priced), cost) upper depth beaten after leads w solves =
+      let enough = (reasons-bar b accepted next.least next.boxes (Barring.bound u v) (AtLeast bound) state.is.placed priced).each after (same-after after leads) w
+      solves in
+      more-beaten upper (depth + 1 + bound) (depth + 1 + pushes b.rows after w) (omega (arith, enough)) beaten
+
 -- so it may be left out
 pub pushed-left_out : (b : BoardView) (limit index : ℕ) (p : Progress) → IsSearch b limit (holding index p) → (key : Key) (depth : ℕ) (push : Push)
-    → IsLeftOut b p.frame.whole key push → IsPushed b limit (holding index p) key depth push (holding index p)
+    → IsLeftOut b p.frame.aim key depth push → IsPushed b limit (holding index p) key depth push (holding index p)
 pushed-left_out b limit index p search key depth push left = record {
   search = search;
-  whole = refl;
+  aim = refl;
   grows = Grows-refl p.table;
   stay = λ i k deep n shallow s. s;
   met = inr left;

@@ -1,5 +1,5 @@
 -- A search that knows the start alone.
-use Rattle.std.proofs.Common.{ℕ, ◌≡◌, ◌≢◌, ◌<◌, ◌≤◌, ◌∙◌, inl, inr, sym, ap, subst, [], ◌∷◌, Some, None, AllPairs, arith, length, slice_get}
+use Rattle.std.proofs.Common.{ℕ, ◌≡◌, ◌≢◌, ◌<◌, ◌≤◌, ◌∙◌, inl, inr, sym, ap, subst, [], ◌∷◌, Option, Some, None, AllPairs, arith, length, slice_get}
 use Rattle.std.specs.Option.{IfSome}
 use Rattle.std.proofs.lemmas.Option.{same_Some, slice_get_within}
 use Rattle.sok_rules.specs.Play.{start}
@@ -8,12 +8,17 @@ use Rattle.sok_state.specs.declared.key.Key.{Key}
 use Rattle.sok_state.specs.Keys.{IsKey, IsKeyOf}
 use Rattle.sok_alone.specs.Losses.{KeepsLosses}
 use Rattle.sok_search.specs.declared.note.Note.{Note}
-use Rattle.sok_search.specs.Searches.{Frame, Progress, IsCome, IsNoted, IsSearch, IsSolvedIn}
+use Rattle.sok_search.specs.Searches.{Frame, Progress, IsBeaten, IsCome, IsNoted, IsReached, IsSearch}
 use Rattle.sok_search.specs.Steps.{IsAdded, IsJudgedIn}
 use Rattle.sok_search.proofs.Changing.{key_count, queues-cases, stands-judged}
 
 abbrev pub nothing : Frame → Progress
-nothing frame = record { frame = frame; table = []; notes = []; queue = []; best = None }
+nothing frame = record { frame = frame; table = []; notes = []; queue = []; best = frame.aim.upper }
+
+-- the solution that is known beside it is the best
+beside : (b : BoardView) (q : Progress) (upper : Option ℕ) → q.frame.aim.upper ≡ upper → IfSome upper (IsReached b q)
+beside b q None is = tt
+beside b q (Some k) is = inl is
 
 -- with one element, it stands first
 only : {X : Type 0} (x : X) (i : ℕ) (y : X) → slice_get (x ∷ []) i ≡ Some y → (i ≡ 0) × (x ≡ y)
@@ -58,5 +63,6 @@ module _ (b : BoardView) (limit : ℕ) (frame : Frame) (positive : 0 < limit) (w
             let (_, same_note) = only note i n (subst (λ xs. slice_get xs i ≡ Some n) added.notes here.note_is) in
             subst (λ m. IsNoted b q m k d n) (sym first)
             (subst (λ x. IsNoted b q 0 x d n) same_key (subst (λ x. IsNoted b q 0 key x n) same_depth (subst (IsNoted b q 0 key 0) same_note noted)));
-        best = subst (λ o. IfSome o (IsSolvedIn b q)) (sym added.best) tt;
+        best = subst (λ o. IfSome o (IsReached b q)) (sym added.best) (beside b q frame.aim.upper (ap (λ (f : Frame). f.aim.upper) added.frame));
+        upper = λ n beaten. subst (λ o. IsBeaten o n) (sym added.best) (subst (λ (f : Frame). IsBeaten f.aim.upper n) added.frame beaten);
       }

@@ -26,7 +26,7 @@ pub pushed-knowing : (b : BoardView) (limit : ℕ) (p : Progress) (losses : Loss
     → IsPushed b limit (knowing losses p) key depth push q → IsPushed b limit p key depth push q
 pushed-knowing b limit p losses key depth push q pushed = record {
   search = pushed.search;
-  whole = pushed.whole;
+  aim = pushed.aim;
   grows = pushed.grows;
   stay = λ i other deep note near state.
       pushed.stay i other deep note near (record { there = state.there; depth_is = state.depth_is; note_is = state.note_is });
@@ -92,7 +92,7 @@ module _ (b : BoardView) (limit index : ℕ) (p : Progress) (search : IsSearch b
             come = subst (IsCome b (holding index p) next (depth + 1)) (sym origin) from;
             judged = judged;
           });
-          whole = ap (λ (f : Frame). f.whole) added.frame;
+          aim = ap (λ (f : Frame). f.aim) added.frame;
           grows = grows;
           stay = λ i other deep n near state. record {
             there = grows.keys other i state.there;
@@ -138,7 +138,7 @@ module _ (b : BoardView) (limit index : ℕ) (p : Progress) (search : IsSearch b
               come = subst (IsCome b (holding index p) next (depth + 1)) (sym origin) from;
               judged = subst (IsJudgedIn b p.frame next) (sym standing) (judged-reopened b (holding index p) at next old other.standing was_noted.stands);
             });
-            whole = ap (λ (f : Frame). f.whole) changed.frame;
+            aim = ap (λ (f : Frame). f.aim) changed.frame;
             grows = grows;
             stay = λ i k deep n shallow s. record {
               there = grows.keys k i s.there;
@@ -163,7 +163,7 @@ module _ (b : BoardView) (limit index : ℕ) (p : Progress) (search : IsSearch b
     pub pushed-stays : old ≤ depth + 1 → IsPushed b limit (holding index p) key depth push (holding index p)
     pushed-stays near = record {
       search = search;
-      whole = refl;
+      aim = refl;
       grows = Grows-refl p.table;
       stay = λ i k deep n shallow s. s;
       met = inl (record { next = next; is = is; index = at; there = state.there; deep = old; depth_is = state.depth_is; near = near });

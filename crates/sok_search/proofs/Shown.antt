@@ -1,8 +1,8 @@
--- What a search shows whose states are done with, whole or not: they are known, and nothing solves from those that it left out.
+-- What a search shows whose states are done with, whole or not: they are known, and those that it left out agree with what is claimed.
 use Rattle.std.proofs.Common.{ℕ, ◌≡◌, ◌≤◌, ◌+◌, ◌⊎◌, inl, inr, Some, true, false, arith, slice_get}
 use Rattle.std.specs.Map.{values_of}
 use Rattle.sok_rules.specs.declared.cell.Dir.{Dir}
-use Rattle.sok_rules.specs.Play.{After, NeverFrom, Position, start, step}
+use Rattle.sok_rules.specs.Play.{After, Position, pushes, start, step}
 use Rattle.sok_rules.specs.States.{Same}
 use Rattle.sok_rules.proofs.Man.{IsStanding-start}
 use Rattle.sok_rules.proofs.Walking.{Same-step, Same-sym, Same-trans}
@@ -17,7 +17,7 @@ use Rattle.sok_alone.proofs.Losing.{lost-never}
 use Rattle.sok_cert.specs.Claim.{Claim}
 use Rattle.sok_cert.specs.Claim.TheVariants.{Pushes, Unsolvable}
 use Rattle.sok_cert.specs.Closed.{IsTrueOf, rest_of}
-use Rattle.sok_cert.proofs.Barring.{Agrees-barred, Agrees-deeper}
+use Rattle.sok_cert.proofs.Barring.{Agrees, Agrees-barred, Agrees-deeper}
 use Rattle.sok_closed.proofs.Followed.{leads-pushed}
 use Rattle.sok_closed.proofs.Looking.{standing-after}
 use Rattle.sok_cert.proofs.KnownPositions.{AllAgree, IsTrueOf-known}
@@ -29,8 +29,8 @@ use Rattle.sok_state.specs.Tables.{IsAt}
 use Rattle.sok_state.specs.Keys.{key_position}
 use Rattle.sok_search.specs.declared.note.Standing.{Standing}
 use Rattle.sok_search.specs.declared.note.Standing.TheVariants.{Open, Expanded, Dead, Lost}
-use Rattle.sok_search.specs.Finished.{AreDone, CostsEnough, IsDone}
-use Rattle.sok_search.specs.Searches.{Progress, IsDead, IsMet, IsSearch, Stands}
+use Rattle.sok_search.specs.Finished.{AreDone, CostsEnough, IsAtMost, IsDone}
+use Rattle.sok_search.specs.Searches.{Progress, IsBeaten, IsDead, IsMet, IsSearch, Stands}
 use Rattle.sok_search.proofs.StatesByIndex.{noted-at}
 
 -- a known state at most so deep, of a position
@@ -43,9 +43,13 @@ record IsKnownAt (b : BoardView) (p : Progress) (depth : ℕ) (x : Position) : T
   pub near : deep ≤ depth
   pub same : Same b.rows (key_position b key) x
 
--- or nothing solves from it
-abbrev IsKnown : BoardView → Progress → ℕ → Position → Type 0
-IsKnown b p depth x = IsKnownAt b p depth x ⊎ NeverFrom b.rows x
+-- or what solves from it agrees with a claim
+abbrev IsKnown : BoardView → Claim → Progress → ℕ → Position → Type 0
+IsKnown b claim p depth x = IsKnownAt b p depth x ⊎ AllAgree b.rows claim depth x
+
+agrees-at_most : (claim : Claim) (near depth n : ℕ) → near ≤ depth → IsAtMost claim (near + n) → Agrees claim depth n
+agrees-at_most Unsolvable near depth n within none = none
+agrees-at_most (Pushes k) near depth n within enough = omega (arith, within, enough)
 
 module _ (b : BoardView) (accepted : IsAccepted b) (claim : Claim) (key : Key) (depth deep : ℕ) (x : Position) (placed : IsPlaced b key.boxes key.least)
     (same : Same b.rows (key_position b key) x) (near : deep ≤ depth) where
@@ -62,10 +66,11 @@ agree-open b accepted (Pushes k) key depth deep x placed same near (n, ((u, v, p
     let more = (reasons-bar b accepted key.least key.boxes (Barring.bound u v) (AtLeast n) placed priced).each x same w solves in
     omega (arith, more, enough, near)
 
-module _ (b : BoardView) (accepted : IsAccepted b) (limit : ℕ) (p : Progress) (search : IsSearch b limit p) (claim : Claim) (done : AreDone b claim p) where
+module _ (b : BoardView) (accepted : IsAccepted b) (limit : ℕ) (p : Progress) (search : IsSearch b limit p) (claim : Claim) (done : AreDone b claim p)
+    (beside : (n : ℕ) → IsBeaten p.frame.aim.upper n → IsAtMost claim n) where
   -- a push from an expanded state leads to what is known
   known-met : (key : Key) (deep depth : ℕ) (push : Push) (after : Position) → LeadsTo b key push after → deep + 1 ≤ depth → IsMet b p key deep push
-      → IsKnown b p depth after
+      → IsKnown b claim p depth after
   known-met key deep depth push after leads near (inl found) =
       let close = found.near in
       inl (record {
@@ -77,11 +82,12 @@ module _ (b : BoardView) (accepted : IsAccepted b) (limit : ℕ) (p : Progress) 
         near = omega (arith, near, close);
         same = Same-sym b.rows after (key_position b found.next) (standing-after b key push after leads) (found.is after leads).same;
       })
-  known-met key deep depth push after leads near (inr left) = inr (left.nowhere after leads)
+  known-met key deep depth push after leads near (inr left) = inr (λ w solves.
+      agrees-at_most claim (deep + 1) depth (pushes b.rows after w) near (beside (deep + 1 + pushes b.rows after w) (left.no_fewer after leads w solves)))
 
   module _ (depth : ℕ) (x : Position) (at : IsKnownAt b p depth x) (placed : IsPlaced b at.key.boxes at.key.least) where
     -- a walk stays in the state
-    walked : (d : Dir) (a : After) → step b.rows d x ≡ Some a → a.pushed ≡ false → IsKnown b p depth a.position
+    walked : (d : Dir) (a : After) → step b.rows d x ≡ Some a → a.pushed ≡ false → IsKnown b claim p depth a.position
     walked d a steps is = inl (record {
       index = at.index;
       key = at.key;
@@ -94,7 +100,7 @@ module _ (b : BoardView) (accepted : IsAccepted b) (limit : ℕ) (p : Progress) 
 
     -- a push from an expanded state was met
     pushed : ((push : Push) → IsLegal b at.key push → IsMet b p at.key at.deep push) → (d : Dir) (a : After) → step b.rows d x ≡ Some a → a.pushed ≡ true
-        → IsKnown b p (depth + 1) a.position
+        → IsKnown b claim p (depth + 1) a.position
     pushed met d a steps is =
         let (from, leads) = leads-pushed b accepted at.key placed x d a at.same steps is in
         let push : Push = record { from = from; dir = d } in
@@ -104,7 +110,7 @@ module _ (b : BoardView) (accepted : IsAccepted b) (limit : ℕ) (p : Progress) 
     -- by the standing of the state
     standing-known : (s : Standing) → Stands b p at.index at.key at.deep s
         → IsDone b claim (losses_of p.frame.losses) at.key.least at.key.boxes at.deep s
-        → AllAgree b.rows claim depth x ⊎ LeadsOn b.rows (IsKnown b p) depth x
+        → AllAgree b.rows claim depth x ⊎ LeadsOn b.rows (IsKnown b claim p) depth x
     standing-known (Open bound) stands enough = inl (agree-open b accepted claim at.key depth at.deep x placed at.same at.near enough)
     standing-known (Expanded bound) (prices, unsolved, met) expanded = inr (record {
       unsolved = λ solved. unsolved (solved-Same b.rows (key_position b at.key) x at.same solved);
@@ -116,8 +122,8 @@ module _ (b : BoardView) (accepted : IsAccepted b) (limit : ℕ) (p : Progress) 
         (NeverFrom-Same b.rows (key_position b at.key) x at.same
         (lost-never b at.key.least at.key.boxes (losses_of p.frame.losses) place lost accepted placed) w solves))
 
-  known : (depth : ℕ) (x : Position) → IsKnown b p depth x → AllAgree b.rows claim depth x ⊎ LeadsOn b.rows (IsKnown b p) depth x
-  known depth x (inr never) = inl (λ w solves. absurd (never w solves))
+  known : (depth : ℕ) (x : Position) → IsKnown b claim p depth x → AllAgree b.rows claim depth x ⊎ LeadsOn b.rows (IsKnown b claim p) depth x
+  known depth x (inr agree) = inl agree
   known depth x (inl at) =
       let (note, note_is, noted) = noted-at b limit p search at.index at.key at.deep at.there at.depth_is in
       standing-known depth x at noted.state.is.placed note.standing noted.stands
@@ -127,7 +133,7 @@ module _ (b : BoardView) (accepted : IsAccepted b) (limit : ℕ) (p : Progress) 
   pub shows : IsTrueOf b.rows claim
   shows =
       let begun = search.begun in
-      IsTrueOf-known b.rows claim (IsKnown b p) known (inl (record {
+      IsTrueOf-known b.rows claim (IsKnown b claim p) known (inl (record {
         index = 0;
         key = begun.key;
         there = begun.there;

@@ -16,7 +16,7 @@ use Rattle.sok_state.specs.Tables.{IsAt}
 use Rattle.sok_search.specs.declared.note.Note.{Note}
 use Rattle.sok_search.specs.declared.note.Standing.{Standing}
 use Rattle.sok_search.specs.declared.note.Standing.TheVariants.{Open, Expanded, Dead, Lost}
-use Rattle.sok_search.specs.Searches.{Progress, IsBeaten, IsCome, IsMet, IsNoted, IsSearch, IsSolved, IsSolvedIn, IsState, Stands}
+use Rattle.sok_search.specs.Searches.{Progress, IsBeaten, IsCome, IsMet, IsNoted, IsReached, IsSearch, IsSolved, IsState, Stands}
 use Rattle.sok_search.specs.Steps.{IsAdded, IsChanged, Queues, done, holding, work}
 use Rattle.sok_search.proofs.Changing.{key_count, set_cases, set_same}
 use Rattle.sok_search.proofs.Invariant.{Grows-refl, best-along, come-along, keeps, later-same}
@@ -28,7 +28,7 @@ pub keeps-done : (b : BoardView) (limit : ℕ) (p : Progress) (index : ℕ) (key
     → IsSearch b limit (holding index p) → IsAt p.table key index → slice_get (values_of p.table) index ≡ Some depth
     → slice_get notes index ≡ Some note → length notes ≡ length p.notes
     → ((i : ℕ) (n : Note) → (i ≡ index → ⊥) → slice_get notes i ≡ Some n → slice_get p.notes i ≡ Some n)
-    → ((n : ℕ) → IsBeaten p.best n → IsBeaten best n) → IfSome best (IsSolvedIn b (done p notes best)) → IsNoted b (done p notes best) index key depth note
+    → ((n : ℕ) → IsBeaten p.best n → IsBeaten best n) → IfSome best (IsReached b (done p notes best)) → IsNoted b (done p notes best) index key depth note
     → IsSearch b limit (done p notes best)
 keeps-done b limit p index key depth note notes best search there depth_is note_is as_many others better best_is noted =
     let q = done p notes best in
@@ -86,7 +86,7 @@ keeps-expanded b limit p index key depth bound was search state is_open unsolved
     keeps-done b limit p index key depth note notes p.best search state.there state.depth_is
     (set_same p.notes index note (slice_get_within p.notes index was state.note_is)) (length-set p.notes index note)
     (λ i n other there. elim (set_cases p.notes index note i n there) [ inl (same, _) ↦ absurd (other same) | inr (_, before) ↦ before ]) (λ n beaten. beaten)
-    (best-along b (holding index p) (done p notes p.best) (Grows-refl p.table) p.best search.best)
+    (best-along b (holding index p) (done p notes p.best) refl (Grows-refl p.table) p.best search.best)
     (noted-done b limit p index key depth was note notes p.best search state refl (stood.0, unsolved, met))
 
 -- it is let go
@@ -94,7 +94,7 @@ pub keeps-dropped : (b : BoardView) (limit : ℕ) (p : Progress) (index : ℕ) (
     → IsState p index key depth was → Stands b p index key depth was.standing → IsSearch b limit p
 keeps-dropped b limit p index key depth was search state stands =
     keeps-done b limit p index key depth was p.notes p.best search state.there state.depth_is state.note_is refl (λ i n other there. there) (λ n beaten. beaten)
-    (best-along b (holding index p) p (Grows-refl p.table) p.best search.best)
+    (best-along b (holding index p) p refl (Grows-refl p.table) p.best search.best)
     (noted-done b limit p index key depth was was p.notes p.best search state refl stands)
 
 -- it is solved
@@ -108,7 +108,7 @@ keeps-solved b limit p index key depth bound was search state is_open solved les
     let here : IsBeaten (Some depth) (depth + bound) = omega arith in
     let stands : Stands b q index key depth (Open bound) = (stood.0, inr here) in
     keeps-done b limit p index key depth was p.notes (Some depth) search state.there state.depth_is state.note_is refl (λ i n other there. there) less
-    (record { index = index; key = key; there = state.there; depth = depth; depth_is = state.depth_is; shallow = omega arith; solved = solved })
+    (inr (record { index = index; key = key; there = state.there; depth = depth; depth_is = state.depth_is; shallow = omega arith; solved = solved }))
     (noted-done b limit p index key depth was was p.notes (Some depth) search state refl (subst (Stands b q index key depth) (sym is_open) stands))
 
 -- the same changes with an index that is held

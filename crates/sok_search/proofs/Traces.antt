@@ -1,5 +1,5 @@
 -- The way back from a state to the start.
-use Rattle.std.proofs.Common.{ℕ, ◌≡◌, ◌<◌, ◌≤◌, ◌+◌, ◌∙◌, refl, sym, subst, List, [], ◌∷◌, ◌++◌, Option, Some, None, arith, length, slice_get}
+use Rattle.std.proofs.Common.{ℕ, ◌≡◌, ◌<◌, ◌≤◌, ◌+◌, ◌∙◌, inl, inr, refl, sym, subst, List, [], ◌∷◌, ◌++◌, Option, Some, None, arith, length, slice_get}
 use Rattle.std.specs.Map.{values_of}
 use Rattle.std.specs.Option.{IfSome}
 use Rattle.std.proofs.lemmas.List.{length-append}
@@ -10,7 +10,7 @@ use Rattle.sok_state.specs.declared.push.Push.{Push}
 use Rattle.sok_state.specs.Tables.{IsAt}
 use Rattle.sok_search.specs.declared.note.Note.{Note}
 use Rattle.sok_search.specs.declared.note.Origin.{Origin}
-use Rattle.sok_search.specs.Searches.{Progress, IsCome, IsFrom, IsSearch, IsSolved, IsSolvedIn}
+use Rattle.sok_search.specs.Searches.{Progress, IsCome, IsFrom, IsReached, IsSearch, IsSolved}
 use Rattle.sok_search.specs.Walkthroughs.{GoesBack, IsSolvedAt, LeadBy, TracesBack}
 use Rattle.sok_search.proofs.StatesByIndex.{key-within, known-at}
 
@@ -98,13 +98,15 @@ goes-back b limit p search i note origin note_is is =
     (omega (arith, parent, count), omega (arith, here, before, nearer))
 
 -- a solved state that is at most as deep as the best stands among the states
-pub best-at : (b : BoardView) (p : Progress) (k : ℕ) → IfSome p.best (IsSolvedIn b p) → p.best ≡ Some k → (i : ℕ) × (i < length p.table) × IsSolvedAt b p k i
-best-at b p k found is =
-    let one : IsSolvedIn b p k = subst (λ (o : Option ℕ). IfSome o (IsSolvedIn b p)) is found in (
-      one.index,
-      key-within p one.index one.key one.there,
-      record { key = one.key; there = one.there; depth = one.depth; depth_is = one.depth_is; shallow = one.shallow; solved = one.solved },
-    )
+pub best-at : (b : BoardView) (p : Progress) (k : ℕ) → IfSome p.best (IsReached b p) → p.best ≡ Some k → (p.frame.aim.upper ≡ Some k → ⊥) → (i : ℕ) × (i < length p.table) × IsSolvedAt b p k i
+best-at b p k found is own = elim (subst (λ (o : Option ℕ). IfSome o (IsReached b p)) is found) [
+  | inl beside ↦ absurd (own beside)
+  | inr one ↦ (
+    one.index,
+    key-within p one.index one.key one.there,
+    record { key = one.key; there = one.there; depth = one.depth; depth_is = one.depth_is; shallow = one.shallow; solved = one.solved },
+  )
+]
 
 -- what stands at an index is as deep, and solved, as told
 pub solved-shallow : (b : BoardView) (p : Progress) (k i depth : ℕ) → slice_get (values_of p.table) i ≡ Some depth → IsSolvedAt b p k i → depth ≤ k

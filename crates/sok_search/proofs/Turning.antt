@@ -1,5 +1,5 @@
 -- A turn keeps all that is known, and less work remains.
-use Rattle.std.proofs.Common.{ℕ, ◌≡◌, ◌<◌, ◌≤◌, ◌+◌, ◌-◌, ◌*◌, ◌∙◌, inl, inr, refl, sym, ap, subst, Bool, List, ◌∷◌, Option, Some, None, Contains, arith}
+use Rattle.std.proofs.Common.{ℕ, ◌≡◌, ◌<◌, ◌≤◌, ◌+◌, ◌-◌, ◌*◌, ◌∙◌, inl, inr, refl, sym, ap, subst, List, ◌∷◌, Option, Some, None, Contains, arith}
 use Rattle.std.proofs.Common.{length, set, slice_get, sum_by}
 use Rattle.std.specs.Map.{values_of}
 use Rattle.std.proofs.lemmas.Bool.{cases_lt}
@@ -8,6 +8,7 @@ use Rattle.sok_board.specs.Area.{BoardView}
 use Rattle.sok_board.proofs.Lists.{Contains-cons, Contains-cons_cases}
 use Rattle.sok_state.specs.declared.key.Key.{Key}
 use Rattle.sok_state.specs.Pushes.{IsLegal}
+use Rattle.sok_search.specs.declared.aim.Aim.{Aim}
 use Rattle.sok_search.specs.declared.note.Note.{Note}
 use Rattle.sok_search.specs.declared.note.Standing.{Standing}
 use Rattle.sok_search.specs.declared.note.Standing.TheVariants.{Open, Expanded, Dead, Lost}
@@ -65,14 +66,14 @@ waits-still b limit index p queue search more =
     ]))
 
 -- so a search that is cut off waits for no index less
-pub cut-waits : (b : BoardView) (limit index bound : ℕ) (whole : Bool) (p : Progress) (queue : List ℕ) (s : Standing) → s ≡ Open bound
-    → IsCutOff b limit whole (holding index p) → Queues s index p.queue queue → IsCutOff b limit whole (record p { queue = queue })
-cut-waits b limit index bound whole p queue s is cut queues =
+pub cut-waits : (b : BoardView) (limit index bound : ℕ) (aim : Aim) (p : Progress) (queue : List ℕ) (s : Standing) → s ≡ Open bound
+    → IsCutOff b limit aim (holding index p) → Queues s index p.queue queue → IsCutOff b limit aim (record p { queue = queue })
+cut-waits b limit index bound aim p queue s is cut queues =
     record {
       more = cut.more;
       search = waits-still b limit index p queue cut.search (subst (λ standing. Queues standing index p.queue queue) is queues);
       full = cut.full;
-      kept = cut.kept;
+      aim_is = cut.aim_is;
     }
 
 pub work-taken : (limit index : ℕ) (p : Progress) (rest : List ℕ) → HasOneMore rest index p.queue
@@ -85,7 +86,7 @@ work-taken limit index p rest taken =
 pub turned-taken : (b : BoardView) (limit index : ℕ) (p q : Progress) (rest : List ℕ) → HasOneMore rest index p.queue
     → IsTurned b limit (holding index (record p { queue = rest })) q → IsTurned b limit p q
 turned-taken b limit index p q rest taken turned =
-    record { search = turned.search; whole = turned.whole; less = subst (λ n. work limit q < n) (work-taken limit index p rest taken) turned.less }
+    record { search = turned.search; aim = turned.aim; less = subst (λ n. work limit q < n) (work-taken limit index p rest taken) turned.less }
 
 -- what is not open stands without waiting
 pub let-go : (b : BoardView) (limit index : ℕ) (p : Progress) (note : Note) → IsSearch b limit (holding index p) → slice_get p.notes index ≡ Some note
@@ -99,7 +100,7 @@ let-go b limit index p note search note_is stands =
     record {
       search = keeps-dropped b limit p index key known.depth note search (record { there = there; depth_is = depth_is; note_is = note_is })
           (stands key known.depth depth_is noted.stands);
-      whole = refl;
+      aim = refl;
       less = work-held limit index p;
     }
 
@@ -144,7 +145,7 @@ pub go-solved : (b : BoardView) (limit index bound depth : ℕ) (key : Key) (p :
 go-solved b limit index bound depth key p note search state is solved far =
     record {
       search = keeps-solved b limit p index key depth bound note search state is solved (unbeaten p.best depth bound far);
-      whole = refl;
+      aim = refl;
       less = work-held limit index p;
     }
 
@@ -159,7 +160,7 @@ go-on b limit index bound depth key p q note state is unsolved followed r same =
     let no_more = followed.no_more in
     let less : work limit q < work limit (holding index q) = work-held limit index q in
     let now : work limit s < work limit (holding index p) = below (work limit q) (work limit (holding index q)) (work limit (holding index p)) less no_more in
-    subst (IsTurned b limit (holding index p)) (sym same) (record { search = kept; whole = followed.whole; less = now })
+    subst (IsTurned b limit (holding index p)) (sym same) (record { search = kept; aim = followed.aim; less = now })
   where
     below : (x y z : ℕ) → x < y → y ≤ z → x < z
     below x y z f g = omega (arith, f, g)

@@ -1,5 +1,5 @@
 -- What is answered of a level.
-use Rattle.std.specs.Prelude.{ℕ, ◌≡◌, ◌≤◌, ◌+◌, ◌⊎◌, ◌++◌, ◌∷◌, Bool, true, false, MatchBool, List, [], Option, Some, None, IsSomeAnd, length}
+use Rattle.std.specs.Prelude.{ℕ, ◌≡◌, ◌<◌, ◌≤◌, ◌+◌, ◌⊎◌, ◌++◌, ◌∷◌, Bool, true, false, MatchBool, List, [], Option, Some, None, IsSomeAnd, length}
 use Rattle.sok_rules.specs.declared.cell.Dir.{Dir}
 use Rattle.sok_rules.specs.Squares.{Rows}
 use Rattle.sok_rules.specs.Play.{start, pushes, Solves, AtLeast, IsFewest, IsUnsolvable}
@@ -13,6 +13,8 @@ use Rattle.sok_cert.specs.Text.{Fits}
 use Rattle.sok_cert.specs.Closed.{IsClosed}
 use Rattle.sok_search.specs.declared.found.Found.{Found}
 use Rattle.sok_search.specs.declared.found.Found.TheVariants as found
+use Rattle.sok_search.specs.declared.improved.Improved.{Improved}
+use Rattle.sok_search.specs.declared.improved.Improved.TheVariants as improved
 use Rattle.sok_search.specs.declared.outcome.Outcome.{Outcome}
 use Rattle.sok_search.specs.declared.outcome.Outcome.TheVariants.{Solved, Unsolvable, Limit}
 use Rattle.sok_search.specs.Halted.{IsLeastOpen}
@@ -66,28 +68,40 @@ pub record HasSearched (rows : Rows) (limit : ℕ) (best : Option ℕ) : Type 0 
   pub search : IsSearch board limit known
   pub finished : known.queue ≡ []
   pub best_is : known.best ≡ best
+  pub alone : known.frame.aim.upper ≡ None
 
--- A search of the level that knows as many states as the limit was cut off, and so many pushes, at the least, are needed in one of its open states: those
--- that were made, and those that its bound says are to come.
-pub record HasHalted (rows : Rows) (limit least : ℕ) : Type 0 where
+-- A search of the level, beside a solution of so many pushes or beside none, that knows as many states as the limit was cut off, and so many pushes, at the
+-- least, are needed in one of its open states: those that were made, and those that its bound says are to come.
+pub record HasHalted (rows : Rows) (limit : ℕ) (upper : Option ℕ) (least : ℕ) : Type 0 where
   pub board : BoardView
   pub rows_are : board.rows ≡ rows
   pub known : Progress
   pub search : IsSearch board limit known
   pub full : limit ≤ length known.table
   pub least_is : IsLeastOpen known least
+  pub beside : known.frame.aim.upper ≡ upper
 
--- there are more states than a limit allows; and no list solves with fewer pushes than the search of as many shows
-pub record IsCutShort (rows : Rows) (limit states least : ℕ) : Type 0 where
+-- there are more states than a limit allows; and no list solves with fewer pushes than the search of as many shows, beside a solution or beside none
+pub record IsCutShortBeside (rows : Rows) (limit : ℕ) (upper : Option ℕ) (states least : ℕ) : Type 0 where
   pub past : IsPastLimit rows limit states
   pub at_least : AtLeast rows least
-  pub halted : HasHalted rows limit least
+  pub halted : HasHalted rows limit upper least
+
+abbrev pub IsCutShort : Rows → ℕ → ℕ → ℕ → Type 0
+IsCutShort rows limit = IsCutShortBeside rows limit None
 
 -- what is found of a level within a limit
 abbrev pub IsFoundWithin : Rows → ℕ → Found → Type 0
 IsFoundWithin rows limit (found.Solved dirs pushes) = IsLeastSolution rows dirs.items pushes × HasSearched rows limit (Some pushes)
 IsFoundWithin rows limit found.Unsolvable = IsUnsolvable rows × HasSearched rows limit None
 IsFoundWithin rows limit (found.Limit states at_least) = IsCutShort rows limit states at_least
+
+-- What is found of a level within a limit beside a solution of so many pushes: the fewest, which are fewer; or that there are none; or that there are more
+-- states than the limit, which show a bound that is less.
+abbrev pub IsImproved : Rows → ℕ → ℕ → Improved → Type 0
+IsImproved rows limit best (improved.Fewer dirs pushes) = IsLeastSolution rows dirs.items pushes × (pushes < best)
+IsImproved rows limit best improved.Optimal = AtLeast rows best
+IsImproved rows limit best (improved.Limit states at_least) = IsCutShortBeside rows limit (Some best) states at_least × (at_least < best)
 
 -- a certificate of a claim, whose entries are so
 abbrev pub OfClaim : Claim → (List Entry → Type 0) → Certificate → Type 0

@@ -1,7 +1,8 @@
 -- What a search knows all the time: which states are known, how each was come to, and why it may stand as it does.
-use Rattle.std.specs.Prelude.{ℕ, ◌≡◌, ◌<◌, ◌≤◌, ◌+◌, ◌⊎◌, Bool, false, List, Option, Some, None, IfSome, IsSomeAnd, Contains, length, slice_get}
+use Rattle.std.specs.Prelude.{ℕ, ◌≡◌, ◌<◌, ◌≤◌, ◌+◌, ◌⊎◌, false, List, Option, Some, None, IfSome, IsSomeAnd, Contains, length, slice_get}
 use Rattle.std.specs.Map.{values_of}
-use Rattle.sok_rules.specs.Play.{Position, AllOnGoals, NeverFrom, start}
+use Rattle.sok_rules.specs.declared.cell.Dir.{Dir}
+use Rattle.sok_rules.specs.Play.{Position, AllOnGoals, NeverFrom, SolvesFrom, pushes, start}
 use Rattle.sok_board.specs.Area.{BoardView, position_of, boxes_of}
 use Rattle.sok_price.specs.Matched.{TellsLeast}
 use Rattle.sok_bar.specs.declared.rest.Rest.{Rest}
@@ -14,22 +15,23 @@ use Rattle.sok_state.specs.Tables.{Entries, HasDistinctKeys, IsAt}
 use Rattle.sok_closed.specs.Lookup.{IsFound}
 use Rattle.sok_alone.specs.declared.losses.Losses.{Losses}
 use Rattle.sok_alone.specs.Losses.{IsLostBy, KeepsLosses, KeepsPlaces, losses_of}
+use Rattle.sok_search.specs.declared.aim.Aim.{Aim}
 use Rattle.sok_search.specs.declared.note.Note.{Note}
 use Rattle.sok_search.specs.declared.note.Origin.{Origin}
 use Rattle.sok_search.specs.declared.note.Standing.{Standing}
 use Rattle.sok_search.specs.declared.note.Standing.TheVariants.{Open, Expanded, Dead, Lost}
 use Rattle.sok_search.specs.Limits.{state_limit}
 
--- how many squares there is room for, whether each state is kept that is come to, and what is known of boxes taken alone
+-- how many squares there is room for, what is asked for, and what is known of boxes taken alone
 pub record Frame : Type 0 where
   pub room : ℕ
-  pub whole : Bool
+  pub aim : Aim
   pub losses : Losses
 
 -- the same, but that more may be known of boxes taken alone
 pub record IsLater (b : BoardView) (old new : Frame) : Type 0 where
   pub room : new.room ≡ old.room
-  pub whole : new.whole ≡ old.whole
+  pub aim : new.aim ≡ old.aim
   pub kept : KeepsPlaces (losses_of old.losses) (losses_of new.losses)
   pub losses : KeepsLosses b old.losses → KeepsLosses b new.losses
 
@@ -82,14 +84,19 @@ IsBeaten best n = IsSomeAnd best (λ k. k ≤ n)
 abbrev pub LeadsNowhere : BoardView → Key → Push → Type 0
 LeadsNowhere b key push = (after : Position) → LeadsTo b key push after → NeverFrom b.rows after
 
--- a push is left out, since nothing solves from where it leads, and not each state is kept
-pub record IsLeftOut (b : BoardView) (whole : Bool) (key : Key) (push : Push) : Type 0 where
-  pub part : whole ≡ false
-  pub nowhere : LeadsNowhere b key push
+-- whatever solves from where a push leads has no fewer pushes, with those before it, than the solution that is known beside the search
+abbrev pub LeadsToNoFewer : BoardView → Option ℕ → Key → ℕ → Push → Type 0
+LeadsToNoFewer b upper key depth push =
+    (after : Position) → LeadsTo b key push after → (w : List Dir) → SolvesFrom b.rows after w → IsBeaten upper (depth + 1 + pushes b.rows after w)
+
+-- a push is left out, since it leads to no fewer pushes, and not each state is kept
+pub record IsLeftOut (b : BoardView) (aim : Aim) (key : Key) (depth : ℕ) (push : Push) : Type 0 where
+  pub part : aim.whole ≡ false
+  pub no_fewer : LeadsToNoFewer b aim.upper key depth push
 
 -- the state that a push leads to is known, at most one deeper, or the push is left out
 abbrev pub IsMet : BoardView → Progress → Key → ℕ → Push → Type 0
-IsMet b p key depth push = IsFound b p.table key depth push ⊎ IsLeftOut b p.frame.whole key push
+IsMet b p key depth push = IsFound b p.table key depth push ⊎ IsLeftOut b p.frame.aim key depth push
 
 -- why it may stand as it does
 abbrev pub Stands : BoardView → Progress → ℕ → Key → ℕ → Standing → Type 0
@@ -124,6 +131,10 @@ pub record IsSolvedIn (b : BoardView) (p : Progress) (k : ℕ) : Type 0 where
   pub shallow : depth ≤ k
   pub solved : IsSolved b key
 
+-- the same, or so many pushes has the solution that is known beside the search
+abbrev pub IsReached : BoardView → Progress → ℕ → Type 0
+IsReached b p k = (p.frame.aim.upper ≡ Some k) ⊎ IsSolvedIn b p k
+
 -- all that is known
 pub record IsSearch (b : BoardView) (limit : ℕ) (p : Progress) : Type 0 where
   pub wide : length b.area ≤ p.frame.room
@@ -134,7 +145,8 @@ pub record IsSearch (b : BoardView) (limit : ℕ) (p : Progress) : Type 0 where
   pub queued : (i : ℕ) → Contains p.queue i → i < length p.table
   pub begun : IsBegun b p
   pub noted : (i : ℕ) (key : Key) (depth : ℕ) (note : Note) → IsState p i key depth note → IsNoted b p i key depth note
-  pub best : IfSome p.best (IsSolvedIn b p)
+  pub best : IfSome p.best (IsReached b p)
+  pub upper : (n : ℕ) → IsBeaten p.frame.aim.upper n → IsBeaten p.best n
 
 -- within some limit, and within one that a certificate allows
 abbrev pub IsSearching : BoardView → Progress → Type 0

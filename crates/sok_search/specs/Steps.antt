@@ -90,7 +90,7 @@ Nears p index depth origin q = StaysNear p index depth q ⊎ ComesNearer p index
 
 -- where more is known of boxes taken alone
 abbrev pub knowing : Losses → Progress → Progress
-knowing losses p = record p { frame = record { room = p.frame.room; whole = p.frame.whole; losses = losses } }
+knowing losses p = record p { frame = record { room = p.frame.room; aim = p.frame.aim; losses = losses } }
 
 -- with an index that was taken out of the queue, and is not done with
 abbrev pub holding : ℕ → Progress → Progress
@@ -118,7 +118,7 @@ work limit p = (limit - length p.table) * (2 * limit + 2) + (2 * sum_by (λ dept
 -- what a push that was followed leaves: all that is known holds, states that are no deeper stay, the push is met, and no work was added
 pub record IsPushed (b : BoardView) (limit : ℕ) (p : Progress) (key : Key) (depth : ℕ) (push : Push) (q : Progress) : Type 0 where
   pub search : IsSearch b limit q
-  pub whole : q.frame.whole ≡ p.frame.whole
+  pub aim : q.frame.aim ≡ p.frame.aim
   pub grows : Grows p.table q.table
   pub stay : (i : ℕ) (other : Key) (deep : ℕ) (note : Note) → deep ≤ depth → IsState p i other deep note → IsState q i other deep note
   pub met : IsMet b q key depth push

@@ -4,6 +4,7 @@ ghost use Rattle.std.specs.Prelude.{ℕ, ◌≡◌, ◌<◌, IfOk, OnOk};
 ghost use Rattle.sok_search.specs.Searches.{IsSearch};
 ghost use Rattle.sok_search.specs.Views.{IsEmpty, progress_of};
 
+use crate::aim::Aim;
 use crate::judging::judge;
 use crate::note::Note;
 use crate::queue::Queue;
@@ -16,18 +17,18 @@ use sok_state::key::Key;
 use sok_state::table::Table;
 use std::alloc::Global;
 
-/// A search that knows nothing. A whole one keeps each state that it will come to.
-pub(crate) fn empty(alloc: Global, board: &Board, whole: bool) -> Result<Search, Memory>
+/// A search that knows nothing but what it is asked for.
+pub(crate) fn empty(alloc: Global, board: &Board, aim: Aim) -> Result<Search, Memory>
     ensures empty { IfOk result (IsEmpty board.now) }
-    ensures whole { IfOk result (λ search. search.whole ≡ whole) }
+    ensures aim { IfOk result (λ search. search.aim ≡ aim) }
 {
     Ok(Search {
-        whole,
+        aim,
         losses: Losses::new(alloc, board)?,
         table: Table::new(alloc, board.squares()),
         notes: Vec::new(alloc),
         queue: Queue::new(alloc),
-        best: None,
+        best: aim.upper,
     })
 }
 
@@ -40,7 +41,7 @@ pub(crate) fn enter_start(
     requires empty { IsEmpty setting.now.board.now search.old }
     ensures search { (limit : ℕ) → 0 < limit
         → OnOk result (IsSearch setting.now.board.now limit (progress_of search.new)) }
-    ensures whole { OnOk result (search.new.whole ≡ search.old.whole) }
+    ensures aim { OnOk result (search.new.aim ≡ search.old.aim) }
 {
     let key = Key::start(alloc, setting.board)?;
     let standing = judge(alloc, setting, &mut search.losses, &key)?;

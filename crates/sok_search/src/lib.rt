@@ -6,8 +6,10 @@
 //! | `collecting` | where the entries of a certificate are collected |
 //! | `fault` | why a level is not solved |
 //! | `found` | what is found of a level |
+//! | `improved` | what is found of a level beside a solution that is known |
 //! | `outcome` | what is answered of a level, with a certificate |
 //! | `solve` | the solver |
+//! | `aim` | what a search is asked for (private) |
 //! | `barring` | the reasons of a certificate, found again (private) |
 //! | `beginning` | a search that knows the start alone (private) |
 //! | `buckets` | indices that wait, in buckets by rank (private) |
@@ -26,6 +28,7 @@
 //! | `walkthrough` | the letters that make pushes one after another (private) |
 #![tactic(auto)]
 
+mod aim;
 mod barring;
 mod beginning;
 mod buckets;
@@ -35,6 +38,7 @@ mod expanding;
 pub mod fault;
 pub mod found;
 mod halted;
+pub mod improved;
 mod judging;
 mod note;
 pub mod outcome;

@@ -1,18 +1,19 @@
 //! A push is followed.
 
-ghost use Rattle.std.specs.Prelude.{◌≡◌, ◌<◌, ◌≤◌, ◌^◌, IfOk, IfSome, OnOk, Some, length};
+ghost use Rattle.std.specs.Prelude.{◌≡◌, ◌<◌, ◌≤◌, ◌+◌, ◌^◌, IfOk, IfSome, IsTrue, OnOk, Some, length};
 ghost use Rattle.sok_alone.specs.Losses.{IsLostBy, KeepsLosses, KeepsPlaces, losses_of};
 ghost use Rattle.sok_board.specs.Area.{IsAccepted, beside};
 ghost use Rattle.sok_board.specs.BoxSets.{put_in_order};
 ghost use Rattle.sok_state.specs.Keys.{IsKey};
 ghost use Rattle.sok_state.specs.Pushes.{IsLegal, IsOpened};
+ghost use Rattle.sok_search.specs.Searches.{LeadsToNoFewer};
 ghost use Rattle.sok_search.specs.Steps.{IsPushed, Nears, holding, reopened};
 ghost use Rattle.sok_search.specs.PushScratches.{IsPushScratch};
 ghost use Rattle.sok_search.specs.Views.{progress_of, CutsOff, HoldsState};
 
 use crate::note::{Note, Origin, Standing};
 use crate::push_scratch::{PushScratch, judge_after};
-use crate::search::{Search, add, lower};
+use crate::search::{Search, add, is_beaten, lower};
 use crate::stop::Stop;
 use sok_alone::losses::Losses;
 use sok_board::area::Sq;
@@ -84,9 +85,51 @@ fn ask(
     losses.loss_after(alloc, setting, known, &key.boxes, push.from, push.dir, to)
 }
 
+/// Whether the state behind a push is new, and nothing solves from it with fewer pushes than the
+/// solution has that is known beside the search, or nothing at all.
+fn is_spared(
+    alloc: Global,
+    setting: &Setting<'_>,
+    limit: u32,
+    search: &Search,
+    push_scratch: &mut PushScratch,
+    index: usize,
+    key: &Key,
+    depth: u32,
+    push: Push,
+    to: Sq,
+) -> Result<bool, Memory>
+    requires state { HoldsState setting.now.board.now limit index key.now depth search.now }
+    requires push_scratch { IsPushScratch setting.now.board.now key.now.boxes push_scratch.old.matching
+        push_scratch.old.matched }
+    requires opened { IsOpened setting.now.board.now key.now push_scratch.old.scene }
+    requires legal { IsLegal setting.now.board.now key.now push }
+    requires ahead { beside setting.now.board.now push.from push.dir ≡ Some to }
+    ensures push_scratch { OnOk result
+        (IsPushScratch setting.now.board.now key.now.boxes push_scratch.new.matching push_scratch.new.matched) }
+    ensures opened { OnOk result (IsOpened setting.now.board.now key.now push_scratch.new.scene) }
+    ensures no_fewer { IfOk result (λ spared. IsTrue spared
+        → LeadsToNoFewer setting.now.board.now search.now.aim.upper key.now depth push) }
+{
+    if search.aim.upper.is_none() {
+        return Ok(false);
+    }
+    let from = push.from;
+    let least = push_scratch.scene.step(setting.board, key, push, to);
+    if search.table.get_next(index, from, to, least).is_some() {
+        return Ok(false);
+    }
+    match judge_after(alloc, setting, push_scratch, &key.boxes, from, to, None)? {
+        Standing::Open(bound) => Ok(is_beaten(search.aim.upper, depth + 1, bound)),
+        Standing::Dead => Ok(true),
+        _ => Ok(false),
+    }
+}
+
 /// Follows a push from a state that was taken: the next state is added, comes nearer, or stays. Or
 /// the push is left out, since its box reaches no goal from there, or it and one or two others are
-/// never solved, were they alone on the board.
+/// never solved, were they alone on the board, or since it leads to no fewer pushes than a solution has
+/// that is known.
 pub(crate) fn reach(
     alloc: Global,
     setting: &Setting<'_>,
@@ -113,13 +156,29 @@ pub(crate) fn reach(
         (holding index (progress_of search.new)) result }
 {
     let to = square_ahead(setting.board, push);
-    if !search.whole && setting.distances.stuck(to) {
+    if !search.aim.whole && setting.distances.stuck(to) {
         return Ok(());
     }
     let known = search.table.len();
     let losses = &mut search.losses;
     let lost = ask(alloc, setting, losses, known, key, push, to)?;
-    if !search.whole && lost.is_some() {
+    if !search.aim.whole && lost.is_some() {
+        return Ok(());
+    }
+    if !search.aim.whole
+        && is_spared(
+            alloc,
+            setting,
+            limit,
+            search,
+            push_scratch,
+            index,
+            key,
+            depth,
+            push,
+            to,
+        )?
+    {
         return Ok(());
     }
     arrive(

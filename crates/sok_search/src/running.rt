@@ -1,8 +1,7 @@
 //! The search.
 
-ghost use Rattle.std.specs.Prelude.{◌≡◌, ◌<◌, ◌+◌, ◌↔◌, IsTrue, OnOk, Some};
+ghost use Rattle.std.specs.Prelude.{◌≡◌, ◌<◌, OnOk, Some};
 ghost use Rattle.std.specs.Prelude.{length, slice_get, slice_set};
-ghost use Rattle.sok_search.specs.Searches.{IsBeaten};
 ghost use Rattle.sok_search.specs.Steps.{done, holding};
 ghost use Rattle.sok_search.specs.PushScratches.{IsReady};
 ghost use Rattle.sok_search.specs.Views.{progress_of, CutsOff, IsFinished, IsRunning, TakesTurn};
@@ -10,21 +9,11 @@ ghost use Rattle.sok_search.specs.declared.note.Standing.TheVariants.{Open};
 
 use crate::expanding::{Scratch, expand};
 use crate::note::{Note, Standing};
-use crate::search::{Search, wait};
+use crate::search::{Search, is_beaten, wait};
 use crate::stop::Stop;
 use sok_closed::solved::is_solved;
 use sok_distance::setting::Setting;
 use std::alloc::Global;
-
-/// Whether a solution with no more pushes is known.
-fn is_beaten(best: Option<u32>, depth: u32, bound: u32) -> bool
-    ensures { IsTrue result ↔ IsBeaten best (depth + bound) }
-{
-    match best {
-        Some(pushes) => u64::from(pushes) <= u64::from(depth) + u64::from(bound),
-        None => false,
-    }
-}
 
 /// Gives a state another note.
 fn mark(search: &mut Search, index: usize, note: Note)

@@ -1,23 +1,24 @@
 //! What a search knows, and the two ways in which it learns of a state.
 
-ghost use Rattle.std.specs.Prelude.{◌<◌, ◌^◌, IfOk, OnOk, length};
+ghost use Rattle.std.specs.Prelude.{◌<◌, ◌^◌, ◌+◌, ◌↔◌, IfOk, IsTrue, OnOk, length};
 ghost use Rattle.sok_state.specs.Tables.{depth_at};
+ghost use Rattle.sok_search.specs.Searches.{IsBeaten};
 ghost use Rattle.sok_search.specs.Steps.{IsChanged, IsListed, Queues};
 ghost use Rattle.sok_search.specs.Views.{progress_of};
 
+use crate::aim::Aim;
 use crate::note::{Note, Standing};
 use crate::queue::Queue;
 use sok_alone::losses::Losses;
 use sok_rules::fault::Memory;
 use sok_state::table::Table;
 
-/// What is known of boxes taken alone, the known states with a note of each, the indices of those that
-/// wait, and the least depth at which a solved state was taken.
+/// What is asked for, what is known of boxes taken alone, the known states with a note of each, the
+/// indices of those that wait, and the fewest pushes that a solution is known to have: the least depth
+/// at which a solved state was taken, or those of the solution beside the search.
 #[derive(Drop)]
 pub(crate) struct Search {
-    /// Whether each state is kept that is come to. Else those are left out from which nothing solves,
-    /// by the box alone that was just pushed, or by it and one or two others.
-    pub(crate) whole: bool,
+    pub(crate) aim: Aim,
     pub(crate) losses: Losses,
     pub(crate) table: Table,
     pub(crate) notes: Vec<Note>,
@@ -29,6 +30,16 @@ pub(crate) struct Search {
 pub(crate) fn let_go(search: Search) {
     search.losses.let_go();
     search.table.let_go();
+}
+
+/// Whether a solution with no more pushes is known.
+pub(crate) fn is_beaten(best: Option<u32>, depth: u32, bound: u32) -> bool
+    ensures { IsTrue result ↔ IsBeaten best (depth + bound) }
+{
+    match best {
+        Some(pushes) => u64::from(pushes) <= u64::from(depth) + u64::from(bound),
+        None => false,
+    }
 }
 
 /// Lets an index wait, if its standing is open.

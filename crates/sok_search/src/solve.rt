@@ -1,15 +1,16 @@
 //! The solver.
 
-ghost use Rattle.std.specs.Prelude.{ℕ, ◌≡◌, ◌<◌, ◌≤◌, ◌↔◌, [], Bool, IfOk, IsTrue, OnOk, length, true};
+ghost use Rattle.std.specs.Prelude.{ℕ, ◌≡◌, ◌<◌, ◌≤◌, ◌↔◌, [], Bool, IfOk, IsTrue, None, OnOk, Some, false, length, true};
 ghost use Rattle.sok_rules.specs.Squares.{Rows};
 ghost use Rattle.sok_board.specs.Area.{IsAccepted};
 ghost use Rattle.sok_search.specs.Faults.{IsAcceptedWithin, IsBadLimit, TellsFault};
 ghost use Rattle.sok_search.specs.Limits.{state_limit};
-ghost use Rattle.sok_search.specs.Outcomes.{IsAnswer, IsBounded, IsFoundWithProof, IsFoundWithin, IsOutcome};
+ghost use Rattle.sok_search.specs.Outcomes.{IsAnswer, IsBounded, IsFoundWithProof, IsFoundWithin, IsImproved, IsOutcome};
 ghost use Rattle.sok_search.specs.Searches.{IsSearch, IsSearching, IsSmallSearch};
 ghost use Rattle.sok_search.specs.Walkthroughs.{IsSolvedWithin};
 ghost use Rattle.sok_search.specs.Views.{progress_of, CutsOff, IsCutOff, IsEmpty, IsSearched};
 
+use crate::aim::Aim;
 use crate::beginning::{empty, enter_start};
 use crate::certifying::certify;
 use crate::collecting::Entries;
@@ -17,6 +18,7 @@ use crate::expanding::Scratch;
 use crate::fault::SolveFault;
 use crate::found::Found;
 use crate::halted::least_open;
+use crate::improved::Improved;
 use crate::outcome::Outcome;
 use crate::running::search_on;
 use crate::search::{Search, let_go};
@@ -88,6 +90,20 @@ pub fn find(alloc: Global, level: &Level, limit: u32) -> Result<Found, SolveFaul
     let board = accept(alloc, level, limit)?;
     let found = find_on(alloc, &board, limit)?;
     Ok(found)
+}
+
+/// Whether a solution with `best` pushes can be improved: the fewest pushes that solve the level, where
+/// these are fewer, or that none solve it with fewer; of a level that has no solution that is true, too.
+/// It is the search of `find`, in which a state isn't kept from which nothing solves with fewer than
+/// `best` pushes in all. So it takes fewer states, and answers where the states that were found show as
+/// much, though there are more than the limit.
+pub fn improve(alloc: Global, level: &Level, limit: u32, best: u32) -> Result<Improved, SolveFault>
+    ensures improved { IfOk result (IsImproved level.now limit best) }
+    ensures tells { TellsFault level.now limit result }
+{
+    let board = accept(alloc, level, limit)?;
+    let improved = improve_on(alloc, &board, limit, best)?;
+    Ok(improved)
 }
 
 /// What is answered of a level, where a certificate of a limit that is met is wanted, or not.
@@ -176,7 +192,11 @@ fn answer<C: Entries>(
 {
     // Its clauses tell that the level is accepted.
     let _level = board.level();
-    let mut search = empty(alloc, board, true)?;
+    let aim = Aim {
+        whole: true,
+        upper: None,
+    };
+    let mut search = empty(alloc, board, aim)?;
     let found = answer_by(alloc, board, limit, wanted, &mut search, entries);
     let_go(search);
     found
@@ -195,7 +215,7 @@ fn answer_by<C: Entries>(
     requires positive { 0 < limit }
     requires small { limit ≤ state_limit }
     requires empty { IsEmpty board.now search.old }
-    requires whole { search.old.whole ≡ true }
+    requires aim { search.old.aim ≡ record { whole = true; upper = None } }
     requires none { C.took [] entries.old }
     ensures { IfOk result
         (IsFoundWithProof (λ taken. C.took taken entries.new) board.now.rows limit wanted) }
@@ -219,7 +239,11 @@ fn find_on(alloc: Global, board: &Board, limit: u32) -> Result<Found, Memory>
 {
     // Its clauses tell that the level is accepted.
     let _level = board.level();
-    let mut search = empty(alloc, board, false)?;
+    let aim = Aim {
+        whole: false,
+        upper: None,
+    };
+    let mut search = empty(alloc, board, aim)?;
     let found = find_by(alloc, board, limit, &mut search);
     let_go(search);
     found
@@ -230,6 +254,7 @@ fn find_by(alloc: Global, board: &Board, limit: u32, search: &mut Search) -> Res
     requires accepted { IsAccepted board.now }
     requires positive { 0 < limit }
     requires empty { IsEmpty board.now search.old }
+    requires aim { search.old.aim ≡ record { whole = false; upper = None } }
     ensures { IfOk result (IsFoundWithin board.now.rows limit) }
 {
     let distances = Distances::new(alloc, board)?;
@@ -247,6 +272,76 @@ fn find_by(alloc: Global, board: &Board, limit: u32, search: &mut Search) -> Res
     }
 }
 
+/// Whether a solution of a board with so many pushes can be improved.
+fn improve_on(alloc: Global, board: &Board, limit: u32, best: u32) -> Result<Improved, Memory>
+    requires { 0 < limit }
+    ensures { IfOk result (IsImproved board.now.rows limit best) }
+{
+    // Its clauses tell that the level is accepted.
+    let _level = board.level();
+    let aim = Aim {
+        whole: false,
+        upper: Some(best),
+    };
+    let mut search = empty(alloc, board, aim)?;
+    let improved = improve_by(alloc, board, limit, best, &mut search);
+    let_go(search);
+    improved
+}
+
+/// The same, by a search that knows nothing else.
+fn improve_by(
+    alloc: Global,
+    board: &Board,
+    limit: u32,
+    best: u32,
+    search: &mut Search,
+) -> Result<Improved, Memory>
+    requires accepted { IsAccepted board.now }
+    requires positive { 0 < limit }
+    requires empty { IsEmpty board.now search.old }
+    requires aim { search.old.aim ≡ record { whole = false; upper = Some best } }
+    ensures { IfOk result (IsImproved board.now.rows limit best) }
+{
+    let distances = Distances::new(alloc, board)?;
+    let setting = Setting {
+        board,
+        distances: &distances,
+    };
+    match search_all(alloc, &setting, limit, search) {
+        Ok(()) => improve_in(alloc, board, best, search),
+        Err(Stop::Cut) => {
+            let at_least = least_open(search);
+            if at_least >= best {
+                return Ok(Improved::Optimal);
+            }
+            Ok(Improved::Limit {
+                states: limit,
+                at_least,
+            })
+        }
+        Err(Stop::Memory) => Err(Memory),
+    }
+}
+
+/// What a finished search has found beside a solution with so many pushes.
+fn improve_in(alloc: Global, board: &Board, best: u32, search: &Search) -> Result<Improved, Memory>
+    requires accepted { IsAccepted board.now }
+    requires search { IsSearching board.now (progress_of search.now) }
+    requires beside { search.now.aim.upper ≡ Some best }
+    requires finished { search.now.queue ≡ [] }
+    ensures { (limit : ℕ) → IfOk result (IsImproved board.now.rows limit best) }
+{
+    let Some(pushes) = search.best else {
+        return Ok(Improved::Optimal);
+    };
+    if pushes >= best {
+        return Ok(Improved::Optimal);
+    }
+    let dirs = solution(alloc, board, search, pushes)?;
+    Ok(Improved::Fewer { dirs, pushes })
+}
+
 /// The answer of a search that was cut off, with a certificate of what it shows where one is wanted.
 fn halt<C: Entries>(
     alloc: Global,
@@ -258,7 +353,8 @@ fn halt<C: Entries>(
 ) -> Result<Found, Memory>
     requires accepted { IsAccepted setting.now.board.now }
     requires small { limit ≤ state_limit }
-    requires cut { IsCutOff setting.now.board.now limit true (progress_of search.now) }
+    requires cut { IsCutOff setting.now.board.now limit (record { whole = true; upper = None })
+        (progress_of search.now) }
     requires none { C.took [] entries.old }
     ensures { IfOk result
         (IsFoundWithProof (λ taken. C.took taken entries.new) setting.now.board.now.rows limit wanted) }
@@ -285,7 +381,7 @@ fn search_all(
     requires positive { 0 < limit }
     requires empty { IsEmpty setting.now.board.now search.old }
     ensures searched { OnOk result
-        (IsSearched setting.now.board.now limit search.old.whole (progress_of search.new)) }
+        (IsSearched setting.now.board.now limit search.old.aim (progress_of search.new)) }
     ensures cut { CutsOff setting.now.board.now limit search.old (progress_of search.new) result }
 {
     enter_start(alloc, setting, search)?;
@@ -300,6 +396,7 @@ fn search_all(
 fn find_in(alloc: Global, board: &Board, search: &Search) -> Result<Found, Memory>
     requires accepted { IsAccepted board.now }
     requires search { IsSearching board.now (progress_of search.now) }
+    requires alone { search.now.aim.upper ≡ None }
     requires finished { search.now.queue ≡ [] }
     ensures { (limit : ℕ) → IsSearch board.now limit (progress_of search.now)
         → IfOk result (IsFoundWithin board.now.rows limit) }
@@ -322,7 +419,7 @@ fn conclude<C: Entries>(
 ) -> Result<Found, Memory>
     requires accepted { IsAccepted setting.now.board.now }
     requires search { IsSmallSearch setting.now.board.now (progress_of search.now) }
-    requires whole { search.now.whole ≡ true }
+    requires aim { search.now.aim ≡ record { whole = true; upper = None } }
     requires finished { search.now.queue ≡ [] }
     requires none { C.took [] entries.old }
     ensures { (limit : ℕ) (wanted : Bool) → IsSearch setting.now.board.now limit
@@ -349,6 +446,7 @@ fn solution(alloc: Global, board: &Board, search: &Search, pushes: u32) -> Resul
     requires accepted { IsAccepted board.now }
     requires search { IsSearching board.now (progress_of search.now) }
     requires best { search.now.best ≡ Some pushes }
+    requires own { search.now.aim.upper ≡ Some pushes → ⊥ }
     ensures { IfOk result (λ dirs.
         IsSolvedWithin board.now (length search.now.table.entries) pushes dirs.items) }
 {

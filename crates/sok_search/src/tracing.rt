@@ -24,6 +24,7 @@ pub(crate) fn find_solved(
     requires accepted { IsAccepted board.now }
     requires search { IsSearching board.now (progress_of search.now) }
     requires best { search.now.best ≡ Some pushes }
+    requires own { search.now.aim.upper ≡ Some pushes → ⊥ }
     ensures { IfOk result (IsSolvedAt board.now (progress_of search.now) pushes) }
 {
     let mut squares = Vec::new(alloc);

@@ -11,8 +11,9 @@ use sok_rules::level::Level;
 use sok_rules::play::replay;
 use sok_search::fault::SolveFault;
 use sok_search::found::Found;
+use sok_search::improved::Improved;
 use sok_search::outcome::Outcome;
-use sok_search::solve::{bound, find, solve};
+use sok_search::solve::{bound, find, improve, solve};
 use sok_sketch::rooms::{ROOM_OF_1024, ROOM_OF_4096, Room};
 use sok_sketch::sketch::{self, level};
 use std::alloc::Global;
@@ -277,6 +278,56 @@ fn bounds(rt: HostRuntime) -> Result<(), Fail> {
         last = pushes;
     }
     assert_eq!(rt; last, Some(7));
+    Ok(())
+}
+
+/// How many pushes a level needs at the least, as is known beside a solution with `best` pushes: those of
+/// a solution with fewer, or `best`; and None where the limit is met.
+fn improved_pushes(
+    rt: &impl Abort,
+    alloc: Global,
+    board: &str,
+    limit: u32,
+    best: u32,
+) -> Result<Option<u32>, Fail> {
+    let level = level(alloc, board)?;
+    match improve(alloc, &level, limit, best)? {
+        Improved::Fewer { dirs, pushes } => {
+            assert!(rt; pushes < best);
+            assert!(rt; solves(alloc, &level, &dirs, pushes)?);
+            Ok(Some(pushes))
+        }
+        Improved::Optimal => Ok(Some(best)),
+        Improved::Limit { states, at_least } => {
+            assert!(rt; states == limit && at_least < best);
+            Ok(None)
+        }
+    }
+}
+
+#[test]
+fn improvements(rt: HostRuntime) -> Result<(), Fail> {
+    for &(board, limit, best, pushes) in &[
+        (sketch::CORRIDOR_OF_SIX_PUSHES, 14, 8, Some(6)),
+        (sketch::CORRIDOR_OF_SIX_PUSHES, 14, 7, Some(6)),
+        (sketch::CORRIDOR_OF_SIX_PUSHES, 14, 6, Some(6)),
+        (sketch::CORRIDOR_OF_SIX_PUSHES, 14, 5, Some(5)),
+        // the start's bound is 2
+        (sketch::CORRIDOR_OF_SIX_PUSHES, 1, 2, Some(2)),
+        (sketch::CORRIDOR_OF_SIX_PUSHES, 1, 6, None),
+        (sketch::CORRIDOR_OF_SIX_PUSHES, 14, 0, Some(0)),
+        (sketch::CORRIDOR_OF_SIX_PUSHES, 14, u32::MAX, Some(6)),
+        (sketch::SOLVED, 10, 0, Some(0)),
+        (sketch::SOLVED, 10, 1, Some(0)),
+        // no number of pushes solves it
+        (sketch::TWO_IN_A_ROW, 10, 1_000, Some(1_000)),
+        (LOWERED, 1_000, 8, Some(7)),
+        (LOWERED, 1_000, 7, Some(7)),
+        (ZERKALO, 300, 21, Some(20)),
+        (ZERKALO, 300, 20, Some(20)),
+    ] {
+        assert_eq!(rt; improved_pushes(&rt, rt.alloc(), board, limit, best)?, pushes);
+    }
     Ok(())
 }
 

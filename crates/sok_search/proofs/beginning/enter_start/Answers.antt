@@ -16,11 +16,11 @@ returns-clause-search c = λ limit positive.
     let empty = c.requires.empty in
     let key = c.in_ok-key.key in
     let note : Note = record { origin = None; standing = c.in_ok-standing.standing } in
-    let frame : Frame = record { room = old.table.room; whole = old.whole; losses = c.judge.new.losses } in
-    let inserted : Frame = record { room = c.insert.new.self.room; whole = old.whole; losses = c.judge.new.losses } in
+    let frame : Frame = record { room = old.table.room; aim = old.aim; losses = c.judge.new.losses } in
+    let inserted : Frame = record { room = c.insert.new.self.room; aim = old.aim; losses = c.judge.new.losses } in
     let table = c.insert.new.self.entries in
     let room = c.in_ok-index.ensures.room in
-    let same : inserted ≡ frame = λ i. record { room = room i; whole = old.whole; losses = c.judge.new.losses } in
+    let same : inserted ≡ frame = λ i. record { room = room i; aim = old.aim; losses = c.judge.new.losses } in
     let last : GoesLast [] key 0 c.in_ok-index.index table = first-last old.table.entries table key 0 c.in_ok-index.index c.in_ok-index._is_new
     empty.states c.in_ok-index.ensures.inserted in
     let begins : Progress = record { frame = inserted; table = table; notes = old.notes.items; queue = old.queue; best = old.best } in
@@ -37,5 +37,5 @@ returns-clause-search c = λ limit positive.
     (subst (λ x. IsListed x c.in_ok-index.index note after) bare listed))
     c.in_ok-key.ensures.of_board c.in_ok-key.ensures.key c.in_ok-key.ensures.as_many refl c.in_ok-standing.ensures.judged) c.add.ensures
 
-pub returns-clause-whole : goal.returns-clause-whole
-returns-clause-whole c = on_ok_weaker c.add.result (λ listed. ap (λ (f : Frame). f.whole) listed.frame) c.add.ensures
+pub returns-clause-aim : goal.returns-clause-aim
+returns-clause-aim c = on_ok_weaker c.add.result (λ listed. ap (λ (f : Frame). f.aim) listed.frame) c.add.ensures

@@ -54,10 +54,10 @@ comes_in c = comes-next c.args.setting.now.board.now c.requires.state.running.ac
 
 -- the frame of a search with another table
 abbrev frame_in : Search → Tabled → Frame
-frame_in search table = record { room = table.room; whole = search.whole; losses = search.losses }
+frame_in search table = record { room = table.room; aim = search.aim; losses = search.losses }
 
 same_frame : (search : Search) (table : Tabled) → table.room ≡ search.table.room → frame_in search table ≡ (progress_of search).frame
-same_frame search table same = λ i. record { room = same i; whole = search.whole; losses = search.losses }
+same_frame search table same = λ i. record { room = same i; aim = search.aim; losses = search.losses }
 
 -- the next state is known
 next_in : Then-not-is_new → Key

@@ -61,7 +61,7 @@ returns-clause-cut c = λ _.
           c.in-None.ensures;
       search = held.running.search;
       full = c.requires.full;
-      kept = refl;
+      aim_is = refl;
     }
 
 -- nothing is pushed where the search is cut off; a body that goes on there is refused by this

@@ -5,12 +5,12 @@ use Rattle.sok_distance.specs.Pushing.{IsStuck}
 use Rattle.sok_alone.specs.Losses.{losses_of}
 use Rattle.sok_search.specs.Searches.{IsSearch}
 use Rattle.sok_search.specs.Steps.{holding, knowing}
-use Rattle.sok_search.specs.Views.{progress_of}
+use Rattle.sok_search.specs.Views.{HoldsState, progress_of}
 use Rattle.sok_search.proofs.Adding.{taken-key, taken-pushable}
 use Rattle.sok_search.proofs.Asking.{lost-found}
 use Rattle.sok_search.proofs.Invariant.{keeps-knowing}
 use Rattle.sok_search.proofs.Pushing.{pushed-knowing}
-use Rattle.sok_search.proofs.LeavingOut.{leads-nowhere, pushed-left_out}
+use Rattle.sok_search.proofs.LeavingOut.{leads-nowhere, nowhere-no_fewer, pushed-left_out}
 use Rattle.sok_search.proofs.reaching.reach.Goals as goal
 use Rattle.sok_search.proofs.reaching.reach.Goals.{In_ok-lost}
 
@@ -37,7 +37,8 @@ returns-then-stuck-clause-pushed c =
     let stuck = subst (λ (board : BoardView). IsStuck board to) c.args.setting.now.own (c.stuck.ensures.0 c.if-stuck.true) in
     pushed-left_out b c.args.limit c.args.index p running.search key c.args.depth c.args.push (record {
       part = c.if-not-search.true;
-      nowhere = leads-nowhere b running.accepted key state c.args.push c.requires.legal to c.square_ahead-to.ensures stuck;
+      no_fewer = nowhere-no_fewer b p.frame.aim.upper key c.args.depth c.args.push
+          (leads-nowhere b running.accepted key state c.args.push c.requires.legal to c.square_ahead-to.ensures stuck);
     })
 
 -- the search that knows what was found of boxes taken alone
@@ -57,19 +58,37 @@ returns-then-is_some-clause-pushed c =
     pushed-knowing b c.args.limit (holding c.args.index p) c.ask.new.losses key c.args.depth c.args.push (holding c.args.index q)
     (pushed-left_out b c.args.limit c.args.index q (known-in ((goal.at.returns-then-is_some-clause-pushed c).In_ok-lost)) key c.args.depth c.args.push (record {
       part = c.if-not-search-2.true;
-      nowhere = lost-found b running.accepted key c.args.push c.square_ahead-to.result c.args.push_scratch.now.scene can c.square_ahead-to.ensures
-          (losses_of c.ask.new.losses) c.in_ok-lost.lost (sym c.is_some.ensures ∙ c.if-is_some.true) c.in_ok-lost.ensures.lost;
+      no_fewer = nowhere-no_fewer b p.frame.aim.upper key c.args.depth c.args.push
+          (lost-found b running.accepted key c.args.push c.square_ahead-to.result c.args.push_scratch.now.scene can c.square_ahead-to.ensures
+          (losses_of c.ask.new.losses) c.in_ok-lost.lost (sym c.is_some.ensures ∙ c.if-is_some.true) c.in_ok-lost.ensures.lost);
     }))
 
-pub arrive-requires-clause-state : goal.arrive-requires-clause-state
-arrive-requires-clause-state c = record {
-  running = record {
-    accepted = c.requires.state.running.accepted;
-    search = known-in ((goal.at.arrive-requires-clause-state c).In_ok-lost);
-  };
+-- which holds the state still
+held-in : (c : In_ok-lost) → HoldsState c.args.setting.now.board.now c.args.limit c.args.index c.args.key.now c.args.depth
+    (record c.args.search.now { losses = c.ask.new.losses })
+held-in c = record {
+  running = record { accepted = c.requires.state.running.accepted; search = known-in c };
   there = c.requires.state.there;
   depth_is = c.requires.state.depth_is;
 }
+
+pub is_spared-requires-clause-state : goal.is_spared-requires-clause-state
+is_spared-requires-clause-state c = held-in ((goal.at.is_spared-requires-clause-state c).In_ok-lost)
+
+pub returns-then-branch-clause-pushed : goal.returns-then-branch-clause-pushed
+returns-then-branch-clause-pushed c =
+    let b = c.args.setting.now.board.now in
+    let p = progress_of c.args.search.now in
+    let q = knowing c.ask.new.losses p in
+    let key = c.args.key.now in
+    pushed-knowing b c.args.limit (holding c.args.index p) c.ask.new.losses key c.args.depth c.args.push (holding c.args.index q)
+    (pushed-left_out b c.args.limit c.args.index q (known-in ((goal.at.returns-then-branch-clause-pushed c).In_ok-lost)) key c.args.depth c.args.push (record {
+      part = c.if-not-search-3.true;
+      no_fewer = c.in_ok-is_spared.ensures.no_fewer c.if-branch.true;
+    }))
+
+pub arrive-requires-clause-state : goal.arrive-requires-clause-state
+arrive-requires-clause-state c = held-in ((goal.at.arrive-requires-clause-state c).In_ok-lost)
 
 pub returns-clause-pushed : goal.returns-clause-pushed
 returns-clause-pushed c = on_ok_weaker c.arrive.result

@@ -6,7 +6,7 @@ use Rattle.sok_search.proofs.Turning.{held-search, turned-taken}
 use Rattle.sok_search.proofs.running.search_on.Goals as goal
 
 pub loop-index-init : goal.loop-index-init
-loop-index-init c = record { search = c.requires.running.search; whole = refl; ready = c.requires.ready }
+loop-index-init c = record { search = c.requires.running.search; aim = refl; ready = c.requires.ready }
 
 pub turn-requires-clause-held : goal.turn-requires-clause-held
 turn-requires-clause-held c = record {
@@ -19,7 +19,7 @@ pub loop-index-preserved : goal.loop-index-preserved
 loop-index-preserved c =
     let turned = turned-taken c.args.setting.now.board.now c.args.limit c.in-Some.index (progress_of c.loop-index.search) (progress_of c.turn.new.search)
     c.pop.new.self c.in-Some.ensures c.in_ok-turn.ensures.turned in
-    record { search = turned.search; whole = turned.whole ∙ c.loop-index.invariant.whole; ready = c.in_ok-turn.ensures.ready }
+    record { search = turned.search; aim = turned.aim ∙ c.loop-index.invariant.aim; ready = c.in_ok-turn.ensures.ready }
 
 pub loop-index-smaller : goal.loop-index-smaller
 loop-index-smaller c = (turned-taken c.args.setting.now.board.now c.args.limit c.in-Some.index (progress_of c.loop-index.search) (progress_of c.turn.new.search)
@@ -31,7 +31,7 @@ returns-clause-finished c =
     record {
       search = subst (λ (queue : List ℕ). IsSearch c.args.setting.now.board.now c.args.limit (record (progress_of c.loop-index.search) { queue = queue }))
           (before ∙ sym after) c.loop-index.invariant.search;
-      whole = c.loop-index.invariant.whole;
+      aim = c.loop-index.invariant.aim;
       empty = after;
     }
 
@@ -39,4 +39,4 @@ pub returns-in_err-turn-clause-cut : goal.returns-in_err-turn-clause-cut
 returns-in_err-turn-clause-cut c = λ cut.
     let stop = err_from_is_err_and c.from_residual.result c.from_residual.ensures.1 in
     let left = c.in_err-turn.ensures.cut (sym (stop.1 ∙ ap Err stop.2) ∙ cut) in
-    record { more = left.more; search = left.search; full = left.full; kept = left.kept ∙ c.loop-index.invariant.whole }
+    record { more = left.more; search = left.search; full = left.full; aim_is = left.aim_is ∙ c.loop-index.invariant.aim }

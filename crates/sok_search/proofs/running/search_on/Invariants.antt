@@ -8,7 +8,7 @@ use Rattle.sok_search.proofs.running.search_on.Given as goal
 abbrev pub invariant-loop-index : goal.invariant-loop-index
 invariant-loop-index l = record {
   search : IsSearch l.setting.board.now l.limit (progress_of l.search);
-  whole : l.search.whole ≡ l.initial.search.whole;
+  aim : l.search.aim ≡ l.initial.search.aim;
   ready : IsReady l.setting.board.now l.scratch;
 }
 

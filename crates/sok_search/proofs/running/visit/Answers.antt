@@ -45,5 +45,5 @@ returns-in-Ok-clause-turned c =
 
 pub returns-in-Err-Cut-clause-cut : goal.returns-in-Err-Cut-clause-cut
 returns-in-Err-Cut-clause-cut c = λ _.
-    cut-waits c.args.setting.now.board.now c.args.limit c.args.index c.args.bound c.args.search.now.whole (progress_of c.expand.new.search) c.wait.new.queue
+    cut-waits c.args.setting.now.board.now c.args.limit c.args.index c.args.bound c.args.search.now.aim (progress_of c.expand.new.search) c.wait.new.queue
     c.args.note.standing c.requires.is_open (c.in-Err-Cut.ensures.cut (ap Err c.in-Err-Cut.field-0-is)) c.in_ok-wait-in-Err-Cut.ensures

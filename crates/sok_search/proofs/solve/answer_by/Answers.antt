@@ -4,8 +4,8 @@ use Rattle.sok_search.proofs.solve.answer_by.Goals as goal
 pub conclude-requires-clause-search : goal.conclude-requires-clause-search
 conclude-requires-clause-search g c = (c.args.limit, c.in-Ok.ensures.searched.search, c.requires.small)
 
-pub conclude-requires-clause-whole : goal.conclude-requires-clause-whole
-conclude-requires-clause-whole g c = c.in-Ok.ensures.searched.kept ∙ c.requires.whole
+pub conclude-requires-clause-aim : goal.conclude-requires-clause-aim
+conclude-requires-clause-aim g c = c.in-Ok.ensures.searched.aim_is ∙ c.requires.aim
 
 pub conclude-requires-clause-finished : goal.conclude-requires-clause-finished
 conclude-requires-clause-finished g c = c.in-Ok.ensures.searched.empty
@@ -16,4 +16,4 @@ returns-in-Ok g c = c.conclude.ensures c.args.limit c.args.wanted c.in-Ok.ensure
 pub halt-requires-clause-cut : goal.halt-requires-clause-cut
 halt-requires-clause-cut g c =
     let left = c.in-Err-Cut.ensures.cut (ap Err c.in-Err-Cut.field-0-is) in
-    record { more = left.more; search = left.search; full = left.full; kept = left.kept ∙ c.requires.whole }
+    record { more = left.more; search = left.search; full = left.full; aim_is = left.aim_is ∙ c.requires.aim }

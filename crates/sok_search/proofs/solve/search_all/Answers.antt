@@ -10,9 +10,9 @@ search_on-ended-requires-clause-running c = record {
 
 pub returns-clause-searched : goal.returns-clause-searched
 returns-clause-searched c = on_ok_weaker c.search_on-ended.result
-    (λ finished. record { search = finished.search; kept = finished.whole ∙ c.in_ok-enter_start.ensures.whole; empty = finished.empty }) c.search_on-ended.ensures.finished
+    (λ finished. record { search = finished.search; aim_is = finished.aim ∙ c.in_ok-enter_start.ensures.aim; empty = finished.empty }) c.search_on-ended.ensures.finished
 
 pub returns-clause-cut : goal.returns-clause-cut
 returns-clause-cut c = λ cut.
     let left = c.search_on-ended.ensures.cut cut in
-    record { more = left.more; search = left.search; full = left.full; kept = left.kept ∙ c.in_ok-enter_start.ensures.whole }
+    record { more = left.more; search = left.search; full = left.full; aim_is = left.aim_is ∙ c.in_ok-enter_start.ensures.aim }

@@ -8,7 +8,7 @@ loop-index-preserved c = below_more _ _ c.loop-index.invariant (Î» solved. trueâ
 
 pub unreachable-requires : goal.unreachable-requires
 unreachable-requires c =
-    let (i, within, solved) = best-at c.args.board.now (progress_of c.args.search.now) c.args.pushes c.requires.search.1.best c.requires.best in
+    let (i, within, solved) = best-at c.args.board.now (progress_of c.args.search.now) c.args.pushes c.requires.search.1.best c.requires.best c.requires.own in
     let past = c.loop-index-test.false in
     let count = c.len-index-end.ensures.count in
     c.loop-index.invariant i (omega (arith, within, past, count)) solved
