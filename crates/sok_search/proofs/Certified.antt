@@ -16,7 +16,7 @@ use Rattle.sok_search.specs.declared.note.Note.{Note}
 use Rattle.sok_search.specs.declared.note.Standing.{Standing}
 use Rattle.sok_search.specs.declared.note.Standing.TheVariants.{Open, Expanded, Dead, Lost}
 use Rattle.sok_search.specs.Finished.{AreDone, AreFirstEntries, AreTaken, HasText, IsAtMost, IsDone, IsEntryAt, IsEntryOf, TakesEntry, claim_of}
-use Rattle.sok_search.specs.Halted.{IsOpenAt}
+use Rattle.sok_search.specs.Halted.{IsLeastOpen, IsOpenAt}
 use Rattle.sok_search.specs.Limits.{state_limit}
 use Rattle.sok_search.specs.Searches.{Progress, IsBeaten, IsSearch, IsState, Stands}
 use Rattle.sok_search.proofs.StatesByIndex.{key-within}
@@ -58,6 +58,13 @@ done-least b limit p least search below i key depth note state =
     stands-least b p i key depth least note.standing (λ bound is. below i (depth + bound) (key-within p i key state.there)
     (record { key = key; depth = depth; note = note; state = state; bound = bound; is_open = is; needs = refl }))
     (search.noted i key depth note state).stands
+
+-- and where none needs fewer than the solution that is known, for what that claims
+pub done-beaten : (b : BoardView) (limit : ℕ) (p : Progress) (least : ℕ) → IsSearch b limit p → IsLeastOpen p least → (upper : Option ℕ)
+    → IsBeaten upper least → AreDone b (claim_of upper) p
+done-beaten b limit p least search of_all None beaten = absurd beaten
+done-beaten b limit p least search of_all (Some u) beaten =
+    done-least b limit p u search (λ i n within at. let enough = of_all.below i n within at in omega (arith, enough, beaten))
 
 -- it has a text
 pub entry-fits : (b : BoardView) → IsAccepted b → (limit : ℕ) (p : Progress) (i : ℕ) (key : Key) (depth : ℕ) (note : Note) (e : Entry) → IsSearch b limit p

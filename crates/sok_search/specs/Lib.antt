@@ -4,6 +4,7 @@ pub mod Limits
 pub mod Outcomes
 -- Words of the proofs alone
 pub mod Buckets
+pub mod Findings
 pub mod Finished
 pub mod Halted
 pub mod Searches

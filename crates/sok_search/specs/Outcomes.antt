@@ -103,6 +103,16 @@ IsImproved rows limit best (improved.Fewer dirs pushes) = IsLeastSolution rows d
 IsImproved rows limit best improved.Optimal = AtLeast rows best
 IsImproved rows limit best (improved.Limit states at_least) = IsCutShortBeside rows limit (Some best) states at_least × (at_least < best)
 
+-- the same, and which entries were taken: those of a certificate that shows it, of a limit only where that is wanted
+abbrev pub IsImprovedWithProof : (List Entry → Type 0) → Rows → ℕ → Bool → ℕ → Improved → Type 0
+IsImprovedWithProof Took rows limit wanted best (improved.Fewer dirs pushes) =
+    (entries : List Entry) × Took entries × IsProvedSolved rows limit dirs.items pushes entries × (pushes < best)
+IsImprovedWithProof Took rows limit wanted best improved.Optimal =
+    (entries : List Entry) × Took entries × AtLeast rows best × Certifies rows limit (claim.Pushes best) entries
+IsImprovedWithProof Took rows limit wanted best (improved.Limit states least) =
+    IsCutShortBeside rows limit (Some best) states least × (least < best)
+    × MatchBool wanted ((entries : List Entry) × Took entries × Certifies rows limit (claim.Pushes least) entries) (Took [])
+
 -- a certificate of a claim, whose entries are so
 abbrev pub OfClaim : Claim → (List Entry → Type 0) → Certificate → Type 0
 OfClaim claimed Shows certificate = (certificate.claim ≡ claimed) × Shows certificate.entries.items

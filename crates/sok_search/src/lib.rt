@@ -15,6 +15,7 @@
 //! | `buckets` | indices that wait, in buckets by rank (private) |
 //! | `certifying` | the certificate of a search (private) |
 //! | `expanding` | a state is expanded (private) |
+//! | `finding` | what a search finds beside a solution, or beside none (private) |
 //! | `halted` | what a search shows that was cut off (private) |
 //! | `judging` | how a new state stands, and whether a state is solved (private) |
 //! | `note` | what a search notes of a state (private) |
@@ -36,6 +37,7 @@ mod certifying;
 pub mod collecting;
 mod expanding;
 pub mod fault;
+mod finding;
 pub mod found;
 mod halted;
 pub mod improved;

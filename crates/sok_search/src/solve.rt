@@ -1,11 +1,14 @@
 //! The solver.
 
-ghost use Rattle.std.specs.Prelude.{ℕ, ◌≡◌, ◌<◌, ◌≤◌, ◌↔◌, [], Bool, IfOk, IsTrue, None, OnOk, Some, false, length, true};
+ghost use Rattle.std.specs.Prelude.{ℕ, ◌≡◌, ◌<◌, ◌≤◌, ◌↔◌, [], Bool, IfOk, IfSome, IsTrue, OnOk, Some, length, true};
 ghost use Rattle.sok_rules.specs.Squares.{Rows};
-ghost use Rattle.sok_board.specs.Area.{IsAccepted};
+ghost use Rattle.sok_board.specs.Area.{BoardView, IsAccepted};
+ghost use Rattle.sok_cert.specs.Text.{number_limit};
 ghost use Rattle.sok_search.specs.Faults.{IsAcceptedWithin, IsBadLimit, TellsFault};
+ghost use Rattle.sok_search.specs.Findings.{IsFinding, IsFindingWithProof, IsOfBest};
+ghost use Rattle.sok_search.specs.Finished.{claim_of};
 ghost use Rattle.sok_search.specs.Limits.{state_limit};
-ghost use Rattle.sok_search.specs.Outcomes.{IsAnswer, IsBounded, IsFoundWithProof, IsFoundWithin, IsImproved, IsOutcome};
+ghost use Rattle.sok_search.specs.Outcomes.{IsAnswer, IsBounded, IsFoundWithProof, IsFoundWithin, IsImproved, IsImprovedWithProof, IsOutcome};
 ghost use Rattle.sok_search.specs.Searches.{IsSearch, IsSearching, IsSmallSearch};
 ghost use Rattle.sok_search.specs.Walkthroughs.{IsSolvedWithin};
 ghost use Rattle.sok_search.specs.Views.{progress_of, CutsOff, IsCutOff, IsEmpty, IsSearched};
@@ -16,12 +19,13 @@ use crate::certifying::certify;
 use crate::collecting::Entries;
 use crate::expanding::Scratch;
 use crate::fault::SolveFault;
+use crate::finding::Finding;
 use crate::found::Found;
 use crate::halted::least_open;
 use crate::improved::Improved;
 use crate::outcome::Outcome;
 use crate::running::search_on;
-use crate::search::{Search, let_go};
+use crate::search::{Search, is_beaten, let_go};
 use crate::stop::Stop;
 use crate::tracing::{find_solved, trace};
 use crate::walkthrough::letters;
@@ -75,8 +79,8 @@ pub fn solve_into<C: Entries>(
     ensures tells { TellsFault level.now limit result }
 {
     let board = accept(alloc, level, limit)?;
-    let found = answer(alloc, &board, limit, bound, entries)?;
-    Ok(found)
+    let finding = answer(alloc, &board, limit, None, bound, entries)?;
+    Ok(finding.found())
 }
 
 /// What `solve` answers, without a certificate, which takes time and most of the memory. States in
@@ -88,8 +92,8 @@ pub fn find(alloc: Global, level: &Level, limit: u32) -> Result<Found, SolveFaul
     ensures tells { TellsFault level.now limit result }
 {
     let board = accept(alloc, level, limit)?;
-    let found = find_on(alloc, &board, limit)?;
-    Ok(found)
+    let finding = find_on(alloc, &board, limit, None)?;
+    Ok(finding.found())
 }
 
 /// Whether a solution with `best` pushes can be improved: the fewest pushes that solve the level, where
@@ -102,8 +106,30 @@ pub fn improve(alloc: Global, level: &Level, limit: u32, best: u32) -> Result<Im
     ensures tells { TellsFault level.now limit result }
 {
     let board = accept(alloc, level, limit)?;
-    let improved = improve_on(alloc, &board, limit, best)?;
-    Ok(improved)
+    let finding = find_on(alloc, &board, limit, Some(best))?;
+    Ok(finding.improved())
+}
+
+/// What `improve` answers. The entries of a certificate are taken as `solve_into` does it: for the
+/// fewest pushes, or for `best`; of a limit, where a bound is asked for, for that. Each state is kept
+/// that is reached, as a certificate needs them, so a limit may be met that suffices without one.
+pub fn improve_into<C: Entries>(
+    alloc: Global,
+    level: &Level,
+    limit: u32,
+    best: u32,
+    bound: bool,
+    entries: &mut C,
+) -> Result<Improved, SolveFault>
+    requires fits { best ≤ number_limit }
+    requires none { C.took [] entries.old }
+    ensures improved { IfOk result
+        (IsImprovedWithProof (λ taken. C.took taken entries.new) level.now limit bound best) }
+    ensures tells { TellsFault level.now limit result }
+{
+    let board = accept(alloc, level, limit)?;
+    let finding = answer(alloc, &board, limit, Some(best), bound, entries)?;
+    Ok(finding.improved())
 }
 
 /// What is answered of a level, where a certificate of a limit that is met is wanted, or not.
@@ -176,33 +202,33 @@ fn accept(alloc: Global, level: &Level, limit: u32) -> Result<Board, SolveFault>
     Ok(board)
 }
 
-/// The same of a board.
+/// What a search of a board finds beside a solution with so many pushes, or beside none, where a
+/// certificate of a limit that is met is wanted, or not.
 fn answer<C: Entries>(
     alloc: Global,
     board: &Board,
     limit: u32,
+    upper: Option<u32>,
     wanted: bool,
     entries: &mut C,
-) -> Result<Found, Memory>
+) -> Result<Finding, Memory>
     requires positive { 0 < limit }
     requires small { limit ≤ state_limit }
+    requires fits { IfSome upper (λ k. k ≤ number_limit) }
     requires none { C.took [] entries.old }
     ensures { IfOk result
-        (IsFoundWithProof (λ taken. C.took taken entries.new) board.now.rows limit wanted) }
+        (IsFindingWithProof (λ taken. C.took taken entries.new) board.now.rows limit wanted upper) }
 {
     // Its clauses tell that the level is accepted.
     let _level = board.level();
-    let aim = Aim {
-        whole: true,
-        upper: None,
-    };
+    let aim = Aim { whole: true, upper };
     let mut search = empty(alloc, board, aim)?;
-    let found = answer_by(alloc, board, limit, wanted, &mut search, entries);
+    let finding = answer_by(alloc, board, limit, wanted, &mut search, entries);
     let_go(search);
-    found
+    finding
 }
 
-/// The same, by a search that knows nothing.
+/// The same, by a search that knows nothing but what it is asked for.
 fn answer_by<C: Entries>(
     alloc: Global,
     board: &Board,
@@ -210,15 +236,16 @@ fn answer_by<C: Entries>(
     wanted: bool,
     search: &mut Search,
     entries: &mut C,
-) -> Result<Found, Memory>
+) -> Result<Finding, Memory>
     requires accepted { IsAccepted board.now }
     requires positive { 0 < limit }
     requires small { limit ≤ state_limit }
     requires empty { IsEmpty board.now search.old }
-    requires aim { search.old.aim ≡ record { whole = true; upper = None } }
+    requires whole { search.old.aim.whole ≡ true }
+    requires fits { IfSome search.old.aim.upper (λ k. k ≤ number_limit) }
     requires none { C.took [] entries.old }
     ensures { IfOk result
-        (IsFoundWithProof (λ taken. C.took taken entries.new) board.now.rows limit wanted) }
+        (IsFindingWithProof (λ taken. C.took taken entries.new) board.now.rows limit wanted search.old.aim.upper) }
 {
     let distances = Distances::new(alloc, board)?;
     let setting = Setting {
@@ -232,30 +259,29 @@ fn answer_by<C: Entries>(
     }
 }
 
-/// What is found of a board within a limit.
-fn find_on(alloc: Global, board: &Board, limit: u32) -> Result<Found, Memory>
+/// What a search of a board finds, as `answer`, without a certificate.
+fn find_on(alloc: Global, board: &Board, limit: u32, upper: Option<u32>) -> Result<Finding, Memory>
     requires { 0 < limit }
-    ensures { IfOk result (IsFoundWithin board.now.rows limit) }
+    ensures { IfOk result (IsFinding board.now.rows limit upper) }
 {
     // Its clauses tell that the level is accepted.
     let _level = board.level();
     let aim = Aim {
         whole: false,
-        upper: None,
+        upper,
     };
     let mut search = empty(alloc, board, aim)?;
-    let found = find_by(alloc, board, limit, &mut search);
+    let finding = find_by(alloc, board, limit, &mut search);
     let_go(search);
-    found
+    finding
 }
 
-/// The same, by a search that knows nothing.
-fn find_by(alloc: Global, board: &Board, limit: u32, search: &mut Search) -> Result<Found, Memory>
+/// The same, by a search that knows nothing but what it is asked for.
+fn find_by(alloc: Global, board: &Board, limit: u32, search: &mut Search) -> Result<Finding, Memory>
     requires accepted { IsAccepted board.now }
     requires positive { 0 < limit }
     requires empty { IsEmpty board.now search.old }
-    requires aim { search.old.aim ≡ record { whole = false; upper = None } }
-    ensures { IfOk result (IsFoundWithin board.now.rows limit) }
+    ensures { IfOk result (IsFinding board.now.rows limit search.old.aim.upper) }
 {
     let distances = Distances::new(alloc, board)?;
     let setting = Setting {
@@ -264,85 +290,29 @@ fn find_by(alloc: Global, board: &Board, limit: u32, search: &mut Search) -> Res
     };
     match search_all(alloc, &setting, limit, search) {
         Ok(()) => find_in(alloc, board, search),
-        Err(Stop::Cut) => Ok(Found::Limit {
-            states: limit,
-            at_least: least_open(search),
-        }),
+        Err(Stop::Cut) => Ok(halted(limit, search)),
         Err(Stop::Memory) => Err(Memory),
     }
 }
 
-/// Whether a solution of a board with so many pushes can be improved.
-fn improve_on(alloc: Global, board: &Board, limit: u32, best: u32) -> Result<Improved, Memory>
-    requires { 0 < limit }
-    ensures { IfOk result (IsImproved board.now.rows limit best) }
+/// What a search that was cut off has found.
+fn halted(limit: u32, search: &Search) -> Finding
+    requires { (b : BoardView) × IsAccepted b × IsCutOff b limit search.now.aim (progress_of search.now) }
+    ensures { (b : BoardView) → IsAccepted b
+        → IsCutOff b limit search.now.aim (progress_of search.now)
+        → IsFinding b.rows limit search.now.aim.upper result }
 {
-    // Its clauses tell that the level is accepted.
-    let _level = board.level();
-    let aim = Aim {
-        whole: false,
-        upper: Some(best),
-    };
-    let mut search = empty(alloc, board, aim)?;
-    let improved = improve_by(alloc, board, limit, best, &mut search);
-    let_go(search);
-    improved
-}
-
-/// The same, by a search that knows nothing else.
-fn improve_by(
-    alloc: Global,
-    board: &Board,
-    limit: u32,
-    best: u32,
-    search: &mut Search,
-) -> Result<Improved, Memory>
-    requires accepted { IsAccepted board.now }
-    requires positive { 0 < limit }
-    requires empty { IsEmpty board.now search.old }
-    requires aim { search.old.aim ≡ record { whole = false; upper = Some best } }
-    ensures { IfOk result (IsImproved board.now.rows limit best) }
-{
-    let distances = Distances::new(alloc, board)?;
-    let setting = Setting {
-        board,
-        distances: &distances,
-    };
-    match search_all(alloc, &setting, limit, search) {
-        Ok(()) => improve_in(alloc, board, best, search),
-        Err(Stop::Cut) => {
-            let at_least = least_open(search);
-            if at_least >= best {
-                return Ok(Improved::Optimal);
-            }
-            Ok(Improved::Limit {
-                states: limit,
-                at_least,
-            })
-        }
-        Err(Stop::Memory) => Err(Memory),
+    let least = least_open(search);
+    if is_beaten(search.aim.upper, least, 0) {
+        return Finding::NoBetter;
+    }
+    Finding::Limit {
+        states: limit,
+        at_least: least,
     }
 }
 
-/// What a finished search has found beside a solution with so many pushes.
-fn improve_in(alloc: Global, board: &Board, best: u32, search: &Search) -> Result<Improved, Memory>
-    requires accepted { IsAccepted board.now }
-    requires search { IsSearching board.now (progress_of search.now) }
-    requires beside { search.now.aim.upper ≡ Some best }
-    requires finished { search.now.queue ≡ [] }
-    ensures { (limit : ℕ) → IfOk result (IsImproved board.now.rows limit best) }
-{
-    let Some(pushes) = search.best else {
-        return Ok(Improved::Optimal);
-    };
-    if pushes >= best {
-        return Ok(Improved::Optimal);
-    }
-    let dirs = solution(alloc, board, search, pushes)?;
-    Ok(Improved::Fewer { dirs, pushes })
-}
-
-/// The answer of a search that was cut off, with a certificate of what it shows where one is wanted.
+/// The same, with a certificate of what it shows, where it has an answer or one is wanted.
 fn halt<C: Entries>(
     alloc: Global,
     setting: &Setting<'_>,
@@ -350,21 +320,27 @@ fn halt<C: Entries>(
     wanted: bool,
     search: &Search,
     entries: &mut C,
-) -> Result<Found, Memory>
+) -> Result<Finding, Memory>
     requires accepted { IsAccepted setting.now.board.now }
     requires small { limit ≤ state_limit }
-    requires cut { IsCutOff setting.now.board.now limit (record { whole = true; upper = None })
-        (progress_of search.now) }
+    requires whole { search.now.aim.whole ≡ true }
+    requires fits { IfSome search.now.aim.upper (λ k. k ≤ number_limit) }
+    requires cut { IsCutOff setting.now.board.now limit search.now.aim (progress_of search.now) }
     requires none { C.took [] entries.old }
-    ensures { IfOk result
-        (IsFoundWithProof (λ taken. C.took taken entries.new) setting.now.board.now.rows limit wanted) }
+    ensures { IfOk result (IsFindingWithProof (λ taken. C.took taken entries.new)
+        setting.now.board.now.rows limit wanted search.now.aim.upper) }
 {
     let at_least = least_open(search);
+    if is_beaten(search.aim.upper, at_least, 0) {
+        let claim = claim_of(search.aim.upper);
+        certify(alloc, setting, claim, search, entries)?;
+        return Ok(Finding::NoBetter);
+    }
     if wanted {
         let claim = Claim::Pushes(at_least);
         certify(alloc, setting, claim, search, entries)?;
     }
-    Ok(Found::Limit {
+    Ok(Finding::Limit {
         states: limit,
         at_least,
     })
@@ -393,52 +369,55 @@ fn search_all(
 }
 
 /// What a finished search has found.
-fn find_in(alloc: Global, board: &Board, search: &Search) -> Result<Found, Memory>
+fn find_in(alloc: Global, board: &Board, search: &Search) -> Result<Finding, Memory>
     requires accepted { IsAccepted board.now }
     requires search { IsSearching board.now (progress_of search.now) }
-    requires alone { search.now.aim.upper ≡ None }
     requires finished { search.now.queue ≡ [] }
-    ensures { (limit : ℕ) → IsSearch board.now limit (progress_of search.now)
-        → IfOk result (IsFoundWithin board.now.rows limit) }
+    ensures finding { (limit : ℕ) → IsSearch board.now limit (progress_of search.now)
+        → IfOk result (IsFinding board.now.rows limit search.now.aim.upper) }
+    ensures best { IfOk result (IsOfBest (progress_of search.now)) }
 {
-    match search.best {
-        Some(pushes) => {
-            let dirs = solution(alloc, board, search, pushes)?;
-            Ok(Found::Solved { dirs, pushes })
-        }
-        None => Ok(Found::Unsolvable),
+    let Some(pushes) = search.best else {
+        return Ok(Finding::NoBetter);
+    };
+    if is_beaten(search.aim.upper, pushes, 0) {
+        return Ok(Finding::NoBetter);
+    }
+    let dirs = solution(alloc, board, search, pushes)?;
+    Ok(Finding::Solved { dirs, pushes })
+}
+
+/// What is claimed of a level whose best has so many pushes, or that has none.
+fn claim_of(best: Option<u32>) -> Claim
+    ensures { result ≡ claim_of best }
+{
+    match best {
+        Some(pushes) => Claim::Pushes(pushes),
+        None => Claim::Unsolvable,
     }
 }
 
-/// The answer of a finished search.
+/// What a finished search has found, with a certificate of it.
 fn conclude<C: Entries>(
     alloc: Global,
     setting: &Setting<'_>,
     search: &Search,
     entries: &mut C,
-) -> Result<Found, Memory>
+) -> Result<Finding, Memory>
     requires accepted { IsAccepted setting.now.board.now }
     requires search { IsSmallSearch setting.now.board.now (progress_of search.now) }
-    requires aim { search.now.aim ≡ record { whole = true; upper = None } }
+    requires whole { search.now.aim.whole ≡ true }
+    requires fits { IfSome search.now.aim.upper (λ k. k ≤ number_limit) }
     requires finished { search.now.queue ≡ [] }
     requires none { C.took [] entries.old }
     ensures { (limit : ℕ) (wanted : Bool) → IsSearch setting.now.board.now limit
         (progress_of search.now)
-        → IfOk result (IsFoundWithProof
-        (λ taken. C.took taken entries.new) setting.now.board.now.rows limit wanted) }
+        → IfOk result (IsFindingWithProof (λ taken. C.took taken entries.new)
+        setting.now.board.now.rows limit wanted search.now.aim.upper) }
 {
-    match search.best {
-        Some(pushes) => {
-            let claim = Claim::Pushes(pushes);
-            certify(alloc, setting, claim, search, entries)?;
-            let dirs = solution(alloc, setting.board, search, pushes)?;
-            Ok(Found::Solved { dirs, pushes })
-        }
-        None => {
-            certify(alloc, setting, Claim::Unsolvable, search, entries)?;
-            Ok(Found::Unsolvable)
-        }
-    }
+    let claim = claim_of(search.best);
+    certify(alloc, setting, claim, search, entries)?;
+    find_in(alloc, setting.board, search)
 }
 
 /// Letters that solve with no more than so many pushes.

@@ -13,7 +13,7 @@ use sok_search::fault::SolveFault;
 use sok_search::found::Found;
 use sok_search::improved::Improved;
 use sok_search::outcome::Outcome;
-use sok_search::solve::{bound, find, improve, solve};
+use sok_search::solve::{bound, find, improve, improve_into, solve};
 use sok_sketch::rooms::{ROOM_OF_1024, ROOM_OF_4096, Room};
 use sok_sketch::sketch::{self, level};
 use std::alloc::Global;
@@ -326,7 +326,61 @@ fn improvements(rt: HostRuntime) -> Result<(), Fail> {
         (ZERKALO, 300, 21, Some(20)),
         (ZERKALO, 300, 20, Some(20)),
     ] {
-        assert_eq!(rt; improved_pushes(&rt, rt.alloc(), board, limit, best)?, pushes);
+        assert_eq!(rt;
+            improved_pushes(&rt, rt.alloc(), board, limit, best)?,
+            pushes
+        );
+    }
+    Ok(())
+}
+
+/// How many pushes a certificate shows that a level needs beside a solution with `best` pushes. Asserts
+/// that it is accepted.
+fn shown_pushes(
+    rt: &impl Abort,
+    alloc: Global,
+    board: &str,
+    limit: u32,
+    best: u32,
+) -> Result<u32, Fail> {
+    let level = level(alloc, board)?;
+    let mut entries = Vec::new(alloc);
+    let shown = match improve_into(
+        alloc,
+        &level,
+        limit,
+        best.min(1_000_000),
+        true,
+        &mut entries,
+    )? {
+        Improved::Fewer { dirs, pushes } => {
+            assert!(rt; solves(alloc, &level, &dirs, pushes)?);
+            pushes
+        }
+        Improved::Optimal => best,
+        Improved::Limit { at_least, .. } => at_least,
+    };
+    let claim = Claim::Pushes(shown);
+    let certificate = Certificate { claim, entries };
+    assert_certified(rt, alloc, &level, limit, claim, &certificate)?;
+    Ok(shown)
+}
+
+#[test]
+fn certified_improvements(rt: HostRuntime) -> Result<(), Fail> {
+    for &(board, limit, best, pushes) in &[
+        (sketch::CORRIDOR_OF_SIX_PUSHES, 14, 8, 6),
+        (sketch::CORRIDOR_OF_SIX_PUSHES, 14, 6, 6),
+        (sketch::CORRIDOR_OF_SIX_PUSHES, 14, 5, 5),
+        // the start's bound is 2
+        (sketch::CORRIDOR_OF_SIX_PUSHES, 1, 2, 2),
+        (sketch::CORRIDOR_OF_SIX_PUSHES, 1, 6, 2),
+        (sketch::CORRIDOR_OF_SIX_PUSHES, 14, 0, 0),
+        (sketch::TWO_IN_A_ROW, 10, 1_000_000, 1_000_000),
+        (LOWERED, 1_000, 8, 7),
+        (LOWERED, 1_000, 7, 7),
+    ] {
+        assert_eq!(rt; shown_pushes(&rt, rt.alloc(), board, limit, best)?, pushes);
     }
     Ok(())
 }

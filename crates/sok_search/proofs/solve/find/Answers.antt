@@ -1,6 +1,8 @@
-use Rattle.std.proofs.Common.{subst}
+use Rattle.std.proofs.Common.{None, subst, sym}
 use Rattle.sok_rules.specs.Squares.{Rows}
+use Rattle.sok_search.specs.Findings.{IsFinding}
 use Rattle.sok_search.specs.Outcomes.{IsFoundWithin}
+use Rattle.sok_search.proofs.Concluding.{found-alone}
 use Rattle.sok_search.proofs.Refusing.{good-within, handed-on, no-answer, told-also, told-answer, told-memory}
 use Rattle.sok_search.proofs.solve.find.Goals as goal
 
@@ -10,15 +12,16 @@ returns-in_err-board c =
     let tells = handed-on _ _ _ c.from_residual.result c.from_residual.ensures.1 told in
     assumption (tells, no-answer (IsFoundWithin c.args.level.now c.args.limit) _ c.from_residual.result c.from_residual.ensures.1)
 
-pub returns-in_err-found : goal.returns-in_err-found
-returns-in_err-found c =
-    let error = c.from_residual-in_err-found.ensures.1 in
+pub returns-in_err-finding : goal.returns-in_err-finding
+returns-in_err-finding c =
+    let error = c.from_residual-in_err-finding.ensures.1 in
     let told = told-memory _ c.args.level.now c.args.limit (good-within c.args.level.now c.args.limit c.in_ok-board.board c.in_ok-board.ensures.board) in
-    let tells = handed-on _ _ _ c.from_residual-in_err-found.result error told in
-    assumption (tells, no-answer (IsFoundWithin c.args.level.now c.args.limit) _ c.from_residual-in_err-found.result error)
+    let tells = handed-on _ _ _ c.from_residual-in_err-finding.result error told in
+    assumption (tells, no-answer (IsFoundWithin c.args.level.now c.args.limit) _ c.from_residual-in_err-finding.result error)
 
 pub returns : goal.returns
 returns c =
     let within = c.in_ok-board.ensures.board in
-    let found = subst (λ (level : Rows). IsFoundWithin level c.args.limit c.in_ok-found.found) within.rows_are c.in_ok-found.ensures in
-    assumption (found, told-answer c.args.level.now c.args.limit c.in_ok-board.board c.in_ok-found.found within)
+    let is = subst (λ (level : Rows). IsFinding level c.args.limit None c.in_ok-finding.finding) within.rows_are c.in_ok-finding.ensures in
+    let found = subst (IsFoundWithin c.args.level.now c.args.limit) (sym c.found.ensures) (found-alone c.args.level.now c.args.limit c.in_ok-finding.finding is) in
+    assumption (found, told-answer c.args.level.now c.args.limit c.in_ok-board.board c.found.result within)

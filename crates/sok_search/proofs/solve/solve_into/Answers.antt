@@ -1,6 +1,9 @@
-use Rattle.std.proofs.Common.{subst}
+use Rattle.std.proofs.Common.{List, None, subst, sym}
+use Rattle.sok_cert.specs.Entry.{Entry}
 use Rattle.sok_rules.specs.Squares.{Rows}
+use Rattle.sok_search.specs.Findings.{IsFindingWithProof}
 use Rattle.sok_search.specs.Outcomes.{IsFoundWithProof}
+use Rattle.sok_search.proofs.Concluding.{proved-alone}
 use Rattle.sok_search.proofs.Refusing.{good-within, handed-on, no-answer, told-also, told-answer, told-memory}
 use Rattle.sok_search.proofs.solve.solve_into.Goals as goal
 
@@ -12,20 +15,22 @@ returns-in_err-board g c =
       tells = handed-on _ _ _ c.from_residual.result c.from_residual.ensures.1 told;
     }
 
-pub returns-in_err-found : goal.returns-in_err-found
-returns-in_err-found g c =
-    let error = c.from_residual-in_err-found.ensures.1 in
+pub returns-in_err-finding : goal.returns-in_err-finding
+returns-in_err-finding g c =
+    let error = c.from_residual-in_err-finding.ensures.1 in
     let told = told-memory _ c.args.level.now c.args.limit (good-within c.args.level.now c.args.limit c.in_ok-board.board c.in_ok-board.ensures.board) in
     record {
-      shown = no-answer _ _ c.from_residual-in_err-found.result error;
-      tells = handed-on _ _ _ c.from_residual-in_err-found.result error told;
+      shown = no-answer _ _ c.from_residual-in_err-finding.result error;
+      tells = handed-on _ _ _ c.from_residual-in_err-finding.result error told;
     }
 
 pub returns : goal.returns
 returns g c =
     let within = c.in_ok-board.ensures.board in
+    let Took : List Entry → Type 0 = λ taken. g.C.Entries.took taken c.answer.new.entries in
     record {
-      shown = subst (λ (level : Rows). IsFoundWithProof (λ taken. g.C.Entries.took taken c.answer.new.entries) level c.args.limit c.args.bound c.in_ok-found.found)
-          within.rows_are c.in_ok-found.ensures;
-      tells = told-answer c.args.level.now c.args.limit c.in_ok-board.board c.in_ok-found.found within;
+      shown = subst (IsFoundWithProof Took c.args.level.now c.args.limit c.args.bound) (sym c.found.ensures)
+          (proved-alone Took c.args.level.now c.args.limit c.args.bound c.in_ok-finding.finding
+          (subst (λ (level : Rows). IsFindingWithProof Took level c.args.limit c.args.bound None c.in_ok-finding.finding) within.rows_are c.in_ok-finding.ensures));
+      tells = told-answer c.args.level.now c.args.limit c.in_ok-board.board c.found.result within;
     }
