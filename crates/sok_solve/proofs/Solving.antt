@@ -14,7 +14,7 @@ use Rattle.sok_board.specs.Refusals.{IsAcceptable}
 use Rattle.sok_search.specs.declared.fault.SolveFault.{SolveFault}
 use Rattle.sok_search.specs.declared.fault.SolveFault.TheVariants as solve
 use Rattle.sok_search.specs.Faults.{IsBadLimit, TellsFault}
-use Rattle.sok_search.specs.Outcomes.{IsCutShort}
+use Rattle.sok_search.specs.Outcomes.{IsCutShort, IsCutShortBeside}
 use Rattle.sok_search.proofs.Refusing.{no-fault}
 use Rattle.sok_engine.specs.declared.fault.ToolFault.{ToolFault}
 use Rattle.sok_engine.specs.declared.fault.ToolFault.TheVariants as tool
@@ -91,8 +91,12 @@ pub same_certified : (cert shown text words : List ℕ) (status exit : ℕ) → 
 same_certified cert shown text words status exit certs texts statuses = λ i. certified (certs i) (texts i) (statuses i)
 
 -- a search that was cut off, at the limit itself
+pub at_limit_beside : (rows : Rows) (limit : ℕ) (upper : Option ℕ) (states least : ℕ) → IsCutShortBeside rows limit upper states least
+    → IsCutShortBeside rows limit upper limit least
+at_limit_beside rows limit upper states least cut = subst (λ n. IsCutShortBeside rows limit upper n least) cut.past.is cut
+
 pub at_limit : (rows : Rows) (limit states least : ℕ) → IsCutShort rows limit states least → IsCutShort rows limit limit least
-at_limit rows limit states least cut = subst (λ n. IsCutShort rows limit n least) cut.past.is cut
+at_limit rows limit = at_limit_beside rows limit None
 
 -- what is there where it is asked for
 pub asked : (P Q : Type 0) (wanted : Bool) → wanted ≡ true → MatchBool wanted P Q → P
