@@ -5,7 +5,8 @@ use Rattle.sok_engine.specs.declared.fault.ToolFault.TheVariants as tool
 use Rattle.sok_engine.specs.Certified.{Bytes, CertifiedAnswers, Stays, WritesBoth}
 use Rattle.sok_engine.specs.Inputs.{Within}
 use Rattle.sok_engine.specs.Limits.{input_limit}
-use Rattle.sok_engine.specs.Written.{Writes}
+use Rattle.sok_engine.specs.Written.{Answers, Writes}
+use Rattle.sok_solve.specs.Improves.{IsCertifiedImprove, IsImprove, up_to_claim}
 use Rattle.sok_solve.specs.Solves.{IsFind, IsSolve}
 use Rattle.sok_files.specs.Files.{OfFile}
 
@@ -17,9 +18,20 @@ IsUnbegun result = (result ≡ Err tool.Memory) ⊎ (result ≡ Err tool.ReadFai
 abbrev pub SolvesTo : CertifiedAnswers → (Bytes → Type 0) → Bytes → Result ℕ ToolFault → Type 0
 SolvesTo P IsPlace out result = (IsUnbegun result × Stays out) ⊎ ((cert : Bytes) × IsPlace cert × WritesBoth P cert out result)
 
--- A level of a file is solved within a limit, with a bound where the limit is met, or without. With a path, which is another than the file's, the certificate
--- goes to the file that is made there; with none there is no certificate.
-abbrev pub SolvesLevel : List ℕ → (Option (List ℕ) → Type 0) → (List ℕ → Bytes → Type 0) → ℕ → ℕ → Bool → Option (List ℕ) → Bytes → Result ℕ ToolFault → Type 0
-SolvesLevel file reads makes n limit bound (Some path) out result =
-    SolvesTo (OfFile reads (Within input_limit (IsSolve n limit bound))) (λ cert. (file ≢ path) × makes path cert) out result
-SolvesLevel file reads makes n limit bound None out result = Writes (OfFile reads (Within input_limit (IsFind n limit bound))) out.old out.new result
+-- a level is solved, beside none or with fewer pushes than these, alone
+abbrev pub FindsBelow : ℕ → Option ℕ → ℕ → Bool → List ℕ → Answers
+FindsBelow n None limit bound = IsFind n limit bound
+FindsBelow n (Some best) limit bound = IsImprove n limit (up_to_claim best) bound
+
+-- and with a certificate
+abbrev pub SolvesBelow : ℕ → Option ℕ → ℕ → Bool → List ℕ → CertifiedAnswers
+SolvesBelow n None limit bound = IsSolve n limit bound
+SolvesBelow n (Some best) limit bound = IsCertifiedImprove n limit (up_to_claim best) bound
+
+-- A level of a file is solved within a limit, with fewer pushes than these, if they are given, with a bound where the limit is met, or without. With a path,
+-- which is another than the file's, the certificate goes to the file that is made there; with none there is no certificate.
+abbrev pub SolvesLevel : List ℕ → (Option (List ℕ) → Type 0) → (List ℕ → Bytes → Type 0) → ℕ → Option ℕ → ℕ → Bool → Option (List ℕ) → Bytes → Result ℕ ToolFault
+    → Type 0
+SolvesLevel file reads makes n below limit bound (Some path) out result =
+    SolvesTo (OfFile reads (Within input_limit (SolvesBelow n below limit bound))) (λ cert. (file ≢ path) × makes path cert) out result
+SolvesLevel file reads makes n below limit bound None out result = Writes (OfFile reads (Within input_limit (FindsBelow n below limit bound))) out.old out.new result

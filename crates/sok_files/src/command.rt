@@ -2,16 +2,16 @@
 //! before anything is read.
 
 ghost use Rattle.std.specs.Prelude.{◌≡◌, ◌≢◌, IfSome, option_map, string_bytes};
-ghost use Rattle.sok_engine.specs.Inputs.{Within};
+ghost use Rattle.sok_engine.specs.Certified.{WritesBoth};
+ghost use Rattle.sok_engine.specs.Inputs.{OfReader, Within};
 ghost use Rattle.sok_engine.specs.Limits.{cert_limit, input_limit};
 ghost use Rattle.sok_engine.specs.Written.{Writes};
 ghost use Rattle.sok_judge.specs.Checks.{IsCheck};
 ghost use Rattle.sok_play.specs.Drawings.{IsDrawing};
 ghost use Rattle.sok_play.specs.Listing.{IsListing};
 ghost use Rattle.sok_play.specs.Plays.{IsReplay};
-ghost use Rattle.sok_solve.specs.Solves.{IsFind, IsSolve};
 ghost use Rattle.sok_files.specs.Files.{IsMade, OfFile, OfFiles};
-ghost use Rattle.sok_files.specs.Solving.{SolvesLevel, SolvesTo};
+ghost use Rattle.sok_files.specs.Solving.{FindsBelow, SolvesBelow, SolvesLevel, SolvesTo};
 
 use crate::file::{create, open};
 use crate::folder::Folder;
@@ -22,8 +22,11 @@ use sok_play::drawing::draw_bytes;
 use sok_play::listing::list_bytes;
 use sok_play::play::replay_bytes;
 use sok_solve::find::find_bytes;
+use sok_solve::improve::improve_bytes;
+use sok_solve::improve_certified::improve_certified_bytes;
 use sok_solve::solve::solve_bytes;
-use std::io::Write;
+use std::alloc::Global;
+use std::io::{Read, Write};
 
 /// Lists the levels of a collection.
 pub fn list<F: Folder + AllocGlobal, W: Write>(
@@ -86,12 +89,14 @@ pub fn check<F: Folder + AllocGlobal, W: Write>(
     check_bytes(rt.alloc(), &mut input, n as usize, &mut cert_input, out)
 }
 
-/// Solves the n-th level of a collection. The certificate is written to a file, if a path is given;
-/// else none is made. That file holds nothing yet, or a certificate, and is not the collection's.
+/// Solves the n-th level of a collection, with fewer pushes than `below` where that is given. The
+/// certificate is written to a file, if a path is given; else none is made. That file holds nothing
+/// yet, or a certificate, and is not the collection's.
 pub fn solve<F: Folder + AllocGlobal, W: Write>(
     rt: &F,
     path: &str,
     n: u32,
+    below: Option<u32>,
     limit: u32,
     bound: bool,
     cert_path: Option<String>,
@@ -99,13 +104,15 @@ pub fn solve<F: Folder + AllocGlobal, W: Write>(
 ) -> Result<u8, ToolFault>
     requires { IfSome (option_map (λ s. string_bytes s) cert_path) (F.files rt.now).may_make }
     ensures { SolvesLevel path.now ((F.files rt.now).reads path.now)
-        (λ place. IsMade F.Output.contents ((F.files rt.now).makes place)) n limit bound
+        (λ place. IsMade F.Output.contents ((F.files rt.now).makes place)) n below limit bound
         (option_map (λ s. string_bytes s) cert_path)
         (record { old = W.contents out.old; new = W.contents out.new }) result }
 {
     match cert_path {
-        Some(cert_path) => { solve_with_file(rt, path, n, limit, bound, cert_path.as_str(), out) }
-        None => find(rt, path, n, limit, bound, out),
+        Some(cert_path) => {
+            solve_with_file(rt, path, n, below, limit, bound, cert_path.as_str(), out)
+        }
+        None => find(rt, path, n, below, limit, bound, out),
     }
 }
 
@@ -114,16 +121,36 @@ fn find<F: Folder + AllocGlobal, W: Write>(
     rt: &F,
     path: &str,
     n: u32,
+    below: Option<u32>,
     limit: u32,
     bound: bool,
     out: &mut W,
 ) -> Result<u8, ToolFault>
     ensures { Writes
-        (OfFile ((F.files rt.now).reads path.now) (Within input_limit (IsFind n limit bound)))
+        (OfFile ((F.files rt.now).reads path.now) (Within input_limit (FindsBelow n below limit bound)))
         (W.contents out.old) (W.contents out.new) result }
 {
     let mut input = open(rt, path)?;
-    find_bytes(rt.alloc(), &mut input, n as usize, limit, bound, out)
+    find_below(rt.alloc(), &mut input, n as usize, below, limit, bound, out)
+}
+
+/// The same of an input.
+fn find_below<R: Read, W: Write>(
+    alloc: Global,
+    input: &mut R,
+    n: usize,
+    below: Option<u32>,
+    limit: u32,
+    bound: bool,
+    out: &mut W,
+) -> Result<u8, ToolFault>
+    ensures { Writes (OfReader (R.remaining input.old) (Within input_limit (FindsBelow n below limit bound)))
+        (W.contents out.old) (W.contents out.new) result }
+{
+    match below {
+        Some(best) => improve_bytes(alloc, input, n, limit, best, bound, out),
+        None => find_bytes(alloc, input, n, limit, bound, out),
+    }
 }
 
 /// Solves a level, and writes the certificate to a file that is made for it.
@@ -131,6 +158,7 @@ fn solve_with_file<F: Folder + AllocGlobal, W: Write>(
     rt: &F,
     path: &str,
     n: u32,
+    below: Option<u32>,
     limit: u32,
     bound: bool,
     cert_path: &str,
@@ -138,20 +166,45 @@ fn solve_with_file<F: Folder + AllocGlobal, W: Write>(
 ) -> Result<u8, ToolFault>
     requires { (F.files rt.now).may_make cert_path.now }
     ensures { SolvesTo
-        (OfFile ((F.files rt.now).reads path.now) (Within input_limit (IsSolve n limit bound)))
+        (OfFile ((F.files rt.now).reads path.now) (Within input_limit (SolvesBelow n below limit bound)))
         (λ cert. (path.now ≢ cert_path.now)
         × IsMade F.Output.contents ((F.files rt.now).makes cert_path.now) cert)
         (record { old = W.contents out.old; new = W.contents out.new }) result }
 {
     let mut input = open(rt, path)?;
     let mut cert_out = create(rt, cert_path, &Own::collection(path))?;
-    solve_bytes(
+    solve_below(
         rt.alloc(),
         &mut input,
         n as usize,
+        below,
         limit,
         bound,
         out,
         &mut cert_out,
     )
+}
+
+/// The same of an input and an output for the certificate.
+fn solve_below<R: Read, W: Write, C: Write>(
+    alloc: Global,
+    input: &mut R,
+    n: usize,
+    below: Option<u32>,
+    limit: u32,
+    bound: bool,
+    out: &mut W,
+    cert_out: &mut C,
+) -> Result<u8, ToolFault>
+    ensures { WritesBoth
+        (OfReader (R.remaining input.old) (Within input_limit (SolvesBelow n below limit bound)))
+        (record { old = C.contents cert_out.old; new = C.contents cert_out.new })
+        (record { old = W.contents out.old; new = W.contents out.new }) result }
+{
+    match below {
+        Some(best) => {
+            improve_certified_bytes(alloc, input, n, limit, best, bound, out, cert_out)
+        }
+        None => solve_bytes(alloc, input, n, limit, bound, out, cert_out),
+    }
 }

@@ -1,5 +1,5 @@
 -- What is answered to a level that is to be solved with fewer pushes than a solution has, within a limit of states, alone or with a certificate.
-use Rattle.std.specs.Prelude.{ℕ, ◌≡◌, ◌<◌, ◌++◌, Bool, true, false, List, Some, codes}
+use Rattle.std.specs.Prelude.{ℕ, ◌≡◌, ◌<◌, ◌++◌, Bool, true, false, List, Some, codes, min}
 use Rattle.std.specs.Fmt.{decimal}
 use Rattle.sok_rules.specs.declared.cell.Dir.{Dir}
 use Rattle.sok_rules.specs.Squares.{Rows}
@@ -7,12 +7,16 @@ use Rattle.sok_rules.specs.Play.{AtLeast}
 use Rattle.sok_text.specs.Collections.{blocks_of, level_at}
 use Rattle.sok_cert.specs.Claim.TheVariants as claim
 use Rattle.sok_cert.specs.Entry.{Entry}
-use Rattle.sok_cert.specs.Text.{text_of}
+use Rattle.sok_cert.specs.Text.{number_limit, text_of}
 use Rattle.sok_search.specs.Outcomes.{Certifies, IsCutShortBeside, IsLeastSolution, IsProvedSolved}
 use Rattle.sok_engine.specs.Certified.{Certified, CertifiedAnswers}
 use Rattle.sok_engine.specs.Inputs.{OnLevel}
 use Rattle.sok_engine.specs.Written.{Answer, Answers}
 use Rattle.sok_solve.specs.Solves.{Becomes, BecomesWithin, IsAnswered, bound_answer, certified_bound, certified_solution, limit_answer, solution_answer, uncertified_limit}
+
+-- so many pushes, and no more than a certificate can claim
+abbrev pub up_to_claim : ℕ → ℕ
+up_to_claim best = min best number_limit
 
 -- none solves with fewer pushes
 abbrev pub at_least_answer : ℕ → Answer

@@ -6,9 +6,10 @@ ghost use Rattle.sok_engine.specs.Limits.{input_limit};
 ghost use Rattle.sok_engine.specs.Written.{Gives, Writes};
 ghost use Rattle.sok_engine.specs.declared.fault.ToolFault.TheVariants as tool;
 ghost use Rattle.sok_search.specs.Outcomes.{IsImproved};
-ghost use Rattle.sok_solve.specs.Improves.{IsImprove, IsImproveAnswer, TellsImproved, at_least_answer};
+ghost use Rattle.sok_solve.specs.Improves.{IsImprove, IsImproveAnswer, TellsImproved, at_least_answer, up_to_claim};
 
 use crate::solve::{bound_text, limit_text, solution_text, tool_fault};
+use sok_cert::limits::LIMIT;
 use sok_engine::answer::Answer;
 use sok_engine::fault::ToolFault;
 use sok_engine::input::read_input;
@@ -22,8 +23,26 @@ use std::io::{Read, Write};
 /// Solves the n-th level of a collection with fewer pushes than `best`, as `find_bytes` does it, with
 /// the same lines and faults: the solution has the fewest pushes. Where no letters solve the level
 /// with fewer than `best`, the line is `at least BEST`, at status 0, and of an unsolvable level that
-/// is true, too.
+/// is true, too. A `best` above 1,000,000, which no certificate can claim, is taken for that.
 pub fn improve_bytes<R: Read, W: Write>(
+    alloc: Global,
+    input: &mut R,
+    n: usize,
+    limit: u32,
+    best: u32,
+    bound: bool,
+    out: &mut W,
+) -> Result<u8, ToolFault>
+    ensures { Writes
+        (OfReader (R.remaining input.old) (Within input_limit (IsImprove n limit (up_to_claim best) bound)))
+        (W.contents out.old) (W.contents out.new) result }
+{
+    let best = best.min(LIMIT);
+    improve_within(alloc, input, n, limit, best, bound, out)
+}
+
+/// The same for pushes that a certificate can claim.
+fn improve_within<R: Read, W: Write>(
     alloc: Global,
     input: &mut R,
     n: usize,

@@ -7,7 +7,7 @@ ghost use Rattle.sok_engine.specs.Inputs.{OfReader, Within};
 ghost use Rattle.sok_engine.specs.Limits.{input_limit};
 ghost use Rattle.sok_engine.specs.Written.{Gives};
 ghost use Rattle.sok_search.specs.Outcomes.{IsImprovedWithProof};
-ghost use Rattle.sok_solve.specs.Improves.{IsCertifiedImprove, IsCertifiedImproveAnswer, TellsImprovement};
+ghost use Rattle.sok_solve.specs.Improves.{IsCertifiedImprove, IsCertifiedImproveAnswer, TellsImprovement, up_to_claim};
 ghost use Rattle.sok_solve.specs.Lines.{HasLines};
 ghost use Rattle.sok_solve.specs.Solves.{TellsWithin};
 
@@ -15,6 +15,7 @@ use crate::certificate::{EntryLines, ReadyCert};
 use crate::improve::at_least_text;
 use crate::solve::{CertifiedAnswer, bound_text, limit_text, solution_text, tool_fault};
 use sok_cert::claim::Claim;
+use sok_cert::limits::LIMIT;
 use sok_engine::answer::Answer;
 use sok_engine::fault::ToolFault;
 use sok_engine::input::read_input;
@@ -25,11 +26,31 @@ use sok_text::collection::Collection;
 use std::alloc::Global;
 use std::io::{Read, Write};
 
-/// Solves the n-th level of a collection with fewer pushes than `best`, which is at most 1,000,000, as
-/// `improve_bytes` does it, with the same lines. Before each of them but `limit S` alone the
+/// Solves the n-th level of a collection with fewer pushes than `best` as `improve_bytes` does it, with
+/// the same lines. Before each of them but `limit S` alone the
 /// certificate of it is written to `cert_out`, as `solve_bytes` does it, with the same faults: of
 /// `at least BEST` it is one for `pushes BEST`.
 pub fn improve_certified_bytes<R: Read, W: Write, C: Write>(
+    alloc: Global,
+    input: &mut R,
+    n: usize,
+    limit: u32,
+    best: u32,
+    bound: bool,
+    out: &mut W,
+    cert_out: &mut C,
+) -> Result<u8, ToolFault>
+    ensures { WritesBoth
+        (OfReader (R.remaining input.old) (Within input_limit (IsCertifiedImprove n limit (up_to_claim best) bound)))
+        (record { old = C.contents cert_out.old; new = C.contents cert_out.new })
+        (record { old = W.contents out.old; new = W.contents out.new }) result }
+{
+    let best = best.min(LIMIT);
+    improve_within(alloc, input, n, limit, best, bound, out, cert_out)
+}
+
+/// The same for pushes that a certificate can claim.
+fn improve_within<R: Read, W: Write, C: Write>(
     alloc: Global,
     input: &mut R,
     n: usize,

@@ -54,8 +54,8 @@ module _ (files : Files Bytes) (databases : Databases) (out err : Bytes) (exit :
   Serves-memory (replay file number text) ends kept = (Err tool.Memory, kept, ends)
   Serves-memory (draw file number text) ends kept = (Err tool.Memory, kept, ends)
   Serves-memory (check file number cert) ends kept = (Err tool.Memory, kept, ends)
-  Serves-memory (solve file number limit bound None) ends kept = (Err tool.Memory, kept, ends)
-  Serves-memory (solve file number limit bound (Some cert)) ends kept = (Err tool.Memory, inl (inl refl, kept), ends)
+  Serves-memory (solve file number below limit bound None) ends kept = (Err tool.Memory, kept, ends)
+  Serves-memory (solve file number below limit bound (Some cert)) ends kept = (Err tool.Memory, inl (inl refl, kept), ends)
   Serves-memory (show db (Some id)) ends kept = (Err tool.Memory, refused tool.Memory (unread refl) refl kept, ends)
   Serves-memory (show db None) ends kept = (Err tool.Memory, refused tool.Memory (unread refl) refl kept, ends)
   Serves-memory _ ends kept = (Err tool.Memory, refused tool.Memory (unread refl) refl kept, ends)
@@ -71,14 +71,16 @@ module _ (files : Files Bytes) (databases : Databases) (out err : Bytes) (exit :
 
   module _ (file : String Global) (name : List ℕ) (named : name ≡ string_bytes file) where
     -- a job of solving serves its form
-    pub Serves-solve : (form : Form) (n most : ℕ) (bounds : Bool) (path : Option (String Global)) → Means form (job.Solve file n most bounds path)
-        → EndsWith (SolvesLevel name (files.reads name) files.makes n most bounds (option_map (λ s. string_bytes s) path) out) err exit
+    pub Serves-solve : (form : Form) (n : ℕ) (best : Option ℕ) (most : ℕ) (bounds : Bool) (path : Option (String Global))
+        → Means form (job.Solve file n best most bounds path)
+        → EndsWith (SolvesLevel name (files.reads name) files.makes n best most bounds (option_map (λ s. string_bytes s) path) out) err exit
         → Serves files databases form out err exit
-    Serves-solve (solve of number limit bound cert) n most bounds path (file_is, number_is, limit_is, bound_is, path_is) runs =
-        subst₂ (λ b p. EndsWith (SolvesLevel of (files.reads of) files.makes (digits_value 10 number) (limit_of limit) b p out) err exit) bound_is path_is
-        (same_three (λ f k m. EndsWith (SolvesLevel f (files.reads f) files.makes k m bounds (option_map (λ s. string_bytes s) path) out) err exit)
+    Serves-solve (solve of number below limit bound cert) n best most bounds path (file_is, number_is, best_is, limit_is, bound_is, path_is) runs =
+        same_three (λ k b p. EndsWith (SolvesLevel of (files.reads of) files.makes (digits_value 10 number) k (limit_of limit) b p out) err exit)
+        _ _ _ _ _ _ best_is bound_is path_is
+        (same_three (λ f k m. EndsWith (SolvesLevel f (files.reads f) files.makes k best m bounds (option_map (λ s. string_bytes s) path) out) err exit)
         _ _ _ _ _ _ (named ∙ file_is) number_is limit_is runs)
-    Serves-solve _ n most bounds path means runs = absurd means
+    Serves-solve _ n best most bounds path means runs = absurd means
 
     -- and so does one on a text, or on a file that it names
     module _ (n : ℕ) (text : String Global) (letters : List ℕ) (spelt : letters ≡ string_bytes text) where

@@ -1,5 +1,5 @@
 -- What the program does for a command line.
-use Rattle.std.specs.Prelude.{ℕ, ℤ, ◌≡◌, List, [], Option, Some, None, Result, Err, unwrap_or}
+use Rattle.std.specs.Prelude.{ℕ, ℤ, ◌≡◌, List, [], Option, Some, None, Result, Err, option_map, unwrap_or}
 use Rattle.std.specs.Str.Parse.{digits_value}
 use Rattle.sok_search.specs.Faults.{IsBadLimit}
 use Rattle.sok_book.specs.Books.{Book}
@@ -86,8 +86,9 @@ Serves files databases (replay file number text) out err exit =
 Serves files databases (draw file number text) out err exit =
     EndsWith (λ result. RunsPlay IsDrawing (files.reads file) (digits_value 10 number) out result (unwrap_or text [])) err exit
 Serves files databases (check file number cert) out err exit = EndsWith (RunsCheck files file (digits_value 10 number) cert out) err exit
-Serves files databases (solve file number limit bound cert) out err exit =
-    EndsWith (SolvesLevel file (files.reads file) files.makes (digits_value 10 number) (limit_of limit) bound cert out) err exit
+Serves files databases (solve file number below limit bound cert) out err exit =
+    EndsWith (SolvesLevel file (files.reads file) files.makes (digits_value 10 number) (option_map (λ d. digits_value 10 d) below) (limit_of limit) bound cert out)
+    err exit
 Serves files databases (add db file) out err exit = EndsWith (RunsAdd files databases db file out) err exit
 Serves files databases (offer db id text) out err exit = EndsWith (λ result. RunsOffer databases db (id_value id) out result text) err exit
 Serves files databases (offers db file) out err exit = EndsWith (RunsOffers files databases db file out) err exit

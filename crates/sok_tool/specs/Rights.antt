@@ -11,7 +11,7 @@ MayAsk words job = (program : List ℕ) (form : Form) → IsPlain form → words
 
 -- a job makes a file at a path: its certificate, or one of those in its folder
 abbrev pub MakesAt : Job → List ℕ → Type 0
-MakesAt (job.Solve file n limit bound (Some cert)) path = path ≡ string_bytes cert
+MakesAt (job.Solve file n below limit bound (Some cert)) path = path ≡ string_bytes cert
 MakesAt (job.Settle db limit from (Some folder)) path = (id : ℤ) × (path ≡ cert_path (string_bytes folder) id)
 MakesAt _ path = ⊥
 

@@ -93,8 +93,8 @@ fn served<
             ended(draw(rt, file.as_str(), n, text.as_str(), input, out), err)
         }
         Job::Check(file, n, cert) => { ended(check(rt, file.as_str(), n, cert.as_str(), out), err) }
-        Job::Solve(file, n, limit, bound, cert) => {
-            ended(solve(rt, file.as_str(), n, limit, bound, cert, out), err)
+        Job::Solve(file, n, below, limit, bound, cert) => {
+            ended(solve(rt, file.as_str(), n, below, limit, bound, cert, out), err)
         }
         Job::Add(db, file) => ended(add(rt, db.as_str(), file.as_str(), out), err),
         Job::Offer(db, id, text) => {

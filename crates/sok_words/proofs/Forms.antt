@@ -5,13 +5,13 @@ use Rattle.std.specs.Str.{bytes_eq}
 use Rattle.clap.specs.Walk.{Row, Text, walked}
 use Rattle.clap.specs.Simple.{subcommand_of}
 use Rattle.clap.specs.Takes.{takes}
-use Rattle.sok_words.specs.Forms.{Answers, Form, IsId, IsNumber, IsPlain, IsValue, flag_words, list, replay, draw, solve, check, add, offer, offers, prove, settle, show, export, words_of}
+use Rattle.sok_words.specs.Forms.{Answers, Form, IsId, IsNumber, IsPlain, IsPushes, IsValue, flag_words, list, replay, draw, solve, check, add, offer, offers, prove, settle, show, export, words_of}
 use Rattle.sok_words.specs.Rows.{HasValues}
 use Rattle.sok_words.specs.Shapes.{sok_app}
 use Rattle.sok_words.specs.declared.job.Job.{Job}
 use Rattle.sok_words.specs.declared.job.JobRefused.{JobRefused}
 use Rattle.sok_words.proofs.WordSteps.{Said, all_met, all_pass, asked_of, named, number_is_value, value, word_of}
-use Rattle.sok_words.proofs.Lines.{IsSub, id_passes, number_passes, rows_said, runs, takes_said}
+use Rattle.sok_words.proofs.Lines.{IsSub, id_passes, number_passes, pushes_pass, rows_said, runs, takes_said}
 
 -- the command takes the words, and gives the values of the form
 pub record Reads (program : Text) (form : Form) : Type 0 where
@@ -28,6 +28,9 @@ text word is = value word is true refl
 
 abbrev number : (word : Text) → IsNumber word → Said
 number word n = value word (number_is_value word n.0) _ (number_passes word n)
+
+abbrev pushes : (word : Text) → IsPushes word → Said
+pushes word n = value word (number_is_value word n.0) _ (pushes_pass word n)
 
 abbrev id : (word : Text) → IsId word → Said
 id word n = value word (number_is_value word n.0) _ (id_passes word n)
@@ -48,8 +51,8 @@ abbrev said_of : (form : Form) → IsPlain form → List Said
 said_of (list file) f = text file f ∷ []
 said_of (replay file digits letters) (f, n, t) = text file f ∷ number digits n ∷ text letters t ∷ []
 said_of (draw file digits letters) (f, n, t) = text file f ∷ number digits n ∷ given [] text letters t
-said_of (solve file digits limit bound cert) (f, n, l, c) = text file f ∷ number digits n
-    ∷ (given (option (codes "--limit")) number limit l ++ flag (codes "--bound") bound
+said_of (solve file digits below limit bound cert) (f, n, k, l, c) = text file f ∷ number digits n
+    ∷ (given (option (codes "--below")) pushes below k ++ given (option (codes "--limit")) number limit l ++ flag (codes "--bound") bound
     ++ given (option (codes "--cert")) text cert c)
 said_of (check file digits cert) (f, n, c) = text file f ∷ number digits n ∷ text cert c ∷ []
 said_of (add db file) (d, f) = text db d ∷ text file f ∷ []
@@ -84,14 +87,22 @@ finds (list file) f = (refl, refl, refl, (refl, refl))
 finds (replay file digits letters) (f, n, t) = (refl, refl, refl, (refl, refl, (n, refl, refl), refl))
 finds (draw file digits None) (f, n, t) = (refl, refl, refl, (refl, refl, (n, refl, refl), refl))
 finds (draw file digits (Some letters)) (f, n, t) = (refl, refl, refl, (refl, refl, (n, refl, refl), refl))
-finds (solve file digits None false None) (f, n, l, c) = (refl, refl, refl, (refl, refl, (n, refl, refl), (default_limit, refl, refl), refl, refl))
-finds (solve file digits None false (Some cert)) (f, n, l, c) = (refl, refl, refl, (refl, refl, (n, refl, refl), (default_limit, refl, refl), refl, refl))
-finds (solve file digits None true None) (f, n, l, c) = (refl, refl, refl, (refl, refl, (n, refl, refl), (default_limit, refl, refl), refl, refl))
-finds (solve file digits None true (Some cert)) (f, n, l, c) = (refl, refl, refl, (refl, refl, (n, refl, refl), (default_limit, refl, refl), refl, refl))
-finds (solve file digits (Some limit) false None) (f, n, l, c) = (refl, refl, refl, (refl, refl, (n, refl, refl), (l, refl, refl), refl, refl))
-finds (solve file digits (Some limit) false (Some cert)) (f, n, l, c) = (refl, refl, refl, (refl, refl, (n, refl, refl), (l, refl, refl), refl, refl))
-finds (solve file digits (Some limit) true None) (f, n, l, c) = (refl, refl, refl, (refl, refl, (n, refl, refl), (l, refl, refl), refl, refl))
-finds (solve file digits (Some limit) true (Some cert)) (f, n, l, c) = (refl, refl, refl, (refl, refl, (n, refl, refl), (l, refl, refl), refl, refl))
+finds (solve file digits None None false None) (f, n, k, l, c) = (refl, refl, refl, (refl, refl, (n, refl, refl), (k, refl), (default_limit, refl, refl), refl, refl))
+finds (solve file digits (Some below) None false None) (f, n, k, l, c) = (refl, refl, refl, (refl, refl, (n, refl, refl), (k, refl), (default_limit, refl, refl), refl, refl))
+finds (solve file digits None None false (Some cert)) (f, n, k, l, c) = (refl, refl, refl, (refl, refl, (n, refl, refl), (k, refl), (default_limit, refl, refl), refl, refl))
+finds (solve file digits (Some below) None false (Some cert)) (f, n, k, l, c) = (refl, refl, refl, (refl, refl, (n, refl, refl), (k, refl), (default_limit, refl, refl), refl, refl))
+finds (solve file digits None None true None) (f, n, k, l, c) = (refl, refl, refl, (refl, refl, (n, refl, refl), (k, refl), (default_limit, refl, refl), refl, refl))
+finds (solve file digits (Some below) None true None) (f, n, k, l, c) = (refl, refl, refl, (refl, refl, (n, refl, refl), (k, refl), (default_limit, refl, refl), refl, refl))
+finds (solve file digits None None true (Some cert)) (f, n, k, l, c) = (refl, refl, refl, (refl, refl, (n, refl, refl), (k, refl), (default_limit, refl, refl), refl, refl))
+finds (solve file digits (Some below) None true (Some cert)) (f, n, k, l, c) = (refl, refl, refl, (refl, refl, (n, refl, refl), (k, refl), (default_limit, refl, refl), refl, refl))
+finds (solve file digits None (Some limit) false None) (f, n, k, l, c) = (refl, refl, refl, (refl, refl, (n, refl, refl), (k, refl), (l, refl, refl), refl, refl))
+finds (solve file digits (Some below) (Some limit) false None) (f, n, k, l, c) = (refl, refl, refl, (refl, refl, (n, refl, refl), (k, refl), (l, refl, refl), refl, refl))
+finds (solve file digits None (Some limit) false (Some cert)) (f, n, k, l, c) = (refl, refl, refl, (refl, refl, (n, refl, refl), (k, refl), (l, refl, refl), refl, refl))
+finds (solve file digits (Some below) (Some limit) false (Some cert)) (f, n, k, l, c) = (refl, refl, refl, (refl, refl, (n, refl, refl), (k, refl), (l, refl, refl), refl, refl))
+finds (solve file digits None (Some limit) true None) (f, n, k, l, c) = (refl, refl, refl, (refl, refl, (n, refl, refl), (k, refl), (l, refl, refl), refl, refl))
+finds (solve file digits (Some below) (Some limit) true None) (f, n, k, l, c) = (refl, refl, refl, (refl, refl, (n, refl, refl), (k, refl), (l, refl, refl), refl, refl))
+finds (solve file digits None (Some limit) true (Some cert)) (f, n, k, l, c) = (refl, refl, refl, (refl, refl, (n, refl, refl), (k, refl), (l, refl, refl), refl, refl))
+finds (solve file digits (Some below) (Some limit) true (Some cert)) (f, n, k, l, c) = (refl, refl, refl, (refl, refl, (n, refl, refl), (k, refl), (l, refl, refl), refl, refl))
 finds (check file digits cert) (f, n, c) = (refl, refl, refl, (refl, refl, (n, refl, refl), refl))
 finds (add db file) (d, f) = (refl, refl, refl, (refl, refl, refl))
 finds (offer db digits letters) (d, i, t) = (refl, refl, refl, (refl, refl, (i, refl), refl))

@@ -9,13 +9,21 @@ use Rattle.clap.specs.Matches.{ReadsOne, one_text}
 use Rattle.clap.specs.Walk.{Text, rows_of}
 use Rattle.clap.specs.declared.parser.matches.Found.{Found}
 use Rattle.clap.proofs.WalkLemmas.{one_text-rows}
-use Rattle.sok_words.specs.Forms.{IsId, IsNumber, id_value}
-use Rattle.sok_words.specs.Rows.{HasNumber, HasOptionalId}
+use Rattle.sok_words.specs.Forms.{IsId, IsNumber, IsPushes, id_value}
+use Rattle.sok_words.specs.Rows.{HasNumber, HasOptionalId, HasPushes}
 use Rattle.sok_words.proofs.WordSteps.{no_minus, no_plus}
 use Rattle.sok_words.proofs.Lines.{minus_free}
 
 pub number_there : (f : Found) (name digits : Text) (number : ℕ) → HasNumber (rows_of f) name digits number → one_text f name ≡ Some digits
 number_there f name digits number has = one_text-rows f name ∙ has.1 ∙ ap (λ t. Some t) (minus_free digits has.0)
+
+-- digits of a number of pushes are those of a number
+pub pushes_number : (text : Text) → IsPushes text → IsNumber text
+pushes_number text n = let small = n.1 in (n.0, omega (arith, small))
+
+pub pushes_there : (f : Found) (name : Text) (digits : Option Text) → HasPushes (rows_of f) name digits → one_text f name ≡ digits
+pushes_there f name None has = one_text-rows f name ∙ has.1
+pushes_there f name (Some digits) has = one_text-rows f name ∙ has.1 ∙ ap (λ t. Some t) (minus_free digits (pushes_number digits has.0))
 
 pub number_read : (text : Text) (x : ℕ) → IsNumber text → x ≡ digits_value 10 (without_leading_plus text) → x ≡ digits_value 10 text
 number_read text x n e = e ∙ ap (digits_value 10) (no_plus text n.0)

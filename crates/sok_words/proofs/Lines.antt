@@ -16,7 +16,7 @@ use Rattle.clap.specs.Takes.{other_passes, default_passes, entered_passes, is_va
 use Rattle.clap.specs.declared.builder.value_parser.ValueParser.TheVariants as vp
 use Rattle.clap.proofs.ValueTestLemmas.{Accepts-accepts}
 use Rattle.clap.proofs.WalkLemmas.{walk_stopped}
-use Rattle.sok_words.specs.Forms.{IsId, IsNumber}
+use Rattle.sok_words.specs.Forms.{IsId, IsNumber, IsPushes}
 use Rattle.sok_words.specs.Shapes.{sok_app}
 use Rattle.sok_words.proofs.WordSteps.{Said, all_pass, all_turns, led, no_minus, no_plus, word_of}
 
@@ -125,6 +125,12 @@ pub number_passes : (text : Text) → IsNumber text → accepts false (vp.Signed
 number_passes text n = Accepts-accepts false (vp.Signed (pos 0) (pos 4294967295)) text (accepted text n)
   where
     accepted : (t : Text) → IsNumber t → IsSignedIn (pos 0) (pos 4294967295) t
+    accepted t n = rw (no_minus t n.0, no_plus t n.0) (n.0, omega (arith, ints), omega (arith, ints), omega (arith, ints))
+
+pub pushes_pass : (text : Text) → IsPushes text → accepts false (vp.Signed (pos 0) (pos 1000000)) text ≡ true
+pushes_pass text n = Accepts-accepts false (vp.Signed (pos 0) (pos 1000000)) text (accepted text n)
+  where
+    accepted : (t : Text) → IsPushes t → IsSignedIn (pos 0) (pos 1000000) t
     accepted t n = rw (no_minus t n.0, no_plus t n.0) (n.0, omega (arith, ints), omega (arith, ints), omega (arith, ints))
 
 pub id_passes : (text : Text) → IsId text → accepts false (vp.Signed (negsuc 9223372036854775807) (pos 9223372036854775807)) text ≡ true

@@ -1,5 +1,5 @@
 -- The command lines of which `job` knows the answer, and what it answers.
-use Rattle.std.specs.Prelude.{◌≡◌, ◌≢◌, ◌<◌, ◌^◌, ℕ, ℤ, List, [], ◌∷◌, ◌++◌, Bool, true, false, Option, Some, None, IfSome, Result, Ok, Err, codes, pos, option_map, option_to_list, string_bytes, unwrap_or, String}
+use Rattle.std.specs.Prelude.{◌≡◌, ◌≢◌, ◌<◌, ◌≤◌, ◌^◌, ℕ, ℤ, List, [], ◌∷◌, ◌++◌, Bool, true, false, Option, Some, None, IfSome, Result, Ok, Err, codes, pos, option_map, option_to_list, string_bytes, unwrap_or, String}
 use Rattle.std.specs.Global.{Global}
 use Rattle.std.specs.Str.Parse.{IsNumeral, digits_value}
 use Rattle.sok_words.specs.declared.job.Job.{Job}
@@ -19,12 +19,16 @@ IsNumber text = IsNumeral 10 text × (digits_value 10 text < 2 ^ 32)
 abbrev pub IsId : List ℕ → Type 0
 IsId text = IsNumeral 10 text × (digits_value 10 text < 2 ^ 63)
 
+-- digits alone, of a number of pushes that a certificate can claim
+abbrev pub IsPushes : List ℕ → Type 0
+IsPushes text = IsNumeral 10 text × (digits_value 10 text ≤ 1000000)
+
 -- what stands in each place of a command line
 pub data Form : Type 0 where
   list : List ℕ → Form
   replay : List ℕ → List ℕ → List ℕ → Form
   draw : List ℕ → List ℕ → Option (List ℕ) → Form
-  solve : List ℕ → List ℕ → Option (List ℕ) → Bool → Option (List ℕ) → Form
+  solve : List ℕ → List ℕ → Option (List ℕ) → Option (List ℕ) → Bool → Option (List ℕ) → Form
   check : List ℕ → List ℕ → List ℕ → Form
   add : List ℕ → List ℕ → Form
   offer : List ℕ → List ℕ → List ℕ → Form
@@ -38,8 +42,8 @@ abbrev pub IsPlain : Form → Type 0
 IsPlain (list file) = IsValue file
 IsPlain (replay file number text) = IsValue file × IsNumber number × IsValue text
 IsPlain (draw file number text) = IsValue file × IsNumber number × IfSome text IsValue
-IsPlain (solve file number limit bound cert) =
-    IsValue file × IsNumber number × IfSome limit IsNumber × IfSome cert IsValue
+IsPlain (solve file number below limit bound cert) =
+    IsValue file × IsNumber number × IfSome below IsPushes × IfSome limit IsNumber × IfSome cert IsValue
 IsPlain (check file number cert) = IsValue file × IsNumber number × IsValue cert
 IsPlain (add db file) = IsValue db × IsValue file
 IsPlain (offer db id text) = IsValue db × IsId id × IsValue text
@@ -64,8 +68,8 @@ abbrev pub words_of : Form → List (List ℕ)
 words_of (list file) = codes "list" ∷ file ∷ []
 words_of (replay file number text) = codes "replay" ∷ file ∷ number ∷ text ∷ []
 words_of (draw file number text) = codes "draw" ∷ file ∷ number ∷ option_to_list text
-words_of (solve file number limit bound cert) = codes "solve" ∷ file ∷ number
-    ∷ (option_words (codes "--limit") limit ++ flag_words (codes "--bound") bound ++ option_words (codes "--cert") cert)
+words_of (solve file number below limit bound cert) = codes "solve" ∷ file ∷ number
+    ∷ (option_words (codes "--below") below ++ option_words (codes "--limit") limit ++ flag_words (codes "--bound") bound ++ option_words (codes "--cert") cert)
 words_of (check file number cert) = codes "check" ∷ file ∷ number ∷ cert ∷ []
 words_of (add db file) = codes "add" ∷ db ∷ file ∷ []
 words_of (offer db id text) = codes "offer" ∷ db ∷ id ∷ text ∷ []
@@ -95,8 +99,8 @@ Means (list file) (job.List a) = (string_bytes a ≡ file)
 Means (replay file number text) (job.Replay a b c) = (string_bytes a ≡ file) × (b ≡ digits_value 10 number) × (string_bytes c ≡ text)
 Means (draw file number text) (job.Draw a b c) =
     (string_bytes a ≡ file) × (b ≡ digits_value 10 number) × (string_bytes c ≡ unwrap_or text [])
-Means (solve file number limit bound cert) (job.Solve a n most bounds path) =
-    (string_bytes a ≡ file) × (n ≡ digits_value 10 number) × (most ≡ limit_of limit) × (bounds ≡ bound)
+Means (solve file number below limit bound cert) (job.Solve a n best most bounds path) =
+    (string_bytes a ≡ file) × (n ≡ digits_value 10 number) × (best ≡ option_map (λ d. digits_value 10 d) below) × (most ≡ limit_of limit) × (bounds ≡ bound)
     × (option_map (λ s. string_bytes s) path ≡ cert)
 Means (check file number cert) (job.Check a b c) = (string_bytes a ≡ file) × (b ≡ digits_value 10 number) × (string_bytes c ≡ cert)
 Means (add db file) (job.Add a b) = (string_bytes a ≡ db) × (string_bytes b ≡ file)
@@ -117,7 +121,7 @@ IsHyphen word = string_bytes word ≡ codes "-"
 abbrev pub MisusesInput : Job → Type 0
 MisusesInput (job.Replay a n text) = IsHyphen a × IsHyphen text
 MisusesInput (job.Draw a n text) = IsHyphen a × IsHyphen text
-MisusesInput (job.Solve a n most bounds (Some path)) = IsHyphen path
+MisusesInput (job.Solve a n best most bounds (Some path)) = IsHyphen path
 MisusesInput (job.Check a n cert) = IsHyphen a × IsHyphen cert
 MisusesInput _ = ⊥
 

@@ -1,13 +1,17 @@
 -- What the matches of a form hold.
-use Rattle.std.specs.Prelude.{◌≡◌, ℕ, Bool, true, false, List, Option, Some, None, IfSome, codes}
+use Rattle.std.specs.Prelude.{◌≡◌, ℕ, Bool, true, false, List, Option, Some, None, IfSome, codes, option_map}
 use Rattle.std.specs.Str.Parse.{digits_value}
 use Rattle.clap.specs.Words.{Row, Text, first_of, one_of}
 use Rattle.clap.specs.Lexer.{without_minus}
-use Rattle.sok_words.specs.Forms.{Form, IsId, IsNumber, limit_of, list, replay, draw, solve, check, add, offer, offers, prove, settle, show, export}
+use Rattle.sok_words.specs.Forms.{Form, IsId, IsNumber, IsPushes, limit_of, list, replay, draw, solve, check, add, offer, offers, prove, settle, show, export}
 
 -- under the name stand the digits of the number
 abbrev pub HasNumber : List Row → Text → Text → ℕ → Type 0
 HasNumber rows name digits number = IsNumber digits × (one_of name rows ≡ Some (without_minus digits)) × (digits_value 10 digits ≡ number)
+
+-- under the name stand the digits of a number of pushes, where it is given, and nothing where it is not
+abbrev pub HasPushes : List Row → Text → Option Text → Type 0
+HasPushes rows name digits = IfSome digits IsPushes × (one_of name rows ≡ option_map (λ d. without_minus d) digits)
 
 -- under the name stand the digits of an id
 abbrev pub HasId : List Row → Text → Text → Type 0
@@ -43,9 +47,10 @@ HasValues (draw file number text) name rows = (name ≡ codes "draw")
     × (first_of (codes "FILE") rows ≡ Some file)
     × HasNumber rows (codes "N") number (digits_value 10 number)
     × (first_of (codes "TEXT") rows ≡ text)
-HasValues (solve file number limit bound cert) name rows = (name ≡ codes "solve")
+HasValues (solve file number below limit bound cert) name rows = (name ≡ codes "solve")
     × (first_of (codes "FILE") rows ≡ Some file)
     × HasNumber rows (codes "N") number (digits_value 10 number)
+    × HasPushes rows (codes "below") below
     × HasNumber rows (codes "limit") (limit_text limit) (limit_of limit)
     × HasFlag rows (codes "bound") bound
     × (first_of (codes "cert") rows ≡ cert)

@@ -26,6 +26,10 @@ limit_rule name = record (new_rule name) {
   defaults = codes "100000" ∷ [];
 }
 
+-- a number of pushes
+abbrev pub pushes_rule : Text → Rule
+pushes_rule name = record (new_rule name) { long = Some name; value_names = 1; parser = Some (vp.Signed (pos 0) (pos 1000000)) }
+
 -- the path of a file or of a folder
 abbrev pub path_rule : Text → Rule
 path_rule name = record (new_rule name) { long = Some name; value_names = 1 }
@@ -61,6 +65,7 @@ rule_of_kind kind.Optional name = new_rule name
 rule_of_kind kind.Number name = number_rule name
 rule_of_kind kind.Id name = id_rule name
 rule_of_kind kind.OptionalId name = optional_id_rule name
+rule_of_kind kind.Pushes name = pushes_rule name
 rule_of_kind kind.Limit name = limit_rule name
 rule_of_kind kind.First name = first_rule name
 rule_of_kind kind.Flag name = flag_rule name
@@ -112,7 +117,7 @@ subcommand_rules = (codes "list", file_rule ∷ [])
     ∷ (codes "draw", file_rule ∷ level_rule ∷ letters_rule ∷ [])
     ∷ (
       codes "solve",
-      file_rule ∷ level_rule ∷ limit_rule (codes "limit") ∷ flag_rule (codes "bound")
+      file_rule ∷ level_rule ∷ pushes_rule (codes "below") ∷ limit_rule (codes "limit") ∷ flag_rule (codes "bound")
           ∷ path_rule (codes "cert") ∷ [],
     )
     ∷ (codes "check", file_rule ∷ level_rule ∷ cert_rule ∷ [])

@@ -12,9 +12,10 @@ pub enum Job {
     /// The path of a collection, the number of a level, from 1, and a text of letters, which is
     /// empty where none is given.
     Draw(String, u32, String),
-    /// The path of a collection, the number of a level, from 1, the most states to keep, whether a
-    /// bound is told where they are met, and the path for the certificate.
-    Solve(String, u32, u32, bool, Option<String>),
+    /// The path of a collection, the number of a level, from 1, the pushes of which a solution has to
+    /// have fewer, the most states to keep, whether a bound is told where they are met, and the path
+    /// for the certificate.
+    Solve(String, u32, Option<u32>, u32, bool, Option<String>),
     /// The path of a collection, the number of a level, from 1, and the path of a certificate.
     Check(String, u32, String),
     /// The path of a book, and that of a collection.

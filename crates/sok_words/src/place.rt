@@ -5,7 +5,7 @@ ghost use Rattle.sok_words.specs.Shapes.{Follows, rule_of_kind};
 use clap::{Arg, ArgAction, value_parser};
 use std::alloc::Global;
 
-/// What is read in a place. One for a limit, a first id, a flag, a path or a folder is an option.
+/// What is read in a place. One for pushes, a limit, a first id, a flag, a path or a folder is an option.
 #[derive(Clone, Copy)]
 pub(crate) enum Kind {
     Text,
@@ -15,6 +15,8 @@ pub(crate) enum Kind {
     Id,
     /// An id that may be left out.
     OptionalId,
+    /// A number of pushes.
+    Pushes,
     Limit,
     /// An id to begin at.
     First,
@@ -44,6 +46,10 @@ impl Place {
             Kind::Number => arg.required(true).value_parser(value_parser!(u32)),
             Kind::Id => arg.required(true).value_parser(value_parser!(i64)),
             Kind::OptionalId => arg.value_parser(value_parser!(i64)),
+            Kind::Pushes => arg
+                .long(self.name)
+                .value_parser(value_parser!(u32).range(0..=1_000_000))
+                .value_name("K"),
             Kind::Limit => arg
                 .long(self.name)
                 .value_parser(value_parser!(u32))
@@ -89,6 +95,12 @@ pub(crate) const LETTERS: Place = Place {
     name: "TEXT",
     kind: Kind::Optional,
     help: "The letters to play first, as for replay; without them the start is drawn",
+};
+
+pub(crate) const BELOW: Place = Place {
+    name: "below",
+    kind: Kind::Pushes,
+    help: "Look only for a solution with fewer than K pushes, as K of a solution that is known",
 };
 
 pub(crate) const LIMIT: Place = Place {

@@ -6,7 +6,9 @@ ghost use Rattle.sok_words.specs.Forms.{Answers, Form, id_value};
 ghost use Rattle.sok_words.specs.Rows.{HasId, HasNumber, HasValues};
 
 use crate::job::{Job, JobRefused};
-use crate::values::{flag_of, id_of, missing, number_of, option_of, optional_id_of, text_of};
+use crate::values::{
+    flag_of, id_of, missing, number_of, option_of, optional_id_of, optional_number_of, text_of,
+};
 use clap::ArgMatches;
 use std::alloc::Global;
 
@@ -69,10 +71,11 @@ fn solve_of(alloc: Global, values: &ArgMatches<'_>) -> Result<Job, JobRefused>
         → Answers form result }
 {
     let (file, number) = level_of(alloc, values)?;
+    let below = optional_number_of(values, "below");
     let limit = number_of(alloc, values, "limit")?;
     let bound = flag_of(values, "bound");
     let path = option_of(alloc, values, "cert")?;
-    Ok(Job::Solve(file, number, limit, bound, path))
+    Ok(Job::Solve(file, number, below, limit, bound, path))
 }
 
 /// The job of `check`.

@@ -4,7 +4,7 @@ ghost use Rattle.std.specs.Prelude.{◌≡◌, IfOk, fold};
 ghost use Rattle.sok_words.specs.Shapes.{Builds, own_app, sok_app, sok_top, with_own};
 
 use crate::place::{
-    BOUND, CERT, CERTS, DB, FILE, FROM, ID, LETTERS, LIMIT, N, OFFERS, OUTPUT, Place, SHOWN,
+    BELOW, BOUND, CERT, CERTS, DB, FILE, FROM, ID, LETTERS, LIMIT, N, OFFERS, OUTPUT, Place, SHOWN,
     SOLUTIONS, TEXT,
 };
 use clap::Command;
@@ -83,16 +83,20 @@ Writes one of these:
   solved PUSHES MOVES  and the letters on the next line, in upper case where a box is pushed:
                        no letters solve the level with fewer pushes (status 0)
   unsolvable           no letters solve the level (status 0)
+  at least K           with --below K: no letters solve the level with fewer than K pushes (status
+                       0); a solution with K pushes can't be improved then
   limit S              more than S states can be reached (status 4)
   limit S at least K   the same, with --bound: no letters solve the level with fewer than K
                        pushes (status 4)
 The certificate shows it to whoever checks it, but for limit S, with which it stays empty. With
---cert more states are kept than without, so a limit may be met that suffices without. PATH may be
+--cert more states are kept than without, so a limit may be met that suffices without; with --below
+fewer are. PATH may be
 missing, empty, or hold a certificate: any other file stays, with fault 51 WriteFailed. A fault is
 status 3 or 5, and of memory 6.
 
-Example: sok solve small.xsb 1 --cert first.cert",
-            places: &[FILE, N, LIMIT, BOUND, OUTPUT],
+Examples: sok solve small.xsb 1 --cert first.cert
+          sok solve small.xsb 1 --below 2",
+            places: &[FILE, N, BELOW, LIMIT, BOUND, OUTPUT],
         },
         Subcommand {
             name: "check",

@@ -2,9 +2,10 @@
 
 ghost use Rattle.std.specs.Prelude.{◌≡◌, ℕ, Bool, List, Option, Some, IsOkAnd, MatchResult, option_map};
 ghost use Rattle.std.specs.Prelude.{string_bytes};
+ghost use Rattle.std.specs.Str.Parse.{digits_value};
 ghost use Rattle.clap.specs.Words.{first_of, found_of, rows_of};
 ghost use Rattle.sok_words.specs.Forms.{id_value};
-ghost use Rattle.sok_words.specs.Rows.{HasFlag, HasId, HasNumber, HasOptionalId};
+ghost use Rattle.sok_words.specs.Rows.{HasFlag, HasId, HasNumber, HasOptionalId, HasPushes};
 
 use crate::job::JobRefused;
 use clap::ArgMatches;
@@ -81,6 +82,18 @@ pub(crate) fn number_of(
     match values.get_one::<u32>(name) {
         Some(number) => Ok(number),
         None => Err(missing(alloc)),
+    }
+}
+
+/// The number of pushes under this name, where it is given.
+pub(crate) fn optional_number_of(values: &ArgMatches<'_>, name: &str) -> Option<u32>
+    ensures { (digits : Option (List ℕ))
+        → HasPushes (rows_of (found_of values.now)) name.now digits
+        → result ≡ option_map (λ d. digits_value 10 d) digits }
+{
+    match values.get_one::<u32>(name) {
+        Some(number) => Some(number),
+        None => None,
     }
 }
 

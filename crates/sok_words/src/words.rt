@@ -17,13 +17,13 @@ use std::alloc::Global;
 ///
 /// ```text
 /// list FILE · replay FILE N TEXT · draw FILE N [TEXT]
-/// solve FILE N [--limit S] [--bound] [--cert PATH] · check FILE N CERT
+/// solve FILE N [--below K] [--limit S] [--bound] [--cert PATH] · check FILE N CERT
 /// add DB FILE · offer DB ID TEXT · offers DB FILE · prove DB ID CERT
 /// settle DB [--limit S] [--from ID] [--certs FOLDER] · show DB [ID] · export DB [--solutions]
 /// ```
 ///
-/// Places, PATH and FOLDER that are not empty and do not begin with a hyphen, N and S below 2 ^ 32
-/// and ID below 2 ^ 63 in digits alone, are read as they stand. S is 100,000 where it is left out,
+/// Places, PATH and FOLDER that are not empty and do not begin with a hyphen, N and S below 2 ^ 32,
+/// K up to 1,000,000 and ID below 2 ^ 63 in digits alone, are read as they stand. S is 100,000 where it is left out,
 /// and the ID behind `--from` 1. Other words are read or refused as `clap` does it; but `-`, which is
 /// the standard input, is refused as PATH, and as FILE with TEXT or CERT in one command, and an empty
 /// FOLDER is.
@@ -72,7 +72,7 @@ fn misuses_input(job: &Job) -> bool
     match job {
         Job::Replay(file, _, text) => file.as_str() == "-" && text.as_str() == "-",
         Job::Draw(file, _, text) => file.as_str() == "-" && text.as_str() == "-",
-        Job::Solve(_, _, _, _, Some(path)) => path.as_str() == "-",
+        Job::Solve(_, _, _, _, _, Some(path)) => path.as_str() == "-",
         Job::Check(file, _, cert) => file.as_str() == "-" && cert.as_str() == "-",
         _ => false,
     }

@@ -43,7 +43,7 @@ returns-in-Solve g c = λ form plain means.
     let files = files_by g.F.Output.Write.contents (g.F.Folder.files rt) in
     let databases = databases_by (state g.S.Store) (g.F.Databases.databases rt) in
     let s = c.in-Solve in
-    Serves-solve files databases _ _ _ s.file _ c.as_str-in-Solve.ensures.value form s.n s.limit s.bound s.cert (subst (Means form) s.is means)
+    Serves-solve files databases _ _ _ s.file _ c.as_str-in-Solve.ensures.value form s.n s.below s.limit s.bound s.cert (subst (Means form) s.is means)
     (c.solve.result, c.solve.ensures, c.ended-in-Solve.ensures)
 
 pub returns-in-Add : goal.returns-in-Add

@@ -4,7 +4,7 @@ use Rattle.sok_engine.specs.Limits.{input_limit}
 use Rattle.sok_engine.specs.Written.{Answers, IsFaultOf}
 use Rattle.sok_engine.proofs.Answering.{Writes-none, Writes-read, Writes-unread}
 use Rattle.sok_solve.specs.Improves.{IsImprove}
-use Rattle.sok_solve.proofs.improve.improve_bytes.Goals as goal
+use Rattle.sok_solve.proofs.improve.improve_within.Goals as goal
 
 pub returns-in_err-bytes : goal.returns-in_err-bytes
 returns-in_err-bytes g c =

@@ -5,7 +5,7 @@ use Rattle.sok_engine.specs.Limits.{input_limit}
 use Rattle.sok_engine.specs.Written.{IsFaultOf}
 use Rattle.sok_engine.proofs.Certifying.{WritesBoth-none, WritesBoth-read, WritesBoth-unread}
 use Rattle.sok_solve.specs.Improves.{IsCertifiedImprove}
-use Rattle.sok_solve.proofs.improve_certified.improve_certified_bytes.Goals as goal
+use Rattle.sok_solve.proofs.improve_certified.improve_within.Goals as goal
 
 pub returns-in_err-bytes : goal.returns-in_err-bytes
 returns-in_err-bytes g c =
