@@ -26,10 +26,21 @@ fn reads_each_form(rt: HostRuntime) -> Result<(), Fail> {
         ("sok replay F 2 uR", "Replay(\"F\", 2, \"uR\")"),
         ("sok draw F 2", "Draw(\"F\", 2, \"\")"),
         ("sok draw F 2 uR", "Draw(\"F\", 2, \"uR\")"),
-        ("sok solve F 1", "Solve(\"F\", 1, 100000, false, None)"),
+        (
+            "sok solve F 1",
+            "Solve(\"F\", 1, None, 100000, false, None)",
+        ),
+        (
+            "sok solve F 1 --below 0",
+            "Solve(\"F\", 1, Some(0), 100000, false, None)",
+        ),
         (
             "sok solve F 1 --limit 5 --bound --cert P",
-            "Solve(\"F\", 1, 5, true, Some(\"P\"))",
+            "Solve(\"F\", 1, None, 5, true, Some(\"P\"))",
+        ),
+        (
+            "sok solve F 1 --below 1000000 --limit 5 --bound --cert P",
+            "Solve(\"F\", 1, Some(1000000), 5, true, Some(\"P\"))",
         ),
         (
             "sok check F 4294967295 C",
