@@ -12,7 +12,7 @@ _sok() {
       list) words="--help" ;;
       replay) words="--help" ;;
       draw) words="--help" ;;
-      solve) words="--limit --bound --cert --help" ;;
+      solve) words="--below --limit --bound --cert --help" ;;
       check) words="--help" ;;
       add) words="--help" ;;
       offer) words="--help" ;;

@@ -7,6 +7,7 @@ complete -c sok -n __fish_use_subcommand -f -a draw -d 'Draws a level as it stan
 complete -c sok -n '__fish_seen_subcommand_from help' -f -a draw -d 'Draws a level as it stands after a text of letters'
 complete -c sok -n __fish_use_subcommand -f -a solve -d 'Finds a solution with fewest pushes, or shows that there is none'
 complete -c sok -n '__fish_seen_subcommand_from help' -f -a solve -d 'Finds a solution with fewest pushes, or shows that there is none'
+complete -c sok -n '__fish_seen_subcommand_from solve' -l below -r -d 'Look only for a solution with fewer than K pushes, as K of a solution that is known'
 complete -c sok -n '__fish_seen_subcommand_from solve' -l limit -r -d 'Give up where more than S states are reached, from 1 to 1,000,000 [default: 100000]'
 complete -c sok -n '__fish_seen_subcommand_from solve' -l bound -d 'Where the limit is met, tell how many pushes are needed at least'
 complete -c sok -n '__fish_seen_subcommand_from solve' -l cert -r -d 'Write the certificate to this file, which is created or emptied first; never FILE itself'
