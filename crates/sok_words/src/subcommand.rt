@@ -90,9 +90,8 @@ Writes one of these:
                        pushes (status 4)
 The certificate shows it to whoever checks it, but for limit S, with which it stays empty. With
 --cert more states are kept than without, so a limit may be met that suffices without; with --below
-fewer are. PATH may be
-missing, empty, or hold a certificate: any other file stays, with fault 51 WriteFailed. A fault is
-status 3 or 5, and of memory 6.
+fewer are. PATH may be missing, empty, or hold a certificate: any other file stays, with fault 51
+WriteFailed. A fault is status 3 or 5, and of memory 6.
 
 Examples: sok solve small.xsb 1 --cert first.cert
           sok solve small.xsb 1 --below 2",
