@@ -82,7 +82,11 @@ impl CertifiedAnswer {
     /// Writes the certificate, and then the text of the answer, and gives the answer's status. A
     /// write that fails is `WriteFailed` at once: after a front of the certificate nothing of the
     /// answer is written.
-    pub(crate) fn write<C: Write, W: Write>(self, cert_out: &mut C, out: &mut W) -> Result<u8, ToolFault>
+    pub(crate) fn write<C: Write, W: Write>(
+        self,
+        cert_out: &mut C,
+        out: &mut W,
+    ) -> Result<u8, ToolFault>
         ensures { WritesBoth (λ both. both ≡ Ok self)
             (record { old = C.contents cert_out.old; new = C.contents cert_out.new })
             (record { old = W.contents out.old; new = W.contents out.new }) result }

@@ -94,7 +94,10 @@ fn served<
         }
         Job::Check(file, n, cert) => { ended(check(rt, file.as_str(), n, cert.as_str(), out), err) }
         Job::Solve(file, n, below, limit, bound, cert) => {
-            ended(solve(rt, file.as_str(), n, below, limit, bound, cert, out), err)
+            ended(
+                solve(rt, file.as_str(), n, below, limit, bound, cert, out),
+                err,
+            )
         }
         Job::Add(db, file) => ended(add(rt, db.as_str(), file.as_str(), out), err),
         Job::Offer(db, id, text) => {
