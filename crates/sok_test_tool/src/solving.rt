@@ -7,7 +7,7 @@ use std::test::Fail;
 
 /// A certificate that is written is accepted. Where there is none, its file is emptied, but never
 /// that of the collection, by whatever name.
-const SOLVES: [Row; 16] = [
+const SOLVES: [Row; 24] = [
     (
         "sok solve solves/levels 1 --cert solves/levels",
         "",
