@@ -13,9 +13,9 @@ use Rattle.sok_cert.specs.Closed.{IsTrueOf}
 use Rattle.sok_book.specs.declared.record.Verdict.{Verdict}
 use Rattle.sok_book.specs.declared.record.Verdict.TheVariants.{Untested, Optimal, Unsolvable}
 use Rattle.sok_book.specs.Books.{Book, Page, Solution, IsSolution, IsTrueBook, IsTruePage, IsVerdictOf, page_at, solution_of}
-use Rattle.sok_book.specs.Commands.{IsCertificate, Meets, best_pushes, is_better, verdict_of, with_best}
+use Rattle.sok_book.specs.Commands.{Meets, best_pushes, is_better, verdict_of, with_best}
 use Rattle.sok_book.specs.Laws.{empty, more, KeepsPage, IsNoWorse, CommandsKeepPages, CommandsKeepTruth, MadeBooksAreTrue, VerdictsStay}
-use Rattle.sok_book.proofs.Commands.{Becomes, stays, is_offered, is_proved, Changes-command, IsNewPage, IsNewPage-command}
+use Rattle.sok_book.proofs.Commands.{Becomes, stays, is_offered, is_judged, Changes-command, IsNewPage, IsNewPage-command}
 
 -- letters that solve are a solution with their numbers
 solved : (rows : Rows) (letters : List Dir) → Solves rows letters → IsSolution rows (solution_of rows letters)
@@ -33,9 +33,6 @@ chosen page new = elim (cases_Bool (is_better new.pushes (best_pushes page))) [
 ]
 
 -- ---- truth
-
-certified : (rows : Rows) (bytes : List ℕ) (shown : Claim) → IsCertificate rows bytes shown → IsTrueOf rows shown
-certified rows bytes shown it = subst (λ (r : Rows). IsTrueOf r shown) it.rows_are it.shown.true_claim
 
 proved_true : (rows : Rows) (best : Option Solution) (shown : Claim) → IfSome best (IsSolution rows) → IsTrueOf rows shown
     → Meets shown (option_map (λ it. it.pushes) best) → IsVerdictOf rows best (verdict_of shown)
@@ -55,8 +52,8 @@ becomes_true page next truth (is_offered letters solves same) =
       | inl (better, is) ↦ subst IsTruePage (sym is) (record { best = solved page.level letters solves; verdict = tt })
       | inr is ↦ subst IsTruePage (sym is) truth
     ])
-becomes_true page next truth (is_proved bytes shown certificate meets same) =
-    let verdict = proved_true page.level page.best shown truth.best (certified page.level bytes shown certificate) meets in
+becomes_true page next truth (is_judged shown true_claim meets same) =
+    let verdict = proved_true page.level page.best shown truth.best true_claim meets in
     subst IsTruePage same (record { best = truth.best; verdict = verdict })
 
 new_true : (page : Page) → IsNewPage page → IsTruePage page
@@ -108,7 +105,7 @@ becomes_kept page next (is_offered letters solves same) =
           subst (KeepsPage page) (sym is) (record { level = refl; title = refl; best = better page.level page.best new solution fewer })
       | inr is ↦ subst (KeepsPage page) (sym is) (record { level = refl; title = refl; best = no_worse page.level page.best })
     ])
-becomes_kept page next (is_proved bytes shown certificate meets same) =
+becomes_kept page next (is_judged shown true_claim meets same) =
     subst (KeepsPage page) same (record { level = refl; title = refl; best = no_worse page.level page.best })
 
 at_next : (P : Page → Type 0) (o : Option Page) (next : Page) → o ≡ Some next → P next → IsSomeAnd o P
@@ -150,7 +147,7 @@ verdict_stays page next truth tested (is_offered letters solves same) =
       | inl (fewer, is) ↦ absurd (tested (untested page.level page.best page.verdict letters truth.verdict solves fewer))
       | inr is ↦ ap (λ (p : Page). p.verdict) is
     ]
-verdict_stays page next truth tested (is_proved bytes shown certificate meets same) =
+verdict_stays page next truth tested (is_judged shown true_claim meets same) =
     ap (λ (p : Page). p.verdict) (sym same) ∙ proved_again page.level page.best page.verdict shown truth.verdict tested meets
 
 pub VerdictsStay-all : VerdictsStay

@@ -9,6 +9,7 @@ use Rattle.sok_board.specs.Area.{BoardView, IsAccepted}
 use Rattle.sok_board.specs.Refusals.{IsAcceptable}
 use Rattle.sok_cert.specs.Claim.{Claim}
 use Rattle.sok_cert.specs.Claim.TheVariants as claim
+use Rattle.sok_cert.specs.Closed.{IsTrueOf}
 use Rattle.sok_cert.specs.Verdicts.{IsProofOf}
 use Rattle.sok_book.specs.declared.record.Offer.{Offer}
 use Rattle.sok_book.specs.declared.record.Offer.TheVariants.{Stored, Kept}
@@ -90,8 +91,17 @@ pub record Proves (book : Book) (id : ℕ) (bytes : List ℕ) (shown : Claim) (a
   pub meets : Meets shown (best_pushes page)
   pub after_is : after ≡ with_page book id (record page { verdict = verdict_of shown })
 
+-- a level's verdict is set by a claim about the best solution that is true
+pub record SetsVerdict (book : Book) (id : ℕ) (shown : Claim) (after : Book) : Type 0 where
+  pub page : Page
+  pub there : page_at book id ≡ Some page
+  pub true_claim : IsTrueOf page.level shown
+  pub meets : Meets shown (best_pushes page)
+  pub after_is : after ≡ with_page book id (record page { verdict = verdict_of shown })
+
 -- one command leads from a book to another
 pub data OneCommand (book after : Book) : Type 0 where
   add : (rows : Rows) (title : Option (List ℕ)) (id : ℕ) → IsAcceptable rows → Adds book rows title id after → OneCommand book after
   offer : (id : ℕ) (letters : List Dir) (answer : Offer) → Offers book id letters answer after → OneCommand book after
   prove : (id : ℕ) (bytes : List ℕ) (shown : Claim) → Proves book id bytes shown after → OneCommand book after
+  judge : (id : ℕ) (shown : Claim) → SetsVerdict book id shown after → OneCommand book after

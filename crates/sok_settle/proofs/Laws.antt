@@ -10,15 +10,14 @@ use Rattle.sok_cert.specs.Claim.TheVariants as claim
 use Rattle.sok_book.specs.declared.record.Verdict.TheVariants.{Optimal, Untested, Unsolvable}
 use Rattle.sok_book.specs.declared.record.Offer.{Offer}
 use Rattle.sok_book.specs.Books.{Book, Page, page_at, solution_of}
-use Rattle.sok_book.specs.Commands.{Offers, offer, prove, verdict_of, with_best}
+use Rattle.sok_book.specs.Commands.{Offers, SetsVerdict, judge, offer, verdict_of, with_best}
 use Rattle.sok_engine.specs.declared.fault.ToolFault.TheVariants as tool
 use Rattle.sok_store.specs.Calls.{id_number}
 use Rattle.sok_store.specs.Histories.{IsMadeOf}
 use Rattle.sok_store.specs.Histories as histories
-use Rattle.sok_store.specs.Known.{ProvesKnown}
 use Rattle.sok_store.proofs.Found.{page_there}
 use Rattle.sok_settle.specs.Going.{more, none}
-use Rattle.sok_settle.specs.Keeping.{IsKept, Keeping}
+use Rattle.sok_settle.specs.Keeping.{Keeping}
 use Rattle.sok_settle.specs.Settles.{IsTried, EndsLevel, SettlesBy, SettlesFirst, SettlesLevel, is_passed, is_past_limit, is_settled, is_too_long, is_too_much, level_leave, level_step}
 use Rattle.sok_settle.specs.Laws.{SettledHaveCerts, SettledHaveVerdicts, SettlingsAreSome, SettlingsFold, SettlingsKeepTruth, SettlingsKeepVerdicts}
 use Rattle.sok_settle.proofs.Levels.{best_untested}
@@ -40,9 +39,9 @@ by_made : (id : ℤ) (book before after : Book) (rows : Rows) (shown : Claim) (l
     → SettlesBy id rows shown before line settled after → IsMadeOf book after
 by_made id book before after rows (claim.Pushes n) line settled made (best, count, it, says, is) =
     histories.more it.middle after (histories.more before it.middle made (offer (id_number id) it.letters it.offer it.offered))
-    (prove (id_number id) it.proved.0 (claim.Pushes best.pushes) it.proved.1)
-by_made id book before after rows claim.Unsolvable line settled made (unsolvable, proves, says, is) =
-    histories.more before after made (prove (id_number id) proves.0 claim.Unsolvable proves.1)
+    (judge (id_number id) (claim.Pushes best.pushes) it.set)
+by_made id book before after rows claim.Unsolvable line settled made (unsolvable, sets, says, is) =
+    histories.more before after made (judge (id_number id) claim.Unsolvable sets)
 
 level_made : (keeping : Keeping) (limit : ℕ) (from id : ℤ) (book before after : Book) (line : List ℕ) (settled : Bool) → IsMadeOf book before
     → SettlesLevel keeping limit from id before line settled after → IsMadeOf book after
@@ -123,12 +122,12 @@ settlings-keep-verdicts keeping limit from book after id page (n, text, all, bef
 
 -- ---- levels that are settled
 
--- a verdict that was proved
-proved_verdict : (book : Book) (id : ℕ) (shown : Claim) (after : Book) (page : Page) → ProvesKnown book id shown after → page_at after id ≡ Some page
+-- a verdict that was set
+verdict_set : (book : Book) (id : ℕ) (shown : Claim) (after : Book) (page : Page) → SetsVerdict book id shown after → page_at after id ≡ Some page
     → verdict_of shown ≡ page.verdict
-proved_verdict book id shown after page (bytes, proves) there =
-    let new : Page = record proves.page { verdict = verdict_of shown } in
-    let at : page_at after id ≡ Some new = ap (λ (b : Book). page_at b id) proves.after_is ∙ page_there book id proves.page new proves.there in
+verdict_set book id shown after page sets there =
+    let new : Page = record sets.page { verdict = verdict_of shown } in
+    let at : page_at after id ≡ Some new = ap (λ (b : Book). page_at b id) sets.after_is ∙ page_there book id sets.page new sets.there in
     let one : new ≡ page = same_Some new page (sym at ∙ there) in ap (λ (p : Page). p.verdict) one
 
 never_untested : (shown : Claim) → verdict_of shown ≢ Untested
@@ -137,8 +136,8 @@ never_untested claim.Unsolvable is = let no : Unsolvable ≡ Untested = is in ab
 
 by_verdict : (id : ℤ) (book after : Book) (rows : Rows) (shown : Claim) (line : List ℕ) (settled : Bool) (page : Page) → SettlesBy id rows shown book line settled after
     → page_at after (id_number id) ≡ Some page → verdict_of shown ≡ page.verdict
-by_verdict id book after rows (claim.Pushes n) line settled page (best, count, it, says, is) there = proved_verdict it.middle (id_number id) _ after page it.proved there
-by_verdict id book after rows claim.Unsolvable line settled page (unsolvable, proves, says, is) there = proved_verdict book (id_number id) _ after page proves there
+by_verdict id book after rows (claim.Pushes n) line settled page (best, count, it, says, is) there = verdict_set it.middle (id_number id) _ after page it.set there
+by_verdict id book after rows claim.Unsolvable line settled page (unsolvable, sets, says, is) there = verdict_set book (id_number id) _ after page sets there
 
 -- the level that was gone through has a verdict, or comes before the first
 level_tested : (keeping : Keeping) (limit : ℕ) (from : ℤ) (n : ℕ) (book after : Book) (line : List ℕ) (page : Page)
@@ -218,7 +217,7 @@ cases_same m n = elim (cases_lt m n) [
 module _ (keeping : Keeping) (limit : ℕ) (from : ℤ) where
   -- the claim by which a level has a verdict, of which a certificate was kept
   abbrev HasCert : ℕ → Page → Page → Type 0
-  HasCert id page new = (shown : Claim) × (verdict_of shown ≡ new.verdict) × IsKept keeping limit (pos id) page.level shown
+  HasCert id page new = (shown : Claim) × (verdict_of shown ≡ new.verdict) × keeping.keeps limit (pos id) page.level shown
 
   level_cert : (n : ℕ) (book after : Book) (line : List ℕ) (settled : Bool) (page new : Page) → SettlesLevel keeping limit from (pos (n + 1)) book line settled after
       → page_at book (n + 1) ≡ Some page → page_at after (n + 1) ≡ Some new → page.verdict ≡ Untested → new.verdict ≢ Untested → HasCert (n + 1) page new
@@ -228,7 +227,7 @@ module _ (keeping : Keeping) (limit : ℕ) (from : ℤ) where
       let one : other ≡ page = same_Some other page (sym tried.there ∙ there) in (
         shown,
         by_verdict (pos (n + 1)) book after other.level shown line settled new by then_there,
-        subst (λ (p : Page). IsKept keeping limit (pos (n + 1)) p.level shown) one kept,
+        subst (λ (p : Page). keeping.keeps limit (pos (n + 1)) p.level shown) one kept,
       )
   level_cert n book after line settled page new (is_past_limit other least tried cut says is same) there then_there untested tested =
       absurd (tested (unchanged (n + 1) book after page new same there then_there untested))

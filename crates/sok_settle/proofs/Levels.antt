@@ -8,37 +8,39 @@ use Rattle.sok_rules.specs.declared.cell.Dir.{Dir}
 use Rattle.sok_rules.specs.Limits.{letter_limit}
 use Rattle.sok_rules.specs.Squares.{Rows}
 use Rattle.sok_rules.specs.Play.{IsFewest, IsUnsolvable, Solves, pushes, start}
+use Rattle.sok_rules.proofs.Runs.{pushes-le-length}
 use Rattle.sok_cert.specs.Claim.{Claim}
 use Rattle.sok_cert.specs.Claim.TheVariants as claim
-use Rattle.sok_search.specs.Outcomes.{IsLeastSolution}
+use Rattle.sok_cert.specs.Text.{number_limit}
+use Rattle.sok_search.specs.Finished.{claim_of}
 use Rattle.sok_book.specs.declared.fault.BookFault.{BookFault}
 use Rattle.sok_book.specs.declared.fault.BookFault.TheVariants as refusal
 use Rattle.sok_book.specs.declared.record.Offer.{Offer}
 use Rattle.sok_book.specs.declared.record.Verdict.TheVariants.{Untested}
 use Rattle.sok_book.specs.Books.{Book, Page, Solution, page_at, solution_of}
-use Rattle.sok_book.specs.Commands.{Meets, Offers, best_pushes, is_better, offer_answer, with_best, with_page, verdict_of}
+use Rattle.sok_book.specs.Commands.{Meets, Offers, SetsVerdict, best_pushes, is_better, offer_answer, with_best, with_page, verdict_of}
 use Rattle.sok_book.specs.Refusals.{IsNotOffered}
 use Rattle.sok_book.proofs.Outcomes.{offers-are-not-refused}
 use Rattle.sok_book.specs.Kept.{IsKeptPage, IsKeptSolution}
 use Rattle.sok_store.specs.Rows.{IsKeptBook}
 use Rattle.sok_store.specs.Calls.{id_number}
-use Rattle.sok_store.specs.Known.{IsNotKnown, ProvesKnown}
+use Rattle.sok_store.specs.Verdicts.{IsNotSet}
 use Rattle.sok_store.proofs.Found.{kept_at, page_there, some_and}
 use Rattle.sok_keep.specs.Offers.{HasBest}
-use Rattle.sok_settle.specs.Steps.{IsTriedAs}
+use Rattle.sok_settle.specs.Steps.{AreFewest, IsTriedAs}
 
 -- ---- letters that solve a level are not refused
 
-pub never_refused : (from id : ℤ) (rows : Rows) (book : Book) (letters : List Dir) (fault : BookFault) → IsTriedAs from id rows book → Solves rows letters
-    → length letters ≤ letter_limit → IsNotOffered book (id_number id) letters fault → ⊥
-never_refused from id rows book letters fault (page, tried, same) solves few refused =
+pub never_refused : (from id : ℤ) (page : Page) (book : Book) (letters : List Dir) (fault : BookFault) → IsTriedAs from id page book
+    → Solves page.level letters → length letters ≤ letter_limit → IsNotOffered book (id_number id) letters fault → ⊥
+never_refused from id page book letters fault tried solves few refused =
     let answer = offer_answer (is_better (pushes page.level (start page.level) letters) (best_pushes page)) in
     let after = with_page book (id_number id) (with_best page (solution_of page.level letters)) in
     let offers : Offers book (id_number id) letters answer after = record {
       page = page;
       there = tried.there;
       few = few;
-      solves = subst (λ (r : Rows). Solves r letters) (sym same) solves;
+      solves = solves;
       answer_is = refl;
       after_is = refl;
     } in
@@ -68,7 +70,7 @@ pub record HasLeast (book : Book) (id : ℕ) (rows : Rows) (least : ℕ) : Type 
   pub level : page.level ≡ rows
   pub best : best_pushes page ≡ Some least
 
-best_is : (page : Page) (letters : List Dir) (least : ℕ) → IsKeptPage page → IsLeastSolution page.level letters least
+best_is : (page : Page) (letters : List Dir) (least : ℕ) → IsKeptPage page → AreFewest page.level letters least
     → ((with_best page (solution_of page.level letters)).level ≡ page.level) × (best_pushes (with_best page (solution_of page.level letters)) ≡ Some least)
 best_is page letters least kept is =
     let new = solution_of page.level letters in
@@ -93,15 +95,15 @@ best_untested page solution untested =
     ]
 
 -- after the solution was offered
-pub offered_best : (from id : ℤ) (rows : Rows) (book middle : Book) (letters : List Dir) (least : ℕ) (offer : Offer) → IsKeptBook book
-    → IsTriedAs from id rows book → IsLeastSolution rows letters least → Offers book (id_number id) letters offer middle
-    → HasLeast middle (id_number id) rows least
-offered_best from id rows book middle letters least offer kept (page, tried, same) is offered =
+pub offered_best : (from id : ℤ) (page : Page) (book middle : Book) (letters : List Dir) (least : ℕ) (offer : Offer) → IsKeptBook book
+    → IsTriedAs from id page book → AreFewest page.level letters least → Offers book (id_number id) letters offer middle
+    → HasLeast middle (id_number id) page.level least
+offered_best from id page book middle letters least offer kept tried is offered =
     let one : offered.page ≡ page = same_Some offered.page page (sym offered.there ∙ tried.there) in
-    let level : offered.page.level ≡ rows = ap (λ (p : Page). p.level) one ∙ same in
+    let level : offered.page.level ≡ page.level = ap (λ (p : Page). p.level) one in
     let new = with_best offered.page (solution_of offered.page.level letters) in
     let (stays, best) = best_is offered.page letters least (kept_at book (id_number id) offered.page kept offered.there)
-    (subst (λ (r : Rows). IsLeastSolution r letters least) (sym level) is) in
+    (subst (λ (r : Rows). AreFewest r letters least) (sym level) is) in
     record {
       page = new;
       there = ap (λ (b : Book). page_at b (id_number id)) offered.after_is ∙ page_there book (id_number id) offered.page new offered.there;
@@ -111,7 +113,7 @@ offered_best from id rows book middle letters least offer kept (page, tried, sam
 
 -- so a claim of its pushes is not refused
 pub never_differs : (book : Book) (id : ℕ) (rows : Rows) (least : ℕ) (fault : BookFault) → HasLeast book id rows least
-    → IsNotKnown book id rows (claim.Pushes least) fault → ⊥
+    → IsNotSet book id rows (claim.Pushes least) fault → ⊥
 never_differs book id rows least refusal.NoLevel has refused = refused (some_and (page_at book id) (λ p. p.level ≡ rows) has.page has.there has.level)
 never_differs book id rows least refusal.ClaimDiffers has refused =
     subst (λ (o : Option Page). IsSomeAnd o (λ p. Meets (claim.Pushes least) (best_pushes p) → ⊥)) has.there refused.1 has.best
@@ -123,14 +125,35 @@ best_told book id rows least best has told =
     let here : has.page.best ≡ Some best = subst (λ (o : Option Page). IsSomeAnd o (λ p. p.best ≡ Some best)) has.there told in
     same_Some best.pushes least (sym (ap (option_map (λ (b : Solution). b.pushes)) here) ∙ has.best)
 
--- and a proof leaves it
-pub best_stays : (middle after : Book) (id : ℕ) (shown : Claim) (best : Solution) → ProvesKnown middle id shown after → HasBest middle id best
+-- and a verdict that is set leaves it
+pub best_stays : (middle after : Book) (id : ℕ) (shown : Claim) (best : Solution) → SetsVerdict middle id shown after → HasBest middle id best
     → HasBest after id best
-best_stays middle after id shown best (bytes, proves) has =
-    let new : Page = record proves.page { verdict = verdict_of shown } in
-    let at : page_at after id ≡ Some new = ap (λ (b : Book). page_at b id) proves.after_is ∙ page_there middle id proves.page new proves.there in
-    let here : proves.page.best ≡ Some best = subst (λ (o : Option Page). IsSomeAnd o (λ p. p.best ≡ Some best)) proves.there has in
+best_stays middle after id shown best sets has =
+    let new : Page = record sets.page { verdict = verdict_of shown } in
+    let at : page_at after id ≡ Some new = ap (λ (b : Book). page_at b id) sets.after_is ∙ page_there middle id sets.page new sets.there in
+    let here : sets.page.best ≡ Some best = subst (λ (o : Option Page). IsSomeAnd o (λ p. p.best ≡ Some best)) sets.there has in
     some_and (page_at after id) (λ p. p.best ≡ Some best) new at here
+
+-- ---- the best that stands
+
+-- its pushes are a number of a certificate
+pub best_small : (page : Page) → IsKeptPage page → IfSome (best_pushes page) (λ k. k ≤ number_limit)
+best_small page kept = go page.best kept.best
+  where
+    go : (best : Option Solution) → IfSome best (IsKeptSolution page.level) → IfSome (option_map (λ (b : Solution). b.pushes) best) (λ k. k ≤ number_limit)
+    go None kept = tt
+    go (Some best) kept =
+        let count : best.pushes ≡ pushes page.level (start page.level) best.letters = ap (λ (b : Solution). b.pushes) kept.solution.counted in
+        let low = pushes-le-length page.level best.letters (start page.level) in
+        let few = kept.few in
+        omega (arith, count, low, few)
+
+-- what is claimed of it
+pub best_claim : (page : Page) (best : Solution) → page.best ≡ Some best → claim_of (best_pushes page) ≡ claim.Pushes best.pushes
+best_claim page best is = ap (λ (o : Option Solution). claim_of (option_map (λ (b : Solution). b.pushes) o)) is
+
+pub none_claim : (page : Page) → page.best ≡ None → claim_of (best_pushes page) ≡ claim.Unsolvable
+none_claim page is = ap (λ (o : Option Solution). claim_of (option_map (λ (b : Solution). b.pushes) o)) is
 
 -- ---- a level that has no solution
 
@@ -139,12 +162,12 @@ no_best rows None unsolvable kept = refl
 no_best rows (Some best) unsolvable kept = absurd (unsolvable best.letters kept.solution.solves)
 
 -- a claim of this is not refused
-pub never_solved : (from id : ℤ) (rows : Rows) (book : Book) (fault : BookFault) → IsKeptBook book → IsTriedAs from id rows book → IsUnsolvable rows
-    → IsNotKnown book (id_number id) rows claim.Unsolvable fault → ⊥
-never_solved from id rows book refusal.NoLevel kept (page, tried, same) unsolvable refused =
-    refused (some_and (page_at book (id_number id)) (λ p. p.level ≡ rows) page tried.there same)
-never_solved from id rows book refusal.ClaimDiffers kept (page, tried, same) unsolvable refused =
+pub never_solved : (from id : ℤ) (page : Page) (book : Book) (fault : BookFault) → IsKeptBook book → IsTriedAs from id page book → IsUnsolvable page.level
+    → IsNotSet book (id_number id) page.level claim.Unsolvable fault → ⊥
+never_solved from id page book refusal.NoLevel kept tried unsolvable refused =
+    refused (some_and (page_at book (id_number id)) (λ p. p.level ≡ page.level) page tried.there refl)
+never_solved from id page book refusal.ClaimDiffers kept tried unsolvable refused =
     let best = (kept_at book (id_number id) page kept tried.there).best in
     subst (λ (o : Option Page). IsSomeAnd o (λ p. Meets claim.Unsolvable (best_pushes p) → ⊥)) tried.there refused.1
-    (no_best page.level page.best (subst IsUnsolvable (sym same) unsolvable) best)
-never_solved from id rows book fault kept is unsolvable refused = refused
+    (no_best page.level page.best unsolvable best)
+never_solved from id page book fault kept tried unsolvable refused = refused

@@ -1,4 +1,3 @@
-pub mod Certifying
 pub mod Going
 pub mod Laws
 pub mod Levels

@@ -10,10 +10,10 @@ use Rattle.sok_rules.specs.Squares.{Rows}
 use Rattle.sok_rules.specs.Play.{IsFewest, IsUnsolvable}
 use Rattle.sok_cert.specs.Claim.{Claim}
 use Rattle.sok_cert.specs.Claim.TheVariants as claim
-use Rattle.sok_cert.specs.Entry.{Entry}
-use Rattle.sok_search.specs.Outcomes.{Certifies, IsCutShort, IsLeastSolution}
+use Rattle.sok_search.specs.Outcomes.{IsCutShortBeside, IsLeastSolution}
 use Rattle.sok_book.specs.declared.fault.BookFault.{BookFault}
 use Rattle.sok_book.specs.Books.{Book, Page}
+use Rattle.sok_book.specs.Commands.{SetsVerdict, best_pushes}
 use Rattle.sok_book.specs.Refusals.{IsNotOffered}
 use Rattle.sok_engine.specs.declared.fault.ToolFault.{ToolFault}
 use Rattle.sok_engine.specs.declared.fault.ToolFault.TheVariants as tool
@@ -22,129 +22,116 @@ use Rattle.sok_store.specs.Faults.{IsOutside}
 use Rattle.sok_store.specs.Rows.{IsKeptBook}
 use Rattle.sok_store.specs.Calls.{IsCaused, Stops, StoresChange, id_number}
 use Rattle.sok_store.specs.Calls as calls
-use Rattle.sok_store.specs.Known.{IsNotKnown, ProvesKnown}
+use Rattle.sok_store.specs.Verdicts.{IsNotSet}
 use Rattle.sok_store.specs.Standing.{OffersTelling}
 use Rattle.sok_store.specs.declared.standing.Standing.{Standing}
 use Rattle.sok_store.proofs.Calls.{held, held_shown, shown, stops_less, stops_same}
 use Rattle.sok_store.proofs.Caused.{cause_before}
 use Rattle.sok_keep.proofs.Ending.{caused_more}
 use Rattle.sok_settle.specs.Going.{MayStep}
-use Rattle.sok_settle.specs.Keeping.{IsUnkept, Keeping, TellsKept}
+use Rattle.sok_settle.specs.Keeping.{Keeping, TellsKept}
 use Rattle.sok_settle.specs.Lines.{TellsFault, TellsLine, TellsUnkept, fault_line}
-use Rattle.sok_settle.specs.Settles.{IsTried, EndsLevel, SettlesBy, SettlesLevel, is_past_limit, is_settled, is_too_long, is_too_much, leave_of_level, limit_line, optimal_line, too_long, unsolvable_line}
-use Rattle.sok_settle.specs.Steps.{GoesBy, GoesThrough, IsTriedAs, leave_of_kept}
+use Rattle.sok_settle.specs.Settles.{EndsLevel, SettlesBy, SettlesLevel, is_past_limit, is_settled, is_too_long, is_too_much, leave_of_level, limit_line, optimal_line, too_long, unsolvable_line}
+use Rattle.sok_settle.specs.Steps.{AreFewest, GoesBy, GoesThrough, IsTriedAs, leave_of_kept}
 use Rattle.sok_settle.proofs.Going.{changes_leads, left_steps, memory_goes, same_leads, step_other, told_goes, unwritten_goes}
 use Rattle.sok_settle.proofs.Levels.{HasLeast, best_stays, best_told, never_differs, never_refused, never_solved, offered_best}
 
 -- ---- without a change
 
-module _ (keeping : Keeping) (limit : ℕ) (from id : ℤ) (rows : Rows) where
+module _ (keeping : Keeping) (limit : ℕ) (from id : ℤ) (page : Page) where
   abbrev through_tried : State → State → Option (List ℕ) → Option (List ℕ) → Result Bool ToolFault → Type 0
-  through_tried = GoesThrough (IsTriedAs from id rows) keeping limit from id
+  through_tried = GoesThrough (IsTriedAs from id page) keeping limit from id
 
   -- a line is told of a level that is not settled
   stays_goes : (s : State) (line : List ℕ) (held later : Option (List ℕ)) (result : Result Bool ToolFault)
-      → ((book : Book) → IsTriedAs from id rows book → SettlesLevel keeping limit from id book line false book) → TellsLine line false held later result
+      → ((book : Book) → IsTriedAs from id page book → SettlesLevel keeping limit from id book line false book) → TellsLine line false held later result
       → through_tried s s held later result
   stays_goes s line held later result stays tells =
-      told_goes (SettlesLevel keeping limit from id) (leave_of_level keeping limit from id) (IsTriedAs from id rows) s s line false held later result
+      told_goes (SettlesLevel keeping limit from id) (leave_of_level keeping limit from id) (IsTriedAs from id page) s s line false held later result
       (same_leads s _ (λ book kept tried. stays book tried)) (stops_same s _) tells
 
   -- memory is refused
   memory_refused : (s : State) (held later : Option (List ℕ)) → Keeps held later → through_tried s s held later (Err tool.Memory)
   memory_refused s held later keeps =
-      memory_goes (SettlesLevel keeping limit from id) (leave_of_level keeping limit from id) (IsTriedAs from id rows) s s held later tool.Memory refl keeps
+      memory_goes (SettlesLevel keeping limit from id) (leave_of_level keeping limit from id) (IsTriedAs from id page) s s held later tool.Memory refl keeps
       (λ clean book holds. (book, λ tried. inl refl, holds)) (stops_same s _)
+
+  pub unsearched_goes : (s : State) (held : Option (List ℕ)) (fault : ToolFault) → fault ≡ tool.Memory → through_tried s s held held (Err fault)
+  unsearched_goes s held fault memory =
+      subst (λ f. through_tried s s held held (Err f)) (sym memory) (memory_refused s held held (Keeps-refl held))
 
   -- the line of its fault is told, or memory is refused for it
   fault_goes : (s : State) (fault : ToolFault) (held later : Option (List ℕ)) (result : Result Bool ToolFault)
-      → ((book : Book) → IsTriedAs from id rows book → SettlesLevel keeping limit from id book (fault_line id fault) false book)
+      → ((book : Book) → IsTriedAs from id page book → SettlesLevel keeping limit from id book (fault_line id fault) false book)
       → TellsFault id fault held later result → through_tried s s held later result
   fault_goes s fault held later result stays (inl (is, keeps)) =
       subst (λ (r : Result Bool ToolFault). through_tried s s held later r) (sym is) (memory_refused s held later keeps)
   fault_goes s fault held later result stays (inr tells) = stays_goes s (fault_line id fault) held later result stays tells
 
-  pub limit_goes : (s : State) (least : ℕ) (held later : Option (List ℕ)) (result : Result Bool ToolFault) → IsCutShort rows limit limit least
-      → TellsLine (limit_line id limit least) false held later result
+  pub limit_goes : (s : State) (least : ℕ) (held later : Option (List ℕ)) (result : Result Bool ToolFault)
+      → IsCutShortBeside page.level limit (best_pushes page) limit least → TellsLine (limit_line id limit least) false held later result
       → through_tried s s held later result
   limit_goes s least held later result cut tells =
-      stays_goes s (limit_line id limit least) held later result (λ book tried.
-      let (page, is, same) = tried in
-      is_past_limit page least is (subst (λ (r : Rows). IsCutShort r limit limit least) (sym same) cut) refl refl refl) tells
+      stays_goes s (limit_line id limit least) held later result (λ book tried. is_past_limit page least tried cut refl refl refl) tells
 
   pub too_long_goes : (s : State) (letters : List Dir) (pushes : ℕ) (held later : Option (List ℕ)) (result : Result Bool ToolFault)
-      → IsLeastSolution rows letters pushes → letter_limit < length letters → TellsFault id too_long held later result
+      → IsLeastSolution page.level letters pushes → letter_limit < length letters → TellsFault id too_long held later result
       → through_tried s s held later result
   too_long_goes s letters pushes held later result least many tells =
-      fault_goes s too_long held later result (λ book tried.
-      let (page, is, same) = tried in
-      is_too_long page letters pushes is (subst (λ (r : Rows). IsLeastSolution r letters pushes) (sym same) least) many refl refl refl) tells
+      fault_goes s too_long held later result (λ book tried. is_too_long page letters pushes tried least many refl refl refl) tells
 
   -- ---- its certificate
 
-  module _ (shown : Claim) (entries : List Entry) (certified : Certifies rows limit shown entries) where
+  module _ (shown : Claim) where
     -- it is refused
-    refused_so : (fault : ToolFault) (book : Book) → IsTriedAs from id rows book → keeping.refuses id shown entries fault
-        → (page : Page) × IsTried from id book page × IsUnkept keeping limit id page.level fault
-    refused_so fault book (page, is, same) refused = (
-      page,
-      is,
-      record {
-        shown = shown;
-        entries = entries;
-        certified = subst (λ (r : Rows). Certifies r limit shown entries) (sym same) certified;
-        refused = refused;
-      },
-    )
-
     unkept : (X : Type 0) (s : State) (fault : ToolFault) (held later : Option (List ℕ)) (result : Result Bool ToolFault)
-        → TellsKept {X = X} keeping id shown entries (Err fault) → TellsUnkept id fault held later result → through_tried s s held later result
+        → TellsKept {X = X} keeping limit id page.level shown (Err fault) → TellsUnkept id fault held later result → through_tried s s held later result
     unkept X s tool.TooMuch held later result refused tells =
-        fault_goes s tool.TooMuch held later result (λ book tried.
-        let (page, is, unkept) = refused_so tool.TooMuch book tried refused in is_too_much page is unkept refl refl refl) tells
+        fault_goes s tool.TooMuch held later result (λ book tried. is_too_much page tried refused refl refl refl) tells
     unkept X s tool.WriteFailed held later result refused (is, keeps) =
         subst (λ (r : Result Bool ToolFault). through_tried s s held later r) (sym is)
-        (unwritten_goes (SettlesLevel keeping limit from id) (leave_of_level keeping limit from id) (IsTriedAs from id rows) s held later keeps
-        (λ book tried. refused_so tool.WriteFailed book tried refused))
+        (unwritten_goes (SettlesLevel keeping limit from id) (leave_of_level keeping limit from id) (IsTriedAs from id page) s held later keeps
+        (λ book tried. (page, tried, refused)))
     unkept X s tool.Memory held later result refused (is, keeps) =
         subst (λ (r : Result Bool ToolFault). through_tried s s held later r) (sym is) (memory_refused s held later keeps)
     unkept X s fault held later result never tells = absurd never
 
     pub unkept_goes : (X : Type 0) (s : State) (passed : ℤ) (fault : ToolFault) (held later : Option (List ℕ)) (result : Result Bool ToolFault) → passed ≡ id
-        → TellsKept {X = X} keeping passed shown entries (Err fault) → TellsUnkept passed fault held later result → through_tried s s held later result
+        → TellsKept {X = X} keeping limit passed page.level shown (Err fault) → TellsUnkept passed fault held later result → through_tried s s held later result
     unkept_goes X s passed fault held later result same refused tells =
-        unkept X s fault held later result (subst (λ i. TellsKept {X = X} keeping i shown entries (Err fault)) same refused)
+        unkept X s fault held later result (subst (λ i. TellsKept {X = X} keeping limit i page.level shown (Err fault)) same refused)
         (subst (λ i. TellsUnkept i fault held later result) same tells)
 
     -- it is kept, and then the level is settled by its claim
-    pub kept_goes : (old new : State) (held later : Option (List ℕ)) (result : Result Bool ToolFault) → keeping.keeps id shown entries
-        → GoesBy from id rows shown old new held later result → through_tried old new held later result
+    pub kept_goes : (old new : State) (held later : Option (List ℕ)) (result : Result Bool ToolFault) → keeping.keeps limit id page.level shown
+        → GoesBy from id page shown old new held later result → through_tried old new held later result
     kept_goes old new held later result kept goes =
-        step_other (SettlesBy id rows shown) (SettlesLevel keeping limit from id) (leave_of_kept from id) (leave_of_level keeping limit from id)
-        (IsTriedAs from id rows) (λ book after line settled tried by.
-        let (page, is, same) = tried in
-        is_settled page shown is (record {
-          entries = entries;
-          certified = subst (λ (r : Rows). Certifies r limit shown entries) (sym same) certified;
-          kept = kept;
-        }) (subst (λ (r : Rows). SettlesBy id r shown book line settled after) (sym same) by))
-        (λ book after tried left. left) (λ book tried never. absurd never) old new held later result goes
+        step_other (SettlesBy id page.level shown) (SettlesLevel keeping limit from id) (leave_of_kept from id) (leave_of_level keeping limit from id)
+        (IsTriedAs from id page) (λ book after line settled tried by. is_settled page shown tried kept by) (λ book after tried left. left)
+        (λ book tried never. absurd never) old new held later result goes
 
 -- ---- it is settled by a claim
 
-module _ (from id : ℤ) (rows : Rows) where
+module _ (from id : ℤ) (page : Page) (rows : Rows) (same : page.level ≡ rows) where
   abbrev May : Claim → Book → Book → Type 0
-  May shown book after = IsTriedAs from id rows book → MayStep (SettlesBy id rows shown) (leave_of_kept from id) book after
+  May shown book after = IsTriedAs from id page book → MayStep (SettlesBy id page.level shown) (leave_of_kept from id) book after
 
-  -- ---- an offer, and a proof
+  not_set : (book : Book) (shown : Claim) (fault : BookFault) → IsNotSet book (id_number id) rows shown fault
+      → IsNotSet book (id_number id) page.level shown fault
+  not_set book shown fault refused = subst (λ (r : Rows). IsNotSet book (id_number id) r shown fault) (sym same) refused
 
-  module _ (old mid : State) (letters : List Dir) (pushes : ℕ) (few : length letters ≤ letter_limit) (least : IsLeastSolution rows letters pushes)
+  -- ---- an offer, and a verdict
+
+  module _ (old mid : State) (letters : List Dir) (pushes : ℕ) (few : length letters ≤ letter_limit) (fewest : AreFewest rows letters pushes)
       (one : Stops old mid (λ book after. (told : Standing) × OffersTelling book (id_number id) letters told after)) where
     abbrev IsOffered : Book → Book → Type 0
     IsOffered book after = (told : Standing) × OffersTelling book (id_number id) letters told after
 
-    left : (book after : Book) → IsTriedAs from id rows book → IsOffered book after → EndsLevel from id book after
-    left book after (page, is, same) (told, tells) = inr (page, is, letters, told.offer, tells.offered)
+    least : AreFewest page.level letters pushes
+    least = subst (λ (r : Rows). AreFewest r letters pushes) (sym same) fewest
+
+    left : (book after : Book) → IsTriedAs from id page book → IsOffered book after → EndsLevel from id book after
+    left book after tried (told, tells) = inr (page, tried, letters, told.offer, tells.offered)
 
     offer_stops : Stops old mid (May (claim.Pushes pushes))
     offer_stops = stops_less old mid _ _ (λ book after made tried. inl (left book after tried made)) one
@@ -152,14 +139,14 @@ module _ (from id : ℤ) (rows : Rows) where
     -- the letters are not kept, for a cause outside
     pub unoffered_goes : (held : Option (List ℕ)) (fault : BookFault)
         → calls.KeepsBook old mid (λ book. IsOutside fault ⊎ IsNotOffered book (id_number id) letters fault) → IsCaused old mid IsOffered fault
-        → GoesBy from id rows (claim.Pushes pushes) old mid held held (Err (of_book fault))
+        → GoesBy from id page (claim.Pushes pushes) old mid held held (Err (of_book fault))
     unoffered_goes held fault keeps caused = record {
       turns = λ clean book held_now.
           let (why, holds) = keeps clean book held_now in (
             book,
             λ tried. elim why [
-              | inl outside ↦ left_steps (SettlesBy id rows (claim.Pushes pushes)) (leave_of_kept from id) book book held held fault outside (inl refl) (Keeps-refl held)
-              | inr refused ↦ absurd (never_refused from id rows book letters fault tried least.solves few refused)
+              | inl outside ↦ left_steps (SettlesBy id page.level (claim.Pushes pushes)) (leave_of_kept from id) book book held held fault outside (inl refl) (Keeps-refl held)
+              | inr refused ↦ absurd (never_refused from id page book letters fault tried least.solves few refused)
             ],
             holds,
           );
@@ -169,19 +156,19 @@ module _ (from id : ℤ) (rows : Rows) where
     }
 
     module _ (told : Standing) (offered : StoresChange old mid (λ book after. OffersTelling book (id_number id) letters told after)) (new : State)
-        (two : Stops mid new (λ book after. ProvesKnown book (id_number id) (claim.Pushes pushes) after)) where
+        (two : Stops mid new (λ book after. SetsVerdict book (id_number id) (claim.Pushes pushes) after)) where
       early : HasCleanDisk new → HasCleanDisk mid
       early clean = omega (arith, clean, two.clean)
 
-      least_after : (book middle : Book) → IsKeptBook book → IsTriedAs from id rows book → OffersTelling book (id_number id) letters told middle
-          → HasLeast middle (id_number id) rows pushes
-      least_after book middle kept tried tells = offered_best from id rows book middle letters pushes told.offer kept tried least tells.offered
+      least_after : (book middle : Book) → IsKeptBook book → IsTriedAs from id page book → OffersTelling book (id_number id) letters told middle
+          → HasLeast middle (id_number id) page.level pushes
+      least_after book middle kept tried tells = offered_best from id page book middle letters pushes told.offer kept tried least tells.offered
 
-      optimal : (book middle after : Book) → IsKeptBook book → IsTriedAs from id rows book → OffersTelling book (id_number id) letters told middle
-          → ProvesKnown middle (id_number id) (claim.Pushes pushes) after
-          → SettlesBy id rows (claim.Pushes pushes) book (optimal_line id told.pushes told.moves) true after
-      optimal book middle after kept tried tells proves =
-          let count = best_told middle (id_number id) rows pushes tells.best (least_after book middle kept tried tells) tells.has in (
+      optimal : (book middle after : Book) → IsKeptBook book → IsTriedAs from id page book → OffersTelling book (id_number id) letters told middle
+          → SetsVerdict middle (id_number id) (claim.Pushes pushes) after
+          → SettlesBy id page.level (claim.Pushes pushes) book (optimal_line id told.pushes told.moves) true after
+      optimal book middle after kept tried tells sets =
+          let count = best_told middle (id_number id) page.level pushes tells.best (least_after book middle kept tried tells) tells.has in (
             tells.best,
             count,
             record {
@@ -189,87 +176,90 @@ module _ (from id : ℤ) (rows : Rows) where
               offer = told.offer;
               middle = middle;
               offered = tells.offered;
-              proved = subst (λ n. ProvesKnown middle (id_number id) (claim.Pushes n) after) (sym count) proves;
-              has = best_stays middle after (id_number id) (claim.Pushes pushes) tells.best proves tells.has;
-              fewest = subst (IsFewest rows) (sym count) least.fewest;
+              set = subst (λ n. SetsVerdict middle (id_number id) (claim.Pushes n) after) (sym count) sets;
+              has = best_stays middle after (id_number id) (claim.Pushes pushes) tells.best sets tells.has;
+              fewest = subst (IsFewest page.level) (sym count) least.fewest;
             },
             λ i. optimal_line id (tells.pushes i) (tells.moves i),
             refl,
           )
 
-      proof_stops : Stops old new (May (claim.Pushes pushes))
-      proof_stops = survives_then old mid new _ _ _ (λ _ db made. made) (λ clean db made book shows.
+      set_stops : Stops old new (May (claim.Pushes pushes))
+      set_stops = survives_then old mid new _ _ _ (λ _ db made. made) (λ clean db made book shows.
           let (middle, tells, stores) = offered (early clean) book (held_shown old book shows) in
-          let (after, proves, has) = made middle (shown mid middle stores) in
-          (after, λ tried. inr (optimal_line id told.pushes told.moves, true, optimal book middle after shows.0 tried tells proves), has))
+          let (after, sets, has) = made middle (shown mid middle stores) in
+          (after, λ tried. inr (optimal_line id told.pushes told.moves, true, optimal book middle after shows.0 tried tells sets), has))
           offer_stops two
 
-      -- the verdict is not proved, for a cause outside
-      pub unproved_goes : (held : Option (List ℕ)) (fault : BookFault)
-          → calls.KeepsBook mid new (λ book. IsOutside fault ⊎ IsNotKnown book (id_number id) rows (claim.Pushes pushes) fault)
-          → IsCaused mid new (λ book after. ProvesKnown book (id_number id) (claim.Pushes pushes) after) fault
-          → GoesBy from id rows (claim.Pushes pushes) old new held held (Err (of_book fault))
-      unproved_goes held_out fault keeps caused = record {
+      -- the verdict is not set, for a cause outside
+      pub unset_goes : (held : Option (List ℕ)) (fault : BookFault)
+          → calls.KeepsBook mid new (λ book. IsOutside fault ⊎ IsNotSet book (id_number id) rows (claim.Pushes pushes) fault)
+          → IsCaused mid new (λ book after. SetsVerdict book (id_number id) (claim.Pushes pushes) after) fault
+          → GoesBy from id page (claim.Pushes pushes) old new held held (Err (of_book fault))
+      unset_goes held_out fault keeps caused = record {
         turns = λ clean book held_now.
             let (middle, tells, stores) = offered (early clean) book held_now in
             let (why, holds) = keeps clean middle (held mid middle stores) in (
               middle,
               λ tried. elim why [
-                | inl outside ↦ left_steps (SettlesBy id rows (claim.Pushes pushes)) (leave_of_kept from id) book middle held_out held_out fault outside (left book middle tried (told, tells)) (Keeps-refl held_out)
-                | inr refused ↦ absurd (never_differs middle (id_number id) rows pushes fault (least_after book middle held_now.0 tried tells) refused)
+                | inl outside ↦ left_steps (SettlesBy id page.level (claim.Pushes pushes)) (leave_of_kept from id) book middle held_out held_out fault outside (left book middle tried (told, tells)) (Keeps-refl held_out)
+                | inr refused ↦ absurd (never_differs middle (id_number id) page.level pushes fault (least_after book middle held_now.0 tried tells) (not_set middle (claim.Pushes pushes) fault refused))
               ],
               holds,
             );
         done = tt;
-        stop = proof_stops;
+        stop = set_stops;
         cause = caused_more old new _ (May (claim.Pushes pushes)) (λ book after made. made) fault
             (λ database clean book holds.
             let (middle, tells, stores) = offered (early clean) book holds in
             elim (caused database clean middle (held mid middle stores)) [
-              | inl (after, proves, big) ↦
-                  inl (after, λ tried. inr (optimal_line id told.pushes told.moves, true, optimal book middle after holds.0 tried tells proves), big)
+              | inl (after, sets, big) ↦
+                  inl (after, λ tried. inr (optimal_line id told.pushes told.moves, true, optimal book middle after holds.0 tried tells sets), big)
               | inr why ↦ inr (cause_before old mid new _ _ one two clean why)
             ]);
       }
 
       -- or it is, and told
-      pub proved_goes : (held later : Option (List ℕ)) (result : Result Bool ToolFault)
-          → StoresChange mid new (λ book after. ProvesKnown book (id_number id) (claim.Pushes pushes) after)
+      pub set_goes : (held later : Option (List ℕ)) (result : Result Bool ToolFault)
+          → StoresChange mid new (λ book after. SetsVerdict book (id_number id) (claim.Pushes pushes) after)
           → TellsLine (optimal_line id told.pushes told.moves) true held later result
-          → GoesBy from id rows (claim.Pushes pushes) old new held later result
-      proved_goes held_out later result proved tells_line =
-          told_goes (SettlesBy id rows (claim.Pushes pushes)) (leave_of_kept from id) (IsTriedAs from id rows) old new (optimal_line id told.pushes told.moves) true held_out later result
+          → GoesBy from id page (claim.Pushes pushes) old new held later result
+      set_goes held_out later result proved tells_line =
+          told_goes (SettlesBy id page.level (claim.Pushes pushes)) (leave_of_kept from id) (IsTriedAs from id page) old new (optimal_line id told.pushes told.moves) true held_out later result
           (changes_leads old new _ (λ clean book holds.
           let (middle, tells, stores) = offered (early clean) book holds in
-          let (after, proves, stores_after) = proved clean middle (held mid middle stores) in
-          (after, λ tried. optimal book middle after holds.0 tried tells proves, stores_after)))
-          proof_stops tells_line
+          let (after, sets, stores_after) = proved clean middle (held mid middle stores) in
+          (after, λ tried. optimal book middle after holds.0 tried tells sets, stores_after)))
+          set_stops tells_line
 
-  -- ---- a proof alone
+  -- ---- a verdict alone
 
   module _ (old new : State) (unsolvable : IsUnsolvable rows)
-      (stop : Stops old new (λ book after. ProvesKnown book (id_number id) claim.Unsolvable after)) where
-    none_solves : (book after : Book) → ProvesKnown book (id_number id) claim.Unsolvable after
-        → SettlesBy id rows claim.Unsolvable book (unsolvable_line id) true after
-    none_solves book after proves = (unsolvable, proves, refl, refl)
+      (stop : Stops old new (λ book after. SetsVerdict book (id_number id) claim.Unsolvable after)) where
+    never_solves : IsUnsolvable page.level
+    never_solves = subst IsUnsolvable (sym same) unsolvable
 
-    may_none : (book after : Book) → ProvesKnown book (id_number id) claim.Unsolvable after → May claim.Unsolvable book after
-    may_none book after proves tried = inr (unsolvable_line id, true, none_solves book after proves)
+    none_solves : (book after : Book) → SetsVerdict book (id_number id) claim.Unsolvable after
+        → SettlesBy id page.level claim.Unsolvable book (unsolvable_line id) true after
+    none_solves book after sets = (never_solves, sets, refl, refl)
+
+    may_none : (book after : Book) → SetsVerdict book (id_number id) claim.Unsolvable after → May claim.Unsolvable book after
+    may_none book after sets tried = inr (unsolvable_line id, true, none_solves book after sets)
 
     none_stops : Stops old new (May claim.Unsolvable)
     none_stops = stops_less old new _ _ may_none stop
 
-    pub none_unproved_goes : (held : Option (List ℕ)) (fault : BookFault)
-        → calls.KeepsBook old new (λ book. IsOutside fault ⊎ IsNotKnown book (id_number id) rows claim.Unsolvable fault)
-        → IsCaused old new (λ book after. ProvesKnown book (id_number id) claim.Unsolvable after) fault
-        → GoesBy from id rows claim.Unsolvable old new held held (Err (of_book fault))
-    none_unproved_goes held fault keeps caused = record {
+    pub none_unset_goes : (held : Option (List ℕ)) (fault : BookFault)
+        → calls.KeepsBook old new (λ book. IsOutside fault ⊎ IsNotSet book (id_number id) rows claim.Unsolvable fault)
+        → IsCaused old new (λ book after. SetsVerdict book (id_number id) claim.Unsolvable after) fault
+        → GoesBy from id page claim.Unsolvable old new held held (Err (of_book fault))
+    none_unset_goes held fault keeps caused = record {
       turns = λ clean book held_now.
           let (why, holds) = keeps clean book held_now in (
             book,
             λ tried. elim why [
-              | inl outside ↦ left_steps (SettlesBy id rows claim.Unsolvable) (leave_of_kept from id) book book held held fault outside (inl refl) (Keeps-refl held)
-              | inr refused ↦ absurd (never_solved from id rows book fault held_now.0 tried unsolvable refused)
+              | inl outside ↦ left_steps (SettlesBy id page.level claim.Unsolvable) (leave_of_kept from id) book book held held fault outside (inl refl) (Keeps-refl held)
+              | inr refused ↦ absurd (never_solved from id page book fault held_now.0 tried never_solves (not_set book claim.Unsolvable fault refused))
             ],
             holds,
           );
@@ -278,11 +268,11 @@ module _ (from id : ℤ) (rows : Rows) where
       cause = caused_more old new _ _ may_none fault caused;
     }
 
-    pub none_proved_goes : (held later : Option (List ℕ)) (result : Result Bool ToolFault)
-        → StoresChange old new (λ book after. ProvesKnown book (id_number id) claim.Unsolvable after) → TellsLine (unsolvable_line id) true held later result
-        → GoesBy from id rows claim.Unsolvable old new held later result
-    none_proved_goes held later result proved tells =
-        told_goes (SettlesBy id rows claim.Unsolvable) (leave_of_kept from id) (IsTriedAs from id rows) old new (unsolvable_line id) true held later result
+    pub none_set_goes : (held later : Option (List ℕ)) (result : Result Bool ToolFault)
+        → StoresChange old new (λ book after. SetsVerdict book (id_number id) claim.Unsolvable after) → TellsLine (unsolvable_line id) true held later result
+        → GoesBy from id page claim.Unsolvable old new held later result
+    none_set_goes held later result proved tells =
+        told_goes (SettlesBy id page.level claim.Unsolvable) (leave_of_kept from id) (IsTriedAs from id page) old new (unsolvable_line id) true held later result
         (changes_leads old new _ (λ clean book holds.
-        let (after, proves, stores) = proved clean book holds in (after, λ tried. none_solves book after proves, stores)))
+        let (after, sets, stores) = proved clean book holds in (after, λ tried. none_solves book after sets, stores)))
         none_stops tells

@@ -46,30 +46,30 @@ module _ (from : ℤ) (kept : PageWithId) (fits : FitsSigned w64 from) (book : B
   not_before : lt_z (passed kept.id) (passed from) ≡ false → kept.id <ℤ from → ⊥
   not_before test before = subst T (sym tested ∙ test) before.lt
 
--- ---- its level
+-- ---- its page
 
 -- the level of a record is tried, where nothing is proved of it
 tried_as : (from : ℤ) (kept : PageWithId) → FitsSigned w64 from → lt_z (passed kept.id) (passed from) ≡ false → kept.page.verdict ≡ Untested
-    → (book : Book) → IsKeptBook book → IsRecordIn kept book → IsTriedAs from kept.id kept.page.level book
+    → (book : Book) → IsKeptBook book → IsRecordIn kept book → IsTriedAs from kept.id kept.page book
 tried_as from kept fits begun untested book of_book is =
-    (kept.page, record { there = is.there; begun = not_before from kept fits book of_book is begun; untested = untested }, refl)
+    record { there = is.there; begun = not_before from kept fits book of_book is begun; untested = untested }
 
 module _ (keeping : Keeping) (limit : ℕ) (from : ℤ) (kept : PageWithId) where
-  -- so it is settled as its level is
+  -- so it is settled as the level with its page is
   pub level_goes : (old new : State) (held later : Option (List ℕ)) (result : Result Bool ToolFault) → FitsSigned w64 from
       → lt_z (passed kept.id) (passed from) ≡ false → kept.page.verdict ≡ Untested
-      → GoesThrough (IsTriedAs from (passed kept.id) kept.page.level) keeping limit from (passed kept.id) old new held later result
+      → GoesThrough (IsTriedAs from (passed kept.id) kept.page) keeping limit from (passed kept.id) old new held later result
       → GoesThrough (IsRecordIn kept) keeping limit from kept.id old new held later result
   level_goes old new held later result fits begun untested goes =
       goes_other old new _ _ _ _
       (λ book after of_book makes is.
       let same = record_passed kept book of_book is in
       subst (λ i. StepsLevel keeping limit from i book after held later result) same
-      (makes (subst (λ i. IsTriedAs from i kept.page.level book) (sym same) (tried_as from kept fits begun untested book of_book is))))
+      (makes (subst (λ i. IsTriedAs from i kept.page book) (sym same) (tried_as from kept fits begun untested book of_book is))))
       (λ book after of_book makes is.
       let same = record_passed kept book of_book is in
       subst (λ i. MaySettle keeping limit from i book after) same
-      (makes (subst (λ i. IsTriedAs from i kept.page.level book) (sym same) (tried_as from kept fits begun untested book of_book is))))
+      (makes (subst (λ i. IsTriedAs from i kept.page book) (sym same) (tried_as from kept fits begun untested book of_book is))))
       result goes
 
   -- a level that comes before the first, or has a verdict, is passed over

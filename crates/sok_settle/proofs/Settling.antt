@@ -13,7 +13,7 @@ use Rattle.sok_search.specs.Faults.{IsBadLimit}
 use Rattle.sok_book.specs.declared.fault.BookFault.{BookFault}
 use Rattle.sok_book.specs.declared.record.Offer.{Offer}
 use Rattle.sok_book.specs.Books.{Book, Page, PageWithId, page_at}
-use Rattle.sok_book.specs.Commands.{Offers}
+use Rattle.sok_book.specs.Commands.{Offers, SetsVerdict}
 use Rattle.sok_engine.specs.declared.fault.ToolFault.{ToolFault}
 use Rattle.sok_engine.specs.declared.fault.ToolFault.TheVariants as tool
 use Rattle.sok_engine.specs.Faults.{of_book}
@@ -22,7 +22,6 @@ use Rattle.sok_book.specs.Records.{AreRecordsOf, pages_from, with_id}
 use Rattle.sok_store.proofs.ReadRows.{length-records}
 use Rattle.sok_store.specs.Calls.{Carries, ChangesBook, EndsOpen, FindsBook, IsCaused, MakesNone, Stops, id_number}
 use Rattle.sok_store.specs.Calls as calls
-use Rattle.sok_store.specs.Known.{ProvesKnown}
 use Rattle.sok_store.proofs.Calls.{finds_then, held, held_shown, keeps_turns, same_turns, shown, stops_later}
 use Rattle.sok_store.proofs.Caused.{cause_before}
 use Rattle.sok_keep.specs.Causes.{IsCausedFault}
@@ -47,15 +46,15 @@ pub else_offered : (book after : Book) (id : ℕ) (letters : List Dir) (offer : 
     → slice_get after m ≡ slice_get book m
 else_offered book after id letters offer offers m other = ap (λ (b : Book). slice_get b m) offers.after_is ∙ set_else book (id - 1) m _ other
 
-pub else_proved : (book after : Book) (id : ℕ) (shown : Claim) → ProvesKnown book id shown after → (m : ℕ) → (id - 1 ≡ m → ⊥)
+pub else_set : (book after : Book) (id : ℕ) (shown : Claim) → SetsVerdict book id shown after → (m : ℕ) → (id - 1 ≡ m → ⊥)
     → slice_get after m ≡ slice_get book m
-else_proved book after id shown (bytes, proves) m other = ap (λ (b : Book). slice_get b m) proves.after_is ∙ set_else book (id - 1) m _ other
+else_set book after id shown sets m other = ap (λ (b : Book). slice_get b m) sets.after_is ∙ set_else book (id - 1) m _ other
 
 else_by : (id : ℤ) (book after : Book) (rows : Rows) (shown : Claim) (line : List ℕ) (settled : Bool) → SettlesBy id rows shown book line settled after → (m : ℕ)
     → (id_number id - 1 ≡ m → ⊥) → slice_get after m ≡ slice_get book m
 else_by id book after rows (claim.Pushes n) line settled (best, count, it, says, is) m other =
-    else_proved it.middle after (id_number id) _ it.proved m other ∙ else_offered book it.middle (id_number id) it.letters it.offer it.offered m other
-else_by id book after rows claim.Unsolvable line settled (unsolvable, proves, says, is) m other = else_proved book after (id_number id) _ proves m other
+    else_set it.middle after (id_number id) _ it.set m other ∙ else_offered book it.middle (id_number id) it.letters it.offer it.offered m other
+else_by id book after rows claim.Unsolvable line settled (unsolvable, sets, says, is) m other = else_set book after (id_number id) _ sets m other
 
 pub else_settled : (keeping : Keeping) (limit : ℕ) (from id : ℤ) (book after : Book) (line : List ℕ) (settled : Bool)
     → SettlesLevel keeping limit from id book line settled after → (m : ℕ) → (id_number id - 1 ≡ m → ⊥) → slice_get after m ≡ slice_get book m

@@ -6,7 +6,7 @@ use Rattle.sok_book.specs.Books.{Book, Page, IsTrueBook, page_at}
 use Rattle.sok_book.specs.Commands.{verdict_of}
 use Rattle.sok_store.specs.Histories.{IsMadeOf}
 use Rattle.sok_engine.specs.declared.fault.ToolFault.{ToolFault}
-use Rattle.sok_settle.specs.Keeping.{IsKept, Keeping}
+use Rattle.sok_settle.specs.Keeping.{Keeping}
 use Rattle.sok_settle.specs.Offers.{OffersBytes, WritesOffers}
 use Rattle.sok_settle.specs.Settles.{SettlesFirst, SettlesSome, WritesSettling}
 
@@ -41,7 +41,7 @@ abbrev pub SettledHaveCerts : Keeping → Type 0
 SettledHaveCerts keeping =
     (limit : ℕ) (from : ℤ) (book after : Book) (id : ℕ) (page new : Page) → SettlesSome keeping limit from book after → page_at book id ≡ Some page
     → page_at after id ≡ Some new → page.verdict ≡ Untested → new.verdict ≢ Untested
-    → (shown : Claim) × (verdict_of shown ≡ new.verdict) × IsKept keeping limit (pos id) page.level shown
+    → (shown : Claim) × (verdict_of shown ≡ new.verdict) × keeping.keeps limit (pos id) page.level shown
 
 -- ---- lines of offers
 

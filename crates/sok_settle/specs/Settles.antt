@@ -10,19 +10,18 @@ use Rattle.sok_rules.specs.Play.{IsFewest, IsUnsolvable}
 use Rattle.sok_cert.specs.Claim.{Claim}
 use Rattle.sok_cert.specs.Claim.TheVariants as claim
 use Rattle.sok_search.specs.Faults.{IsBadLimit}
-use Rattle.sok_search.specs.Outcomes.{IsCutShort, IsLeastSolution}
+use Rattle.sok_search.specs.Outcomes.{IsCutShortBeside, IsLeastSolution}
 use Rattle.sok_book.specs.declared.fault.BookFault.TheVariants as refusal
 use Rattle.sok_book.specs.declared.record.Offer.{Offer}
 use Rattle.sok_book.specs.declared.record.Verdict.TheVariants.{Untested}
 use Rattle.sok_book.specs.Books.{Book, Page, Solution, page_at}
-use Rattle.sok_book.specs.Commands.{Offers}
+use Rattle.sok_book.specs.Commands.{Offers, SetsVerdict, best_pushes}
 use Rattle.sok_engine.specs.declared.fault.ToolFault.{ToolFault}
 use Rattle.sok_engine.specs.declared.fault.ToolFault.TheVariants as tool
 use Rattle.sok_store.specs.Calls.{id_number}
-use Rattle.sok_store.specs.Known.{ProvesKnown}
 use Rattle.sok_keep.specs.Offers.{HasBest}
 use Rattle.sok_settle.specs.Going.{EndsAt, GoesFirst, GoesSome, GoesUntil, Leave, Step}
-use Rattle.sok_settle.specs.Keeping.{IsKept, IsUnkept, Keeping}
+use Rattle.sok_settle.specs.Keeping.{Keeping}
 use Rattle.sok_settle.specs.Lines.{fault_line}
 
 -- the line of a level whose best has the fewest pushes
@@ -49,13 +48,13 @@ pub record IsTried (from id : ℤ) (book : Book) (page : Page) : Type 0 where
   pub begun : id <ℤ from → ⊥
   pub untested : page.verdict ≡ Untested
 
--- Letters that solve it are offered, and then it is proved that none solve it with fewer pushes than its best. So it has this best then, and none do.
+-- Letters that solve it are offered, and then the verdict is set that none solve it with fewer pushes than its best. So it has this best then, and none do.
 pub record IsOptimal (id : ℤ) (book : Book) (rows : Rows) (best : Solution) (after : Book) : Type 0 where
   pub letters : List Dir
   pub offer : Offer
   pub middle : Book
   pub offered : Offers book (id_number id) letters offer middle
-  pub proved : ProvesKnown middle (id_number id) (claim.Pushes best.pushes) after
+  pub set : SetsVerdict middle (id_number id) (claim.Pushes best.pushes) after
   pub has : HasBest after (id_number id) best
   pub fewest : IsFewest rows best.pushes
 
@@ -65,21 +64,21 @@ abbrev pub SettlesBy : ℤ → Rows → Claim → Step
 SettlesBy id rows (claim.Pushes n) book line settled after =
     (best : Solution) × (best.pushes ≡ n) × IsOptimal id book rows best after × (line ≡ optimal_line id best.pushes best.moves) × (settled ≡ true)
 SettlesBy id rows claim.Unsolvable book line settled after =
-    IsUnsolvable rows × ProvesKnown book (id_number id) claim.Unsolvable after × (line ≡ unsolvable_line id) × (settled ≡ true)
+    IsUnsolvable rows × SetsVerdict book (id_number id) claim.Unsolvable after × (line ≡ unsolvable_line id) × (settled ≡ true)
 
 -- The level with an id is passed over, as it comes before the first or has a verdict; or it is tried, and settled, once a certificate of its claim is kept, or
 -- not. This is its line.
 pub data SettlesLevel (keeping : Keeping) (limit : ℕ) (from id : ℤ) (book : Book) (line : List ℕ) (settled : Bool) (after : Book) : Type 0 where
   is_passed : (page : Page) → page_at book (id_number id) ≡ Some page → (id <ℤ from) ⊎ (page.verdict ≢ Untested) → line ≡ [] → settled ≡ true
       → after ≡ book → SettlesLevel keeping limit from id book line settled after
-  is_settled : (page : Page) (shown : Claim) → IsTried from id book page → IsKept keeping limit id page.level shown
+  is_settled : (page : Page) (shown : Claim) → IsTried from id book page → keeping.keeps limit id page.level shown
       → SettlesBy id page.level shown book line settled after → SettlesLevel keeping limit from id book line settled after
-  is_past_limit : (page : Page) (least : ℕ) → IsTried from id book page → IsCutShort page.level limit limit least → line ≡ limit_line id limit least
+  is_past_limit : (page : Page) (least : ℕ) → IsTried from id book page → IsCutShortBeside page.level limit (best_pushes page) limit least → line ≡ limit_line id limit least
       → settled ≡ false → after ≡ book → SettlesLevel keeping limit from id book line settled after
   is_too_long : (page : Page) (letters : List Dir) (pushes : ℕ) → IsTried from id book page → IsLeastSolution page.level letters pushes
       → letter_limit < length letters → line ≡ fault_line id too_long → settled ≡ false → after ≡ book
       → SettlesLevel keeping limit from id book line settled after
-  is_too_much : (page : Page) → IsTried from id book page → IsUnkept keeping limit id page.level tool.TooMuch → line ≡ fault_line id tool.TooMuch
+  is_too_much : (page : Page) → IsTried from id book page → keeping.refuses limit id page.level tool.TooMuch → line ≡ fault_line id tool.TooMuch
       → settled ≡ false → after ≡ book → SettlesLevel keeping limit from id book line settled after
 
 -- the call ended at the level with an id: it is as it was, or letters that solve it were offered
@@ -92,7 +91,7 @@ EndsLevel from id book after =
 abbrev pub leave_of_level : Keeping → ℕ → ℤ → ℤ → Leave
 leave_of_level keeping limit from id = record {
   leaves = EndsLevel from id;
-  unwritten = λ book. (page : Page) × IsTried from id book page × IsUnkept keeping limit id page.level tool.WriteFailed;
+  unwritten = λ book. (page : Page) × IsTried from id book page × keeping.refuses limit id page.level tool.WriteFailed;
 }
 
 -- the levels are gone through in order of their ids, which count from 1

@@ -1,7 +1,9 @@
 -- How far a level is settled when a call on it ends.
 use Rattle.std.specs.Prelude.{ℕ, ℤ, ◌≡◌, ◌≤◌, List, Bool, Option, Result, slice_get}
 use Rattle.sqlite.specs.State.{State}
+use Rattle.sok_rules.specs.declared.cell.Dir.{Dir}
 use Rattle.sok_rules.specs.Squares.{Rows}
+use Rattle.sok_rules.specs.Play.{IsFewest, Solves, pushes, start}
 use Rattle.sok_cert.specs.Claim.{Claim}
 use Rattle.sok_book.specs.Books.{Book, Page, PageWithId}
 use Rattle.sok_book.specs.Records.{IsRecordAt}
@@ -23,17 +25,23 @@ MaySettle keeping limit from id = MayStep (SettlesLevel keeping limit from id) (
 abbrev pub GoesThrough : (Book → Type 0) → Keeping → ℕ → ℤ → ℤ → State → State → Option (List ℕ) → Option (List ℕ) → Result Bool ToolFault → Type 0
 GoesThrough P keeping limit from id = GoesStep P (SettlesLevel keeping limit from id) (leave_of_level keeping limit from id)
 
--- the level with an id is tried, and has these rows
-abbrev pub IsTriedAs : ℤ → ℤ → Rows → Book → Type 0
-IsTriedAs from id rows book = (page : Page) × IsTried from id book page × (page.level ≡ rows)
+-- the level with an id is tried, and has this page
+abbrev pub IsTriedAs : ℤ → ℤ → Page → Book → Type 0
+IsTriedAs from id page book = IsTried from id book page
+
+-- letters that solve with so many pushes, and none solve with fewer
+pub record AreFewest (rows : Rows) (w : List Dir) (n : ℕ) : Type 0 where
+  pub solves : Solves rows w
+  pub counted : pushes rows (start rows) w ≡ n
+  pub fewest : IsFewest rows n
 
 -- how the call may end at a level of which a certificate is kept
 abbrev pub leave_of_kept : ℤ → ℤ → Leave
 leave_of_kept from id = record { leaves = EndsLevel from id; unwritten = λ book. ⊥ }
 
 -- how a call treats the connection that settles such a level by its claim
-abbrev pub GoesBy : ℤ → ℤ → Rows → Claim → State → State → Option (List ℕ) → Option (List ℕ) → Result Bool ToolFault → Type 0
-GoesBy from id rows shown = GoesStep (IsTriedAs from id rows) (SettlesBy id rows shown) (leave_of_kept from id)
+abbrev pub GoesBy : ℤ → ℤ → Page → Claim → State → State → Option (List ℕ) → Option (List ℕ) → Result Bool ToolFault → Type 0
+GoesBy from id page shown = GoesStep (IsTriedAs from id page) (SettlesBy id page.level shown) (leave_of_kept from id)
 
 -- this is the record of a level
 abbrev pub IsRecordIn : PageWithId → Book → Type 0

@@ -1,19 +1,28 @@
-//! Where the certificates of levels go that are settled.
+//! How the levels of a book are searched, and where their certificates go.
 
-ghost use Rattle.std.specs.Prelude.{List, [], ⊤};
-ghost use Rattle.sok_cert.specs.Entry.{Entry};
+ghost use Rattle.std.specs.Prelude.{◌≡◌, ◌≤◌, IfErr, IfOk, IfSome, ℕ, ⊤};
+ghost use Rattle.sok_rules.specs.Squares.{Rows};
+ghost use Rattle.sok_board.specs.Refusals.{IsAcceptable};
+ghost use Rattle.sok_cert.specs.Claim.{Claim};
+ghost use Rattle.sok_cert.specs.Text.{number_limit};
+ghost use Rattle.sok_engine.specs.declared.fault.ToolFault.TheVariants as tool;
+ghost use Rattle.sok_search.specs.Faults.{IsBadLimit};
+ghost use Rattle.sok_settle.specs.Finding.{IsFinding};
 ghost use Rattle.sok_settle.specs.Keeping.{Keeping, TellsKept, no_certs};
 
+use crate::search::{Finding, search_alone};
 use sok_cert::claim::Claim;
-use sok_cert::entry::Reason;
 use sok_engine::fault::ToolFault;
-use sok_search::collecting::Entries;
-use std::alloc::{AllocError, Global};
+use sok_rules::level::Level;
+use std::alloc::Global;
 
-/// Where the certificates of levels go that are settled, as the files of a folder.
+/// How the levels of a book are searched, and where their certificates go, as the files of a folder.
 pub trait Certs {
-    /// What takes the entries of one certificate.
-    type Taking: Entries + Drop;
+    /// The certificate of what a search has found, until it is kept.
+    type Taken: Drop;
+
+    // It is one of these rows for a claim, with so many entries at most.
+    ghost certifies: { Self.Taken → Rows → ℕ → Claim → Type 0 };
 
     // Which certificates may be kept, and which refused.
     ghost keeping: { Self → Keeping };
@@ -21,57 +30,62 @@ pub trait Certs {
     // They may be kept where they go.
     ghost may_keep: { Self → Type 0 };
 
-    /// What takes the entries of one more, of which none was taken yet.
-    fn begin(&self, alloc: Global) -> Self::Taking
-        ensures { Self.Taking.took [] result };
+    /// Searches a level beside a best of so many pushes, or alone. It refuses only for want of memory.
+    fn search(
+        &self,
+        alloc: Global,
+        level: &Level,
+        limit: u32,
+        best: Option<u32>,
+    ) -> Result<(Finding, Self::Taken), ToolFault>
+        requires good_limit { IsBadLimit limit → ⊥ }
+        requires accepted { IsAcceptable level.now }
+        requires small { IfSome best (λ k. k ≤ number_limit) }
+        ensures found { IfOk result
+            (λ it. IsFinding (certifies it.1 level.now limit) level.now limit best it.0) }
+        ensures memory { IfErr result (λ fault. fault ≡ tool.Memory) };
 
-    /// Keeps the certificate of the level with an id, for a claim and of the entries that were
-    /// taken. It is refused with `Memory`, with `TooMuch` where it has more bytes than one that is
-    /// read, and with `WriteFailed` where it can't be written.
+    /// Keeps the certificate of the level with an id, for a claim. It is refused with `Memory`, with
+    /// `TooMuch` where it has more bytes than one that is read, and with `WriteFailed` where it can't
+    /// be written.
     fn keep(
         &self,
         alloc: Global,
         id: i64,
         claim: &Claim,
-        taken: Self::Taking,
+        taken: Self::Taken,
     ) -> Result<(), ToolFault>
         requires { may_keep self.now }
-        ensures { (entries : List Entry) → Self.Taking.took entries taken
-            → TellsKept (keeping self.now) id claim.now entries result };
+        ensures { (rows : Rows) (limit : ℕ) → certifies taken rows limit claim.now
+            → TellsKept (keeping self.now) limit id rows claim.now result };
 }
 
-/// No certificate is wanted: that there is one is all that is needed.
+/// No certificate is wanted, and none is made.
 #[derive(Drop)]
 pub struct NoCerts;
 
-/// Takes the entries of a certificate and keeps none.
+/// In place of a certificate.
 #[derive(Drop)]
 pub struct Nothing;
 
-impl Entries for Nothing {
-    ghost took = { λ _ _. ⊤ };
-
-    fn take(
-        &mut self,
-        _alloc: Global,
-        _depth: u32,
-        _player: u32,
-        _boxes: &[u32],
-        _reason: Reason,
-    ) -> Result<(), AllocError> {
-        Ok(())
-    }
-}
-
 impl Certs for NoCerts {
-    type Taking = Nothing;
+    type Taken = Nothing;
+
+    ghost certifies = { λ _ _ _ _. ⊤ };
 
     ghost keeping = { λ _. no_certs };
 
     ghost may_keep = { λ _. ⊤ };
 
-    fn begin(&self, _alloc: Global) -> Nothing {
-        Nothing
+    fn search(
+        &self,
+        alloc: Global,
+        level: &Level,
+        limit: u32,
+        best: Option<u32>,
+    ) -> Result<(Finding, Nothing), ToolFault> {
+        let finding = search_alone(alloc, level, limit, best)?;
+        Ok((finding, Nothing))
     }
 
     fn keep(

@@ -3,12 +3,12 @@ use Rattle.std.proofs.Common.{inl, inr, refl, subst, arith, Result, Ok, Err, OnO
 use Rattle.sqlite.specs.State.{State, HasCleanDisk}
 use Rattle.sok_book.specs.declared.fault.BookFault.{BookFault}
 use Rattle.sok_book.specs.Books.{Book, IsTrueBook}
-use Rattle.sok_book.specs.Commands.{OneCommand, add, offer, prove}
+use Rattle.sok_book.specs.Commands.{OneCommand, add, judge, offer, prove}
 use Rattle.sok_book.specs.Laws as laws
 use Rattle.sok_book.proofs.Laws.{CommandsKeepTruth-all}
 use Rattle.sok_store.specs.Rows.{HoldsBook}
 use Rattle.sok_store.specs.Calls.{id_number}
-use Rattle.sok_store.specs.Histories.{AddsAreCalls, AreCalls, CallsFold, EmptyBooksAreMade, IsCall, IsMadeOf, KnownProofsAreCalls, OffersAreCalls, ProofsAreCalls, TellingsAreCalls}
+use Rattle.sok_store.specs.Histories.{AddsAreCalls, AreCalls, CallsFold, EmptyBooksAreMade, IsCall, IsMadeOf, VerdictsAreCalls, OffersAreCalls, ProofsAreCalls, TellingsAreCalls}
 use Rattle.sok_store.specs.Histories as histories
 use Rattle.sok_store.specs.Running.{Runs}
 use Rattle.sok_store.proofs.Calls.{held}
@@ -49,10 +49,10 @@ module _ {C : Type 0} (shows : C → State) where
       is_call (shows old) (shows new) _ _ _ (Ok shown) (λ x book after proves. prove id bytes x proves) runs
   proofs-are-calls old new id bytes (Err fault) runs = is_call (shows old) (shows new) _ _ _ (Err fault) tt runs
 
-  pub known-proofs-are-calls : KnownProofsAreCalls shows
-  known-proofs-are-calls old new id rows claim (Ok x) runs =
-      is_call (shows old) (shows new) _ _ _ (Ok x) (λ x book after made. prove id made.0 claim made.1) runs
-  known-proofs-are-calls old new id rows claim (Err fault) runs = is_call (shows old) (shows new) _ _ _ (Err fault) tt runs
+  pub verdicts-are-calls : VerdictsAreCalls shows
+  verdicts-are-calls old new id rows claim (Ok x) runs =
+      is_call (shows old) (shows new) _ _ _ (Ok x) (λ x book after sets. judge id claim sets) runs
+  verdicts-are-calls old new id rows claim (Err fault) runs = is_call (shows old) (shows new) _ _ _ (Err fault) tt runs
 
   -- one after another
   folds : (old new : C) → AreCalls shows old new → HasCleanDisk (shows new) → (book : Book) → HoldsBook (shows old) book

@@ -6,7 +6,6 @@ pub mod Found
 pub mod Histories
 pub mod KeptBooks
 pub mod KeptPages
-pub mod KnownProofs
 pub mod Laws
 pub mod Leaves
 pub mod NextRow
@@ -18,5 +17,6 @@ pub mod ReadRows
 pub mod Refusing
 pub mod Running
 pub mod Setting
+pub mod Verdicts
 pub mod Wide
 mod Wider

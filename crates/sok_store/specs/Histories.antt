@@ -12,7 +12,7 @@ use Rattle.sok_book.specs.Commands.{OneCommand}
 use Rattle.sok_book.specs.Laws.{IsMade}
 use Rattle.sok_store.specs.Rows.{HoldsBook}
 use Rattle.sok_store.specs.Calls.{ChangesBook}
-use Rattle.sok_store.specs.Running.{RunsAdding, RunsKnown, RunsOffering, RunsProving, RunsTelling}
+use Rattle.sok_store.specs.Running.{RunsAdding, RunsVerdict, RunsOffering, RunsProving, RunsTelling}
 use Rattle.sok_store.specs.declared.standing.Standing.{Standing}
 
 -- a call that is refused, and keeps the book, or that is one command
@@ -51,9 +51,9 @@ ProofsAreCalls {C} shows =
     (old new : C) (id : ℕ) (bytes : List ℕ) (result : Result Claim BookFault) → RunsProving (shows old) (shows new) id bytes result
     → IsCall (shows old) (shows new)
 
-abbrev pub KnownProofsAreCalls : {C : Type 0} → (C → State) → Type 0
-KnownProofsAreCalls {C} shows =
-    (old new : C) (id : ℕ) (rows : Rows) (claim : Claim) (result : Result (Unit {0}) BookFault) → RunsKnown (shows old) (shows new) id rows claim result
+abbrev pub VerdictsAreCalls : {C : Type 0} → (C → State) → Type 0
+VerdictsAreCalls {C} shows =
+    (old new : C) (id : ℕ) (rows : Rows) (claim : Claim) (result : Result (Unit {0}) BookFault) → RunsVerdict (shows old) (shows new) id rows claim result
     → IsCall (shows old) (shows new)
 
 -- after calls the connection holds what the accepted ones made of the book before, and where that was true it is

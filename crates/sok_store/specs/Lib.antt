@@ -1,11 +1,10 @@
--- Words of public contracts: a book as rows (`Rows`, `BadRows`, `Laws`, `Faults`), and its calls (`Calls`, `Known`, `Standing`, `Opening`, `Histories`). The
+-- Words of public contracts: a book as rows (`Rows`, `BadRows`, `Laws`, `Faults`), and its calls (`Calls`, `Verdicts`, `Standing`, `Opening`, `Histories`). The
 -- proof's own: `Changing`, `Parsing`, `ReadRows`, `Readable`, `Running`.
 pub mod BadRows
 pub mod Calls
 pub mod Changing
 pub mod Faults
 pub mod Histories
-pub mod Known
 pub mod Laws
 pub mod Opening
 pub mod Parsing
@@ -14,3 +13,4 @@ pub mod Readable
 pub mod Rows
 pub mod Running
 pub mod Standing
+pub mod Verdicts

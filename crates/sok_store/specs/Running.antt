@@ -9,12 +9,12 @@ use Rattle.sok_book.specs.declared.fault.BookFault.{BookFault}
 use Rattle.sok_book.specs.declared.fault.BookFault.TheVariants.{NoLevel}
 use Rattle.sok_book.specs.declared.record.Offer.{Offer}
 use Rattle.sok_book.specs.Books.{Book, Page, PageWithId, page_at}
-use Rattle.sok_book.specs.Commands.{Adds, Offers, Proves}
+use Rattle.sok_book.specs.Commands.{Adds, Offers, Proves, SetsVerdict}
 use Rattle.sok_book.specs.Records.{IsRecordAt}
 use Rattle.sok_book.specs.Refusals.{IsNotAdded, IsNotOffered, IsNotProved}
 use Rattle.sok_store.specs.Faults.{IsOutside}
 use Rattle.sok_store.specs.Calls.{FindsBook, IsCaused, KeepsBook, KeepsRefused, MakesNone, ShowsOn, Stops, StoresChange, id_number}
-use Rattle.sok_store.specs.Known.{IsNotKnown, ProvesKnown}
+use Rattle.sok_store.specs.Verdicts.{IsNotSet}
 use Rattle.sok_store.specs.Standing.{OffersTelling}
 use Rattle.sok_store.specs.declared.standing.Standing.{Standing}
 use Rattle.sok_store.specs.Changing.{AddsPage, IsCausedAdding, IsCausedSetting, IsFull, Sets, StopsAdding, StopsSetting}
@@ -78,8 +78,8 @@ RunsProving old new id bytes =
     Runs old new (λ shown book after. Proves book id bytes shown after) (λ book after. (shown : Claim) × Proves book id bytes shown after)
     (λ book fault. IsNotProved book id bytes fault)
 
--- it is proved by a certificate of which is known that there is one
-abbrev pub RunsKnown : State → State → ℕ → Rows → Claim → Result (Unit {0}) BookFault → Type 0
-RunsKnown old new id rows claim =
-    Runs old new (λ _ book after. ProvesKnown book id claim after) (λ book after. ProvesKnown book id claim after)
-    (λ book fault. IsNotKnown book id rows claim fault)
+-- it is set by a claim that is known to be true
+abbrev pub RunsVerdict : State → State → ℕ → Rows → Claim → Result (Unit {0}) BookFault → Type 0
+RunsVerdict old new id rows claim =
+    Runs old new (λ _ book after. SetsVerdict book id claim after) (λ book after. SetsVerdict book id claim after)
+    (λ book fault. IsNotSet book id rows claim fault)

@@ -8,30 +8,31 @@ ghost use Rattle.sok_sql.specs.Connections.{IsKnown, IsSame};
 ghost use Rattle.sok_board.specs.Refusals.{IsAcceptable};
 ghost use Rattle.sok_board.specs.declared.fault.BoardFault.{BoardFault};
 ghost use Rattle.sok_book.specs.Books.{PageWithId, page_at};
-ghost use Rattle.sok_book.specs.Commands.{Adds, Offers, Proves};
+ghost use Rattle.sok_book.specs.Commands.{Adds, Offers, Proves, SetsVerdict};
 ghost use Rattle.sok_book.specs.Kept.{IsKeptPage};
 ghost use Rattle.sok_book.specs.Records.{AreRecordsOf, IsRecordAt};
 ghost use Rattle.sok_book.specs.Refusals.{IsNotAdded, IsNotOffered, IsNotProved};
 ghost use Rattle.sok_book.specs.declared.record.Offer.{Offer};
 ghost use Rattle.sok_cert.specs.Claim.{Claim};
+ghost use Rattle.sok_cert.specs.Closed.{IsTrueOf};
 ghost use Rattle.sok_store.specs.Faults.{IsOutside};
 ghost use Rattle.sok_store.specs.Calls.{FindsBook, IsCaused, KeepsBook, KeepsRefused, StoresChange};
 ghost use Rattle.sok_store.specs.Calls.{MakesNone, ShowsOn, Stops};
 ghost use Rattle.sok_store.specs.Calls.{id_number, kept_if_given};
-ghost use Rattle.sok_store.specs.Known.{IsCertified, IsNotKnown, ProvesKnown};
+ghost use Rattle.sok_store.specs.Verdicts.{IsNotSet};
 ghost use Rattle.sok_store.specs.Opening.{IsCausedOpening, IsUnopened, LeavesOpening, Opens};
 ghost use Rattle.sok_store.specs.Running.{Admits};
 ghost use Rattle.sok_store.specs.Standing.{OffersTelling};
 ghost use Rattle.sok_store.specs.declared.standing.Standing.{Standing};
 
 use crate::adding::add_to;
-use crate::certified::prove_known_to;
 use crate::listing::records_in;
 use crate::offering::offer_to;
 use crate::opening::prepare;
 use crate::proving::prove_to;
 use crate::reading::record_at;
 use crate::standing::Standing;
+use crate::verdict::set_verdict_to;
 use sok_book::fault::BookFault;
 use sok_book::record::{Offer, Record};
 use sok_cert::claim::Claim;
@@ -228,21 +229,21 @@ impl<S: Alter> Book<S> {
         prove_to(&mut self.connection, self.alloc, id, certificate)
     }
 
-    /// Proves the verdict of the level with an id by a certificate of which is known that there is
-    /// one, so that no bytes are read or judged: whoever calls it has a proof that a closed
-    /// certificate of this level shows the claim. Refused are, in this order, an id at which this
+    /// Sets the verdict of the level with an id by a claim on this level that is known to be true, so
+    /// that no certificate is read or judged: whoever calls it has a proof that no letters solve the
+    /// level with fewer pushes, or that none solve it. Refused are, in this order, an id at which this
     /// level does not stand (`NoLevel`), and a claim that is not about its best (`ClaimDiffers`).
-    pub fn prove_known(&mut self, id: i64, level: &Level, claim: Claim) -> Result<(), BookFault>
-        requires { IsCertified level.now claim }
-        ensures proved { OnOk result (StoresChange (state S.Store self.old) (state S.Store self.new)
-            (λ book after. ProvesKnown book (id_number id) claim after)) }
+    pub fn set_verdict(&mut self, id: i64, level: &Level, claim: Claim) -> Result<(), BookFault>
+        requires { IsTrueOf level.now claim }
+        ensures set { OnOk result (StoresChange (state S.Store self.old) (state S.Store self.new)
+            (λ book after. SetsVerdict book (id_number id) claim after)) }
         ensures refused { IfErr result (KeepsRefused (state S.Store self.old) (state S.Store self.new)
-            (λ book fault. IsNotKnown book (id_number id) level.now claim fault)) }
+            (λ book fault. IsNotSet book (id_number id) level.now claim fault)) }
         ensures stop { Stops (state S.Store self.old) (state S.Store self.new)
-            (λ book after. ProvesKnown book (id_number id) claim after) }
+            (λ book after. SetsVerdict book (id_number id) claim after) }
         ensures cause { IfErr result (IsCaused (state S.Store self.old) (state S.Store self.new)
-            (λ book after. ProvesKnown book (id_number id) claim after)) }
+            (λ book after. SetsVerdict book (id_number id) claim after)) }
     {
-        prove_known_to(&mut self.connection, self.alloc, id, level, claim)
+        set_verdict_to(&mut self.connection, self.alloc, id, level, claim)
     }
 }

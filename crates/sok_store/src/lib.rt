@@ -14,7 +14,6 @@
 
 mod adding;
 pub mod book;
-mod certified;
 mod columns;
 pub mod fault;
 pub mod law;
@@ -28,4 +27,5 @@ mod reading;
 mod records;
 mod row;
 pub mod standing;
+mod verdict;
 mod writing;

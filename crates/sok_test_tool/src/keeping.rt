@@ -151,7 +151,7 @@ const UNSETTLED: &str = "\
 ";
 
 /// A book is settled: within four states, and from a level on; then what is left; then nothing is.
-const SETTLES: [Row; 13] = [
+const SETTLES: [Row; 14] = [
     (
         "sok add settles/book settles/unsettled",
         "1 id 1\n2 id 2\n3 id 3\n4 id 4\n",
@@ -208,7 +208,14 @@ const SETTLES: [Row; 13] = [
         "",
         0,
     ),
-    ("sok settle settles/book", "3 optimal 6 6\n", "", 0),
+    // a best that needs as many pushes as its first state shows is proved by one state
+    ("sok offer settles/book 3 RRRRRR", "stored 6 6\n", "", 0),
+    (
+        "sok settle settles/book --limit 1",
+        "3 optimal 6 6\n",
+        "",
+        0,
+    ),
     ("sok settle settles/book", "", "", 0),
     (
         "sok show settles/book",
@@ -229,7 +236,7 @@ fn levels_of_a_book_are_settled(rt: HostRuntime) -> Result<(), Fail> {
 }
 
 /// The same with certificates: of each level that is settled there is one, and of no other.
-const CERTIFIES: [Row; 18] = [
+const CERTIFIES: [Row; 19] = [
     (
         "sok add kept/book kept/unsettled",
         "1 id 1\n2 id 2\n3 id 3\n4 id 4\n",
@@ -269,8 +276,9 @@ const CERTIFIES: [Row; 18] = [
         "",
         0,
     ),
+    ("sok offer kept/book 3 RRRRRR", "stored 6 6\n", "", 0),
     (
-        "sok settle kept/book --certs kept",
+        "sok settle kept/book --limit 4 --certs kept",
         "3 optimal 6 6\n",
         "",
         0,

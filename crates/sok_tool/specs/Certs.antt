@@ -1,9 +1,11 @@
 -- The certificates of the levels of a book that are settled, in files.
 use Rattle.std.specs.Prelude.{ℕ, ℤ, ◌≡◌, ◌≢◌, ◌<◌, ◌⊎◌, List, Option, Some, None, IfSome, IsSomeAnd, length, ⊤}
 use Rattle.std.specs.Io.KnownBytes.{Appends}
+use Rattle.sok_rules.specs.Squares.{Rows}
 use Rattle.sok_cert.specs.Claim.{Claim}
 use Rattle.sok_cert.specs.Entry.{Entry}
 use Rattle.sok_cert.specs.Text.{text_of}
+use Rattle.sok_search.specs.Outcomes.{Certifies}
 use Rattle.sok_engine.specs.declared.fault.ToolFault.{ToolFault}
 use Rattle.sok_engine.specs.declared.fault.ToolFault.TheVariants as tool
 use Rattle.sok_engine.specs.Certified.{Bytes}
@@ -18,14 +20,23 @@ KeepsText files db path text =
     ((made : Bytes) × (path ≢ db) × files.lacks_certificate path × files.makes path made × Appends made.old made.new text)
     ⊎ ((known : Option (List ℕ)) × files.reads path known × IfSome known (λ all. all ≡ text))
 
--- that of the level with an id is kept in a folder
-abbrev pub KeepsCert : Files Bytes → List ℕ → List ℕ → ℤ → Claim → List Entry → Type 0
-KeepsCert files db folder id shown entries = KeepsText files db (cert_path folder id) (text_of shown entries)
+-- one of these rows for a claim, with at most so many entries, is kept in a folder as that of the level with an id
+pub record KeepsCert (files : Files Bytes) (db folder : List ℕ) (limit : ℕ) (id : ℤ) (rows : Rows) (shown : Claim) : Type 0 where
+  pub entries : List Entry
+  pub certified : Certifies rows limit shown entries
+  pub kept : KeepsText files db (cert_path folder id) (text_of shown entries)
 
--- why one is refused: it is too long; or a file can't be made or written
-abbrev pub RefusesCert : ℤ → Claim → List Entry → ToolFault → Type 0
-RefusesCert id shown entries tool.TooMuch = cert_limit < length (text_of shown entries)
-RefusesCert id shown entries fault = ⊤
+-- why a text is refused: it is too long; or a file can't be made or written
+abbrev pub RefusesText : List ℕ → ToolFault → Type 0
+RefusesText text tool.TooMuch = cert_limit < length text
+RefusesText text fault = ⊤
+
+-- one was found, and is refused so
+pub record RefusesCert (limit : ℕ) (id : ℤ) (rows : Rows) (fault : ToolFault) : Type 0 where
+  pub shown : Claim
+  pub entries : List Entry
+  pub certified : Certifies rows limit shown entries
+  pub refused : RefusesText (text_of shown entries) fault
 
 -- certificates in the files of a folder, beside the database of their book
 abbrev pub keeping_in : Files Bytes → List ℕ → List ℕ → Keeping

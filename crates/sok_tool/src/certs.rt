@@ -5,6 +5,8 @@ ghost use Rattle.std.specs.Io.KnownBytes.{Appends};
 ghost use Rattle.sok_engine.specs.Certified.{Bytes};
 ghost use Rattle.sok_engine.specs.declared.fault.ToolFault.TheVariants as tool;
 ghost use Rattle.sok_files.specs.Files.{IsMade, MayKeep, cert_path, files_by};
+ghost use Rattle.sok_settle.specs.Finding.{IsCertified};
+ghost use Rattle.sok_solve.specs.Lines.{HasLines};
 ghost use Rattle.sok_tool.specs.Certs.{KeepsText, keeping_in};
 
 use sok_cert::claim::Claim;
@@ -13,7 +15,9 @@ use sok_engine::input::{InputFault, read_certificate};
 use sok_files::file::{create, open};
 use sok_files::folder::Folder;
 use sok_files::own::Own;
+use sok_rules::level::Level;
 use sok_settle::certs::Certs;
+use sok_settle::search::{Finding, search_into};
 use sok_solve::certificate::{EntryLines, ReadyCert};
 use std::alloc::{AllocError, Global};
 
@@ -27,15 +31,25 @@ pub(crate) struct CertFolder<'a, F> {
 }
 
 impl<F: Folder> Certs for CertFolder<'_, F> {
-    type Taking = EntryLines;
+    type Taken = EntryLines;
+
+    ghost certifies = { λ taken rows limit shown. IsCertified (HasLines taken) rows limit shown };
 
     ghost keeping = { λ certs. keeping_in
         (files_by F.Output.contents (F.files certs.files.now)) certs.own.path.now certs.path.now };
 
     ghost may_keep = { λ certs. MayKeep (F.files certs.files.now) certs.path.now };
 
-    fn begin(&self, alloc: Global) -> EntryLines {
-        EntryLines::new(alloc)
+    fn search(
+        &self,
+        alloc: Global,
+        level: &Level,
+        limit: u32,
+        best: Option<u32>,
+    ) -> Result<(Finding, EntryLines), ToolFault> {
+        let mut taken = EntryLines::new(alloc);
+        let finding = search_into(alloc, level, limit, best, &mut taken)?;
+        Ok((finding, taken))
     }
 
     fn keep(

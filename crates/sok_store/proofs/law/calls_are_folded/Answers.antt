@@ -1,5 +1,5 @@
 use Rattle.sqlite.specs.Held.{state}
-use Rattle.sok_store.proofs.Histories.{adds-are-calls, calls-fold, empty-books-are-made, known-proofs-are-calls, offers-are-calls, proofs-are-calls, tellings-are-calls}
+use Rattle.sok_store.proofs.Histories.{adds-are-calls, calls-fold, empty-books-are-made, verdicts-are-calls, offers-are-calls, proofs-are-calls, tellings-are-calls}
 use Rattle.sok_store.proofs.law.calls_are_folded.Goals as goal
 
 pub returns-clause-adds : goal.returns-clause-adds
@@ -14,8 +14,8 @@ returns-clause-tellings g c = tellings-are-calls (state g.S.Store)
 pub returns-clause-proofs : goal.returns-clause-proofs
 returns-clause-proofs g c = proofs-are-calls (state g.S.Store)
 
-pub returns-clause-known : goal.returns-clause-known
-returns-clause-known g c = known-proofs-are-calls (state g.S.Store)
+pub returns-clause-verdicts : goal.returns-clause-verdicts
+returns-clause-verdicts g c = verdicts-are-calls (state g.S.Store)
 
 pub returns-clause-folded : goal.returns-clause-folded
 returns-clause-folded g c = calls-fold (state g.S.Store)

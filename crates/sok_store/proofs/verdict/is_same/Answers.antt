@@ -2,8 +2,8 @@ use Rattle.std.proofs.Common.{◌∙◌}
 use Rattle.std.proofs.lemmas.Bool.Decides.{Decides-eqb}
 use Rattle.std.proofs.lemmas.Slice.Eq.{slice_eq-Decides}
 use Rattle.sok_rules.specs.Levels.{IsLevel}
-use Rattle.sok_store.proofs.KnownProofs.{same_levels}
-use Rattle.sok_store.proofs.certified.is_same.Goals as goal
+use Rattle.sok_store.proofs.Verdicts.{same_levels}
+use Rattle.sok_store.proofs.verdict.is_same.Goals as goal
 
 pub returns : goal.returns
 returns c =

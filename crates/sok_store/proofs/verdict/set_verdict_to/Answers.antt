@@ -2,12 +2,12 @@ use Rattle.std.proofs.Common.{◌∙◌, ap, w64}
 use Rattle.std.proofs.lemmas.Int.{to_z-of_z}
 use Rattle.sqlite.specs.Held.{state}
 use Rattle.sok_store.specs.Calls.{id_number}
-use Rattle.sok_store.proofs.KnownProofs.{none_stands}
+use Rattle.sok_store.proofs.Verdicts.{none_stands}
 use Rattle.sok_store.proofs.Running.{nowhere_runs}
-use Rattle.sok_store.proofs.certified.prove_known_to.Goals as goal
+use Rattle.sok_store.proofs.verdict.set_verdict_to.Goals as goal
 
 pub returns-in-Some : goal.returns-in-Some
-returns-in-Some g c = rw (c.in-Some.ensures.0 ∙ ap id_number (to_z-of_z w64 c.args.id c.ranges.id)) at c.prove_known_at.ensures
+returns-in-Some g c = rw (c.in-Some.ensures.0 ∙ ap id_number (to_z-of_z w64 c.args.id c.ranges.id)) at c.set_verdict_at.ensures
 
 pub returns-in-None : goal.returns-in-None
 returns-in-None g c =

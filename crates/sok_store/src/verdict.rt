@@ -1,11 +1,12 @@
-//! A verdict is proved by a certificate of which is known that there is one.
+//! A verdict is set by a claim that is known to be true.
 
 ghost use Rattle.std.specs.Prelude.{◌≡◌, ◌⊎◌, ◌<◌, ◌↔◌, IfErr, IfOk, IsTrue, OnOk};
 ghost use Rattle.sqlite.specs.Held.{state};
 ghost use Rattle.sok_book.specs.Commands.{Meets, best_pushes};
+ghost use Rattle.sok_cert.specs.Closed.{IsTrueOf};
 ghost use Rattle.sok_store.specs.Calls.{id_number};
-ghost use Rattle.sok_store.specs.Known.{IsCertified, IsNoClaimOn};
-ghost use Rattle.sok_store.specs.Running.{RunsKnown};
+ghost use Rattle.sok_store.specs.Verdicts.{IsNoClaimOn};
+ghost use Rattle.sok_store.specs.Running.{RunsVerdict};
 
 use crate::proving::{pushes_of, verdict_of};
 use crate::reading::{place_of, read_record};
@@ -19,26 +20,26 @@ use sok_rules::level::Level;
 use sqlite::{Alter, Connection};
 use std::alloc::Global;
 
-/// Proves the verdict of the level with an id by a certificate of which is known that there is one.
-pub(crate) fn prove_known_to<S: Alter>(
+/// Sets the verdict of the level with an id by a claim that is known to be true.
+pub(crate) fn set_verdict_to<S: Alter>(
     conn: &mut Connection<S>,
     alloc: Global,
     id: i64,
     level: &Level,
     claim: Claim,
 ) -> Result<(), BookFault>
-    requires { IsCertified level.now claim }
-    ensures { RunsKnown (state S.Store conn.old) (state S.Store conn.new)
+    requires { IsTrueOf level.now claim }
+    ensures { RunsVerdict (state S.Store conn.old) (state S.Store conn.new)
         (id_number id) level.now claim result }
 {
     match place_of(id) {
-        Some(place) => prove_known_at(conn, alloc, place, level, claim),
+        Some(place) => set_verdict_at(conn, alloc, place, level, claim),
         None => Err(BookFault::NoLevel),
     }
 }
 
 /// The same at an id that may be one.
-fn prove_known_at<S: Alter>(
+fn set_verdict_at<S: Alter>(
     conn: &mut Connection<S>,
     alloc: Global,
     id: u32,
@@ -46,8 +47,8 @@ fn prove_known_at<S: Alter>(
     claim: Claim,
 ) -> Result<(), BookFault>
     requires low { 0 < id }
-    requires certified { IsCertified level.now claim }
-    ensures { RunsKnown (state S.Store conn.old) (state S.Store conn.new)
+    requires true_claim { IsTrueOf level.now claim }
+    ensures { RunsVerdict (state S.Store conn.old) (state S.Store conn.new)
         id level.now claim result }
 {
     let kept = match read_record(conn, alloc, id) {
