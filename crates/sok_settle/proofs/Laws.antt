@@ -1,5 +1,5 @@
 -- What holds of a book after some of its levels were settled.
-use Rattle.std.proofs.Common.{ℕ, ℤ, pos, zero, suc, ◌≡◌, ◌≢◌, ◌⊎◌, ◌∙◌, ◌+◌, ◌-◌, ◌<◌, ◌≤◌, ◌<ℤ◌, inl, inr, List, [], Some, Bool, true, Ok, Err}
+use Rattle.std.proofs.Common.{ℕ, ℤ, pos, zero, suc, ◌≡◌, ◌≢◌, ◌⊎◌, ◌∙◌, ◌+◌, ◌-◌, ◌<◌, ◌≤◌, inl, inr, List, [], Some, Bool, true, Ok, Err}
 use Rattle.std.proofs.Common.{ap, arith, refl, slice_get, subst, sym}
 use Rattle.std.proofs.lemmas.Bool.{and_parts, cases_lt}
 use Rattle.std.proofs.lemmas.Option.{none-some, same_Some}
@@ -16,9 +16,10 @@ use Rattle.sok_store.specs.Calls.{id_number}
 use Rattle.sok_store.specs.Histories.{IsMadeOf}
 use Rattle.sok_store.specs.Histories as histories
 use Rattle.sok_store.proofs.Found.{page_there}
+use Rattle.sok_settle.specs.declared.settle.Span.{Span}
 use Rattle.sok_settle.specs.Going.{more, none}
 use Rattle.sok_settle.specs.Keeping.{Keeping}
-use Rattle.sok_settle.specs.Settles.{IsTried, EndsLevel, SettlesBy, SettlesFirst, SettlesLevel, is_passed, is_past_limit, is_settled, is_too_long, is_too_much, level_leave, level_step}
+use Rattle.sok_settle.specs.Settles.{IsBeyond, IsTried, EndsLevel, SettlesBy, SettlesFirst, SettlesLevel, is_passed, is_past_limit, is_settled, is_too_long, is_too_much, level_leave, level_step}
 use Rattle.sok_settle.specs.Laws.{SettledHaveCerts, SettledHaveVerdicts, SettlingsAreSome, SettlingsFold, SettlingsKeepTruth, SettlingsKeepVerdicts}
 use Rattle.sok_settle.proofs.Levels.{best_untested}
 use Rattle.sok_settle.proofs.Settling.{else_offered, else_settled, first_stays, stays}
@@ -27,11 +28,11 @@ use Rattle.sok_settle.proofs.Stepping.{ends_some, made_true, some_made}
 -- ---- what was written
 
 pub settlings-are-some : (keeping : Keeping) → SettlingsAreSome keeping
-settlings-are-some keeping limit from book after old new (Ok status) it =
+settlings-are-some keeping limit span book after old new (Ok status) it =
     let (end, same, told, written) = it.ended in (it.count, it.text, it.all, it.before, it.gone, inl same)
-settlings-are-some keeping limit from book after old new (Err tool.BadLimit) it = let (bad, none_done, same, keeps) = it.ended in (0, [], true, book, none, inl same)
-settlings-are-some keeping limit from book after old new (Err fault) it =
-    ends_some (level_step keeping limit from) (level_leave keeping limit from) (stays keeping limit from) book it.before after it.count it.text it.all old new fault it.gone it.ended
+settlings-are-some keeping limit span book after old new (Err tool.BadLimit) it = let (bad, none_done, same, keeps) = it.ended in (0, [], true, book, none, inl same)
+settlings-are-some keeping limit span book after old new (Err fault) it =
+    ends_some (level_step keeping limit span) (level_leave keeping limit span) (stays keeping limit span) book it.before after it.count it.text it.all old new fault it.gone it.ended
 
 -- ---- commands
 
@@ -43,44 +44,44 @@ by_made id book before after rows (claim.Pushes n) line settled made (best, coun
 by_made id book before after rows claim.Unsolvable line settled made (unsolvable, sets, says, is) =
     histories.more before after made (judge (id_number id) claim.Unsolvable sets)
 
-level_made : (keeping : Keeping) (limit : ℕ) (from id : ℤ) (book before after : Book) (line : List ℕ) (settled : Bool) → IsMadeOf book before
-    → SettlesLevel keeping limit from id before line settled after → IsMadeOf book after
-level_made keeping limit from id book before after line settled made (is_passed page there why says is same) = subst (IsMadeOf book) (sym same) made
-level_made keeping limit from id book before after line settled made (is_settled page shown tried kept by) =
+level_made : (keeping : Keeping) (limit : ℕ) (span : Span) (id : ℤ) (book before after : Book) (line : List ℕ) (settled : Bool) → IsMadeOf book before
+    → SettlesLevel keeping limit span id before line settled after → IsMadeOf book after
+level_made keeping limit span id book before after line settled made (is_passed page there why says is same) = subst (IsMadeOf book) (sym same) made
+level_made keeping limit span id book before after line settled made (is_settled page shown tried kept by) =
     by_made id book before after page.level shown line settled made by
-level_made keeping limit from id book before after line settled made (is_past_limit page least tried cut says is same) = subst (IsMadeOf book) (sym same) made
-level_made keeping limit from id book before after line settled made (is_too_long page letters pushes tried least many says is same) =
+level_made keeping limit span id book before after line settled made (is_past_limit page least tried cut says is same) = subst (IsMadeOf book) (sym same) made
+level_made keeping limit span id book before after line settled made (is_too_long page letters pushes tried least many says is same) =
     subst (IsMadeOf book) (sym same) made
-level_made keeping limit from id book before after line settled made (is_too_much page tried unkept says is same) = subst (IsMadeOf book) (sym same) made
+level_made keeping limit span id book before after line settled made (is_too_much page tried unkept says is same) = subst (IsMadeOf book) (sym same) made
 
-left_made : (from id : ℤ) (book before after : Book) → IsMadeOf book before → EndsLevel from id before after → IsMadeOf book after
-left_made from id book before after made (inl same) = subst (IsMadeOf book) (sym same) made
-left_made from id book before after made (inr (page, tried, letters, answer, offered)) =
+left_made : (span : Span) (id : ℤ) (book before after : Book) → IsMadeOf book before → EndsLevel span id before after → IsMadeOf book after
+left_made span id book before after made (inl same) = subst (IsMadeOf book) (sym same) made
+left_made span id book before after made (inr (page, tried, letters, answer, offered)) =
     histories.more before after made (offer (id_number id) letters answer offered)
 
 pub settlings-fold : (keeping : Keeping) → SettlingsFold keeping
-settlings-fold keeping limit from book after some =
-    some_made (level_step keeping limit from) (level_leave keeping limit from)
-    (λ n start before later line settled made level. level_made keeping limit from (pos (n + 1)) start before later line settled made level)
-    (λ n start before later made left. left_made from (pos (n + 1)) start before later made left) book after some
+settlings-fold keeping limit span book after some =
+    some_made (level_step keeping limit span) (level_leave keeping limit span)
+    (λ n start before later line settled made level. level_made keeping limit span (pos (n + 1)) start before later line settled made level)
+    (λ n start before later made left. left_made span (pos (n + 1)) start before later made left) book after some
 
 pub settlings-keep-truth : (keeping : Keeping) → SettlingsKeepTruth keeping
-settlings-keep-truth keeping limit from book after some = made_true book after (settlings-fold keeping limit from book after some)
+settlings-keep-truth keeping limit span book after some = made_true book after (settlings-fold keeping limit span book after some)
 
 -- ---- levels that are passed over
 
 -- a page that is not tried
-abbrev IsKeptAsIs : ℤ → ℕ → Page → Type 0
-IsKeptAsIs from id page = (pos id <ℤ from) ⊎ (page.verdict ≢ Untested)
+abbrev IsKeptAsIs : Span → ℕ → Page → Type 0
+IsKeptAsIs span id page = IsBeyond span (pos id) ⊎ (page.verdict ≢ Untested)
 
-untried : (from : ℤ) (n id : ℕ) (book : Book) (page other : Page) → page_at book id ≡ Some page → IsKeptAsIs from id page → IsTried from (pos (n + 1)) book other
+untried : (span : Span) (n id : ℕ) (book : Book) (page other : Page) → page_at book id ≡ Some page → IsKeptAsIs span id page → IsTried span (pos (n + 1)) book other
     → n + 1 - 1 ≡ id - 1 → ⊥
-untried from n zero book page other there kept tried same = none-some page there
-untried from n (suc m) book page other there kept tried same =
+untried span n zero book page other there kept tried same = none-some page there
+untried span n (suc m) book page other there kept tried same =
     let id : n + 1 ≡ suc m = omega (arith, same) in
     let one : other ≡ page = same_Some other page (sym tried.there ∙ ap (page_at book) id ∙ there) in
     elim kept [
-      | inl before ↦ tried.begun (subst (λ k. pos k <ℤ from) (sym id) before)
+      | inl beyond ↦ tried.within (subst (λ k. IsBeyond span (pos k)) (sym id) beyond)
       | inr tested ↦ tested (ap (λ (p : Page). p.verdict) (sym one) ∙ tried.untested)
     ]
 
@@ -91,34 +92,34 @@ at_else book after place zero page there other else = absurd (none-some page the
 at_else book after place (suc m) page there other else =
     let less : suc m - 1 ≡ m = omega arith in else m (λ same. other (same ∙ sym less)) ∙ there
 
-level_kept : (keeping : Keeping) (limit : ℕ) (from : ℤ) (n : ℕ) (book after : Book) (line : List ℕ) (settled : Bool) (id : ℕ) (page : Page)
-    → SettlesLevel keeping limit from (pos (n + 1)) book line settled after → page_at book id ≡ Some page → IsKeptAsIs from id page → page_at after id ≡ Some page
-level_kept keeping limit from n book after line settled id page (is_passed other at why says is same) there kept = ap (λ (b : Book). page_at b id) same ∙ there
-level_kept keeping limit from n book after line settled id page (is_settled other shown tried cert by) there kept =
-    at_else book after (n + 1 - 1) id page there (untried from n id book page other there kept tried)
-    (else_settled keeping limit from (pos (n + 1)) book after line settled (is_settled other shown tried cert by))
-level_kept keeping limit from n book after line settled id page (is_past_limit other least tried cut says is same) there kept =
+level_kept : (keeping : Keeping) (limit : ℕ) (span : Span) (n : ℕ) (book after : Book) (line : List ℕ) (settled : Bool) (id : ℕ) (page : Page)
+    → SettlesLevel keeping limit span (pos (n + 1)) book line settled after → page_at book id ≡ Some page → IsKeptAsIs span id page → page_at after id ≡ Some page
+level_kept keeping limit span n book after line settled id page (is_passed other at why says is same) there kept = ap (λ (b : Book). page_at b id) same ∙ there
+level_kept keeping limit span n book after line settled id page (is_settled other shown tried cert by) there kept =
+    at_else book after (n + 1 - 1) id page there (untried span n id book page other there kept tried)
+    (else_settled keeping limit span (pos (n + 1)) book after line settled (is_settled other shown tried cert by))
+level_kept keeping limit span n book after line settled id page (is_past_limit other least tried cut says is same) there kept =
     ap (λ (b : Book). page_at b id) same ∙ there
-level_kept keeping limit from n book after line settled id page (is_too_long other letters pushes tried least many says is same) there kept =
+level_kept keeping limit span n book after line settled id page (is_too_long other letters pushes tried least many says is same) there kept =
     ap (λ (b : Book). page_at b id) same ∙ there
-level_kept keeping limit from n book after line settled id page (is_too_much other tried unkept says is same) there kept =
+level_kept keeping limit span n book after line settled id page (is_too_much other tried unkept says is same) there kept =
     ap (λ (b : Book). page_at b id) same ∙ there
 
-first_kept : (keeping : Keeping) (limit : ℕ) (from : ℤ) (book : Book) (n : ℕ) (text : List ℕ) (all : Bool) (after : Book) (id : ℕ) (page : Page)
-    → SettlesFirst keeping limit from book n text all after → page_at book id ≡ Some page → IsKeptAsIs from id page → page_at after id ≡ Some page
-first_kept keeping limit from book _ _ _ _ id page none there kept = there
-first_kept keeping limit from book _ _ _ _ id page (more n text line all settled before after first level) there kept =
-    level_kept keeping limit from n before after line settled id page level (first_kept keeping limit from book n text all before id page first there kept) kept
+first_kept : (keeping : Keeping) (limit : ℕ) (span : Span) (book : Book) (n : ℕ) (text : List ℕ) (all : Bool) (after : Book) (id : ℕ) (page : Page)
+    → SettlesFirst keeping limit span book n text all after → page_at book id ≡ Some page → IsKeptAsIs span id page → page_at after id ≡ Some page
+first_kept keeping limit span book _ _ _ _ id page none there kept = there
+first_kept keeping limit span book _ _ _ _ id page (more n text line all settled before after first level) there kept =
+    level_kept keeping limit span n before after line settled id page level (first_kept keeping limit span book n text all before id page first there kept) kept
 
-left_kept : (from : ℤ) (n : ℕ) (book after : Book) (id : ℕ) (page : Page) → EndsLevel from (pos (n + 1)) book after → page_at book id ≡ Some page
-    → IsKeptAsIs from id page → page_at after id ≡ Some page
-left_kept from n book after id page (inl same) there kept = ap (λ (b : Book). page_at b id) same ∙ there
-left_kept from n book after id page (inr (other, tried, letters, answer, offered)) there kept =
-    at_else book after (n + 1 - 1) id page there (untried from n id book page other there kept tried) (else_offered book after (n + 1) letters answer offered)
+left_kept : (span : Span) (n : ℕ) (book after : Book) (id : ℕ) (page : Page) → EndsLevel span (pos (n + 1)) book after → page_at book id ≡ Some page
+    → IsKeptAsIs span id page → page_at after id ≡ Some page
+left_kept span n book after id page (inl same) there kept = ap (λ (b : Book). page_at b id) same ∙ there
+left_kept span n book after id page (inr (other, tried, letters, answer, offered)) there kept =
+    at_else book after (n + 1 - 1) id page there (untried span n id book page other there kept tried) (else_offered book after (n + 1) letters answer offered)
 
 pub settlings-keep-verdicts : (keeping : Keeping) → SettlingsKeepVerdicts keeping
-settlings-keep-verdicts keeping limit from book after id page (n, text, all, before, first, left) there kept =
-    left_kept from n before after id page left (first_kept keeping limit from book n text all before id page first there kept) kept
+settlings-keep-verdicts keeping limit span book after id page (n, text, all, before, first, left) there kept =
+    left_kept span n before after id page left (first_kept keeping limit span book n text all before id page first there kept) kept
 
 -- ---- levels that are settled
 
@@ -140,16 +141,16 @@ by_verdict id book after rows (claim.Pushes n) line settled page (best, count, i
 by_verdict id book after rows claim.Unsolvable line settled page (unsolvable, sets, says, is) there = verdict_set book (id_number id) _ after page sets there
 
 -- the level that was gone through has a verdict, or comes before the first
-level_tested : (keeping : Keeping) (limit : ℕ) (from : ℤ) (n : ℕ) (book after : Book) (line : List ℕ) (page : Page)
-    → SettlesLevel keeping limit from (pos (n + 1)) book line true after → page_at after (n + 1) ≡ Some page → IsKeptAsIs from (n + 1) page
-level_tested keeping limit from n book after line page (is_passed other at why says is same) there =
+level_tested : (keeping : Keeping) (limit : ℕ) (span : Span) (n : ℕ) (book after : Book) (line : List ℕ) (page : Page)
+    → SettlesLevel keeping limit span (pos (n + 1)) book line true after → page_at after (n + 1) ≡ Some page → IsKeptAsIs span (n + 1) page
+level_tested keeping limit span n book after line page (is_passed other at why says is same) there =
     let one : other ≡ page = same_Some other page (sym at ∙ ap (λ (b : Book). page_at b (n + 1)) (sym same) ∙ there) in
-    subst (IsKeptAsIs from (n + 1)) one why
-level_tested keeping limit from n book after line page (is_settled other shown tried kept by) there =
+    subst (IsKeptAsIs span (n + 1)) one why
+level_tested keeping limit span n book after line page (is_settled other shown tried kept by) there =
     inr (λ untested. never_untested shown (by_verdict (pos (n + 1)) book after other.level shown line true page by there ∙ untested))
-level_tested keeping limit from n book after line page (is_past_limit other least tried cut says is same) there = absurd cc
-level_tested keeping limit from n book after line page (is_too_long other letters pushes tried least many says is same) there = absurd cc
-level_tested keeping limit from n book after line page (is_too_much other tried unkept says is same) there = absurd cc
+level_tested keeping limit span n book after line page (is_past_limit other least tried cut says is same) there = absurd cc
+level_tested keeping limit span n book after line page (is_too_long other letters pushes tried least many says is same) there = absurd cc
+level_tested keeping limit span n book after line page (is_too_much other tried unkept says is same) there = absurd cc
 
 else_at : (book after : Book) (place id : ℕ) (page : Page) → page_at after id ≡ Some page → (place ≡ id - 1 → ⊥)
     → ((m : ℕ) → (place ≡ m → ⊥) → slice_get after m ≡ slice_get book m) → page_at book id ≡ Some page
@@ -165,26 +166,26 @@ is_positive : (book : Book) (id : ℕ) (page : Page) → page_at book id ≡ Som
 is_positive book zero page there = absurd (none-some page there)
 is_positive book (suc m) page there = omega arith
 
-first_tested : (keeping : Keeping) (limit : ℕ) (from : ℤ) (book : Book) (n : ℕ) (text : List ℕ) (all : Bool) (after : Book) (id : ℕ) (page : Page)
-    → SettlesFirst keeping limit from book n text all after → all ≡ true → id ≤ n → page_at after id ≡ Some page → IsKeptAsIs from id page
-first_tested keeping limit from book _ _ _ _ id page none each low there = absurd (no_page book id page low there)
-first_tested keeping limit from book _ _ _ _ id page (more n text line all settled before after first level) each low there =
+first_tested : (keeping : Keeping) (limit : ℕ) (span : Span) (book : Book) (n : ℕ) (text : List ℕ) (all : Bool) (after : Book) (id : ℕ) (page : Page)
+    → SettlesFirst keeping limit span book n text all after → all ≡ true → id ≤ n → page_at after id ≡ Some page → IsKeptAsIs span id page
+first_tested keeping limit span book _ _ _ _ id page none each low there = absurd (no_page book id page low there)
+first_tested keeping limit span book _ _ _ _ id page (more n text line all settled before after first level) each low there =
     let (all_is, settled_is) = and_parts all settled each in
     let positive = is_positive after id page there in
     elim (cases_lt id (n + 1)) [
       | inl under ↦
           let other : n + 1 - 1 ≡ id - 1 → ⊥ = λ same. omega (arith, same, under, positive) in
-          first_tested keeping limit from book n text all before id page first all_is (omega (arith, under))
-          (else_at before after (n + 1 - 1) id page there other (else_settled keeping limit from (pos (n + 1)) before after line settled level))
+          first_tested keeping limit span book n text all before id page first all_is (omega (arith, under))
+          (else_at before after (n + 1 - 1) id page there other (else_settled keeping limit span (pos (n + 1)) before after line settled level))
       | inr over ↦
           let same : id ≡ n + 1 = omega (arith, over, low) in
-          subst (λ k. IsKeptAsIs from k page) (sym same)
-          (level_tested keeping limit from n before after line page (subst (λ s. SettlesLevel keeping limit from (pos (n + 1)) before line s after) settled_is level)
+          subst (λ k. IsKeptAsIs span k page) (sym same)
+          (level_tested keeping limit span n before after line page (subst (λ s. SettlesLevel keeping limit span (pos (n + 1)) before line s after) settled_is level)
           (ap (page_at after) (sym same) ∙ there))
     ]
 
 pub settled-have-verdicts : (keeping : Keeping) → SettledHaveVerdicts keeping
-settled-have-verdicts keeping limit from book n text after id page first low there = first_tested keeping limit from book n text true after id page first refl low there
+settled-have-verdicts keeping limit span book n text after id page first low there = first_tested keeping limit span book n text true after id page first refl low there
 
 -- ---- certificates
 
@@ -214,12 +215,12 @@ cases_same m n = elim (cases_lt m n) [
   ]
 ]
 
-module _ (keeping : Keeping) (limit : ℕ) (from : ℤ) where
+module _ (keeping : Keeping) (limit : ℕ) (span : Span) where
   -- the claim by which a level has a verdict, of which a certificate was kept
   abbrev HasCert : ℕ → Page → Page → Type 0
   HasCert id page new = (shown : Claim) × (verdict_of shown ≡ new.verdict) × keeping.keeps limit (pos id) page.level shown
 
-  level_cert : (n : ℕ) (book after : Book) (line : List ℕ) (settled : Bool) (page new : Page) → SettlesLevel keeping limit from (pos (n + 1)) book line settled after
+  level_cert : (n : ℕ) (book after : Book) (line : List ℕ) (settled : Bool) (page new : Page) → SettlesLevel keeping limit span (pos (n + 1)) book line settled after
       → page_at book (n + 1) ≡ Some page → page_at after (n + 1) ≡ Some new → page.verdict ≡ Untested → new.verdict ≢ Untested → HasCert (n + 1) page new
   level_cert n book after line settled page new (is_passed other at why says is same) there then_there untested tested =
       absurd (tested (unchanged (n + 1) book after page new same there then_there untested))
@@ -237,14 +238,14 @@ module _ (keeping : Keeping) (limit : ℕ) (from : ℤ) where
       absurd (tested (unchanged (n + 1) book after page new same there then_there untested))
 
   -- the page of the next level is as it was
-  next_stays : (book : Book) (n : ℕ) (text : List ℕ) (all : Bool) (before : Book) (page : Page) → SettlesFirst keeping limit from book n text all before
+  next_stays : (book : Book) (n : ℕ) (text : List ℕ) (all : Bool) (before : Book) (page : Page) → SettlesFirst keeping limit span book n text all before
       → page_at book (n + 1) ≡ Some page → page_at before (n + 1) ≡ Some page
   next_stays book n text all before page first there =
       let last : suc n ≡ n + 1 = omega arith in
       let here : page_at book (suc n) ≡ Some page = subst (λ k. page_at book k ≡ Some page) (sym last) there in
-      subst (λ k. page_at before k ≡ Some page) last (first_stays keeping limit from book n text all before first n (omega arith) ∙ here)
+      subst (λ k. page_at before k ≡ Some page) last (first_stays keeping limit span book n text all before first n (omega arith) ∙ here)
 
-  first_cert : (book : Book) (n : ℕ) (text : List ℕ) (all : Bool) (after : Book) (id : ℕ) (page new : Page) → SettlesFirst keeping limit from book n text all after
+  first_cert : (book : Book) (n : ℕ) (text : List ℕ) (all : Bool) (after : Book) (id : ℕ) (page new : Page) → SettlesFirst keeping limit span book n text all after
       → page_at book id ≡ Some page → page_at after id ≡ Some new → page.verdict ≡ Untested → new.verdict ≢ Untested → HasCert id page new
   first_cert book _ _ _ _ id page new none there then_there untested tested =
       absurd (tested (unchanged id book book page new refl there then_there untested))
@@ -259,11 +260,11 @@ module _ (keeping : Keeping) (limit : ℕ) (from : ℤ) where
             let positive = is_positive book id page there in
             let else_place : n + 1 - 1 ≡ id - 1 → ⊥ = λ same. other (omega (arith, same, positive)) in
             first_cert book n text all before id page new first there
-            (else_at before after (n + 1 - 1) id new then_there else_place (else_settled keeping limit from (pos (n + 1)) before after line settled level)) untested tested
+            (else_at before after (n + 1 - 1) id new then_there else_place (else_settled keeping limit span (pos (n + 1)) before after line settled level)) untested tested
       ]
 
   left_cert : (book : Book) (n : ℕ) (text : List ℕ) (all : Bool) (before after : Book) (id : ℕ) (page new : Page)
-      → SettlesFirst keeping limit from book n text all before → EndsLevel from (pos (n + 1)) before after → page_at book id ≡ Some page
+      → SettlesFirst keeping limit span book n text all before → EndsLevel span (pos (n + 1)) before after → page_at book id ≡ Some page
       → page_at after id ≡ Some new → page.verdict ≡ Untested → new.verdict ≢ Untested → HasCert id page new
   left_cert book n text all before after id page new first (inl same) there then_there untested tested =
       first_cert book n text all before id page new first there (ap (λ (b : Book). page_at b id) (sym same) ∙ then_there) untested tested
@@ -282,5 +283,5 @@ module _ (keeping : Keeping) (limit : ℕ) (from : ℤ) where
       ]
 
 pub settled-have-certs : (keeping : Keeping) → SettledHaveCerts keeping
-settled-have-certs keeping limit from book after id page new (n, text, all, before, first, left) there then_there untested tested =
-    left_cert keeping limit from book n text all before after id page new first left there then_there untested tested
+settled-have-certs keeping limit span book after id page new (n, text, all, before, first, left) there then_there untested tested =
+    left_cert keeping limit span book n text all before after id page new first left there then_there untested tested

@@ -27,13 +27,14 @@ use Rattle.sok_store.specs.Calls.{id_number}
 use Rattle.sok_store.specs.Verdicts.{IsNotSet}
 use Rattle.sok_store.proofs.Found.{kept_at, page_there, some_and}
 use Rattle.sok_keep.specs.Offers.{HasBest}
+use Rattle.sok_settle.specs.declared.settle.Span.{Span}
 use Rattle.sok_settle.specs.Steps.{AreFewest, IsTriedAs}
 
 -- ---- letters that solve a level are not refused
 
-pub never_refused : (from id : ℤ) (page : Page) (book : Book) (letters : List Dir) (fault : BookFault) → IsTriedAs from id page book
+pub never_refused : (span : Span) (id : ℤ) (page : Page) (book : Book) (letters : List Dir) (fault : BookFault) → IsTriedAs span id page book
     → Solves page.level letters → length letters ≤ letter_limit → IsNotOffered book (id_number id) letters fault → ⊥
-never_refused from id page book letters fault tried solves few refused =
+never_refused span id page book letters fault tried solves few refused =
     let answer = offer_answer (is_better (pushes page.level (start page.level) letters) (best_pushes page)) in
     let after = with_page book (id_number id) (with_best page (solution_of page.level letters)) in
     let offers : Offers book (id_number id) letters answer after = record {
@@ -95,10 +96,10 @@ best_untested page solution untested =
     ]
 
 -- after the solution was offered
-pub offered_best : (from id : ℤ) (page : Page) (book middle : Book) (letters : List Dir) (least : ℕ) (offer : Offer) → IsKeptBook book
-    → IsTriedAs from id page book → AreFewest page.level letters least → Offers book (id_number id) letters offer middle
+pub offered_best : (span : Span) (id : ℤ) (page : Page) (book middle : Book) (letters : List Dir) (least : ℕ) (offer : Offer) → IsKeptBook book
+    → IsTriedAs span id page book → AreFewest page.level letters least → Offers book (id_number id) letters offer middle
     → HasLeast middle (id_number id) page.level least
-offered_best from id page book middle letters least offer kept tried is offered =
+offered_best span id page book middle letters least offer kept tried is offered =
     let one : offered.page ≡ page = same_Some offered.page page (sym offered.there ∙ tried.there) in
     let level : offered.page.level ≡ page.level = ap (λ (p : Page). p.level) one in
     let new = with_best offered.page (solution_of offered.page.level letters) in
@@ -162,12 +163,12 @@ no_best rows None unsolvable kept = refl
 no_best rows (Some best) unsolvable kept = absurd (unsolvable best.letters kept.solution.solves)
 
 -- a claim of this is not refused
-pub never_solved : (from id : ℤ) (page : Page) (book : Book) (fault : BookFault) → IsKeptBook book → IsTriedAs from id page book → IsUnsolvable page.level
+pub never_solved : (span : Span) (id : ℤ) (page : Page) (book : Book) (fault : BookFault) → IsKeptBook book → IsTriedAs span id page book → IsUnsolvable page.level
     → IsNotSet book (id_number id) page.level claim.Unsolvable fault → ⊥
-never_solved from id page book refusal.NoLevel kept tried unsolvable refused =
+never_solved span id page book refusal.NoLevel kept tried unsolvable refused =
     refused (some_and (page_at book (id_number id)) (λ p. p.level ≡ page.level) page tried.there refl)
-never_solved from id page book refusal.ClaimDiffers kept tried unsolvable refused =
+never_solved span id page book refusal.ClaimDiffers kept tried unsolvable refused =
     let best = (kept_at book (id_number id) page kept tried.there).best in
     subst (λ (o : Option Page). IsSomeAnd o (λ p. Meets claim.Unsolvable (best_pushes p) → ⊥)) tried.there refused.1
     (no_best page.level page.best unsolvable best)
-never_solved from id page book fault kept tried unsolvable refused = refused
+never_solved span id page book fault kept tried unsolvable refused = refused

@@ -28,6 +28,7 @@ use Rattle.sok_store.specs.declared.standing.Standing.{Standing}
 use Rattle.sok_store.proofs.Calls.{held, held_shown, shown, stops_less, stops_same}
 use Rattle.sok_store.proofs.Caused.{cause_before}
 use Rattle.sok_keep.proofs.Ending.{caused_more}
+use Rattle.sok_settle.specs.declared.settle.Span.{Span}
 use Rattle.sok_settle.specs.Going.{MayStep}
 use Rattle.sok_settle.specs.Keeping.{Keeping, TellsKept}
 use Rattle.sok_settle.specs.Lines.{TellsFault, TellsLine, TellsUnkept, fault_line}
@@ -38,22 +39,22 @@ use Rattle.sok_settle.proofs.Levels.{HasLeast, best_stays, best_told, never_diff
 
 -- ---- without a change
 
-module _ (keeping : Keeping) (limit : ℕ) (from id : ℤ) (page : Page) where
+module _ (keeping : Keeping) (limit : ℕ) (span : Span) (id : ℤ) (page : Page) where
   abbrev through_tried : State → State → Option (List ℕ) → Option (List ℕ) → Result Bool ToolFault → Type 0
-  through_tried = GoesThrough (IsTriedAs from id page) keeping limit from id
+  through_tried = GoesThrough (IsTriedAs span id page) keeping limit span id
 
   -- a line is told of a level that is not settled
   stays_goes : (s : State) (line : List ℕ) (held later : Option (List ℕ)) (result : Result Bool ToolFault)
-      → ((book : Book) → IsTriedAs from id page book → SettlesLevel keeping limit from id book line false book) → TellsLine line false held later result
+      → ((book : Book) → IsTriedAs span id page book → SettlesLevel keeping limit span id book line false book) → TellsLine line false held later result
       → through_tried s s held later result
   stays_goes s line held later result stays tells =
-      told_goes (SettlesLevel keeping limit from id) (leave_of_level keeping limit from id) (IsTriedAs from id page) s s line false held later result
+      told_goes (SettlesLevel keeping limit span id) (leave_of_level keeping limit span id) (IsTriedAs span id page) s s line false held later result
       (same_leads s _ (λ book kept tried. stays book tried)) (stops_same s _) tells
 
   -- memory is refused
   memory_refused : (s : State) (held later : Option (List ℕ)) → Keeps held later → through_tried s s held later (Err tool.Memory)
   memory_refused s held later keeps =
-      memory_goes (SettlesLevel keeping limit from id) (leave_of_level keeping limit from id) (IsTriedAs from id page) s s held later tool.Memory refl keeps
+      memory_goes (SettlesLevel keeping limit span id) (leave_of_level keeping limit span id) (IsTriedAs span id page) s s held later tool.Memory refl keeps
       (λ clean book holds. (book, λ tried. inl refl, holds)) (stops_same s _)
 
   pub unsearched_goes : (s : State) (held : Option (List ℕ)) (fault : ToolFault) → fault ≡ tool.Memory → through_tried s s held held (Err fault)
@@ -62,7 +63,7 @@ module _ (keeping : Keeping) (limit : ℕ) (from id : ℤ) (page : Page) where
 
   -- the line of its fault is told, or memory is refused for it
   fault_goes : (s : State) (fault : ToolFault) (held later : Option (List ℕ)) (result : Result Bool ToolFault)
-      → ((book : Book) → IsTriedAs from id page book → SettlesLevel keeping limit from id book (fault_line id fault) false book)
+      → ((book : Book) → IsTriedAs span id page book → SettlesLevel keeping limit span id book (fault_line id fault) false book)
       → TellsFault id fault held later result → through_tried s s held later result
   fault_goes s fault held later result stays (inl (is, keeps)) =
       subst (λ (r : Result Bool ToolFault). through_tried s s held later r) (sym is) (memory_refused s held later keeps)
@@ -90,7 +91,7 @@ module _ (keeping : Keeping) (limit : ℕ) (from id : ℤ) (page : Page) where
         fault_goes s tool.TooMuch held later result (λ book tried. is_too_much page tried refused refl refl refl) tells
     unkept X s tool.WriteFailed held later result refused (is, keeps) =
         subst (λ (r : Result Bool ToolFault). through_tried s s held later r) (sym is)
-        (unwritten_goes (SettlesLevel keeping limit from id) (leave_of_level keeping limit from id) (IsTriedAs from id page) s held later keeps
+        (unwritten_goes (SettlesLevel keeping limit span id) (leave_of_level keeping limit span id) (IsTriedAs span id page) s held later keeps
         (λ book tried. (page, tried, refused)))
     unkept X s tool.Memory held later result refused (is, keeps) =
         subst (λ (r : Result Bool ToolFault). through_tried s s held later r) (sym is) (memory_refused s held later keeps)
@@ -104,17 +105,17 @@ module _ (keeping : Keeping) (limit : ℕ) (from id : ℤ) (page : Page) where
 
     -- it is kept, and then the level is settled by its claim
     pub kept_goes : (old new : State) (held later : Option (List ℕ)) (result : Result Bool ToolFault) → keeping.keeps limit id page.level shown
-        → GoesBy from id page shown old new held later result → through_tried old new held later result
+        → GoesBy span id page shown old new held later result → through_tried old new held later result
     kept_goes old new held later result kept goes =
-        step_other (SettlesBy id page.level shown) (SettlesLevel keeping limit from id) (leave_of_kept from id) (leave_of_level keeping limit from id)
-        (IsTriedAs from id page) (λ book after line settled tried by. is_settled page shown tried kept by) (λ book after tried left. left)
+        step_other (SettlesBy id page.level shown) (SettlesLevel keeping limit span id) (leave_of_kept span id) (leave_of_level keeping limit span id)
+        (IsTriedAs span id page) (λ book after line settled tried by. is_settled page shown tried kept by) (λ book after tried left. left)
         (λ book tried never. absurd never) old new held later result goes
 
 -- ---- it is settled by a claim
 
-module _ (from id : ℤ) (page : Page) (rows : Rows) (same : page.level ≡ rows) where
+module _ (span : Span) (id : ℤ) (page : Page) (rows : Rows) (same : page.level ≡ rows) where
   abbrev May : Claim → Book → Book → Type 0
-  May shown book after = IsTriedAs from id page book → MayStep (SettlesBy id page.level shown) (leave_of_kept from id) book after
+  May shown book after = IsTriedAs span id page book → MayStep (SettlesBy id page.level shown) (leave_of_kept span id) book after
 
   not_set : (book : Book) (shown : Claim) (fault : BookFault) → IsNotSet book (id_number id) rows shown fault
       → IsNotSet book (id_number id) page.level shown fault
@@ -130,7 +131,7 @@ module _ (from id : ℤ) (page : Page) (rows : Rows) (same : page.level ≡ rows
     least : AreFewest page.level letters pushes
     least = subst (λ (r : Rows). AreFewest r letters pushes) (sym same) fewest
 
-    left : (book after : Book) → IsTriedAs from id page book → IsOffered book after → EndsLevel from id book after
+    left : (book after : Book) → IsTriedAs span id page book → IsOffered book after → EndsLevel span id book after
     left book after tried (told, tells) = inr (page, tried, letters, told.offer, tells.offered)
 
     offer_stops : Stops old mid (May (claim.Pushes pushes))
@@ -139,14 +140,14 @@ module _ (from id : ℤ) (page : Page) (rows : Rows) (same : page.level ≡ rows
     -- the letters are not kept, for a cause outside
     pub unoffered_goes : (held : Option (List ℕ)) (fault : BookFault)
         → calls.KeepsBook old mid (λ book. IsOutside fault ⊎ IsNotOffered book (id_number id) letters fault) → IsCaused old mid IsOffered fault
-        → GoesBy from id page (claim.Pushes pushes) old mid held held (Err (of_book fault))
+        → GoesBy span id page (claim.Pushes pushes) old mid held held (Err (of_book fault))
     unoffered_goes held fault keeps caused = record {
       turns = λ clean book held_now.
           let (why, holds) = keeps clean book held_now in (
             book,
             λ tried. elim why [
-              | inl outside ↦ left_steps (SettlesBy id page.level (claim.Pushes pushes)) (leave_of_kept from id) book book held held fault outside (inl refl) (Keeps-refl held)
-              | inr refused ↦ absurd (never_refused from id page book letters fault tried least.solves few refused)
+              | inl outside ↦ left_steps (SettlesBy id page.level (claim.Pushes pushes)) (leave_of_kept span id) book book held held fault outside (inl refl) (Keeps-refl held)
+              | inr refused ↦ absurd (never_refused span id page book letters fault tried least.solves few refused)
             ],
             holds,
           );
@@ -160,11 +161,11 @@ module _ (from id : ℤ) (page : Page) (rows : Rows) (same : page.level ≡ rows
       early : HasCleanDisk new → HasCleanDisk mid
       early clean = omega (arith, clean, two.clean)
 
-      least_after : (book middle : Book) → IsKeptBook book → IsTriedAs from id page book → OffersTelling book (id_number id) letters told middle
+      least_after : (book middle : Book) → IsKeptBook book → IsTriedAs span id page book → OffersTelling book (id_number id) letters told middle
           → HasLeast middle (id_number id) page.level pushes
-      least_after book middle kept tried tells = offered_best from id page book middle letters pushes told.offer kept tried least tells.offered
+      least_after book middle kept tried tells = offered_best span id page book middle letters pushes told.offer kept tried least tells.offered
 
-      optimal : (book middle after : Book) → IsKeptBook book → IsTriedAs from id page book → OffersTelling book (id_number id) letters told middle
+      optimal : (book middle after : Book) → IsKeptBook book → IsTriedAs span id page book → OffersTelling book (id_number id) letters told middle
           → SetsVerdict middle (id_number id) (claim.Pushes pushes) after
           → SettlesBy id page.level (claim.Pushes pushes) book (optimal_line id told.pushes told.moves) true after
       optimal book middle after kept tried tells sets =
@@ -195,14 +196,14 @@ module _ (from id : ℤ) (page : Page) (rows : Rows) (same : page.level ≡ rows
       pub unset_goes : (held : Option (List ℕ)) (fault : BookFault)
           → calls.KeepsBook mid new (λ book. IsOutside fault ⊎ IsNotSet book (id_number id) rows (claim.Pushes pushes) fault)
           → IsCaused mid new (λ book after. SetsVerdict book (id_number id) (claim.Pushes pushes) after) fault
-          → GoesBy from id page (claim.Pushes pushes) old new held held (Err (of_book fault))
+          → GoesBy span id page (claim.Pushes pushes) old new held held (Err (of_book fault))
       unset_goes held_out fault keeps caused = record {
         turns = λ clean book held_now.
             let (middle, tells, stores) = offered (early clean) book held_now in
             let (why, holds) = keeps clean middle (held mid middle stores) in (
               middle,
               λ tried. elim why [
-                | inl outside ↦ left_steps (SettlesBy id page.level (claim.Pushes pushes)) (leave_of_kept from id) book middle held_out held_out fault outside (left book middle tried (told, tells)) (Keeps-refl held_out)
+                | inl outside ↦ left_steps (SettlesBy id page.level (claim.Pushes pushes)) (leave_of_kept span id) book middle held_out held_out fault outside (left book middle tried (told, tells)) (Keeps-refl held_out)
                 | inr refused ↦ absurd (never_differs middle (id_number id) page.level pushes fault (least_after book middle held_now.0 tried tells) (not_set middle (claim.Pushes pushes) fault refused))
               ],
               holds,
@@ -223,9 +224,9 @@ module _ (from id : ℤ) (page : Page) (rows : Rows) (same : page.level ≡ rows
       pub set_goes : (held later : Option (List ℕ)) (result : Result Bool ToolFault)
           → StoresChange mid new (λ book after. SetsVerdict book (id_number id) (claim.Pushes pushes) after)
           → TellsLine (optimal_line id told.pushes told.moves) true held later result
-          → GoesBy from id page (claim.Pushes pushes) old new held later result
+          → GoesBy span id page (claim.Pushes pushes) old new held later result
       set_goes held_out later result proved tells_line =
-          told_goes (SettlesBy id page.level (claim.Pushes pushes)) (leave_of_kept from id) (IsTriedAs from id page) old new (optimal_line id told.pushes told.moves) true held_out later result
+          told_goes (SettlesBy id page.level (claim.Pushes pushes)) (leave_of_kept span id) (IsTriedAs span id page) old new (optimal_line id told.pushes told.moves) true held_out later result
           (changes_leads old new _ (λ clean book holds.
           let (middle, tells, stores) = offered (early clean) book holds in
           let (after, sets, stores_after) = proved clean middle (held mid middle stores) in
@@ -252,14 +253,14 @@ module _ (from id : ℤ) (page : Page) (rows : Rows) (same : page.level ≡ rows
     pub none_unset_goes : (held : Option (List ℕ)) (fault : BookFault)
         → calls.KeepsBook old new (λ book. IsOutside fault ⊎ IsNotSet book (id_number id) rows claim.Unsolvable fault)
         → IsCaused old new (λ book after. SetsVerdict book (id_number id) claim.Unsolvable after) fault
-        → GoesBy from id page claim.Unsolvable old new held held (Err (of_book fault))
+        → GoesBy span id page claim.Unsolvable old new held held (Err (of_book fault))
     none_unset_goes held fault keeps caused = record {
       turns = λ clean book held_now.
           let (why, holds) = keeps clean book held_now in (
             book,
             λ tried. elim why [
-              | inl outside ↦ left_steps (SettlesBy id page.level claim.Unsolvable) (leave_of_kept from id) book book held held fault outside (inl refl) (Keeps-refl held)
-              | inr refused ↦ absurd (never_solved from id page book fault held_now.0 tried never_solves (not_set book claim.Unsolvable fault refused))
+              | inl outside ↦ left_steps (SettlesBy id page.level claim.Unsolvable) (leave_of_kept span id) book book held held fault outside (inl refl) (Keeps-refl held)
+              | inr refused ↦ absurd (never_solved span id page book fault held_now.0 tried never_solves (not_set book claim.Unsolvable fault refused))
             ],
             holds,
           );
@@ -270,9 +271,9 @@ module _ (from id : ℤ) (page : Page) (rows : Rows) (same : page.level ≡ rows
 
     pub none_set_goes : (held later : Option (List ℕ)) (result : Result Bool ToolFault)
         → StoresChange old new (λ book after. SetsVerdict book (id_number id) claim.Unsolvable after) → TellsLine (unsolvable_line id) true held later result
-        → GoesBy from id page claim.Unsolvable old new held later result
+        → GoesBy span id page claim.Unsolvable old new held later result
     none_set_goes held later result proved tells =
-        told_goes (SettlesBy id page.level claim.Unsolvable) (leave_of_kept from id) (IsTriedAs from id page) old new (unsolvable_line id) true held later result
+        told_goes (SettlesBy id page.level claim.Unsolvable) (leave_of_kept span id) (IsTriedAs span id page) old new (unsolvable_line id) true held later result
         (changes_leads old new _ (λ clean book holds.
         let (after, sets, stores) = proved clean book holds in (after, λ tried. none_solves book after sets, stores)))
         none_stops tells

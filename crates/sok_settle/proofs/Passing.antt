@@ -1,7 +1,5 @@
 -- What is known of the page of a record, and of the levels that are passed over.
-use Rattle.std.proofs.Common.{ℕ, ℤ, ◌≡◌, ◌≢◌, ◌⊎◌, ◌∙◌, ◌<◌, ◌≤◌, ◌<ℤ◌, ◌^◌, zero, suc, arith, FitsSigned, T, List, [], Bool, true, false, Option, Some, Result, Ok, ap, refl, subst, sym, w64, lit<}
-use Rattle.std.specs.Int.Signed.{lt_z, lt_z_yes}
-use Rattle.std.proofs.lemmas.Int.{to_z-of_z}
+use Rattle.std.proofs.Common.{ℕ, ◌≡◌, ◌≢◌, ◌⊎◌, ◌∙◌, ◌<◌, ◌≤◌, ◌^◌, zero, suc, arith, List, [], Bool, true, Option, Some, Result, Ok, refl, subst, sym, lit<}
 use Rattle.std.proofs.lemmas.Option.{slice_get_within}
 use Rattle.std.proofs.KnownBytes.{Appends-nil}
 use Rattle.sqlite.specs.State.{State}
@@ -13,8 +11,9 @@ use Rattle.sok_store.specs.Calls.{id_number}
 use Rattle.sok_store.proofs.Calls.{stops_same}
 use Rattle.sok_store.proofs.Wide.{wide}
 use Rattle.sok_keep.proofs.Ids.{passed}
+use Rattle.sok_settle.specs.declared.settle.Span.{Span}
 use Rattle.sok_settle.specs.Keeping.{Keeping}
-use Rattle.sok_settle.specs.Settles.{is_passed}
+use Rattle.sok_settle.specs.Settles.{IsBeyond, is_passed}
 use Rattle.sok_settle.specs.Steps.{GoesThrough, IsRecordIn, IsTriedAs, MaySettle, StepsLevel}
 use Rattle.sok_settle.proofs.Going.{goes_other, same_leads}
 
@@ -32,51 +31,45 @@ record_passed kept book of_book is =
         let few = of_b.few in
         let under : suc n ≤ 10000 = omega (arith, within, few) in omega (arith, under)
 
-is_before : (a b : ℤ) → lt_z a b ≡ true → a <ℤ b
-is_before a b test = lt_z_yes {a = a} {b = b} (subst T (sym test) tt)
+-- whether it is beyond those that are tried is told by the test
+module _ (span : Span) (kept : PageWithId) (book : Book) (of_book : IsKeptBook book) (is : IsRecordIn kept book) where
+  pub beyond : IsBeyond span (passed kept.id) → IsBeyond span kept.id
+  beyond = subst (IsBeyond span) (record_passed kept book of_book is)
 
--- whether it comes before the first is told by the test
-module _ (from : ℤ) (kept : PageWithId) (fits : FitsSigned w64 from) (book : Book) (of_book : IsKeptBook book) (is : IsRecordIn kept book) where
-  tested : lt_z (passed kept.id) (passed from) ≡ lt_z kept.id from
-  tested = ap (λ i. lt_z i (passed from)) (record_passed kept book of_book is) ∙ ap (lt_z kept.id) (to_z-of_z w64 from fits)
-
-  pub before_first : lt_z (passed kept.id) (passed from) ≡ true → kept.id <ℤ from
-  before_first test = is_before kept.id from (sym tested ∙ test)
-
-  not_before : lt_z (passed kept.id) (passed from) ≡ false → kept.id <ℤ from → ⊥
-  not_before test before = subst T (sym tested ∙ test) before.lt
+  within : (IsBeyond span (passed kept.id) → ⊥) → IsBeyond span kept.id → ⊥
+  within other it = other (subst (IsBeyond span) (sym (record_passed kept book of_book is)) it)
 
 -- ---- its page
 
 -- the level of a record is tried, where nothing is proved of it
-tried_as : (from : ℤ) (kept : PageWithId) → FitsSigned w64 from → lt_z (passed kept.id) (passed from) ≡ false → kept.page.verdict ≡ Untested
-    → (book : Book) → IsKeptBook book → IsRecordIn kept book → IsTriedAs from kept.id kept.page book
-tried_as from kept fits begun untested book of_book is =
-    record { there = is.there; begun = not_before from kept fits book of_book is begun; untested = untested }
+tried_as : (span : Span) (kept : PageWithId) → (IsBeyond span (passed kept.id) → ⊥) → kept.page.verdict ≡ Untested
+    → (book : Book) → IsKeptBook book → IsRecordIn kept book → IsTriedAs span kept.id kept.page book
+tried_as span kept other untested book of_book is =
+    record { there = is.there; within = within span kept book of_book is other; untested = untested }
 
-module _ (keeping : Keeping) (limit : ℕ) (from : ℤ) (kept : PageWithId) where
+module _ (keeping : Keeping) (limit : ℕ) (span : Span) (kept : PageWithId) where
   -- so it is settled as the level with its page is
-  pub level_goes : (old new : State) (held later : Option (List ℕ)) (result : Result Bool ToolFault) → FitsSigned w64 from
-      → lt_z (passed kept.id) (passed from) ≡ false → kept.page.verdict ≡ Untested
-      → GoesThrough (IsTriedAs from (passed kept.id) kept.page) keeping limit from (passed kept.id) old new held later result
-      → GoesThrough (IsRecordIn kept) keeping limit from kept.id old new held later result
-  level_goes old new held later result fits begun untested goes =
+  pub level_goes : (old new : State) (held later : Option (List ℕ)) (result : Result Bool ToolFault)
+      → (IsBeyond span (passed kept.id) → ⊥) → kept.page.verdict ≡ Untested
+      → GoesThrough (IsTriedAs span (passed kept.id) kept.page) keeping limit span (passed kept.id) old new held later result
+      → GoesThrough (IsRecordIn kept) keeping limit span kept.id old new held later result
+  level_goes old new held later result other untested goes =
       goes_other old new _ _ _ _
       (λ book after of_book makes is.
       let same = record_passed kept book of_book is in
-      subst (λ i. StepsLevel keeping limit from i book after held later result) same
-      (makes (subst (λ i. IsTriedAs from i kept.page book) (sym same) (tried_as from kept fits begun untested book of_book is))))
+      subst (λ i. StepsLevel keeping limit span i book after held later result) same
+      (makes (subst (λ i. IsTriedAs span i kept.page book) (sym same) (tried_as span kept other untested book of_book is))))
       (λ book after of_book makes is.
       let same = record_passed kept book of_book is in
-      subst (λ i. MaySettle keeping limit from i book after) same
-      (makes (subst (λ i. IsTriedAs from i kept.page book) (sym same) (tried_as from kept fits begun untested book of_book is))))
+      subst (λ i. MaySettle keeping limit span i book after) same
+      (makes (subst (λ i. IsTriedAs span i kept.page book) (sym same) (tried_as span kept other untested book of_book is))))
       result goes
 
-  -- a level that comes before the first, or has a verdict, is passed over
+  -- a level that is beyond those that are tried, or has a verdict, is passed over
   pub passed_goes : (s : State) (held : Option (List ℕ))
-      → ((book : Book) → IsKeptBook book → IsRecordIn kept book → (kept.id <ℤ from) ⊎ (kept.page.verdict ≢ Untested))
-      → GoesThrough (IsRecordIn kept) keeping limit from kept.id s s held held (Ok true)
+      → ((book : Book) → IsKeptBook book → IsRecordIn kept book → IsBeyond span kept.id ⊎ (kept.page.verdict ≢ Untested))
+      → GoesThrough (IsRecordIn kept) keeping limit span kept.id s s held held (Ok true)
   passed_goes s held why =
-      let step : (book : Book) → IsKeptBook book → IsRecordIn kept book → StepsLevel keeping limit from kept.id book book held held (Ok true) = λ book of_book is.
+      let step : (book : Book) → IsKeptBook book → IsRecordIn kept book → StepsLevel keeping limit span kept.id book book held held (Ok true) = λ book of_book is.
       ([], is_passed kept.page is.there (why book of_book is) refl refl refl, Appends-nil held) in
       let (turns, carries) = same_leads s _ step in record { turns = turns; done = carries; stop = stops_same s _; cause = tt }

@@ -26,6 +26,7 @@ use Rattle.sok_store.proofs.Calls.{finds_then, held, held_shown, keeps_turns, sa
 use Rattle.sok_store.proofs.Caused.{cause_before}
 use Rattle.sok_keep.specs.Causes.{IsCausedFault}
 use Rattle.sok_keep.proofs.Ending.{caused_more}
+use Rattle.sok_settle.specs.declared.settle.Span.{Span}
 use Rattle.sok_settle.specs.Going.{EndsAt, GoesWhere, HasGone, more, none}
 use Rattle.sok_settle.specs.Keeping.{Keeping}
 use Rattle.sok_settle.specs.Settles.{EndsSettling, SettlesBy, SettlesFirst, SettlesLevel, SettlesSome, WritesSettling, is_passed, is_past_limit, is_settled, is_too_long, is_too_much, level_leave, level_step, settle_status}
@@ -56,14 +57,14 @@ else_by id book after rows (claim.Pushes n) line settled (best, count, it, says,
     else_set it.middle after (id_number id) _ it.set m other ∙ else_offered book it.middle (id_number id) it.letters it.offer it.offered m other
 else_by id book after rows claim.Unsolvable line settled (unsolvable, sets, says, is) m other = else_set book after (id_number id) _ sets m other
 
-pub else_settled : (keeping : Keeping) (limit : ℕ) (from id : ℤ) (book after : Book) (line : List ℕ) (settled : Bool)
-    → SettlesLevel keeping limit from id book line settled after → (m : ℕ) → (id_number id - 1 ≡ m → ⊥) → slice_get after m ≡ slice_get book m
-else_settled keeping limit from id book after line settled (is_passed page there why says is same) m other = ap (λ (b : Book). slice_get b m) same
-else_settled keeping limit from id book after line settled (is_settled page shown tried kept by) m other = else_by id book after page.level shown line settled by m other
-else_settled keeping limit from id book after line settled (is_past_limit page least tried cut says is same) m other = ap (λ (b : Book). slice_get b m) same
-else_settled keeping limit from id book after line settled (is_too_long page letters pushes tried least many says is same) m other =
+pub else_settled : (keeping : Keeping) (limit : ℕ) (span : Span) (id : ℤ) (book after : Book) (line : List ℕ) (settled : Bool)
+    → SettlesLevel keeping limit span id book line settled after → (m : ℕ) → (id_number id - 1 ≡ m → ⊥) → slice_get after m ≡ slice_get book m
+else_settled keeping limit span id book after line settled (is_passed page there why says is same) m other = ap (λ (b : Book). slice_get b m) same
+else_settled keeping limit span id book after line settled (is_settled page shown tried kept by) m other = else_by id book after page.level shown line settled by m other
+else_settled keeping limit span id book after line settled (is_past_limit page least tried cut says is same) m other = ap (λ (b : Book). slice_get b m) same
+else_settled keeping limit span id book after line settled (is_too_long page letters pushes tried least many says is same) m other =
     ap (λ (b : Book). slice_get b m) same
-else_settled keeping limit from id book after line settled (is_too_much page tried unkept says is same) m other = ap (λ (b : Book). slice_get b m) same
+else_settled keeping limit span id book after line settled (is_too_much page tried unkept says is same) m other = ap (λ (b : Book). slice_get b m) same
 
 -- ---- the record of a page
 
@@ -94,16 +95,16 @@ record_in book middle records n kept are at stays =
 
 -- ---- level by level
 
-module _ (keeping : Keeping) (limit : ℕ) (from : ℤ) where
+module _ (keeping : Keeping) (limit : ℕ) (span : Span) where
   -- only pages before a level changed when those before it were gone through
-  pub first_stays : (book : Book) (n : ℕ) (text : List ℕ) (all : Bool) (after : Book) → SettlesFirst keeping limit from book n text all after → StaysFrom n book after
+  pub first_stays : (book : Book) (n : ℕ) (text : List ℕ) (all : Bool) (after : Book) → SettlesFirst keeping limit span book n text all after → StaysFrom n book after
   first_stays book _ _ _ _ none = λ m behind. refl
   first_stays book _ _ _ _ (more n text line all settled before after first level) = λ m behind.
-      else_settled keeping limit from (pos (n + 1)) before after line settled level m (λ same. omega (arith, behind, same))
+      else_settled keeping limit span (pos (n + 1)) before after line settled level m (λ same. omega (arith, behind, same))
       ∙ first_stays book n text all before first m (omega (arith, behind))
 
   -- at a level at which the call ends it may be as it was
-  pub stays : (n : ℕ) (book : Book) → (level_leave keeping limit from n).leaves book book
+  pub stays : (n : ℕ) (book : Book) → (level_leave keeping limit span n).leaves book book
   stays n book = inl refl
 
   module _ (records : List PageWithId) where
@@ -111,24 +112,24 @@ module _ (keeping : Keeping) (limit : ℕ) (from : ℤ) where
     ArePages book = AreRecordsOf book records
 
     abbrev pub Gone : State → State → ℕ → Bool → Option (List ℕ) → Option (List ℕ) → Type 0
-    Gone = stepping.Gone (level_step keeping limit from) (level_leave keeping limit from) stays ArePages
+    Gone = stepping.Gone (level_step keeping limit span) (level_leave keeping limit span) stays ArePages
 
     abbrev pub MayGo : State → State → Type 0
-    MayGo = stepping.MayGo (level_step keeping limit from) (level_leave keeping limit from) stays ArePages
+    MayGo = stepping.MayGo (level_step keeping limit span) (level_leave keeping limit span) stays ArePages
 
     -- how the call on all levels treats the connection
     abbrev pub GoesOn : State → State → Option (List ℕ) → Option (List ℕ) → Result ℕ ToolFault → Type 0
     GoesOn old new first later result =
-        GoesWhere {X = ℕ} ArePages old new (λ book after. WritesSettling keeping limit from book after first later result) (SettlesSome keeping limit from) result
+        GoesWhere {X = ℕ} ArePages old new (λ book after. WritesSettling keeping limit span book after first later result) (SettlesSome keeping limit span) result
 
     pub gone_none : (s : State) (held_now : Option (List ℕ)) → Gone s s 0 true held_now held_now
-    gone_none = stepping.gone_none (level_step keeping limit from) (level_leave keeping limit from) stays ArePages
+    gone_none = stepping.gone_none (level_step keeping limit span) (level_leave keeping limit span) stays ArePages
 
     -- all of them were gone through
     pub gone_all : (old new : State) (n : ℕ) (all : Bool) (status : ℕ) (first here : Option (List ℕ)) → n ≡ length records → status ≡ settle_status all
         → Gone old new n all first here → MayGo old new → GoesOn old new first here (Ok status)
     gone_all old new n all status first here end told_status =
-        stepping.gone_all (level_step keeping limit from) (level_leave keeping limit from) stays ArePages (λ book after. EndsSettling keeping limit from book after first here (Ok status)) old new
+        stepping.gone_all (level_step keeping limit span) (level_leave keeping limit span) stays ArePages (λ book after. EndsSettling keeping limit span book after first here (Ok status)) old new
         n all status first here (λ book after text are written. (end ∙ length-records book records are, refl, told_status, written))
 
     module _ (old mid new : State) (n : ℕ) (all : Bool) (kept : PageWithId) (at : slice_get records n ≡ Some kept) (first here later : Option (List ℕ))
@@ -137,35 +138,35 @@ module _ (keeping : Keeping) (limit : ℕ) (from : ℤ) where
       abbrev IsNext : Book → Type 0
       IsNext middle = IsRecordIn kept middle × (kept.id ≡ pos (n + 1))
 
-      link : (book middle : Book) → ArePages book → HasGone (level_step keeping limit from) n all book middle first here → IsNext middle
+      link : (book middle : Book) → ArePages book → HasGone (level_step keeping limit span) n all book middle first here → IsNext middle
       link book middle are it = record_in book middle records n kept are at (first_stays book n it.text all middle it.gone)
 
-      as_next : (result : Result Bool ToolFault) → GoesThrough (IsRecordIn kept) keeping limit from kept.id mid new here later result
-          → GoesThrough IsNext keeping limit from (pos (n + 1)) mid new here later result
+      as_next : (result : Result Bool ToolFault) → GoesThrough (IsRecordIn kept) keeping limit span kept.id mid new here later result
+          → GoesThrough IsNext keeping limit span (pos (n + 1)) mid new here later result
       as_next result goes =
-          goes_other mid new _ _ _ _ (λ book after of_book makes is. subst (λ i. StepsLevel keeping limit from i book after here later result) is.1 (makes is.0))
-          (λ book after of_book makes is. subst (λ i. MaySettle keeping limit from i book after) is.1 (makes is.0)) result goes
+          goes_other mid new _ _ _ _ (λ book after of_book makes is. subst (λ i. StepsLevel keeping limit span i book after here later result) is.1 (makes is.0))
+          (λ book after of_book makes is. subst (λ i. MaySettle keeping limit span i book after) is.1 (makes is.0)) result goes
 
-      pub next_stops : (result : Result Bool ToolFault) → GoesThrough (IsRecordIn kept) keeping limit from kept.id mid new here later result → MayGo old new
+      pub next_stops : (result : Result Bool ToolFault) → GoesThrough (IsRecordIn kept) keeping limit span kept.id mid new here later result → MayGo old new
       next_stops result goes =
-          stepping.next_stops (level_step keeping limit from) (level_leave keeping limit from) stays ArePages old mid new n all first here later gone stop IsNext link result
+          stepping.next_stops (level_step keeping limit span) (level_leave keeping limit span) stays ArePages old mid new n all first here later gone stop IsNext link result
           (as_next result goes)
 
       -- it was gone through
-      pub gone_more : (settled : Bool) → GoesThrough (IsRecordIn kept) keeping limit from kept.id mid new here later (Ok settled) → Gone old new (n + 1) (all && settled) first later
+      pub gone_more : (settled : Bool) → GoesThrough (IsRecordIn kept) keeping limit span kept.id mid new here later (Ok settled) → Gone old new (n + 1) (all && settled) first later
       gone_more settled goes =
-          stepping.gone_more (level_step keeping limit from) (level_leave keeping limit from) stays ArePages old mid new n all first here later gone stop IsNext link settled
+          stepping.gone_more (level_step keeping limit span) (level_leave keeping limit span) stays ArePages old mid new n all first here later gone stop IsNext link settled
           (as_next (Ok settled) goes)
 
       -- or the call ends at it
-      pub gone_ended : (fault : ToolFault) → GoesThrough (IsRecordIn kept) keeping limit from kept.id mid new here later (Err fault) → GoesOn old new first later (Err fault)
+      pub gone_ended : (fault : ToolFault) → GoesThrough (IsRecordIn kept) keeping limit span kept.id mid new here later (Err fault) → GoesOn old new first later (Err fault)
       gone_ended fault goes =
-          stepping.gone_ended (level_step keeping limit from) (level_leave keeping limit from) stays ArePages old mid new n all first here later gone stop IsNext link
-          (λ book after. EndsSettling keeping limit from book after first later (Err fault)) fault
+          stepping.gone_ended (level_step keeping limit span) (level_leave keeping limit span) stays ArePages old mid new n all first here later gone stop IsNext link
+          (λ book after. EndsSettling keeping limit span book after first later (Err fault)) fault
           (λ book after k text every before ends. ended book after k text every before first later fault ends) (as_next (Err fault) goes)
         where
           ended : (book after : Book) (k : ℕ) (text : List ℕ) (every : Bool) (before : Book) (old new : Option (List ℕ)) (f : ToolFault)
-              → EndsAt (level_step keeping limit from k) (level_leave keeping limit from k) text before after old new f → EndsSettling keeping limit from book after old new (Err f) k text every before
+              → EndsAt (level_step keeping limit span k) (level_leave keeping limit span k) text before after old new f → EndsSettling keeping limit span book after old new (Err f) k text every before
           ended book after k text every before old new tool.BadLimit never = absurd never
           ended book after k text every before old new f ends = ends
 
@@ -176,29 +177,29 @@ module _ (keeping : Keeping) (limit : ℕ) (from : ℤ) where
       early : HasCleanDisk new → HasCleanDisk mid
       early clean = omega (arith, clean, goes.stop.clean)
 
-      whole_stops : Stops old new (SettlesSome keeping limit from)
-      whole_stops = stops_later old mid new (SettlesSome keeping limit from) one _ (λ clean db made book shows.
+      whole_stops : Stops old new (SettlesSome keeping limit span)
+      whole_stops = stops_later old mid new (SettlesSome keeping limit span) one _ (λ clean db made book shows.
           let (are, stores) = found (early clean) book (held_shown old book shows) in
           let (after, makes, has) = made book (shown mid book stores) in (after, makes are, has)) goes.stop
 
-      whole_turns : ChangesBook old new (λ book after. WritesSettling keeping limit from book after first later result)
+      whole_turns : ChangesBook old new (λ book after. WritesSettling keeping limit span book after first later result)
       whole_turns = finds_then early (λ book after are makes. makes are) found goes.turns
 
       whole_open : OnOk result (EndsOpen old new)
       whole_open = go result goes.done
         where
-          go : (r : Result ℕ ToolFault) → OnOk r (Carries mid new (λ book after. AreRecordsOf book records → WritesSettling keeping limit from book after first later result))
+          go : (r : Result ℕ ToolFault) → OnOk r (Carries mid new (λ book after. AreRecordsOf book records → WritesSettling keeping limit span book after first later result))
               → OnOk r (EndsOpen old new)
           go (Ok status) done = λ clean book holds.
               let (are, stores) = found (early clean) book holds in
               let (after, makes, shows_after, up) = done clean book (shown mid book stores) in up stores.1.0
           go (Err fault) done = tt
 
-      whole_caused : IfErr result (IsCausedFault old new (SettlesSome keeping limit from))
+      whole_caused : IfErr result (IsCausedFault old new (SettlesSome keeping limit span))
       whole_caused = go result goes.cause
         where
-          go : (r : Result ℕ ToolFault) → IfErr r (IsCausedFault mid new (λ book after. AreRecordsOf book records → SettlesSome keeping limit from book after))
-              → IfErr r (IsCausedFault old new (SettlesSome keeping limit from))
+          go : (r : Result ℕ ToolFault) → IfErr r (IsCausedFault mid new (λ book after. AreRecordsOf book records → SettlesSome keeping limit span book after))
+              → IfErr r (IsCausedFault old new (SettlesSome keeping limit span))
           go (Ok status) cause = tt
           go (Err fault) cause = λ told_fault same clean book holds.
               let (are, stores) = found (early clean) book holds in
@@ -208,30 +209,30 @@ module _ (keeping : Keeping) (limit : ℕ) (from : ℤ) where
               ]
 
       -- all that is promised of it
-      pub whole : ChangesBook old new (λ book after. WritesSettling keeping limit from book after first later result) × OnOk result (EndsOpen old new)
-          × Stops old new (SettlesSome keeping limit from) × IfErr result (IsCausedFault old new (SettlesSome keeping limit from))
+      pub whole : ChangesBook old new (λ book after. WritesSettling keeping limit span book after first later result) × OnOk result (EndsOpen old new)
+          × Stops old new (SettlesSome keeping limit span) × IfErr result (IsCausedFault old new (SettlesSome keeping limit span))
       whole = (whole_turns, whole_open, whole_stops, whole_caused)
 
   -- ---- without records
 
   -- the limit is refused
   pub bad_turns : (s : State) (held_now : Option (List ℕ)) → IsBadLimit limit
-      → ChangesBook s s (λ book after. WritesSettling keeping limit from book after held_now held_now (Err tool.BadLimit))
+      → ChangesBook s s (λ book after. WritesSettling keeping limit span book after held_now held_now (Err tool.BadLimit))
   bad_turns s held_now bad =
       same_turns _ (λ book. record { count = 0; text = []; all = true; before = book; gone = none; ended = (bad, refl, refl, Keeps-refl held_now) })
 
   -- the levels are not read, for a cause outside
   unlisted : (book : Book) (held_now : Option (List ℕ)) (fault : BookFault) → IsOutside fault
-      → WritesSettling keeping limit from book book held_now held_now (Err (of_book fault))
-  unlisted book held_now fault (inl memory) = subst (λ f. WritesSettling keeping limit from book book held_now held_now (Err (of_book f))) (sym memory)
+      → WritesSettling keeping limit span book book held_now held_now (Err (of_book fault))
+  unlisted book held_now fault (inl memory) = subst (λ f. WritesSettling keeping limit span book book held_now held_now (Err (of_book f))) (sym memory)
       (record { count = 0; text = []; all = true; before = book; gone = none; ended = (inl refl, Appends-nil held_now) })
-  unlisted book held_now fault (inr database) = subst (λ f. WritesSettling keeping limit from book book held_now held_now (Err (of_book f))) (sym database)
+  unlisted book held_now fault (inr database) = subst (λ f. WritesSettling keeping limit span book book held_now held_now (Err (of_book f))) (sym database)
       (record { count = 0; text = []; all = true; before = book; gone = none; ended = (inl refl, Appends-nil held_now) })
 
   pub unlisted_turns : (old new : State) (held_now : Option (List ℕ)) (fault : BookFault) → calls.KeepsBook old new (λ _. IsOutside fault)
-      → ChangesBook old new (λ book after. WritesSettling keeping limit from book after held_now held_now (Err (of_book fault)))
+      → ChangesBook old new (λ book after. WritesSettling keeping limit span book after held_now held_now (Err (of_book fault)))
   unlisted_turns old new held_now fault = keeps_turns _ (λ book why. unlisted book held_now fault why)
 
   pub unlisted_caused : (old new : State) (fault : BookFault) → IsCaused old new MakesNone fault
-      → IsCausedFault old new (SettlesSome keeping limit from) (of_book fault)
-  unlisted_caused old new fault caused = caused_more old new (SettlesSome keeping limit from) MakesNone (λ book after none_made. absurd none_made) fault caused
+      → IsCausedFault old new (SettlesSome keeping limit span) (of_book fault)
+  unlisted_caused old new fault caused = caused_more old new (SettlesSome keeping limit span) MakesNone (λ book after none_made. absurd none_made) fault caused

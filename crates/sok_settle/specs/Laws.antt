@@ -1,45 +1,46 @@
 -- What holds of a book after some of its levels were settled, or lines of offers were gone through.
-use Rattle.std.specs.Prelude.{ℕ, ℤ, pos, ◌≡◌, ◌≢◌, ◌⊎◌, ◌≤◌, ◌<ℤ◌, List, Option, Some, Result, true}
+use Rattle.std.specs.Prelude.{ℕ, pos, ◌≡◌, ◌≢◌, ◌⊎◌, ◌≤◌, List, Option, Some, Result, true}
 use Rattle.sok_cert.specs.Claim.{Claim}
 use Rattle.sok_book.specs.declared.record.Verdict.TheVariants.{Untested}
 use Rattle.sok_book.specs.Books.{Book, Page, IsTrueBook, page_at}
 use Rattle.sok_book.specs.Commands.{verdict_of}
 use Rattle.sok_store.specs.Histories.{IsMadeOf}
 use Rattle.sok_engine.specs.declared.fault.ToolFault.{ToolFault}
+use Rattle.sok_settle.specs.declared.settle.Span.{Span}
 use Rattle.sok_settle.specs.Keeping.{Keeping}
 use Rattle.sok_settle.specs.Offers.{OffersBytes, WritesOffers}
-use Rattle.sok_settle.specs.Settles.{SettlesFirst, SettlesSome, WritesSettling}
+use Rattle.sok_settle.specs.Settles.{IsBeyond, SettlesFirst, SettlesSome, WritesSettling}
 
 -- whatever was written, and however the call ended, some of the levels were settled
 abbrev pub SettlingsAreSome : Keeping → Type 0
 SettlingsAreSome keeping =
-    (limit : ℕ) (from : ℤ) (book after : Book) (old new : Option (List ℕ)) (result : Result ℕ ToolFault)
-    → WritesSettling keeping limit from book after old new result → SettlesSome keeping limit from book after
+    (limit : ℕ) (span : Span) (book after : Book) (old new : Option (List ℕ)) (result : Result ℕ ToolFault)
+    → WritesSettling keeping limit span book after old new result → SettlesSome keeping limit span book after
 
 -- it is what accepted commands make of the book before, one after another
 abbrev pub SettlingsFold : Keeping → Type 0
-SettlingsFold keeping = (limit : ℕ) (from : ℤ) (book after : Book) → SettlesSome keeping limit from book after → IsMadeOf book after
+SettlingsFold keeping = (limit : ℕ) (span : Span) (book after : Book) → SettlesSome keeping limit span book after → IsMadeOf book after
 
 -- so a true book stays true
 abbrev pub SettlingsKeepTruth : Keeping → Type 0
-SettlingsKeepTruth keeping = (limit : ℕ) (from : ℤ) (book after : Book) → SettlesSome keeping limit from book after → IsTrueBook book → IsTrueBook after
+SettlingsKeepTruth keeping = (limit : ℕ) (span : Span) (book after : Book) → SettlesSome keeping limit span book after → IsTrueBook book → IsTrueBook after
 
--- a level that comes before the first, or that has a verdict, stays as it was
+-- a level that is beyond those that are tried, or that has a verdict, stays as it was
 abbrev pub SettlingsKeepVerdicts : Keeping → Type 0
 SettlingsKeepVerdicts keeping =
-    (limit : ℕ) (from : ℤ) (book after : Book) (id : ℕ) (page : Page) → SettlesSome keeping limit from book after → page_at book id ≡ Some page
-    → (pos id <ℤ from) ⊎ (page.verdict ≢ Untested) → page_at after id ≡ Some page
+    (limit : ℕ) (span : Span) (book after : Book) (id : ℕ) (page : Page) → SettlesSome keeping limit span book after → page_at book id ≡ Some page
+    → IsBeyond span (pos id) ⊎ (page.verdict ≢ Untested) → page_at after id ≡ Some page
 
--- where each of so many levels that was tried is settled, each of them has a verdict, or comes before the first
+-- where each of so many levels that was tried is settled, each of them has a verdict, or is beyond those
 abbrev pub SettledHaveVerdicts : Keeping → Type 0
 SettledHaveVerdicts keeping =
-    (limit : ℕ) (from : ℤ) (book : Book) (n : ℕ) (text : List ℕ) (after : Book) (id : ℕ) (page : Page) → SettlesFirst keeping limit from book n text true after
-    → id ≤ n → page_at after id ≡ Some page → (pos id <ℤ from) ⊎ (page.verdict ≢ Untested)
+    (limit : ℕ) (span : Span) (book : Book) (n : ℕ) (text : List ℕ) (after : Book) (id : ℕ) (page : Page) → SettlesFirst keeping limit span book n text true after
+    → id ≤ n → page_at after id ≡ Some page → IsBeyond span (pos id) ⊎ (page.verdict ≢ Untested)
 
 -- a level that had no verdict and has one then: a certificate of the claim by which it has it was kept
 abbrev pub SettledHaveCerts : Keeping → Type 0
 SettledHaveCerts keeping =
-    (limit : ℕ) (from : ℤ) (book after : Book) (id : ℕ) (page new : Page) → SettlesSome keeping limit from book after → page_at book id ≡ Some page
+    (limit : ℕ) (span : Span) (book after : Book) (id : ℕ) (page new : Page) → SettlesSome keeping limit span book after → page_at book id ≡ Some page
     → page_at after id ≡ Some new → page.verdict ≡ Untested → new.verdict ≢ Untested
     → (shown : Claim) × (verdict_of shown ≡ new.verdict) × keeping.keeps limit (pos id) page.level shown
 

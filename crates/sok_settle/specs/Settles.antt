@@ -20,6 +20,7 @@ use Rattle.sok_engine.specs.declared.fault.ToolFault.{ToolFault}
 use Rattle.sok_engine.specs.declared.fault.ToolFault.TheVariants as tool
 use Rattle.sok_store.specs.Calls.{id_number}
 use Rattle.sok_keep.specs.Offers.{HasBest}
+use Rattle.sok_settle.specs.declared.settle.Span.{Span}
 use Rattle.sok_settle.specs.Going.{EndsAt, GoesFirst, GoesSome, GoesUntil, Leave, Step}
 use Rattle.sok_settle.specs.Keeping.{Keeping}
 use Rattle.sok_settle.specs.Lines.{fault_line}
@@ -42,10 +43,14 @@ limit_line id limit least =
 abbrev pub too_long : ToolFault
 too_long = tool.Book (refusal.Letters play.TooLong)
 
--- the level with an id is tried: it does not come before the first, and nothing is proved of it
-pub record IsTried (from id : ℤ) (book : Book) (page : Page) : Type 0 where
+-- an id comes before the first of those that are tried, or behind the last
+abbrev pub IsBeyond : Span → ℤ → Type 0
+IsBeyond span id = (id <ℤ span.first) ⊎ (span.last <ℤ id)
+
+-- the level with an id is tried: it is not beyond those, and nothing is proved of it
+pub record IsTried (span : Span) (id : ℤ) (book : Book) (page : Page) : Type 0 where
   pub there : page_at book (id_number id) ≡ Some page
-  pub begun : id <ℤ from → ⊥
+  pub within : IsBeyond span id → ⊥
   pub untested : page.verdict ≡ Untested
 
 -- Letters that solve it are offered, and then the verdict is set that none solve it with fewer pushes than its best. So it has this best then, and none do.
@@ -66,48 +71,48 @@ SettlesBy id rows (claim.Pushes n) book line settled after =
 SettlesBy id rows claim.Unsolvable book line settled after =
     IsUnsolvable rows × SetsVerdict book (id_number id) claim.Unsolvable after × (line ≡ unsolvable_line id) × (settled ≡ true)
 
--- The level with an id is passed over, as it comes before the first or has a verdict; or it is tried, and settled, once a certificate of its claim is kept, or
+-- The level with an id is passed over, as it is beyond those that are tried or has a verdict; or it is tried, and settled, once a certificate of its claim is kept, or
 -- not. This is its line.
-pub data SettlesLevel (keeping : Keeping) (limit : ℕ) (from id : ℤ) (book : Book) (line : List ℕ) (settled : Bool) (after : Book) : Type 0 where
-  is_passed : (page : Page) → page_at book (id_number id) ≡ Some page → (id <ℤ from) ⊎ (page.verdict ≢ Untested) → line ≡ [] → settled ≡ true
-      → after ≡ book → SettlesLevel keeping limit from id book line settled after
-  is_settled : (page : Page) (shown : Claim) → IsTried from id book page → keeping.keeps limit id page.level shown
-      → SettlesBy id page.level shown book line settled after → SettlesLevel keeping limit from id book line settled after
-  is_past_limit : (page : Page) (least : ℕ) → IsTried from id book page → IsCutShortBeside page.level limit (best_pushes page) limit least → line ≡ limit_line id limit least
-      → settled ≡ false → after ≡ book → SettlesLevel keeping limit from id book line settled after
-  is_too_long : (page : Page) (letters : List Dir) (pushes : ℕ) → IsTried from id book page → IsLeastSolution page.level letters pushes
+pub data SettlesLevel (keeping : Keeping) (limit : ℕ) (span : Span) (id : ℤ) (book : Book) (line : List ℕ) (settled : Bool) (after : Book) : Type 0 where
+  is_passed : (page : Page) → page_at book (id_number id) ≡ Some page → IsBeyond span id ⊎ (page.verdict ≢ Untested) → line ≡ [] → settled ≡ true
+      → after ≡ book → SettlesLevel keeping limit span id book line settled after
+  is_settled : (page : Page) (shown : Claim) → IsTried span id book page → keeping.keeps limit id page.level shown
+      → SettlesBy id page.level shown book line settled after → SettlesLevel keeping limit span id book line settled after
+  is_past_limit : (page : Page) (least : ℕ) → IsTried span id book page → IsCutShortBeside page.level limit (best_pushes page) limit least → line ≡ limit_line id limit least
+      → settled ≡ false → after ≡ book → SettlesLevel keeping limit span id book line settled after
+  is_too_long : (page : Page) (letters : List Dir) (pushes : ℕ) → IsTried span id book page → IsLeastSolution page.level letters pushes
       → letter_limit < length letters → line ≡ fault_line id too_long → settled ≡ false → after ≡ book
-      → SettlesLevel keeping limit from id book line settled after
-  is_too_much : (page : Page) → IsTried from id book page → keeping.refuses limit id page.level tool.TooMuch → line ≡ fault_line id tool.TooMuch
-      → settled ≡ false → after ≡ book → SettlesLevel keeping limit from id book line settled after
+      → SettlesLevel keeping limit span id book line settled after
+  is_too_much : (page : Page) → IsTried span id book page → keeping.refuses limit id page.level tool.TooMuch → line ≡ fault_line id tool.TooMuch
+      → settled ≡ false → after ≡ book → SettlesLevel keeping limit span id book line settled after
 
 -- the call ended at the level with an id: it is as it was, or letters that solve it were offered
-abbrev pub EndsLevel : ℤ → ℤ → Book → Book → Type 0
-EndsLevel from id book after =
+abbrev pub EndsLevel : Span → ℤ → Book → Book → Type 0
+EndsLevel span id book after =
     (after ≡ book)
-    ⊎ ((page : Page) × IsTried from id book page × (letters : List Dir) × (offer : Offer) × Offers book (id_number id) letters offer after)
+    ⊎ ((page : Page) × IsTried span id book page × (letters : List Dir) × (offer : Offer) × Offers book (id_number id) letters offer after)
 
 -- so it may end there; or its certificate can't be written
-abbrev pub leave_of_level : Keeping → ℕ → ℤ → ℤ → Leave
-leave_of_level keeping limit from id = record {
-  leaves = EndsLevel from id;
-  unwritten = λ book. (page : Page) × IsTried from id book page × keeping.refuses limit id page.level tool.WriteFailed;
+abbrev pub leave_of_level : Keeping → ℕ → Span → ℤ → Leave
+leave_of_level keeping limit span id = record {
+  leaves = EndsLevel span id;
+  unwritten = λ book. (page : Page) × IsTried span id book page × keeping.refuses limit id page.level tool.WriteFailed;
 }
 
 -- the levels are gone through in order of their ids, which count from 1
-abbrev pub level_step : Keeping → ℕ → ℤ → ℕ → Step
-level_step keeping limit from n = SettlesLevel keeping limit from (pos (n + 1))
+abbrev pub level_step : Keeping → ℕ → Span → ℕ → Step
+level_step keeping limit span n = SettlesLevel keeping limit span (pos (n + 1))
 
-abbrev pub level_leave : Keeping → ℕ → ℤ → ℕ → Leave
-level_leave keeping limit from n = leave_of_level keeping limit from (pos (n + 1))
+abbrev pub level_leave : Keeping → ℕ → Span → ℕ → Leave
+level_leave keeping limit span n = leave_of_level keeping limit span (pos (n + 1))
 
 -- so many levels were gone through, the first ones, one after another, with these lines, and each of them that was tried is settled, or not each
-abbrev pub SettlesFirst : Keeping → ℕ → ℤ → Book → ℕ → List ℕ → Bool → Book → Type 0
-SettlesFirst keeping limit from = GoesFirst (level_step keeping limit from)
+abbrev pub SettlesFirst : Keeping → ℕ → Span → Book → ℕ → List ℕ → Bool → Book → Type 0
+SettlesFirst keeping limit span = GoesFirst (level_step keeping limit span)
 
 -- the first levels were settled, or not, one or more of them, or none, and then the call ended
-abbrev pub SettlesSome : Keeping → ℕ → ℤ → Book → Book → Type 0
-SettlesSome keeping limit from = GoesSome (level_step keeping limit from) (level_leave keeping limit from)
+abbrev pub SettlesSome : Keeping → ℕ → Span → Book → Book → Type 0
+SettlesSome keeping limit span = GoesSome (level_step keeping limit span) (level_leave keeping limit span)
 
 abbrev pub settle_status : Bool → ℕ
 settle_status true = 0
@@ -115,14 +120,14 @@ settle_status false = 4
 
 -- How the call ends behind so many levels, with these lines, which were written. All levels were gone through; or the limit was refused; or it ends at the
 -- next level.
-abbrev pub EndsSettling : Keeping → ℕ → ℤ → Book → Book → Option (List ℕ) → Option (List ℕ) → Result ℕ ToolFault → ℕ → List ℕ → Bool → Book → Type 0
-EndsSettling keeping limit from book after old new (Ok status) n text all before =
+abbrev pub EndsSettling : Keeping → ℕ → Span → Book → Book → Option (List ℕ) → Option (List ℕ) → Result ℕ ToolFault → ℕ → List ℕ → Bool → Book → Type 0
+EndsSettling keeping limit span book after old new (Ok status) n text all before =
     (n ≡ length book) × (after ≡ before) × (status ≡ settle_status all) × Appends old new text
-EndsSettling keeping limit from book after old new (Err tool.BadLimit) n text all before = IsBadLimit limit × (n ≡ 0) × (after ≡ book) × Keeps old new
-EndsSettling keeping limit from book after old new (Err fault) n text all before =
-    EndsAt (level_step keeping limit from n) (level_leave keeping limit from n) text before after old new fault
+EndsSettling keeping limit span book after old new (Err tool.BadLimit) n text all before = IsBadLimit limit × (n ≡ 0) × (after ≡ book) × Keeps old new
+EndsSettling keeping limit span book after old new (Err fault) n text all before =
+    EndsAt (level_step keeping limit span n) (level_leave keeping limit span n) text before after old new fault
 
 -- the first levels were gone through, and how it ended then
-abbrev pub WritesSettling : Keeping → ℕ → ℤ → Book → Book → Option (List ℕ) → Option (List ℕ) → Result ℕ ToolFault → Type 0
-WritesSettling keeping limit from book after old new result =
-    GoesUntil (level_step keeping limit from) (EndsSettling keeping limit from book after old new result) book
+abbrev pub WritesSettling : Keeping → ℕ → Span → Book → Book → Option (List ℕ) → Option (List ℕ) → Result ℕ ToolFault → Type 0
+WritesSettling keeping limit span book after old new result =
+    GoesUntil (level_step keeping limit span) (EndsSettling keeping limit span book after old new result) book

@@ -9,25 +9,26 @@ use Rattle.sok_book.specs.Books.{Book, Page, PageWithId}
 use Rattle.sok_book.specs.Records.{IsRecordAt}
 use Rattle.sok_engine.specs.declared.fault.ToolFault.{ToolFault}
 use Rattle.sok_store.specs.Calls.{id_number}
+use Rattle.sok_settle.specs.declared.settle.Span.{Span}
 use Rattle.sok_settle.specs.Going.{GoesStep, Leave, MayStep, StepsOnce}
 use Rattle.sok_settle.specs.Keeping.{Keeping}
 use Rattle.sok_settle.specs.Settles.{IsTried, EndsLevel, SettlesBy, SettlesLevel, leave_of_level}
 
 -- a level was gone through, and its line was written, or a front of it; or the call ends at it, with nothing written
-abbrev pub StepsLevel : Keeping → ℕ → ℤ → ℤ → Book → Book → Option (List ℕ) → Option (List ℕ) → Result Bool ToolFault → Type 0
-StepsLevel keeping limit from id = StepsOnce (SettlesLevel keeping limit from id) (leave_of_level keeping limit from id)
+abbrev pub StepsLevel : Keeping → ℕ → Span → ℤ → Book → Book → Option (List ℕ) → Option (List ℕ) → Result Bool ToolFault → Type 0
+StepsLevel keeping limit span id = StepsOnce (SettlesLevel keeping limit span id) (leave_of_level keeping limit span id)
 
 -- what is made of the book meanwhile
-abbrev pub MaySettle : Keeping → ℕ → ℤ → ℤ → Book → Book → Type 0
-MaySettle keeping limit from id = MayStep (SettlesLevel keeping limit from id) (leave_of_level keeping limit from id)
+abbrev pub MaySettle : Keeping → ℕ → Span → ℤ → Book → Book → Type 0
+MaySettle keeping limit span id = MayStep (SettlesLevel keeping limit span id) (leave_of_level keeping limit span id)
 
 -- how a call that goes through the level with an id treats the connection, of the books of which something is true
-abbrev pub GoesThrough : (Book → Type 0) → Keeping → ℕ → ℤ → ℤ → State → State → Option (List ℕ) → Option (List ℕ) → Result Bool ToolFault → Type 0
-GoesThrough P keeping limit from id = GoesStep P (SettlesLevel keeping limit from id) (leave_of_level keeping limit from id)
+abbrev pub GoesThrough : (Book → Type 0) → Keeping → ℕ → Span → ℤ → State → State → Option (List ℕ) → Option (List ℕ) → Result Bool ToolFault → Type 0
+GoesThrough P keeping limit span id = GoesStep P (SettlesLevel keeping limit span id) (leave_of_level keeping limit span id)
 
 -- the level with an id is tried, and has this page
-abbrev pub IsTriedAs : ℤ → ℤ → Page → Book → Type 0
-IsTriedAs from id page book = IsTried from id book page
+abbrev pub IsTriedAs : Span → ℤ → Page → Book → Type 0
+IsTriedAs span id page book = IsTried span id book page
 
 -- letters that solve with so many pushes, and none solve with fewer
 pub record AreFewest (rows : Rows) (w : List Dir) (n : ℕ) : Type 0 where
@@ -36,12 +37,12 @@ pub record AreFewest (rows : Rows) (w : List Dir) (n : ℕ) : Type 0 where
   pub fewest : IsFewest rows n
 
 -- how the call may end at a level of which a certificate is kept
-abbrev pub leave_of_kept : ℤ → ℤ → Leave
-leave_of_kept from id = record { leaves = EndsLevel from id; unwritten = λ book. ⊥ }
+abbrev pub leave_of_kept : Span → ℤ → Leave
+leave_of_kept span id = record { leaves = EndsLevel span id; unwritten = λ book. ⊥ }
 
 -- how a call treats the connection that settles such a level by its claim
-abbrev pub GoesBy : ℤ → ℤ → Page → Claim → State → State → Option (List ℕ) → Option (List ℕ) → Result Bool ToolFault → Type 0
-GoesBy from id page shown = GoesStep (IsTriedAs from id page) (SettlesBy id page.level shown) (leave_of_kept from id)
+abbrev pub GoesBy : Span → ℤ → Page → Claim → State → State → Option (List ℕ) → Option (List ℕ) → Result Bool ToolFault → Type 0
+GoesBy span id page shown = GoesStep (IsTriedAs span id page) (SettlesBy id page.level shown) (leave_of_kept span id)
 
 -- this is the record of a level
 abbrev pub IsRecordIn : PageWithId → Book → Type 0

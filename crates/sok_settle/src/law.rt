@@ -7,8 +7,8 @@ ghost use Rattle.sok_settle.specs.Laws.{SettlingsFold, SettlingsKeepTruth, Settl
 use crate::certs::Certs;
 
 /// Whatever was settled of a book, it is what accepted commands make of it, one after another. A
-/// true book stays true. A level that comes before the first, or that had a verdict, is as it was.
-/// Where each level that was tried is settled, each has a verdict, from the first on. Of each that
+/// true book stays true. A level that was not to be tried, or that had a verdict, is as it was.
+/// Where each level that was tried is settled, each has a verdict, from the first to the last. Of each that
 /// got its verdict then a certificate was kept, wherever certificates go.
 pub fn settled_books_are_made_by_commands<C: Certs>(certs: &C)
     ensures some { SettlingsAreSome (C.keeping certs.now) }

@@ -1,6 +1,6 @@
 //! One level of a book is settled.
 
-ghost use Rattle.std.specs.Prelude.{◌≡◌, ◌≤◌, ℕ, ℤ, length};
+ghost use Rattle.std.specs.Prelude.{◌≡◌, ◌≤◌, ◌↔◌, IsTrue, ℕ, length};
 ghost use Rattle.sqlite.specs.Held.{state};
 ghost use Rattle.sok_rules.specs.Limits.{letter_limit};
 ghost use Rattle.sok_rules.specs.Play.{IsUnsolvable};
@@ -10,11 +10,14 @@ ghost use Rattle.sok_book.specs.Kept.{IsKeptPage};
 ghost use Rattle.sok_cert.specs.Claim.TheVariants as claim;
 ghost use Rattle.sok_search.specs.Faults.{IsBadLimit};
 ghost use Rattle.sok_settle.specs.Finding.{IsFinding};
+ghost use Rattle.sok_settle.specs.Settles.{IsBeyond};
+ghost use Rattle.sok_settle.specs.declared.settle.Span.{Span};
 ghost use Rattle.sok_settle.specs.Steps.{AreFewest, GoesBy, GoesThrough, IsRecordIn, IsTriedAs};
 
 use crate::certs::Certs;
 use crate::line::{limit_line, optimal_line, tell, tell_fault, tell_unkept, unsolvable_line};
 use crate::search::Finding;
+use crate::settle::Span;
 use sok_book::fault::BookFault;
 use sok_book::offering::LETTER_LIMIT;
 use sok_book::record::{Record, Verdict};
@@ -28,13 +31,13 @@ use sqlite::Alter;
 use std::alloc::Global;
 use std::io::Write;
 
-/// Settles a level that nothing is proved of, from the first on, and gives whether it is settled.
-/// Others are passed over: they have a verdict, or come before.
+/// Settles a level that nothing is proved of, from the first to the last that are tried, and gives
+/// whether it is settled. Others are passed over.
 pub(crate) fn settle_kept<S: Alter, C: Certs, W: Write>(
     alloc: Global,
     book: &mut Book<S>,
     limit: u32,
-    from: i64,
+    span: Span,
     kept: &Record,
     certs: &C,
     out: &mut W,
@@ -42,11 +45,11 @@ pub(crate) fn settle_kept<S: Alter, C: Certs, W: Write>(
     requires good_limit { IsBadLimit limit → ⊥ }
     requires may_keep { C.may_keep certs.now }
     requires kept { IsKeptPage kept.now.page }
-    ensures { GoesThrough (IsRecordIn kept.now) (C.keeping certs.now) limit from kept.now.id
+    ensures { GoesThrough (IsRecordIn kept.now) (C.keeping certs.now) limit span kept.now.id
         (state S.Store book.old) (state S.Store book.new)
         (W.contents out.old) (W.contents out.new) result }
 {
-    if kept.id < from {
+    if is_beyond(span, kept.id) {
         return Ok(true);
     }
     match kept.verdict {
@@ -54,6 +57,13 @@ pub(crate) fn settle_kept<S: Alter, C: Certs, W: Write>(
         Verdict::Optimal => Ok(true),
         Verdict::Unsolvable => Ok(true),
     }
+}
+
+/// Whether an id comes before the first of those that are tried, or behind the last.
+fn is_beyond(span: Span, id: i64) -> bool
+    ensures { IsTrue result ↔ IsBeyond span id }
+{
+    id < span.first || span.last < id
 }
 
 /// Settles the level with an id.
@@ -69,8 +79,8 @@ fn settle_level<S: Alter, C: Certs, W: Write>(
     requires good_limit { IsBadLimit limit → ⊥ }
     requires may_keep { C.may_keep certs.now }
     requires kept { IsKeptPage kept.now.page }
-    ensures { (from : ℤ) → GoesThrough (IsTriedAs from id kept.now.page) (C.keeping certs.now)
-        limit from id (state S.Store book.old) (state S.Store book.new)
+    ensures { (span : Span) → GoesThrough (IsTriedAs span id kept.now.page) (C.keeping certs.now)
+        limit span id (state S.Store book.old) (state S.Store book.new)
         (W.contents out.old) (W.contents out.new) result }
 {
     match certs.search(alloc, &kept.level, limit, best_pushes(kept)) {
@@ -107,8 +117,8 @@ fn settle_by<S: Alter, C: Certs, W: Write>(
     requires kept { IsKeptPage kept.now.page }
     requires found { IsFinding (C.certifies taken kept.now.page.level limit)
         kept.now.page.level limit (best_pushes kept.now.page) finding }
-    ensures { (from : ℤ) → GoesThrough (IsTriedAs from id kept.now.page) (C.keeping certs.now)
-        limit from id (state S.Store book.old) (state S.Store book.new)
+    ensures { (span : Span) → GoesThrough (IsTriedAs span id kept.now.page) (C.keeping certs.now)
+        limit span id (state S.Store book.old) (state S.Store book.new)
         (W.contents out.old) (W.contents out.new) result }
 {
     match finding {
@@ -163,10 +173,10 @@ fn settle_solved<S: Alter, C: Certs, W: Write>(
     requires may_keep { C.may_keep certs.now }
     requires few { length dirs.now ≤ letter_limit }
     requires fewest { AreFewest level.now dirs.now pushes }
-    ensures { (limit : ℕ) (from : ℤ) (page : Page) → page.level ≡ level.now
+    ensures { (limit : ℕ) (span : Span) (page : Page) → page.level ≡ level.now
         → C.certifies taken level.now limit (claim.Pushes pushes)
-        → GoesThrough (IsTriedAs from id page) (C.keeping certs.now)
-        limit from id (state S.Store book.old) (state S.Store book.new)
+        → GoesThrough (IsTriedAs span id page) (C.keeping certs.now)
+        limit span id (state S.Store book.old) (state S.Store book.new)
         (W.contents out.old) (W.contents out.new) result }
 {
     match certs.keep(alloc, id, &Claim::Pushes(pushes), taken) {
@@ -187,10 +197,10 @@ fn settle_unsolvable<S: Alter, C: Certs, W: Write>(
 ) -> Result<bool, ToolFault>
     requires may_keep { C.may_keep certs.now }
     requires unsolvable { IsUnsolvable level.now }
-    ensures { (limit : ℕ) (from : ℤ) (page : Page) → page.level ≡ level.now
+    ensures { (limit : ℕ) (span : Span) (page : Page) → page.level ≡ level.now
         → C.certifies taken level.now limit claim.Unsolvable
-        → GoesThrough (IsTriedAs from id page) (C.keeping certs.now)
-        limit from id (state S.Store book.old) (state S.Store book.new)
+        → GoesThrough (IsTriedAs span id page) (C.keeping certs.now)
+        limit span id (state S.Store book.old) (state S.Store book.new)
         (W.contents out.old) (W.contents out.new) result }
 {
     match certs.keep(alloc, id, &Claim::Unsolvable, taken) {
@@ -210,8 +220,8 @@ fn set_optimal<S: Alter, W: Write>(
 ) -> Result<bool, ToolFault>
     requires few { length dirs.now ≤ letter_limit }
     requires fewest { AreFewest level.now dirs.now pushes }
-    ensures { (from : ℤ) (page : Page) → page.level ≡ level.now
-        → GoesBy from id page (claim.Pushes pushes)
+    ensures { (span : Span) (page : Page) → page.level ≡ level.now
+        → GoesBy span id page (claim.Pushes pushes)
         (state S.Store book.old) (state S.Store book.new)
         (W.contents out.old) (W.contents out.new) result }
 {
@@ -233,8 +243,8 @@ fn set_unsolvable<S: Alter, W: Write>(
     out: &mut W,
 ) -> Result<bool, ToolFault>
     requires unsolvable { IsUnsolvable level.now }
-    ensures { (from : ℤ) (page : Page) → page.level ≡ level.now
-        → GoesBy from id page claim.Unsolvable
+    ensures { (span : Span) (page : Page) → page.level ≡ level.now
+        → GoesBy span id page claim.Unsolvable
         (state S.Store book.old) (state S.Store book.new)
         (W.contents out.old) (W.contents out.new) result }
 {

@@ -22,15 +22,22 @@ use sqlite::Alter;
 use std::alloc::Global;
 use std::io::Write;
 
-/// Settles the levels of a book that nothing is proved of, in order of their ids, from one on: each
-/// is searched within a limit of states from 1 to 1,000,000. Where letters solve it, the solution
-/// with the fewest pushes is offered, and that none has fewer is proved; where none do, that is
-/// proved. Before either its certificate is kept. Each line is written as soon as its level is done:
+/// The ids of the levels that are tried, from the first to the last.
+#[derive(Clone, Copy)]
+pub struct Span {
+    pub first: i64,
+    pub last: i64,
+}
+
+/// Settles the levels of a book that nothing is proved of, in order of their ids, from one to another:
+/// each is searched within a limit of states from 1 to 1,000,000, beside its best if it has one. Where letters solve it, a solution
+/// with the fewest pushes is offered, and its verdict is that none has fewer; where none do, that is
+/// its verdict. Before either its certificate is kept. Each line is written as soon as its level is done:
 /// `ID optimal PUSHES MOVES`, with those of its best; `ID unsolvable`; `ID limit S at least K` where
 /// more states can be reached, and none solves with fewer than K pushes; `ID fault 14 TooLong` where
 /// the solution has more than 1,000,000 letters; or `ID fault 52 TooMuch` where the certificate is
 /// refused as too long. The status is 0 where each level that was tried is settled, and 4 where one
-/// is not. Levels with a verdict stay as they were, and so do those before the first, without a line.
+/// is not. Levels with a verdict stay as they were, and so do those that are not tried, without a line.
 ///
 /// A limit that is bad is `BadLimit`, before anything else. `Memory` or `Database` may end the call
 /// at any level. Then what was written stands, and the level is as it was, or has a best and no
@@ -41,26 +48,26 @@ pub fn settle_bytes<S: Alter, C: Certs, W: Write>(
     alloc: Global,
     book: &mut Book<S>,
     limit: u32,
-    from: i64,
+    span: Span,
     certs: &C,
     out: &mut W,
 ) -> Result<u8, ToolFault>
     requires { C.may_keep certs.now }
     ensures writes { ChangesBook (state S.Store book.old) (state S.Store book.new) (λ pages after.
-        WritesSettling (C.keeping certs.now) limit from pages after
+        WritesSettling (C.keeping certs.now) limit span pages after
         (W.contents out.old) (W.contents out.new) result) }
     ensures bad_limit { IsBadLimit limit → result ≡ Err tool.BadLimit }
     ensures open { OnOk result (EndsOpen (state S.Store book.old) (state S.Store book.new)) }
     ensures stop { Stops (state S.Store book.old) (state S.Store book.new)
-        (SettlesSome (C.keeping certs.now) limit from) }
+        (SettlesSome (C.keeping certs.now) limit span) }
     ensures cause { IfErr result (IsCausedFault (state S.Store book.old) (state S.Store book.new)
-        (SettlesSome (C.keeping certs.now) limit from)) }
+        (SettlesSome (C.keeping certs.now) limit span)) }
 {
     if is_bad(limit) {
         return Err(ToolFault::BadLimit);
     }
     match book.list() {
-        Ok(records) => settle_all(alloc, book, limit, from, &records, certs, out),
+        Ok(records) => settle_all(alloc, book, limit, span, &records, certs, out),
         Err(fault) => Err(ToolFault::from(fault)),
     }
 }
@@ -77,7 +84,7 @@ fn settle_all<S: Alter, C: Certs, W: Write>(
     alloc: Global,
     book: &mut Book<S>,
     limit: u32,
-    from: i64,
+    span: Span,
     records: &[Record],
     certs: &C,
     out: &mut W,
@@ -87,13 +94,13 @@ fn settle_all<S: Alter, C: Certs, W: Write>(
     requires kept { All (λ (kept : PageWithId). IsKeptPage kept.page) records.now }
     ensures { GoesWhere (λ pages. AreRecordsOf pages records.now)
         (state S.Store book.old) (state S.Store book.new) (λ pages after.
-        WritesSettling (C.keeping certs.now) limit from pages after
+        WritesSettling (C.keeping certs.now) limit span pages after
         (W.contents out.old) (W.contents out.new) result)
-        (SettlesSome (C.keeping certs.now) limit from) result }
+        (SettlesSome (C.keeping certs.now) limit span) result }
 {
     let mut all = true;
     for kept in records {
-        let settled = settle_kept(alloc, book, limit, from, kept, certs, out)?;
+        let settled = settle_kept(alloc, book, limit, span, kept, certs, out)?;
         all &= settled;
     }
     Ok(settle_status(all))

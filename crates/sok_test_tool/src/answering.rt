@@ -9,7 +9,7 @@ use sok_keep::prove::prove_bytes;
 use sok_keep::show::{book_bytes, show_bytes};
 use sok_settle::certs::NoCerts;
 use sok_settle::offers::offers_bytes;
-use sok_settle::settle::settle_bytes;
+use sok_settle::settle::{Span, settle_bytes};
 use sok_store::book::Book;
 use sqlite::{Alter, Connection, MemStore};
 use std::alloc::Global;
@@ -65,7 +65,11 @@ pub(crate) fn answer<S: Alter, W: Write>(
         Command::Offer(id, text) => offer_bytes(alloc, book, id, text.as_bytes(), out),
         Command::Offers(lines) => offers_bytes(alloc, book, &mut lines.as_bytes(), out),
         Command::Prove(id, cert) => prove_bytes(alloc, book, id, &mut cert.as_bytes(), out),
-        Command::Settle(limit, from) => settle_bytes(alloc, book, limit, from, &NoCerts, out),
+        Command::Settle(limit, first) => {
+            let last = i64::MAX;
+            let span = Span { first, last };
+            settle_bytes(alloc, book, limit, span, &NoCerts, out)
+        }
         Command::Show(id) => show_bytes(alloc, book, id, out),
         Command::Overview => tell(alloc, book, BookText::Overview, out),
         Command::Export => tell(alloc, book, BookText::Export { solutions: false }, out),

@@ -151,7 +151,7 @@ const UNSETTLED: &str = "\
 ";
 
 /// A book is settled: within four states, and from a level on; then what is left; then nothing is.
-const SETTLES: [Row; 14] = [
+const SETTLES: [Row; 15] = [
     (
         "sok add settles/book settles/unsettled",
         "1 id 1\n2 id 2\n3 id 3\n4 id 4\n",
@@ -171,6 +171,7 @@ const SETTLES: [Row; 14] = [
         3,
     ),
     ("sok settle settles/book --from 5", "", "", 0),
+    ("sok settle settles/book --to 0", "", "", 0),
     (
         "sok settle settles/book --from 3 --limit 4",
         "3 limit 4 at least 6\n4 optimal 0 0\n",
@@ -191,10 +192,10 @@ const SETTLES: [Row; 14] = [
         0,
     ),
     (
-        "sok settle settles/book --limit 4",
-        "1 optimal 2 6\n2 unsolvable\n3 limit 4 at least 6\n",
+        "sok settle settles/book --limit 4 --to 2",
+        "1 optimal 2 6\n2 unsolvable\n",
         "",
-        4,
+        0,
     ),
     (
         "sok show settles/book 1",

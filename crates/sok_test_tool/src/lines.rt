@@ -50,15 +50,21 @@ fn reads_each_form(rt: HostRuntime) -> Result<(), Fail> {
         ("sok offer B 3 uR", "Offer(\"B\", 3, \"uR\")"),
         ("sok offers B F", "Offers(\"B\", \"F\")"),
         ("sok prove B 3 C", "Prove(\"B\", 3, \"C\")"),
-        ("sok settle B", "Settle(\"B\", 100000, 1, None)"),
+        (
+            "sok settle B",
+            "Settle(\"B\", 100000, 1, 9223372036854775807, None)",
+        ),
         (
             "sok settle B --limit 5 --from 9223372036854775807",
-            "Settle(\"B\", 5, 9223372036854775807, None)",
+            "Settle(\"B\", 5, 9223372036854775807, 9223372036854775807, None)",
         ),
-        ("sok settle B --from 3", "Settle(\"B\", 100000, 3, None)"),
+        (
+            "sok settle B --from 3 --to 4",
+            "Settle(\"B\", 100000, 3, 4, None)",
+        ),
         (
             "sok settle B --certs D",
-            "Settle(\"B\", 100000, 1, Some(\"D\"))",
+            "Settle(\"B\", 100000, 1, 9223372036854775807, Some(\"D\"))",
         ),
         (
             "sok show B 9223372036854775807",

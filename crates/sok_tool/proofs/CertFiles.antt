@@ -14,14 +14,6 @@ use Rattle.sok_tool.specs.Certs.{KeepsText, keeping_in}
 
 module _ (files : Files Bytes) (db folder : List ℕ) (limit : ℕ) (id : ℤ) (rows : Rows) (shown : Claim) (entries : List Entry)
     (certified : Certifies rows limit shown entries) where
-  -- it is refused, and not for its length
-  refused : {X : Type 0} (fault : ToolFault) → (fault ≡ tool.Memory) ⊎ (fault ≡ tool.WriteFailed)
-      → TellsKept {X = X} (keeping_in files db folder) limit id rows shown (Err fault)
-  refused {X = X} fault (inl is) = subst (λ f. TellsKept {X = X} (keeping_in files db folder) limit id rows shown (Err f)) (sym is) tt
-  refused {X = X} fault (inr is) =
-      subst (λ f. TellsKept {X = X} (keeping_in files db folder) limit id rows shown (Err f)) (sym is)
-      (record { shown = shown; entries = entries; certified = certified; refused = tt })
-
   -- the text of a certificate is kept at its path, or memory or a file was refused
   pub TellsKept-text : {X : Type 0} (path text : List ℕ) (result : Result X ToolFault) → path ≡ cert_path folder id → text ≡ text_of shown entries
       → MatchResult result (λ _. KeepsText files db path text) (λ fault. (fault ≡ tool.Memory) ⊎ (fault ≡ tool.WriteFailed))
@@ -31,4 +23,8 @@ module _ (files : Files Bytes) (db folder : List ℕ) (limit : ℕ) (id : ℤ) (
     certified = certified;
     kept = subst (λ p. KeepsText files db p (text_of shown entries)) path_is (subst (KeepsText files db path) text_is kept);
   }
-  TellsKept-text path text (Err fault) path_is text_is why = refused fault why
+  TellsKept-text {X = X} path text (Err fault) path_is text_is (inl is) =
+      subst (λ f. TellsKept {X = X} (keeping_in files db folder) limit id rows shown (Err f)) (sym is) tt
+  TellsKept-text {X = X} path text (Err fault) path_is text_is (inr is) =
+      subst (λ f. TellsKept {X = X} (keeping_in files db folder) limit id rows shown (Err f)) (sym is)
+      (record { shown = shown; entries = entries; certified = certified; refused = tt })

@@ -14,7 +14,7 @@ use Rattle.sok_keep.specs.Shows.{IsBookText, IsShow}
 use Rattle.sok_keep.proofs.Ids.{fits, of_passed, passed}
 use Rattle.sok_book.specs.declared.text.BookText.TheVariants as texts
 use Rattle.sok_words.specs.declared.job.Job.TheVariants as job
-use Rattle.sok_words.specs.Forms.{Form, IsId, IsPlain, Means, add, check, draw, export, from_of, id_value, limit_of, list, offer, offers, prove, replay, settle, show, solve, words_of}
+use Rattle.sok_words.specs.Forms.{Form, IsId, IsPlain, Means, add, check, draw, export, from_of, id_value, limit_of, list, offer, offers, prove, replay, settle, show, solve, to_of, words_of}
 use Rattle.sok_files.specs.Endings.{Ends}
 use Rattle.sok_files.specs.Files.{Files}
 use Rattle.sok_files.specs.Solving.{SolvesLevel}
@@ -42,10 +42,14 @@ same_three P a a' b b' c c' same_a same_b same_c holds = subst (λ z. P a' b' z)
 plain_id : (id : ℤ) (number : List ℕ) → IsId number → id ≡ id_value number → FitsSigned w64 id
 plain_id id number plain is = subst (λ i. FitsSigned w64 i) (sym is) (fits (id_value number) plain.1)
 
--- and so does the first one
+-- and so do the first one and the last
 plain_from : (id : ℤ) (from : Option (List ℕ)) → IfSome from IsId → id ≡ from_of from → FitsSigned w64 id
 plain_from id None plain is = subst (λ i. FitsSigned w64 i) (sym is) (fits (pos 1) (omega arith))
 plain_from id (Some number) plain is = plain_id id number plain is
+
+plain_to : (id : ℤ) (to : Option (List ℕ)) → IfSome to IsId → id ≡ to_of to → FitsSigned w64 id
+plain_to id None plain is = subst (λ i. FitsSigned w64 i) (sym is) (fits (pos 9223372036854775807) (omega arith))
+plain_to id (Some number) plain is = plain_id id number plain is
 
 module _ (files : Files Bytes) (databases : Databases) (out err : Bytes) (exit : ℕ) where
   -- where memory was refused, nothing is written
@@ -139,16 +143,20 @@ module _ (files : Files Bytes) (databases : Databases) (out err : Bytes) (exit :
           (of_passed (λ i. EndsWith (RunsProve files databases db_name i name out) err exit) id (plain_id id number plain.1 id_is) runs)
       Serves-prove _ id plain means runs = absurd means
 
-    pub Serves-settle : (form : Form) (most : ℕ) (first : ℤ) (folder : Option (String Global)) → IsPlain form → Means form (job.Settle db most first folder)
-        → EndsWith (RunsSettle files databases db_name most (passed first) (option_map (λ s. string_bytes s) folder) out) err exit
+    pub Serves-settle : (form : Form) (most : ℕ) (first last : ℤ) (folder : Option (String Global)) → IsPlain form
+        → Means form (job.Settle db most first last folder)
+        → EndsWith (RunsSettle files databases db_name most (record { first = passed first; last = passed last }) (option_map (λ s. string_bytes s) folder) out) err exit
         → Serves files databases form out err exit
-    Serves-settle (settle of limit from certs) most first folder plain (db_is, limit_is, from_is, certs_is) runs =
-        subst (λ f. EndsWith (RunsSettle files databases of (limit_of limit) (from_of from) f out) err exit) certs_is
-        (same_three (λ d l i. EndsWith (RunsSettle files databases d l i (option_map (λ s. string_bytes s) folder) out) err exit) _ _ _ _ _ _
-        (db_named ∙ db_is) limit_is from_is
-        (of_passed (λ i. EndsWith (RunsSettle files databases db_name most i (option_map (λ s. string_bytes s) folder) out) err exit) first
-        (plain_from first from plain.2 from_is) runs))
-    Serves-settle _ most first folder plain means runs = absurd means
+    Serves-settle (settle of limit from to certs) most first last folder plain (db_is, limit_is, from_is, to_is, certs_is) runs =
+        let span : record { first = first; last = last } ≡ record { first = from_of from; last = to_of to } = λ i. record { first = from_is i; last = to_is i } in
+        subst (λ f. EndsWith (RunsSettle files databases of (limit_of limit) (record { first = from_of from; last = to_of to }) f out) err exit) certs_is
+        (same_three (λ d l s. EndsWith (RunsSettle files databases d l s (option_map (λ s. string_bytes s) folder) out) err exit) _ _ _ _ _ _
+        (db_named ∙ db_is) limit_is span
+        (of_passed (λ i. EndsWith (RunsSettle files databases db_name most (record { first = i; last = last }) (option_map (λ s. string_bytes s) folder) out) err exit)
+        first (plain_from first from plain.2 from_is)
+        (of_passed (λ j. EndsWith (RunsSettle files databases db_name most (record { first = passed first; last = j }) (option_map (λ s. string_bytes s) folder) out) err exit)
+        last (plain_to last to plain.3 to_is) runs)))
+    Serves-settle _ most first last folder plain means runs = absurd means
 
     pub Serves-show : (form : Form) (id : ℤ) → IsPlain form → Means form (job.Show db (Some id))
         → EndsWith (RunsShowing databases db_name (λ book. IsShow book (passed id)) out) err exit → Serves files databases form out err exit

@@ -18,6 +18,7 @@ use Rattle.sok_keep.specs.Offers.{OffersText, WritesOffer}
 use Rattle.sok_keep.specs.Proves.{ProvesBytes, WritesProof}
 use Rattle.sok_keep.specs.Shows.{IsBookText, IsShow}
 use Rattle.sok_settle.specs.Offers.{OffersBytes, WritesOffers}
+use Rattle.sok_settle.specs.declared.settle.Span.{Span}
 use Rattle.sok_settle.specs.Settles.{SettlesSome, WritesSettling}
 use Rattle.sok_databases.specs.declared.databases.Access.TheVariants as accesses
 use Rattle.sok_play.specs.Drawings.{IsDrawing}
@@ -26,7 +27,7 @@ use Rattle.sok_play.specs.Plays.{IsReplay}
 use Rattle.sok_book.specs.declared.text.BookText.TheVariants.{Overview, Export}
 use Rattle.sok_store.specs.Calls.{MakesNone}
 use Rattle.sok_words.specs.declared.job.Job.{Job}
-use Rattle.sok_words.specs.Forms.{Form, IsPlain, Means, add, check, draw, export, from_of, id_value, limit_of, list, offer, offers, prove, replay, settle, show, solve}
+use Rattle.sok_words.specs.Forms.{Form, IsPlain, Means, add, check, draw, export, from_of, id_value, limit_of, list, offer, offers, prove, replay, settle, show, solve, to_of}
 use Rattle.sok_tool.specs.Certs.{IsFolderless, keeping_of}
 use Rattle.sok_tool.specs.Databases.{Databases, IsFileless, IsNeverLacking, OfOpened, WorksOn, at}
 
@@ -62,12 +63,12 @@ RunsProve files databases db id cert out result =
     WorksOn (at databases accesses.Change db) (IsFileless (files.lacks cert)) (λ book after. OfOpened (files.reads cert) (λ known. ProvesBytes id known book after))
     (λ ended book after. OfOpened (files.reads cert) (λ known. WritesProof book id known after out.old out.new ended)) out result
 
--- the levels that nothing is proved of are settled, within a limit that is not refused, from an id on, with their certificates in a folder, if one is given
-abbrev pub RunsSettle : Files Bytes → Databases → List ℕ → ℕ → ℤ → Option (List ℕ) → Bytes → Result ℕ ToolFault → Type 0
-RunsSettle files databases db limit from folder out result =
-    WorksOn (at databases accesses.Settle db) (IsFolderless files folder) (SettlesSome (keeping_of files db folder) limit from)
+-- the levels that nothing is proved of are settled, within a limit that is not refused, from one id to another, with their certificates in a folder, if one is given
+abbrev pub RunsSettle : Files Bytes → Databases → List ℕ → ℕ → Span → Option (List ℕ) → Bytes → Result ℕ ToolFault → Type 0
+RunsSettle files databases db limit span folder out result =
+    WorksOn (at databases accesses.Settle db) (IsFolderless files folder) (SettlesSome (keeping_of files db folder) limit span)
     (λ ended book after. (IsBadLimit limit → ended ≡ Err tool.BadLimit)
-    × WritesSettling (keeping_of files db folder) limit from book after out.old out.new ended) out result
+    × WritesSettling (keeping_of files db folder) limit span book after out.old out.new ended) out result
 
 -- the book is only read, and such an answer is written
 abbrev pub RunsShowing : Databases → List ℕ → (Book → Answers) → Bytes → Result ℕ ToolFault → Type 0
@@ -93,7 +94,8 @@ Serves files databases (add db file) out err exit = EndsWith (RunsAdd files data
 Serves files databases (offer db id text) out err exit = EndsWith (λ result. RunsOffer databases db (id_value id) out result text) err exit
 Serves files databases (offers db file) out err exit = EndsWith (RunsOffers files databases db file out) err exit
 Serves files databases (prove db id cert) out err exit = EndsWith (RunsProve files databases db (id_value id) cert out) err exit
-Serves files databases (settle db limit from folder) out err exit = EndsWith (RunsSettle files databases db (limit_of limit) (from_of from) folder out) err exit
+Serves files databases (settle db limit from to folder) out err exit =
+    EndsWith (RunsSettle files databases db (limit_of limit) (record { first = from_of from; last = to_of to }) folder out) err exit
 Serves files databases (show db (Some id)) out err exit = EndsWith (RunsShowing databases db (λ book. IsShow book (id_value id)) out) err exit
 Serves files databases (show db None) out err exit = EndsWith (RunsShowing databases db (IsBookText Overview) out) err exit
 Serves files databases (export db solutions) out err exit = EndsWith (RunsShowing databases db (IsBookText (Export solutions)) out) err exit

@@ -12,7 +12,7 @@ MayAsk words job = (program : List ℕ) (form : Form) → IsPlain form → words
 -- a job makes a file at a path: its certificate, or one of those in its folder
 abbrev pub MakesAt : Job → List ℕ → Type 0
 MakesAt (job.Solve file n below limit bound (Some cert)) path = path ≡ string_bytes cert
-MakesAt (job.Settle db limit from (Some folder)) path = (id : ℤ) × (path ≡ cert_path (string_bytes folder) id)
+MakesAt (job.Settle db limit first last (Some folder)) path = (id : ℤ) × (path ≡ cert_path (string_bytes folder) id)
 MakesAt _ path = ⊥
 
 -- it changes the database at a path
@@ -21,5 +21,5 @@ ChangesAt (job.Add db file) path = path ≡ string_bytes db
 ChangesAt (job.Offer db id text) path = path ≡ string_bytes db
 ChangesAt (job.Offers db file) path = path ≡ string_bytes db
 ChangesAt (job.Prove db id cert) path = path ≡ string_bytes db
-ChangesAt (job.Settle db limit from folder) path = path ≡ string_bytes db
+ChangesAt (job.Settle db limit first last folder) path = path ≡ string_bytes db
 ChangesAt _ path = ⊥

@@ -34,7 +34,7 @@ use sok_keep::prove::prove_bytes;
 use sok_keep::show::{book_bytes, show_bytes};
 use sok_settle::certs::NoCerts;
 use sok_settle::offers::offers_bytes;
-use sok_settle::settle::settle_bytes;
+use sok_settle::settle::{Span, settle_bytes};
 use sok_store::book::{Book, OpenRefused};
 use sqlite::{Alter, Connection};
 use std::io::Write;
@@ -113,7 +113,7 @@ pub(crate) fn prove<
     told
 }
 
-/// Settles the levels that nothing is proved of, from an id on. Where a folder is given, the
+/// Settles the levels that nothing is proved of, from one id to another. Where a folder is given, the
 /// certificate of each that is settled is kept there.
 pub(crate) fn settle<
     S: Alter + Drop,
@@ -123,7 +123,7 @@ pub(crate) fn settle<
     rt: &F,
     db: &str,
     limit: u32,
-    from: i64,
+    span: Span,
     folder: Option<String>,
     out: &mut W,
 ) -> Result<u8, ToolFault>
@@ -131,10 +131,10 @@ pub(crate) fn settle<
     requires keep { IfSome (option_map (λ s. string_bytes s) folder) (MayKeep (F.files rt.now)) }
     ensures { RunsSettle (files_by F.Output.contents (F.files rt.now))
         (databases_by (state S.Store) (F.databases rt.now))
-        db.now limit from (option_map (λ s. string_bytes s) folder) (record { old = W.contents out.old; new = W.contents out.new }) result }
+        db.now limit span (option_map (λ s. string_bytes s) folder) (record { old = W.contents out.old; new = W.contents out.new }) result }
 {
     let mut book = book_and_folder(rt, db, &folder)?;
-    let ended = settle_book(rt, &mut book, db, limit, from, folder, out);
+    let ended = settle_book(rt, &mut book, db, limit, span, folder, out);
     let told = told_by(rt, ended);
     rt.close(db, book.into_connection());
     told
@@ -146,22 +146,22 @@ fn settle_book<S: Alter, F: Folder + AllocGlobal, W: Write>(
     book: &mut Book<S>,
     db: &str,
     limit: u32,
-    from: i64,
+    span: Span,
     folder: Option<String>,
     out: &mut W,
 ) -> Result<u8, ToolFault>
     requires { IfSome (option_map (λ s. string_bytes s) folder) (MayKeep (F.files rt.now)) }
     ensures writes { ChangesBook (state S.Store book.old) (state S.Store book.new) (λ pages after.
         WritesSettling (keeping_of (files_by F.Output.contents (F.files rt.now)) db.now
-        (option_map (λ s. string_bytes s) folder)) limit from pages after
+        (option_map (λ s. string_bytes s) folder)) limit span pages after
         (W.contents out.old) (W.contents out.new) result) }
     ensures bad_limit { IsBadLimit limit → result ≡ Err tool.BadLimit }
     ensures stop { Stops (state S.Store book.old) (state S.Store book.new)
         (SettlesSome (keeping_of (files_by F.Output.contents (F.files rt.now)) db.now
-        (option_map (λ s. string_bytes s) folder)) limit from) }
+        (option_map (λ s. string_bytes s) folder)) limit span) }
     ensures cause { IfErr result (IsCausedFault (state S.Store book.old) (state S.Store book.new)
         (SettlesSome (keeping_of (files_by F.Output.contents (F.files rt.now)) db.now
-        (option_map (λ s. string_bytes s) folder)) limit from)) }
+        (option_map (λ s. string_bytes s) folder)) limit span)) }
 {
     match folder {
         Some(folder) => {
@@ -170,9 +170,9 @@ fn settle_book<S: Alter, F: Folder + AllocGlobal, W: Write>(
                 path: folder.as_str(),
                 own: Own::book(db),
             };
-            settle_bytes(rt.alloc(), book, limit, from, &certs, out)
+            settle_bytes(rt.alloc(), book, limit, span, &certs, out)
         }
-        None => settle_bytes(rt.alloc(), book, limit, from, &NoCerts, out),
+        None => settle_bytes(rt.alloc(), book, limit, span, &NoCerts, out),
     }
 }
 

@@ -21,6 +21,7 @@ use sok_files::command::{check, list, solve};
 use sok_files::ending::{ended, refused};
 use sok_files::folder::Folder;
 use sok_play::play::play_bytes;
+use sok_settle::settle::Span;
 use sok_words::job::Job;
 use sok_words::words::job;
 use sqlite::{Alter, Connection};
@@ -105,8 +106,9 @@ fn served<
         }
         Job::Offers(db, file) => ended(offers(rt, db.as_str(), file.as_str(), out), err),
         Job::Prove(db, id, cert) => ended(prove(rt, db.as_str(), id, cert.as_str(), out), err),
-        Job::Settle(db, limit, from, folder) => {
-            ended(settle(rt, db.as_str(), limit, from, folder, out), err)
+        Job::Settle(db, limit, first, last, folder) => {
+            let span = Span { first, last };
+            ended(settle(rt, db.as_str(), limit, span, folder, out), err)
         }
         Job::Show(db, id) => match id {
             Some(id) => ended(show(rt, db.as_str(), id, out), err),

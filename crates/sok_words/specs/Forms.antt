@@ -34,7 +34,7 @@ pub data Form : Type 0 where
   offer : List ℕ → List ℕ → List ℕ → Form
   offers : List ℕ → List ℕ → Form
   prove : List ℕ → List ℕ → List ℕ → Form
-  settle : List ℕ → Option (List ℕ) → Option (List ℕ) → Option (List ℕ) → Form
+  settle : List ℕ → Option (List ℕ) → Option (List ℕ) → Option (List ℕ) → Option (List ℕ) → Form
   show : List ℕ → Option (List ℕ) → Form
   export : List ℕ → Bool → Form
 
@@ -49,7 +49,7 @@ IsPlain (add db file) = IsValue db × IsValue file
 IsPlain (offer db id text) = IsValue db × IsId id × IsValue text
 IsPlain (offers db file) = IsValue db × IsValue file
 IsPlain (prove db id cert) = IsValue db × IsId id × IsValue cert
-IsPlain (settle db limit from certs) = IsValue db × IfSome limit IsNumber × IfSome from IsId × IfSome certs IsValue
+IsPlain (settle db limit from to certs) = IsValue db × IfSome limit IsNumber × IfSome from IsId × IfSome to IsId × IfSome certs IsValue
 IsPlain (show db id) = IsValue db × IfSome id IsId
 IsPlain (export db solutions) = IsValue db
 
@@ -75,8 +75,8 @@ words_of (add db file) = codes "add" ∷ db ∷ file ∷ []
 words_of (offer db id text) = codes "offer" ∷ db ∷ id ∷ text ∷ []
 words_of (offers db file) = codes "offers" ∷ db ∷ file ∷ []
 words_of (prove db id cert) = codes "prove" ∷ db ∷ id ∷ cert ∷ []
-words_of (settle db limit from certs) = codes "settle" ∷ db
-    ∷ (option_words (codes "--limit") limit ++ option_words (codes "--from") from ++ option_words (codes "--certs") certs)
+words_of (settle db limit from to certs) = codes "settle" ∷ db
+    ∷ (option_words (codes "--limit") limit ++ option_words (codes "--from") from ++ option_words (codes "--to") to ++ option_words (codes "--certs") certs)
 words_of (show db id) = codes "show" ∷ db ∷ option_to_list id
 words_of (export db solutions) = codes "export" ∷ db ∷ flag_words (codes "--solutions") solutions
 
@@ -88,10 +88,15 @@ limit_of (Some text) = digits_value 10 text
 abbrev pub id_value : List ℕ → ℤ
 id_value text = pos (digits_value 10 text)
 
--- and the first one, where they are given
+-- the first one, where they are given or not
 abbrev pub from_of : Option (List ℕ) → ℤ
 from_of None = pos 1
 from_of (Some text) = id_value text
+
+-- and the last one
+abbrev pub to_of : Option (List ℕ) → ℤ
+to_of None = pos 9223372036854775807
+to_of (Some text) = id_value text
 
 -- the job has the values of the form; of letters and of an id that are left out it has none
 abbrev pub Means : Form → Job → Type 0
@@ -107,8 +112,8 @@ Means (add db file) (job.Add a b) = (string_bytes a ≡ db) × (string_bytes b �
 Means (offer db id text) (job.Offer a b c) = (string_bytes a ≡ db) × (b ≡ id_value id) × (string_bytes c ≡ text)
 Means (offers db file) (job.Offers a b) = (string_bytes a ≡ db) × (string_bytes b ≡ file)
 Means (prove db id cert) (job.Prove a b c) = (string_bytes a ≡ db) × (b ≡ id_value id) × (string_bytes c ≡ cert)
-Means (settle db limit from certs) (job.Settle a most first folder) =
-    (string_bytes a ≡ db) × (most ≡ limit_of limit) × (first ≡ from_of from) × (option_map (λ s. string_bytes s) folder ≡ certs)
+Means (settle db limit from to certs) (job.Settle a most first last folder) =
+    (string_bytes a ≡ db) × (most ≡ limit_of limit) × (first ≡ from_of from) × (last ≡ to_of to) × (option_map (λ s. string_bytes s) folder ≡ certs)
 Means (show db id) (job.Show a b) = (string_bytes a ≡ db) × (b ≡ option_map id_value id)
 Means (export db solutions) (job.Export a b) = (string_bytes a ≡ db) × (b ≡ solutions)
 Means _ _ = ⊥
@@ -127,7 +132,7 @@ MisusesInput _ = ⊥
 
 -- certificates are to be kept in a folder without a name
 abbrev pub LacksFolder : Job → Type 0
-LacksFolder (job.Settle a most first (Some folder)) = (string_bytes folder ≡ [])
+LacksFolder (job.Settle a most first last (Some folder)) = (string_bytes folder ≡ [])
 LacksFolder _ = ⊥
 
 -- a job that is run

@@ -68,10 +68,11 @@ HasValues (prove db id cert) name rows = (name ≡ codes "prove")
     × (first_of (codes "DB") rows ≡ Some db)
     × HasId rows (codes "ID") id
     × (first_of (codes "CERT") rows ≡ Some cert)
-HasValues (settle db limit from certs) name rows = (name ≡ codes "settle")
+HasValues (settle db limit from to certs) name rows = (name ≡ codes "settle")
     × (first_of (codes "DB") rows ≡ Some db)
     × HasNumber rows (codes "limit") (limit_text limit) (limit_of limit)
     × HasId rows (codes "from") (from_text from)
+    × HasOptionalId rows (codes "to") to
     × (first_of (codes "certs") rows ≡ certs)
 HasValues (show db id) name rows = (name ≡ codes "show") × (first_of (codes "DB") rows ≡ Some db) × HasOptionalId rows (codes "ID") id
 HasValues (export db solutions) name rows = (name ≡ codes "export")

@@ -44,9 +44,13 @@ optional_id_rule id = record (new_rule id) { parser = Some (vp.Signed (negsuc 92
 abbrev pub id_rule : Text → Rule
 id_rule id = record (optional_id_rule id) { required = true }
 
--- an id to begin at
+-- an id to end at
+abbrev pub last_rule : Text → Rule
+last_rule name = record (optional_id_rule name) { long = Some name; value_names = 1 }
+
+-- and one to begin at
 abbrev pub first_rule : Text → Rule
-first_rule name = record (optional_id_rule name) { long = Some name; value_names = 1; defaults = codes "1" ∷ [] }
+first_rule name = record (last_rule name) { defaults = codes "1" ∷ [] }
 
 -- the place or the option is read by the rule, and holds for its own command alone
 pub record Follows (rule : Rule) (arg : Arg) : Type 0 where
@@ -68,6 +72,7 @@ rule_of_kind kind.OptionalId name = optional_id_rule name
 rule_of_kind kind.Pushes name = pushes_rule name
 rule_of_kind kind.Limit name = limit_rule name
 rule_of_kind kind.First name = first_rule name
+rule_of_kind kind.Last name = last_rule name
 rule_of_kind kind.Flag name = flag_rule name
 rule_of_kind kind.Path name = path_rule name
 rule_of_kind kind.Folder name = path_rule name
@@ -127,7 +132,7 @@ subcommand_rules = (codes "list", file_rule ∷ [])
     ∷ (codes "prove", book_rule ∷ entry_rule ∷ cert_rule ∷ [])
     ∷ (
       codes "settle",
-      book_rule ∷ limit_rule (codes "limit") ∷ first_rule (codes "from") ∷ path_rule (codes "certs") ∷ [],
+      book_rule ∷ limit_rule (codes "limit") ∷ first_rule (codes "from") ∷ last_rule (codes "to") ∷ path_rule (codes "certs") ∷ [],
     )
     ∷ (codes "show", book_rule ∷ shown_rule ∷ [])
     ∷ (codes "export", book_rule ∷ flag_rule (codes "solutions") ∷ [])

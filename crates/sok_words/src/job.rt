@@ -26,9 +26,9 @@ pub enum Job {
     Offers(String, String),
     /// The path of a book, the id of a level, and the path of a certificate.
     Prove(String, i64, String),
-    /// The path of a book, the most states to keep for a level, the id of the first level, and the
-    /// path of the folder for the certificates.
-    Settle(String, u32, i64, Option<String>),
+    /// The path of a book, the most states to keep for a level, the ids of the first level and of the
+    /// last, and the path of the folder for the certificates.
+    Settle(String, u32, i64, i64, Option<String>),
     /// The path of a book, and the id of a level, which is none where all levels are asked for.
     Show(String, Option<i64>),
     /// The path of a book, and whether solutions are written, too.

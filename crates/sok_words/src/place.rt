@@ -5,7 +5,8 @@ ghost use Rattle.sok_words.specs.Shapes.{Follows, rule_of_kind};
 use clap::{Arg, ArgAction, value_parser};
 use std::alloc::Global;
 
-/// What is read in a place. One for pushes, a limit, a first id, a flag, a path or a folder is an option.
+/// What is read in a place. One for pushes, a limit, a first or a last id, a flag, a path or a folder is
+/// an option.
 #[derive(Clone, Copy)]
 pub(crate) enum Kind {
     Text,
@@ -20,6 +21,8 @@ pub(crate) enum Kind {
     Limit,
     /// An id to begin at.
     First,
+    /// An id to end at.
+    Last,
     Flag,
     Path,
     /// The path of a folder.
@@ -59,6 +62,10 @@ impl Place {
                 .long(self.name)
                 .value_parser(value_parser!(i64))
                 .default_value("1")
+                .value_name("ID"),
+            Kind::Last => arg
+                .long(self.name)
+                .value_parser(value_parser!(i64))
                 .value_name("ID"),
             Kind::Flag => arg.long(self.name).action(ArgAction::SetTrue),
             Kind::Path => arg.long(self.name).value_name("PATH"),
@@ -149,6 +156,12 @@ pub(crate) const FROM: Place = Place {
     name: "from",
     kind: Kind::First,
     help: "Pass over the levels with a lower id than this one",
+};
+
+pub(crate) const TO: Place = Place {
+    name: "to",
+    kind: Kind::Last,
+    help: "Pass over the levels with a higher id than this one",
 };
 
 pub(crate) const CERTS: Place = Place {

@@ -136,8 +136,9 @@ fn settle_of(alloc: Global, values: &ArgMatches<'_>) -> Result<Job, JobRefused>
     let db = text_of(alloc, values, "DB")?;
     let limit = number_of(alloc, values, "limit")?;
     let from = id_of(alloc, values, "from")?;
+    let to = optional_id_of(values, "to").unwrap_or(i64::MAX);
     let folder = option_of(alloc, values, "certs")?;
-    Ok(Job::Settle(db, limit, from, folder))
+    Ok(Job::Settle(db, limit, from, to, folder))
 }
 
 /// The job of `show`.

@@ -5,7 +5,7 @@ ghost use Rattle.sok_words.specs.Shapes.{Builds, own_app, sok_app, sok_top, with
 
 use crate::place::{
     BELOW, BOUND, CERT, CERTS, DB, FILE, FROM, ID, LETTERS, LIMIT, N, OFFERS, OUTPUT, Place, SHOWN,
-    SOLUTIONS, TEXT,
+    SOLUTIONS, TEXT, TO,
 };
 use clap::Command;
 use std::alloc::{AllocError, Global};
@@ -186,9 +186,9 @@ never replaced by another: that is fault 51 WriteFailed, and the level stays as 
 DB-wal is the log of DB: changes stand there first, and within a second in DB.
 
 Examples: sok settle small.db
-          sok settle small.db --limit 1000000 --from 2
+          sok settle small.db --limit 1000000 --from 2 --to 5
           sok settle small.db --certs certs",
-            places: &[DB, LIMIT, FROM, CERTS],
+            places: &[DB, LIMIT, FROM, TO, CERTS],
         },
         Subcommand {
             name: "show",

@@ -19,12 +19,13 @@ use std::alloc::Global;
 /// list FILE · replay FILE N TEXT · draw FILE N [TEXT]
 /// solve FILE N [--below K] [--limit S] [--bound] [--cert PATH] · check FILE N CERT
 /// add DB FILE · offer DB ID TEXT · offers DB FILE · prove DB ID CERT
-/// settle DB [--limit S] [--from ID] [--certs FOLDER] · show DB [ID] · export DB [--solutions]
+/// settle DB [--limit S] [--from ID] [--to ID] [--certs FOLDER] · show DB [ID]
+/// export DB [--solutions]
 /// ```
 ///
 /// Places, PATH and FOLDER that are not empty and do not begin with a hyphen, N and S below 2 ^ 32,
-/// K up to 1,000,000 and ID below 2 ^ 63 in digits alone, are read as they stand. S is 100,000 where it is left out,
-/// and the ID behind `--from` 1. Other words are read or refused as `clap` does it; but `-`, which is
+/// K up to 1,000,000 and ID below 2 ^ 63 in digits alone, are read as they stand. S is 100,000 where it
+/// is left out, the ID behind `--from` 1, and the one behind `--to` the highest. Other words are read or refused as `clap` does it; but `-`, which is
 /// the standard input, is refused as PATH, and as FILE with TEXT or CERT in one command, and an empty
 /// FOLDER is.
 pub fn job(alloc: Global, words: &[String]) -> Result<Job, JobRefused>
@@ -83,7 +84,7 @@ fn lacks_folder(job: &Job) -> bool
     ensures { IsTrue result ↔ LacksFolder job.now }
 {
     match job {
-        Job::Settle(_, _, _, Some(folder)) => folder.is_empty(),
+        Job::Settle(_, _, _, _, Some(folder)) => folder.is_empty(),
         _ => false,
     }
 }

@@ -7,4 +7,4 @@ pub search-requires-clause-small : goal.search-requires-clause-small
 search-requires-clause-small g c = rw c.best_pushes.ensures (best_small c.args.kept.now.page c.requires.kept)
 
 pub returns-in-Ok : goal.returns-in-Ok
-returns-in-Ok g c from = rw (to_z-of_z w64 c.args.id c.ranges.id) at (c.settle_by.ensures from)
+returns-in-Ok g c span = rw (to_z-of_z w64 c.args.id c.ranges.id) at (c.settle_by.ensures span)

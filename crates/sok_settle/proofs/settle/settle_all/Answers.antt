@@ -1,5 +1,4 @@
-use Rattle.std.proofs.Common.{◌≡◌, ◌<◌, Ok, Some, arith, length, refl, slice_get, w64}
-use Rattle.std.proofs.lemmas.Int.{to_z-of_z}
+use Rattle.std.proofs.Common.{◌≡◌, ◌<◌, Ok, Some, arith, length, refl, slice_get}
 use Rattle.std.proofs.lemmas.Option.{slice_get_read}
 use Rattle.std.proofs.lemmas.Result.{err_from_is_err_and}
 use Rattle.sqlite.specs.Held.{state}
@@ -19,9 +18,9 @@ returns-in_err-settled g c =
     let records = c.args.records.now in
     let within : here.kept-index < length records = omega arith in
     let at : slice_get records here.kept-index ≡ Some c.kept-item.result = slice_get_read records (length records) here.kept-index c.kept-item.result refl within c.kept-item.is in
-    rw (p.1, p.2) (rw (to_z-of_z w64 c.args.from c.ranges.from) at (gone_ended (g.C.Certs.keeping c.args.certs.now) c.args.limit _ records (state g.S.Store c.args.book.now) (state g.S.Store here.book)
+    rw (p.1, p.2) (gone_ended (g.C.Certs.keeping c.args.certs.now) c.args.limit _ records (state g.S.Store c.args.book.now) (state g.S.Store here.book)
     (state g.S.Store c.settle_kept.new.book) here.kept-index here.all c.kept-item.result at (g.W.Write.contents c.args.out.now) (g.W.Write.contents here.out)
-    (g.W.Write.contents c.settle_kept.new.out) here.invariant.0 here.invariant.1 c.in_err-settled.field-0.0 c.in_err-settled.ensures))
+    (g.W.Write.contents c.settle_kept.new.out) here.invariant.0 here.invariant.1 c.in_err-settled.field-0.0 c.in_err-settled.ensures)
 
 pub loop-kept-preserved : goal.loop-kept-preserved
 loop-kept-preserved g c =
@@ -42,5 +41,5 @@ returns g c =
     let here = c.loop-kept in
     let records = c.args.records.now in
     let end : here.kept-index ≡ length records = omega arith in
-    rw (to_z-of_z w64 c.args.from c.ranges.from) at (gone_all (g.C.Certs.keeping c.args.certs.now) c.args.limit _ records (state g.S.Store c.args.book.now) (state g.S.Store here.book) here.kept-index
-    here.all c.settle_status.result (g.W.Write.contents c.args.out.now) (g.W.Write.contents here.out) end c.settle_status.ensures here.invariant.0 here.invariant.1)
+    gone_all (g.C.Certs.keeping c.args.certs.now) c.args.limit _ records (state g.S.Store c.args.book.now) (state g.S.Store here.book) here.kept-index
+    here.all c.settle_status.result (g.W.Write.contents c.args.out.now) (g.W.Write.contents here.out) end c.settle_status.ensures here.invariant.0 here.invariant.1

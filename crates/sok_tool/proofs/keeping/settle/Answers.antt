@@ -1,14 +1,11 @@
-use Rattle.std.proofs.Common.{◌≡◌, Err, IfErr}
+use Rattle.std.proofs.Common.{◌≡◌, Err}
 use Rattle.sok_engine.specs.declared.fault.ToolFault.TheVariants as tool
 use Rattle.sok_search.specs.Faults.{IsBadLimit}
 use Rattle.std.specs.Option.{option_map}
 use Rattle.std.specs.Prelude.{string_bytes}
 use Rattle.sqlite.specs.Held.{state}
 use Rattle.sok_files.specs.Files.{files_by}
-use Rattle.sok_store.specs.Calls.{ChangesBook, Stops}
-use Rattle.sok_keep.specs.Causes.{IsCausedFault}
-use Rattle.sok_keep.proofs.Ids.{of_passed}
-use Rattle.sok_settle.specs.Settles.{SettlesSome, WritesSettling}
+use Rattle.sok_settle.specs.Settles.{WritesSettling}
 use Rattle.sok_tool.specs.Certs.{keeping_of}
 use Rattle.sok_tool.proofs.Working.{ChangesBook-weaker, without_book, works}
 use Rattle.sok_tool.proofs.keeping.settle.Goals as goal
@@ -26,12 +23,8 @@ returns g c =
     let new = state g.S.Store call.new.book in
     let before = g.W.Write.contents c.args.out.now in
     let later = g.W.Write.contents call.new.out in
-    let settles = of_passed (λ from. ChangesBook old new (λ book after. WritesSettling keeping limit from book after before later call.result)) c.args.from
-    c.ranges.from call.ensures.writes in
-    let stop = of_passed (λ from. Stops old new (SettlesSome keeping limit from)) c.args.from c.ranges.from call.ensures.stop in
-    let cause = of_passed (λ from. IfErr call.result (IsCausedFault old new (SettlesSome keeping limit from))) c.args.from c.ranges.from call.ensures.cause in
-    works _ _ _ (λ ended book after. (IsBadLimit limit → ended ≡ Err tool.BadLimit) × WritesSettling keeping limit c.args.from book after before later ended) _ _ _
+    works _ _ _ (λ ended book after. (IsBadLimit limit → ended ≡ Err tool.BadLimit) × WritesSettling keeping limit c.args.span book after before later ended) _ _ _
     c.told_by-told.ensures c.in_ok-book.book call.new.book _ c.in_ok-book.ensures.opens c.into_connection.ensures c.close.ensures
-    (ChangesBook-weaker old new (λ book after. WritesSettling keeping limit c.args.from book after before later call.result) _
-    (λ book after made. (call.ensures.bad_limit, made)) settles)
-    stop cause
+    (ChangesBook-weaker old new (λ book after. WritesSettling keeping limit c.args.span book after before later call.result) _
+    (λ book after made. (call.ensures.bad_limit, made)) call.ensures.writes)
+    call.ensures.stop call.ensures.cause

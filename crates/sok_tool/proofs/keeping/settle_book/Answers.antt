@@ -1,11 +1,10 @@
-use Rattle.std.proofs.Common.{ℕ, ℤ, ◌≡◌, List, IfErr, Option, Some, None, String, Global, subst, subst₂, sym}
+use Rattle.std.proofs.Common.{ℕ, ◌≡◌, List, IfErr, Option, Some, None, String, Global, subst, subst₂, sym}
 use Rattle.std.specs.Prelude.{option_map, string_bytes}
 use Rattle.sqlite.specs.Held.{state}
 use Rattle.sok_engine.specs.Certified.{Bytes}
 use Rattle.sok_files.specs.Files.{Files, files_by}
 use Rattle.sok_store.specs.Calls.{ChangesBook, Stops}
 use Rattle.sok_keep.specs.Causes.{IsCausedFault}
-use Rattle.sok_keep.proofs.Ids.{of_passed}
 use Rattle.sok_settle.specs.Keeping.{Keeping, no_certs}
 use Rattle.sok_settle.specs.Settles.{SettlesSome, WritesSettling}
 use Rattle.sok_tool.specs.Certs.{keeping_in, keeping_of}
@@ -25,52 +24,49 @@ pub returns-in-Some-clause-writes : goal.returns-in-Some-clause-writes
 returns-in-Some-clause-writes g c =
     let call = c.settle_bytes in
     let files = files_by g.F.Output.Write.contents (g.F.Folder.files c.args.rt.now) in
-    let P : ℤ → Keeping → Type 0 = λ from keeping. ChangesBook (state g.S.Store c.args.book.now) (state g.S.Store call.new.book) (λ book after.
-    WritesSettling keeping c.args.limit from book after (g.W.Write.contents c.args.out.now) (g.W.Write.contents call.new.out) call.result) in
-    into_folder (P c.args.from) files c.args.folder c.in-Some.folder c.args.db.now c.book.result.path.now c.as_str.result.now c.in-Some.is c.book.ensures
-    c.as_str.ensures.value
-    (of_passed (λ from. P from (keeping_in files c.book.result.path.now c.as_str.result.now)) c.args.from c.ranges.from call.ensures.writes)
+    let P : Keeping → Type 0 = λ keeping. ChangesBook (state g.S.Store c.args.book.now) (state g.S.Store call.new.book) (λ book after.
+    WritesSettling keeping c.args.limit c.args.span book after (g.W.Write.contents c.args.out.now) (g.W.Write.contents call.new.out) call.result) in
+    into_folder P files c.args.folder c.in-Some.folder c.args.db.now c.book.result.path.now c.as_str.result.now c.in-Some.is c.book.ensures
+    c.as_str.ensures.value call.ensures.writes
 
 pub returns-in-Some-clause-stop : goal.returns-in-Some-clause-stop
 returns-in-Some-clause-stop g c =
     let call = c.settle_bytes in
     let files = files_by g.F.Output.Write.contents (g.F.Folder.files c.args.rt.now) in
-    let P : ℤ → Keeping → Type 0 = λ from keeping. Stops (state g.S.Store c.args.book.now) (state g.S.Store call.new.book)
-    (SettlesSome keeping c.args.limit from) in
-    into_folder (P c.args.from) files c.args.folder c.in-Some.folder c.args.db.now c.book.result.path.now c.as_str.result.now c.in-Some.is c.book.ensures
-    c.as_str.ensures.value
-    (of_passed (λ from. P from (keeping_in files c.book.result.path.now c.as_str.result.now)) c.args.from c.ranges.from call.ensures.stop)
+    let P : Keeping → Type 0 = λ keeping. Stops (state g.S.Store c.args.book.now) (state g.S.Store call.new.book)
+    (SettlesSome keeping c.args.limit c.args.span) in
+    into_folder P files c.args.folder c.in-Some.folder c.args.db.now c.book.result.path.now c.as_str.result.now c.in-Some.is c.book.ensures
+    c.as_str.ensures.value call.ensures.stop
 
 pub returns-in-Some-clause-cause : goal.returns-in-Some-clause-cause
 returns-in-Some-clause-cause g c =
     let call = c.settle_bytes in
     let files = files_by g.F.Output.Write.contents (g.F.Folder.files c.args.rt.now) in
-    let P : ℤ → Keeping → Type 0 = λ from keeping. IfErr call.result (IsCausedFault (state g.S.Store c.args.book.now) (state g.S.Store call.new.book)
-    (SettlesSome keeping c.args.limit from)) in
-    into_folder (P c.args.from) files c.args.folder c.in-Some.folder c.args.db.now c.book.result.path.now c.as_str.result.now c.in-Some.is c.book.ensures
-    c.as_str.ensures.value
-    (of_passed (λ from. P from (keeping_in files c.book.result.path.now c.as_str.result.now)) c.args.from c.ranges.from call.ensures.cause)
+    let P : Keeping → Type 0 = λ keeping. IfErr call.result (IsCausedFault (state g.S.Store c.args.book.now) (state g.S.Store call.new.book)
+    (SettlesSome keeping c.args.limit c.args.span)) in
+    into_folder P files c.args.folder c.in-Some.folder c.args.db.now c.book.result.path.now c.as_str.result.now c.in-Some.is c.book.ensures
+    c.as_str.ensures.value call.ensures.cause
 
 pub returns-in-None-clause-writes : goal.returns-in-None-clause-writes
 returns-in-None-clause-writes g c =
     let call = c.settle_bytes-in-None in
     let files = files_by g.F.Output.Write.contents (g.F.Folder.files c.args.rt.now) in
-    let P : ℤ → Keeping → Type 0 = λ from keeping. ChangesBook (state g.S.Store c.args.book.now) (state g.S.Store call.new.book) (λ book after.
-    WritesSettling keeping c.args.limit from book after (g.W.Write.contents c.args.out.now) (g.W.Write.contents call.new.out) call.result) in
-    into_none (P c.args.from) files c.args.db.now c.args.folder c.in-None.is (of_passed (λ from. P from no_certs) c.args.from c.ranges.from call.ensures.writes)
+    let P : Keeping → Type 0 = λ keeping. ChangesBook (state g.S.Store c.args.book.now) (state g.S.Store call.new.book) (λ book after.
+    WritesSettling keeping c.args.limit c.args.span book after (g.W.Write.contents c.args.out.now) (g.W.Write.contents call.new.out) call.result) in
+    into_none P files c.args.db.now c.args.folder c.in-None.is call.ensures.writes
 
 pub returns-in-None-clause-stop : goal.returns-in-None-clause-stop
 returns-in-None-clause-stop g c =
     let call = c.settle_bytes-in-None in
     let files = files_by g.F.Output.Write.contents (g.F.Folder.files c.args.rt.now) in
-    let P : ℤ → Keeping → Type 0 = λ from keeping. Stops (state g.S.Store c.args.book.now) (state g.S.Store call.new.book)
-    (SettlesSome keeping c.args.limit from) in
-    into_none (P c.args.from) files c.args.db.now c.args.folder c.in-None.is (of_passed (λ from. P from no_certs) c.args.from c.ranges.from call.ensures.stop)
+    let P : Keeping → Type 0 = λ keeping. Stops (state g.S.Store c.args.book.now) (state g.S.Store call.new.book)
+    (SettlesSome keeping c.args.limit c.args.span) in
+    into_none P files c.args.db.now c.args.folder c.in-None.is call.ensures.stop
 
 pub returns-in-None-clause-cause : goal.returns-in-None-clause-cause
 returns-in-None-clause-cause g c =
     let call = c.settle_bytes-in-None in
     let files = files_by g.F.Output.Write.contents (g.F.Folder.files c.args.rt.now) in
-    let P : ℤ → Keeping → Type 0 = λ from keeping. IfErr call.result (IsCausedFault (state g.S.Store c.args.book.now) (state g.S.Store call.new.book)
-    (SettlesSome keeping c.args.limit from)) in
-    into_none (P c.args.from) files c.args.db.now c.args.folder c.in-None.is (of_passed (λ from. P from no_certs) c.args.from c.ranges.from call.ensures.cause)
+    let P : Keeping → Type 0 = λ keeping. IfErr call.result (IsCausedFault (state g.S.Store c.args.book.now) (state g.S.Store call.new.book)
+    (SettlesSome keeping c.args.limit c.args.span)) in
+    into_none P files c.args.db.now c.args.folder c.in-None.is call.ensures.cause

@@ -89,7 +89,7 @@ returns-in-Settle g c = λ form plain means.
     let files = files_by g.F.Output.Write.contents (g.F.Folder.files rt) in
     let databases = databases_by (state g.S.Store) (g.F.Databases.databases rt) in
     let s = c.in-Settle in
-    Serves-settle files databases _ _ _ s.db _ c.as_str-in-Settle.ensures.value form s.limit s.from s.folder plain (subst (Means form) s.is means)
+    Serves-settle files databases _ _ _ s.db _ c.as_str-in-Settle.ensures.value form s.limit s.first s.last s.folder plain (subst (Means form) s.is means)
     (c.settle.result, c.settle.ensures, c.ended-in-Settle.ensures)
 
 -- with an id
