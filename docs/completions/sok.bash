@@ -18,7 +18,7 @@ _sok() {
       offer) words="--help" ;;
       offers) words="--help" ;;
       prove) words="--help" ;;
-      settle) words="--limit --from --certs --help" ;;
+      settle) words="--limit --from --to --certs --help" ;;
       show) words="--help" ;;
       export) words="--solutions --help" ;;
     esac

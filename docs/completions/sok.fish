@@ -25,6 +25,7 @@ complete -c sok -n __fish_use_subcommand -f -a settle -d 'Solves each level of a
 complete -c sok -n '__fish_seen_subcommand_from help' -f -a settle -d 'Solves each level of a book that nothing is proved of, and keeps the verdict'
 complete -c sok -n '__fish_seen_subcommand_from settle' -l limit -r -d 'Give up where more than S states are reached, from 1 to 1,000,000 [default: 100000]'
 complete -c sok -n '__fish_seen_subcommand_from settle' -l from -r -d 'Pass over the levels with a lower id than this one [default: 1]'
+complete -c sok -n '__fish_seen_subcommand_from settle' -l to -r -d 'Pass over the levels with a higher id than this one'
 complete -c sok -n '__fish_seen_subcommand_from settle' -l certs -r -d 'Keep the certificate of each level that is settled in this folder, as ID.cert'
 complete -c sok -n __fish_use_subcommand -f -a show -d 'Shows a level of a book, or tells each of its levels in a line'
 complete -c sok -n '__fish_seen_subcommand_from help' -f -a show -d 'Shows a level of a book, or tells each of its levels in a line'

@@ -180,9 +180,10 @@ Writes a line for each level with verdict untested, in order of ids, as soon as 
   ID fault 14 TooLong      the solution has more than 1,000,000 letters: nothing is kept of it
   ID fault 52 TooMuch      its certificate, which --certs asks for, has more than 268,435,456 bytes:
                            nothing is kept of it
-The status is 0 where no line is one of the last three, and else 4. A fault is status 3 or 5, and of
-memory 6: the lines before it stand, and what they tell is kept. A whole certificate in FOLDER is
-never replaced by another: that is fault 51 WriteFailed, and the level stays as it was.
+Of a level that has a best only a better solution is looked for. The status is 0 where no line is one
+of the last three, and else 4. A fault is status 3 or 5, and of memory 6: the lines before it stand,
+and what they tell is kept. A whole certificate in FOLDER is never replaced by another: that is fault
+51 WriteFailed, and the level stays as it was.
 DB-wal is the log of DB: changes stand there first, and within a second in DB.
 
 Examples: sok settle small.db
