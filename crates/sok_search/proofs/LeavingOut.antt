@@ -1,6 +1,6 @@
 -- A push that brings a box to where it reaches no goal, or is lost with one or two others: nothing solves after it, so it may be left out. And so may one after
 -- which a bound leaves no fewer pushes than a solution has that is known.
-use Rattle.std.proofs.Common.{ℕ, ◌≡◌, ◌≤◌, ◌+◌, ◌∙◌, inl, inr, refl, sym, ap, subst, true, Option, Some, None, arith}
+use Rattle.std.proofs.Common.{ℕ, List, ◌≡◌, ◌≤◌, ◌+◌, ◌∙◌, inl, inr, refl, sym, ap, subst, true, Option, Some, None, arith}
 use Rattle.sok_rules.specs.Play.{NeverFrom, Position, pushes}
 use Rattle.sok_rules.specs.States.{Same}
 use Rattle.sok_rules.proofs.Walking.{Same-sym}
@@ -21,8 +21,11 @@ use Rattle.sok_state.specs.declared.push.Push.{Push}
 use Rattle.sok_state.specs.Keys.{IsKey, IsKeyOf, key_position}
 use Rattle.sok_state.specs.Pushes.{IsLegal, LeadsTo}
 use Rattle.sok_state.proofs.LegalPushes.{LeadsTo-position}
-use Rattle.sok_search.specs.Searches.{Progress, HasBound, IsBeaten, IsDead, IsLeftOut, IsSearch, LeadsNowhere, LeadsToNoFewer}
-use Rattle.sok_search.specs.Steps.{IsPushed, holding}
+use Rattle.sok_alone.specs.declared.losses.Loss.{Loss}
+use Rattle.sok_search.specs.declared.note.Standing.{Standing}
+use Rattle.sok_search.specs.declared.note.Standing.TheVariants.{Open, Expanded, Dead, Lost}
+use Rattle.sok_search.specs.Searches.{Progress, HasBound, IsBeaten, IsDead, IsLeftOut, IsSearch, IsSpared, LeadsNowhere, LeadsToNoFewer}
+use Rattle.sok_search.specs.Steps.{IsJudged, IsPushed, holding}
 use Rattle.sok_search.proofs.Invariant.{Grows-refl}
 
 -- nothing solves once a box stands where it reaches no goal
@@ -60,16 +63,24 @@ module _ (b : BoardView) (accepted : IsAccepted b) (key next : Key) (push : Push
   same-after : (after : Position) → LeadsTo b key push after → Same b.rows (key_position b next) after
   same-after after leads = Same-sym b.rows after (key_position b next) (standing-after b key push after leads) (is after leads).same
 
-  pub dead-nowhere : IsDead b next.boxes → LeadsNowhere b key push
+  dead-nowhere : IsDead b next.boxes → LeadsNowhere b key push
   dead-nowhere (why, of_boxes, bars) after leads w solves =
       (reasons-bar b accepted next.least next.boxes why Never state.is.placed (bars next.least Never)).each after (same-after after leads) w solves
 
-  pub bounded-no_fewer : (bound : ℕ) → HasBound b next.boxes bound → (upper : Option ℕ) (depth : ℕ) → IsBeaten upper (depth + 1 + bound)
+  bounded-no_fewer : (bound : ℕ) → HasBound b next.boxes bound → (upper : Option ℕ) (depth : ℕ) → IsBeaten upper (depth + 1 + bound)
       → LeadsToNoFewer b upper key depth push
   bounded-no_fewer bound ((u, v, priced), cost) upper depth beaten after leads w solves =
       let enough = (reasons-bar b accepted next.least next.boxes (Barring.bound u v) (AtLeast bound) state.is.placed priced).each after (same-after after leads) w
       solves in
       more-beaten upper (depth + 1 + bound) (depth + 1 + pushes b.rows after w) (omega (arith, enough)) beaten
+
+  -- so it is where that state is spared
+  pub spared-no_fewer : (losses : List Loss) (standing : Standing) → IsJudged b losses next.least next.boxes standing → (upper : Option ℕ) (depth : ℕ)
+      → IsSpared upper standing (depth + 1) → LeadsToNoFewer b upper key depth push
+  spared-no_fewer losses (Open bound) bounded upper depth beaten = bounded-no_fewer bound bounded upper depth beaten
+  spared-no_fewer losses Dead dead upper depth spared = nowhere-no_fewer b upper key depth push (dead-nowhere dead)
+  spared-no_fewer losses (Expanded bound) judged upper depth spared = absurd spared
+  spared-no_fewer losses (Lost place) judged upper depth spared = absurd spared
 
 -- so it may be left out
 pub pushed-left_out : (b : BoardView) (limit index : ℕ) (p : Progress) → IsSearch b limit (holding index p) → (key : Key) (depth : ℕ) (push : Push)

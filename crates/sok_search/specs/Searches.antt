@@ -1,5 +1,5 @@
 -- What a search knows all the time: which states are known, how each was come to, and why it may stand as it does.
-use Rattle.std.specs.Prelude.{ℕ, ◌≡◌, ◌<◌, ◌≤◌, ◌+◌, ◌⊎◌, false, List, Option, Some, None, IfSome, IsSomeAnd, Contains, length, slice_get}
+use Rattle.std.specs.Prelude.{ℕ, ◌≡◌, ◌<◌, ◌≤◌, ◌+◌, ◌⊎◌, false, List, Option, Some, None, IfSome, IsSomeAnd, Contains, length, slice_get, ⊤}
 use Rattle.std.specs.Map.{values_of}
 use Rattle.sok_rules.specs.declared.cell.Dir.{Dir}
 use Rattle.sok_rules.specs.Play.{Position, AllOnGoals, NeverFrom, SolvesFrom, pushes, start}
@@ -88,6 +88,12 @@ LeadsNowhere b key push = (after : Position) → LeadsTo b key push after → Ne
 abbrev pub LeadsToNoFewer : BoardView → Option ℕ → Key → ℕ → Push → Type 0
 LeadsToNoFewer b upper key depth push =
     (after : Position) → LeadsTo b key push after → (w : List Dir) → SolvesFrom b.rows after w → IsBeaten upper (depth + 1 + pushes b.rows after w)
+
+-- so it is where the state that it leads to stands so at its depth
+abbrev pub IsSpared : Option ℕ → Standing → ℕ → Type 0
+IsSpared upper (Open bound) depth = IsBeaten upper (depth + bound)
+IsSpared upper Dead depth = ⊤
+IsSpared upper standing depth = ⊥
 
 -- a push is left out, since it leads to no fewer pushes, and not each state is kept
 pub record IsLeftOut (b : BoardView) (aim : Aim) (key : Key) (depth : ℕ) (push : Push) : Type 0 where

@@ -6,7 +6,7 @@ ghost use Rattle.sok_board.specs.Area.{IsAccepted, beside};
 ghost use Rattle.sok_board.specs.BoxSets.{put_in_order};
 ghost use Rattle.sok_state.specs.Keys.{IsKey};
 ghost use Rattle.sok_state.specs.Pushes.{IsLegal, IsOpened};
-ghost use Rattle.sok_search.specs.Searches.{LeadsToNoFewer};
+ghost use Rattle.sok_search.specs.Searches.{IsSpared};
 ghost use Rattle.sok_search.specs.Steps.{IsPushed, Nears, holding, reopened};
 ghost use Rattle.sok_search.specs.PushScratches.{IsPushScratch};
 ghost use Rattle.sok_search.specs.Views.{progress_of, CutsOff, HoldsState};
@@ -17,12 +17,10 @@ use crate::search::{Search, add, is_beaten, lower};
 use crate::stop::Stop;
 use sok_alone::losses::Losses;
 use sok_board::area::Sq;
-use sok_board::board::Board;
 use sok_distance::setting::Setting;
 use sok_rules::fault::Memory;
 use sok_state::key::Key;
 use sok_state::push::Push;
-use sok_state::scene::Scene;
 use sok_state::stepping::square_ahead;
 use std::alloc::Global;
 
@@ -85,51 +83,25 @@ fn ask(
     losses.loss_after(alloc, setting, known, &key.boxes, push.from, push.dir, to)
 }
 
-/// Whether the state behind a push is new, and nothing solves from it with fewer pushes than the
-/// solution has that is known beside the search, or nothing at all.
-fn is_spared(
-    alloc: Global,
-    setting: &Setting<'_>,
-    limit: u32,
-    search: &Search,
-    push_scratch: &mut PushScratch,
-    index: usize,
-    key: &Key,
-    depth: u32,
-    push: Push,
-    to: Sq,
-) -> Result<bool, Memory>
-    requires state { HoldsState setting.now.board.now limit index key.now depth search.now }
-    requires push_scratch { IsPushScratch setting.now.board.now key.now.boxes push_scratch.old.matching
-        push_scratch.old.matched }
-    requires opened { IsOpened setting.now.board.now key.now push_scratch.old.scene }
-    requires legal { IsLegal setting.now.board.now key.now push }
-    requires ahead { beside setting.now.board.now push.from push.dir ≡ Some to }
-    ensures push_scratch { OnOk result
-        (IsPushScratch setting.now.board.now key.now.boxes push_scratch.new.matching push_scratch.new.matched) }
-    ensures opened { OnOk result (IsOpened setting.now.board.now key.now push_scratch.new.scene) }
-    ensures no_fewer { IfOk result (λ spared. IsTrue spared
-        → LeadsToNoFewer setting.now.board.now search.now.aim.upper key.now depth push) }
+/// Whether a new state is spared, which stands so at a depth: nothing solves from it with fewer pushes
+/// than the solution has that is known beside the search. Where none is known, no state is spared.
+fn is_spared(upper: Option<u32>, standing: Standing, depth: u32) -> bool
+    ensures { IsTrue result → IsSpared upper standing depth }
 {
-    if search.aim.upper.is_none() {
-        return Ok(false);
+    if upper.is_none() {
+        return false;
     }
-    let from = push.from;
-    let least = push_scratch.scene.step(setting.board, key, push, to);
-    if search.table.get_next(index, from, to, least).is_some() {
-        return Ok(false);
-    }
-    match judge_after(alloc, setting, push_scratch, &key.boxes, from, to, None)? {
-        Standing::Open(bound) => Ok(is_beaten(search.aim.upper, depth + 1, bound)),
-        Standing::Dead => Ok(true),
-        _ => Ok(false),
+    match standing {
+        Standing::Open(bound) => is_beaten(upper, depth, bound),
+        Standing::Dead => true,
+        Standing::Expanded(_) => false,
+        Standing::Lost(_) => false,
     }
 }
 
 /// Follows a push from a state that was taken: the next state is added, comes nearer, or stays. Or
 /// the push is left out, since its box reaches no goal from there, or it and one or two others are
-/// never solved, were they alone on the board, or since it leads to no fewer pushes than a solution has
-/// that is known.
+/// never solved, were they alone on the board, or since the next state is spared.
 pub(crate) fn reach(
     alloc: Global,
     setting: &Setting<'_>,
@@ -165,22 +137,6 @@ pub(crate) fn reach(
     if !search.aim.whole && lost.is_some() {
         return Ok(());
     }
-    if !search.aim.whole
-        && is_spared(
-            alloc,
-            setting,
-            limit,
-            search,
-            push_scratch,
-            index,
-            key,
-            depth,
-            push,
-            to,
-        )?
-    {
-        return Ok(());
-    }
     arrive(
         alloc,
         setting,
@@ -196,46 +152,9 @@ pub(crate) fn reach(
     )
 }
 
-/// Comes to the state behind a push where the table has no place for another one: it comes nearer
-/// or stays, where it is known.
-fn arrive_full(
-    alloc: Global,
-    board: &Board,
-    limit: u32,
-    search: &mut Search,
-    scene: &mut Scene,
-    index: usize,
-    key: &Key,
-    depth: u32,
-    push: Push,
-) -> Result<(), Stop>
-    requires state { HoldsState board.now limit index key.now depth search.old }
-    requires full { limit ≤ length search.old.table.entries }
-    requires opened { IsOpened board.now key.now scene.old }
-    requires legal { IsLegal board.now key.now push }
-    ensures opened { OnOk result (IsOpened board.now key.now scene.new) }
-    ensures pushed { OnOk result (IsPushed board.now limit
-        (holding index (progress_of search.old)) key.now depth push
-        (holding index (progress_of search.new))) }
-    ensures cut { CutsOff board.now limit search.old
-        (holding index (progress_of search.new)) result }
-{
-    let next = scene.after(alloc, board, key, push)?;
-    match search.table.get(&next) {
-        Some(at) => {
-            let origin = Some(Origin {
-                parent: index as u32,
-                push,
-            });
-            approach(search, at, depth + 1, origin)?;
-            Ok(())
-        }
-        None => Err(Stop::Cut),
-    }
-}
-
 /// Comes to the state behind a push to a square: it is added, comes nearer, or stays. A new one may
-/// be lost by a loss that is known.
+/// be lost by a loss that is known, or spared. Where one would be added and the table is full, the
+/// search is cut off.
 fn arrive(
     alloc: Global,
     setting: &Setting<'_>,
@@ -266,20 +185,6 @@ fn arrive(
     ensures cut { CutsOff setting.now.board.now limit search.old
         (holding index (progress_of search.new)) result }
 {
-    if search.table.len() >= limit as usize {
-        let scene = &mut push_scratch.scene;
-        return arrive_full(
-            alloc,
-            setting.board,
-            limit,
-            search,
-            scene,
-            index,
-            key,
-            depth,
-            push,
-        );
-    }
     let from = push.from;
     let least = push_scratch.scene.step(setting.board, key, push, to);
     let origin = Some(Origin {
@@ -287,12 +192,18 @@ fn arrive(
         push,
     });
     let deeper = depth + 1;
-    let (at, is_new) = search.table.insert_next(index, from, to, least, deeper)?;
-    if !is_new {
+    if let Some(at) = search.table.get_next(index, from, to, least) {
         approach(search, at, deeper, origin)?;
         return Ok(());
     }
     let standing = judge_after(alloc, setting, push_scratch, &key.boxes, from, to, lost)?;
+    if !search.aim.whole && is_spared(search.aim.upper, standing, deeper) {
+        return Ok(());
+    }
+    if search.table.len() >= limit as usize {
+        return Err(Stop::Cut);
+    }
+    let (at, _) = search.table.insert_next(index, from, to, least, deeper)?;
     add(search, at, deeper, Note { origin, standing })?;
     Ok(())
 }

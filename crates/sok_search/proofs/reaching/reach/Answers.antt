@@ -72,21 +72,6 @@ held-in c = record {
   depth_is = c.requires.state.depth_is;
 }
 
-pub is_spared-requires-clause-state : goal.is_spared-requires-clause-state
-is_spared-requires-clause-state c = held-in ((goal.at.is_spared-requires-clause-state c).In_ok-lost)
-
-pub returns-then-branch-clause-pushed : goal.returns-then-branch-clause-pushed
-returns-then-branch-clause-pushed c =
-    let b = c.args.setting.now.board.now in
-    let p = progress_of c.args.search.now in
-    let q = knowing c.ask.new.losses p in
-    let key = c.args.key.now in
-    pushed-knowing b c.args.limit (holding c.args.index p) c.ask.new.losses key c.args.depth c.args.push (holding c.args.index q)
-    (pushed-left_out b c.args.limit c.args.index q (known-in ((goal.at.returns-then-branch-clause-pushed c).In_ok-lost)) key c.args.depth c.args.push (record {
-      part = c.if-not-search-3.true;
-      no_fewer = c.in_ok-is_spared.ensures.no_fewer c.if-branch.true;
-    }))
-
 pub arrive-requires-clause-state : goal.arrive-requires-clause-state
 arrive-requires-clause-state c = held-in ((goal.at.arrive-requires-clause-state c).In_ok-lost)
 
