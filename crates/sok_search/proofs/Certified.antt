@@ -15,7 +15,8 @@ use Rattle.sok_alone.specs.Losses.{losses_of}
 use Rattle.sok_search.specs.declared.note.Note.{Note}
 use Rattle.sok_search.specs.declared.note.Standing.{Standing}
 use Rattle.sok_search.specs.declared.note.Standing.TheVariants.{Open, Expanded, Dead, Lost}
-use Rattle.sok_search.specs.Finished.{AreDone, AreFirstEntries, AreTaken, HasText, IsAtMost, IsDone, IsEntryAt, IsEntryOf, TakesEntry, claim_of}
+use Rattle.sok_search.specs.Findings.{claim_of}
+use Rattle.sok_search.specs.Finished.{AreDone, AreFirstEntries, AreTaken, HasText, IsAtMost, IsDone, IsEntryAt, IsEntryOf, TakesEntry}
 use Rattle.sok_search.specs.Halted.{IsLeastOpen, IsOpenAt}
 use Rattle.sok_search.specs.Limits.{state_limit}
 use Rattle.sok_search.specs.Searches.{Progress, IsBeaten, IsSearch, IsState, Stands}

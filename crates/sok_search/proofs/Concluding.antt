@@ -16,8 +16,8 @@ use Rattle.sok_state.specs.declared.push.Push.{Push}
 use Rattle.sok_cert.specs.Closed.{IsClosed, IsTrueOf}
 use Rattle.sok_search.specs.declared.finding.Finding.{Finding}
 use Rattle.sok_search.specs.declared.finding.Finding.TheVariants as finding
-use Rattle.sok_search.specs.Findings.{HasSearchedAlone, IsFewer, IsFinding, IsFindingWithProof, IsOfBest, found_of, improved_of}
-use Rattle.sok_search.specs.Finished.{AreFirstEntries, AreTaken, claim_of}
+use Rattle.sok_search.specs.Findings.{HasSearchedAlone, IsFewer, IsFinding, IsFindingWithProof, claim_of, found_of, improved_of}
+use Rattle.sok_search.specs.Finished.{AreFirstEntries, AreTaken, IsOfBest}
 use Rattle.sok_search.specs.Halted.{IsLeastOpen, IsOpenAt}
 use Rattle.sok_search.specs.Limits.{state_limit}
 use Rattle.sok_search.specs.Outcomes.{Certifies, OfClaim, HasSearched, IsCutShortBeside, IsFoundWithProof, IsFoundWithin, IsImproved, IsImprovedWithProof, IsLeastSolution, IsProvedSolved, ShowsLeast}

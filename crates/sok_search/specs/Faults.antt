@@ -14,25 +14,25 @@ use Rattle.sok_search.specs.Limits.{state_limit}
 abbrev pub IsBadLimit : ℕ → Type 0
 IsBadLimit limit = (limit ≡ 0) ⊎ (state_limit < limit)
 
--- a board's fault as one of solving
+-- a fault of a board, as one of the solver
 abbrev pub of_board : BoardFault → SolveFault
 of_board board.Memory = solve.Memory
 of_board fault = solve.Level fault
 
--- the limit is bad, or the level is refused as a board is
+-- the limit is bad, or no board can be made of the level
 abbrev pub IsRefusal : Rows → ℕ → SolveFault → Type 0
 IsRefusal rows limit solve.BadLimit = IsBadLimit limit
 IsRefusal rows limit (solve.Level fault) = (fault ≢ board.Memory) × IsRefused rows fault
 IsRefusal rows limit solve.Memory = Unit {0}
 
--- the board of a level, within a limit that is not bad
+-- the board of a level, and a limit that is not bad
 pub record IsAcceptedWithin (rows : Rows) (limit : ℕ) (b : BoardView) : Type 0 where
   pub rows_are : b.rows ≡ rows
   pub accepted : IsAccepted b
   pub positive : 0 < limit
   pub small : limit ≤ state_limit
 
--- what is told is a fault exactly where the limit is bad or the level is refused, memory aside
+-- a fault is reported exactly if the limit is bad or the level is refused, memory aside
 pub record TellsFault {A : Type 0} (rows : Rows) (limit : ℕ) (answer : Result A SolveFault) : Type 0 where
   pub bad_limit : (answer ≡ Err solve.BadLimit) ↔ IsBadLimit limit
   pub refused : IfErr answer (IsRefusal rows limit)

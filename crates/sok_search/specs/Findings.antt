@@ -1,6 +1,7 @@
--- What a search finds beside a solution that is known, or beside none.
-use Rattle.std.specs.Prelude.{ℕ, ◌≡◌, ◌<◌, Bool, MatchBool, List, [], Option, Some, None, IfSome, length, ⊤}
+-- What a search finds of a level, of which a solution with so many pushes is known, or none.
+use Rattle.std.specs.Prelude.{ℕ, ◌<◌, Bool, MatchBool, List, [], Option, Some, None, IfSome, ⊤}
 use Rattle.sok_rules.specs.Squares.{Rows}
+use Rattle.sok_cert.specs.Claim.{Claim}
 use Rattle.sok_cert.specs.Claim.TheVariants as claim
 use Rattle.sok_cert.specs.Entry.{Entry}
 use Rattle.sok_cert.specs.Closed.{IsTrueOf}
@@ -10,27 +11,30 @@ use Rattle.sok_search.specs.declared.found.Found.{Found}
 use Rattle.sok_search.specs.declared.found.Found.TheVariants as found
 use Rattle.sok_search.specs.declared.improved.Improved.{Improved}
 use Rattle.sok_search.specs.declared.improved.Improved.TheVariants as improved
-use Rattle.sok_search.specs.Finished.{claim_of}
 use Rattle.sok_search.specs.Outcomes.{Certifies, HasSearched, IsCutShortBeside, IsLeastSolution, IsProvedSolved}
-use Rattle.sok_search.specs.Searches.{Progress}
 
--- what it tells where no solution is known
+-- the claim about a level whose best has so many pushes, or that has no solution
+abbrev pub claim_of : Option ℕ → Claim
+claim_of None = claim.Unsolvable
+claim_of (Some k) = claim.Pushes k
+
+-- what it says if no solution was known
 abbrev pub found_of : Finding → Found
 found_of (Solved dirs pushes) = found.Solved dirs pushes
 found_of NoBetter = found.Unsolvable
 found_of (Limit states least) = found.Limit states least
 
--- and beside one
+-- and if one was
 abbrev pub improved_of : Finding → Improved
 improved_of (Solved dirs pushes) = improved.Fewer dirs pushes
 improved_of NoBetter = improved.Optimal
 improved_of (Limit states least) = improved.Limit states least
 
--- fewer than the solution has, if one is known
+-- fewer pushes than the known solution, if there is one
 abbrev pub IsFewer : Option ℕ → ℕ → Type 0
 IsFewer upper n = IfSome upper (λ k. n < k)
 
--- where none is known, a search has come to its end
+-- if none was known, a search has ended with this best
 abbrev pub HasSearchedAlone : Rows → ℕ → Option ℕ → Option ℕ → Type 0
 HasSearchedAlone rows limit None best = HasSearched rows limit best
 HasSearchedAlone rows limit (Some k) best = ⊤
@@ -41,7 +45,7 @@ IsFinding rows limit upper (Solved dirs pushes) = IsLeastSolution rows dirs.item
 IsFinding rows limit upper NoBetter = IsTrueOf rows (claim_of upper) × HasSearchedAlone rows limit upper None
 IsFinding rows limit upper (Limit states least) = IsCutShortBeside rows limit upper states least × IsFewer upper least
 
--- with the entries of a certificate that were taken; of a limit only where that is wanted
+-- with the entries of a certificate that were taken; of a limit only if that is wanted
 abbrev pub IsFindingWithProof : (List Entry → Type 0) → Rows → ℕ → Bool → Option ℕ → Finding → Type 0
 IsFindingWithProof Took rows limit wanted upper (Solved dirs pushes) =
     (entries : List Entry) × Took entries × IsProvedSolved rows limit dirs.items pushes entries × IsFewer upper pushes
@@ -50,9 +54,3 @@ IsFindingWithProof Took rows limit wanted upper NoBetter =
 IsFindingWithProof Took rows limit wanted upper (Limit states least) =
     IsCutShortBeside rows limit upper states least × IsFewer upper least
     × MatchBool wanted ((entries : List Entry) × Took entries × Certifies rows limit (claim.Pushes least) entries) (Took [])
-
--- it is what a finished search has for its best
-abbrev pub IsOfBest : Progress → Finding → Type 0
-IsOfBest p (Solved dirs pushes) = (p.best ≡ Some pushes) × (pushes < length p.table)
-IsOfBest p NoBetter = p.best ≡ p.frame.aim.upper
-IsOfBest p (Limit states least) = ⊥

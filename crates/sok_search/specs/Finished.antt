@@ -1,5 +1,5 @@
--- What a search shows, finished or cut off, where each of its states is done with for what is claimed.
-use Rattle.std.specs.Prelude.{ℕ, ◌≡◌, ◌≤◌, ◌+◌, List, [], ◌∷◌, ◌++◌, Option, Some, None, IsSomeAnd, All, length, slice_get}
+-- How each state of a search, finished or cut off, supports a claim, and its entry in the certificate.
+use Rattle.std.specs.Prelude.{ℕ, ◌≡◌, ◌<◌, ◌≤◌, ◌+◌, List, [], ◌∷◌, ◌++◌, Some, IsSomeAnd, All, length, slice_get}
 use Rattle.sok_board.specs.Area.{BoardView}
 use Rattle.sok_cert.specs.Claim.{Claim}
 use Rattle.sok_cert.specs.Claim.TheVariants.{Pushes, Unsolvable}
@@ -16,80 +16,83 @@ use Rattle.sok_state.specs.declared.key.Key.{Key}
 use Rattle.sok_cert.specs.Closed.{barring, rest_of}
 use Rattle.sok_alone.specs.declared.losses.Loss.{Loss}
 use Rattle.sok_alone.specs.Losses.{IsLostBy, losses_of}
+use Rattle.sok_search.specs.declared.finding.Finding.{Finding}
+use Rattle.sok_search.specs.declared.finding.Finding.TheVariants as finding
 use Rattle.sok_search.specs.declared.note.Note.{Note}
 use Rattle.sok_search.specs.declared.note.Standing.{Standing}
 use Rattle.sok_search.specs.declared.note.Standing.TheVariants as standing
 use Rattle.sok_search.specs.Searches.{Progress, HasBound, IsDead, IsState}
 
--- what is claimed in the end
-abbrev pub claim_of : Option ℕ → Claim
-claim_of None = Unsolvable
-claim_of (Some k) = Pushes k
+-- a finding agrees with the best of a finished search
+abbrev pub IsOfBest : Progress → Finding → Type 0
+IsOfBest p (finding.Solved dirs pushes) = (p.best ≡ Some pushes) × (pushes < length p.table)
+IsOfBest p finding.NoBetter = p.best ≡ p.frame.aim.upper
+IsOfBest p (finding.Limit states least) = ⊥
 
--- what a reason says of a position; an expanded one gives none
+-- a reason bars a position; `Expanded` bars none
 abbrev pub ReasonBars : BoardView → ℕ → List ℕ → Reason → Rest → Type 0
 ReasonBars b player boxes why rest = IsSomeAnd (barring why) (λ reason. Bars b player boxes reason rest)
 
--- an expanded state is expanded in the list, and each other one is barred
+-- the entry of an expanded state is expanded, and that of each other state is barred
 abbrev pub IsReasonOf : BoardView → Claim → ℕ → List ℕ → ℕ → Standing → Reason → Type 0
 IsReasonOf b claim player boxes depth (standing.Expanded bound) why = why ≡ reason.Expanded
 IsReasonOf b claim player boxes depth (standing.Open bound) why = ReasonBars b player boxes why (rest_of claim depth)
 IsReasonOf b claim player boxes depth standing.Dead why = ReasonBars b player boxes why (rest_of claim depth)
 IsReasonOf b claim player boxes depth (standing.Lost place) why = ReasonBars b player boxes why (rest_of claim depth)
 
--- an entry made of a state
+-- the entry of a state
 pub record IsEntryOf (b : BoardView) (claim : Claim) (key : Key) (depth : ℕ) (note : Note) (e : Entry) : Type 0 where
   pub depth_is : e.depth ≡ depth
   pub player_is : e.player ≡ key.least
   pub boxes_are : e.boxes ≡ key.boxes
   pub reason_is : IsReasonOf b claim key.least key.boxes depth note.standing e.reason
 
--- entries of the first states
+-- the entries of the first states
 pub record AreFirstEntries (b : BoardView) (claim : Claim) (p : Progress) (n : ℕ) (entries : List Entry) : Type 0 where
   pub as_many : length entries ≡ n
   pub each : (i : ℕ) (key : Key) (depth : ℕ) (note : Note) (e : Entry) → IsState p i key depth note → slice_get entries i ≡ Some e
       → IsEntryOf b claim key depth note e
 
--- these entries were taken, each with a text, of the first states
+-- the entries of the first states were taken, and each has a text
 pub record AreTaken (Took : List Entry → Type 0) (b : BoardView) (claim : Claim) (p : Progress) (n : ℕ) : Type 0 where
   pub entries : List Entry
   pub took : Took entries
   pub first : AreFirstEntries b claim p n entries
   pub fit : All FitsEntry entries
 
--- an entry of the state at an index
+-- the entry of the state at an index
 abbrev pub IsEntryAt : BoardView → Claim → Progress → ℕ → Entry → Type 0
 IsEntryAt b claim p index e = (key : Key) (depth : ℕ) (note : Note) → IsState p index key depth note → IsEntryOf b claim key depth note e
 
--- one entry more was taken, that of the state at an index, which has a text
+-- one more entry was taken: that of the state at an index, which has a text
 pub record TakesEntry (Took Takes : List Entry → Type 0) (b : BoardView) (claim : Claim) (p : Progress) (index : ℕ) : Type 0 where
   pub entry : Entry
   pub is : IsEntryAt b claim p index entry
   pub fits : FitsEntry entry
   pub takes : (entries : List Entry) → Took entries → Takes (entries ++ entry ∷ [])
 
--- what is claimed is no more than this
+-- at most so many pushes are claimed
 abbrev pub IsAtMost : Claim → ℕ → Type 0
 IsAtMost (Pushes k) n = k ≤ n
 IsAtMost Unsolvable n = ⊥
 
--- there are as many pushes as claimed, by a bound
+-- depth and lower bound together are as many pushes as claimed
 abbrev pub CostsEnough : BoardView → Claim → List ℕ → ℕ → Type 0
 CostsEnough b claim boxes depth = (bound : ℕ) × HasBound b boxes bound × IsAtMost claim (depth + bound)
 
--- a state that needs no more looking at: it bars what is claimed
+-- a state is done with: it is expanded, or it can be barred for the claim
 abbrev pub IsDone : BoardView → Claim → List Loss → ℕ → List ℕ → ℕ → Standing → Type 0
 IsDone b claim losses player boxes depth (standing.Open bound) = CostsEnough b claim boxes depth
 IsDone b claim losses player boxes depth (standing.Expanded bound) = Unit {0}
 IsDone b claim losses player boxes depth standing.Dead = IsDead b boxes
 IsDone b claim losses player boxes depth (standing.Lost place) = IsLostBy b player boxes losses place
 
--- each state that is known is done with
+-- each known state is done with
 abbrev pub AreDone : BoardView → Claim → Progress → Type 0
 AreDone b claim p = (i : ℕ) (key : Key) (depth : ℕ) (note : Note) → IsState p i key depth note
     → IsDone b claim (losses_of p.frame.losses) key.least key.boxes depth note.standing
 
--- the box at a place reaches no goal
+-- the box at a place reaches no goal, even alone on the board
 abbrev pub IsStuckAt : BoardView → List ℕ → ℕ → Type 0
 IsStuckAt b boxes place = (square : ℕ) × (slice_get boxes place ≡ Some square) × IsStuck b square
 
@@ -97,7 +100,7 @@ IsStuckAt b boxes place = (square : ℕ) × (slice_get boxes place ≡ Some squa
 abbrev pub IsLoneCrowd : ℕ → Reason → Type 0
 IsLoneCrowd place why = why ≡ reason.Crowd (place ∷ [])
 
--- prices of a least assignment, or a crowd
+-- the dual prices of a minimum assignment, or a crowd
 abbrev pub IsAssigned : BoardView → List ℕ → Reason → Type 0
 IsAssigned b boxes (reason.Bound u v) = (total : ℕ) × (goal_of : List ℕ) × ArePrices b boxes u v total goal_of
 IsAssigned b boxes (reason.Crowd members) = IsCrowd b boxes members

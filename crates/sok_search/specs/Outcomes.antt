@@ -1,4 +1,4 @@
--- What is answered of a level.
+-- What the solver answers of a level.
 use Rattle.std.specs.Prelude.{ℕ, ◌≡◌, ◌<◌, ◌≤◌, ◌+◌, ◌⊎◌, ◌++◌, ◌∷◌, Bool, true, false, MatchBool, List, [], Option, Some, None, IsSomeAnd, length}
 use Rattle.sok_rules.specs.declared.cell.Dir.{Dir}
 use Rattle.sok_rules.specs.Squares.{Rows}
@@ -27,40 +27,40 @@ pub record PushesLast (rows : Rows) (w : List Dir) : Type 0 where
   pub is : w ≡ front ++ last ∷ []
   pub one_more : pushes rows (start rows) w ≡ pushes rows (start rows) front + 1
 
--- a list is empty, or its last letter pushes
+-- a list of letters is empty, or its last letter pushes
 abbrev pub EndsWithPush : Rows → List Dir → Type 0
 EndsWithPush rows w = (w ≡ []) ⊎ PushesLast rows w
 
--- a list that solves, with so many pushes, and none solves with fewer
+-- a solution with so many pushes, and none has fewer
 pub record IsLeastSolution (rows : Rows) (w : List Dir) (n : ℕ) : Type 0 where
   pub solves : Solves rows w
   pub counted : pushes rows (start rows) w ≡ n
   pub fewest : IsFewest rows n
   pub ends : EndsWithPush rows w
 
--- a certificate that has a text, is closed for a claim of a level, and has at most so many entries
+-- entries of a certificate for a claim: they have a text, are closed on the level's board, and are at most so many
 pub record Certifies (rows : Rows) (limit : ℕ) (shown : Claim) (entries : List Entry) : Type 0 where
   pub fits : Fits shown entries
   pub closed : (b : BoardView) → b.rows ≡ rows → IsAccepted b → IsClosed b shown entries
   pub few : length entries ≤ limit
 
--- no list solves, and a certificate shows it
+-- there is no solution, and a certificate shows it
 pub record IsProvedUnsolvable (rows : Rows) (limit : ℕ) (entries : List Entry) : Type 0 where
   pub unsolvable : IsUnsolvable rows
   pub certified : Certifies rows limit claim.Unsolvable entries
 
--- a list solves with the fewest pushes, and a certificate shows that it does
+-- a solution with the fewest pushes, and a certificate shows that none has fewer
 pub record IsProvedSolved (rows : Rows) (limit : ℕ) (w : List Dir) (n : ℕ) (entries : List Entry) : Type 0 where
   pub solution : IsLeastSolution rows w n
   pub certified : Certifies rows limit (claim.Pushes n) entries
 
--- there are more states than a limit allows, and the limit is told
+-- more states can be reached than the limit, which is reported
 pub record IsPastLimit (rows : Rows) (limit states : ℕ) : Type 0 where
   pub more : MoreStatesThan rows limit
   pub is : states ≡ limit
 
--- A search of the level that knows at most so many states has come to its end: none of them waits, and this is the least depth of one that is solved, if one
--- is. So each push of a state that it has expanded leads to one of them, or to where nothing solves.
+-- A search from nothing that keeps at most so many states has ended: its open list is empty, and this is the least depth of a solved state, if there is one.
+-- So each push of an expanded state leads to a known state, or to a deadlock.
 pub record HasSearched (rows : Rows) (limit : ℕ) (best : Option ℕ) : Type 0 where
   pub board : BoardView
   pub rows_are : board.rows ≡ rows
@@ -70,8 +70,8 @@ pub record HasSearched (rows : Rows) (limit : ℕ) (best : Option ℕ) : Type 0 
   pub best_is : known.best ≡ best
   pub alone : known.frame.aim.upper ≡ None
 
--- A search of the level, beside a solution of so many pushes or beside none, that knows as many states as the limit was cut off, and so many pushes, at the
--- least, are needed in one of its open states: those that were made, and those that its bound says are to come.
+-- A search that keeps as many states as the limit was cut off; a solution with so many pushes was known, or none. This is the least sum of depth and lower
+-- bound over its open states.
 pub record HasHalted (rows : Rows) (limit : ℕ) (upper : Option ℕ) (least : ℕ) : Type 0 where
   pub board : BoardView
   pub rows_are : board.rows ≡ rows
@@ -81,7 +81,7 @@ pub record HasHalted (rows : Rows) (limit : ℕ) (upper : Option ℕ) (least : �
   pub least_is : IsLeastOpen known least
   pub beside : known.frame.aim.upper ≡ upper
 
--- there are more states than a limit allows; and no list solves with fewer pushes than the search of as many shows, beside a solution or beside none
+-- more states can be reached than the limit, and no solution has fewer pushes than a search that keeps as many shows, beside a known solution or beside none
 pub record IsCutShortBeside (rows : Rows) (limit : ℕ) (upper : Option ℕ) (states least : ℕ) : Type 0 where
   pub past : IsPastLimit rows limit states
   pub at_least : AtLeast rows least
@@ -96,14 +96,14 @@ IsFoundWithin rows limit (found.Solved dirs pushes) = IsLeastSolution rows dirs.
 IsFoundWithin rows limit found.Unsolvable = IsUnsolvable rows × HasSearched rows limit None
 IsFoundWithin rows limit (found.Limit states at_least) = IsCutShort rows limit states at_least
 
--- What is found of a level within a limit beside a solution of so many pushes: the fewest, which are fewer; or that there are none; or that there are more
--- states than the limit, which show a bound that is less.
+-- What is found of a level beside a solution with so many pushes: a solution with the fewest, which are fewer; or that none has fewer; or that the limit was
+-- reached, with a lower bound that is less.
 abbrev pub IsImproved : Rows → ℕ → ℕ → Improved → Type 0
 IsImproved rows limit best (improved.Fewer dirs pushes) = IsLeastSolution rows dirs.items pushes × (pushes < best)
 IsImproved rows limit best improved.Optimal = AtLeast rows best
 IsImproved rows limit best (improved.Limit states at_least) = IsCutShortBeside rows limit (Some best) states at_least × (at_least < best)
 
--- the same, and which entries were taken: those of a certificate that shows it, of a limit only where that is wanted
+-- the same, and the entries that were taken are those of a certificate that shows it; of a limit only if that is wanted
 abbrev pub IsImprovedWithProof : (List Entry → Type 0) → Rows → ℕ → Bool → ℕ → Improved → Type 0
 IsImprovedWithProof Took rows limit wanted best (improved.Fewer dirs pushes) =
     (entries : List Entry) × Took entries × IsProvedSolved rows limit dirs.items pushes entries × (pushes < best)
@@ -113,17 +113,17 @@ IsImprovedWithProof Took rows limit wanted best (improved.Limit states least) =
     IsCutShortBeside rows limit (Some best) states least × (least < best)
     × MatchBool wanted ((entries : List Entry) × Took entries × Certifies rows limit (claim.Pushes least) entries) (Took [])
 
--- a certificate of a claim, whose entries are so
+-- a certificate for a claim, whose entries show something
 abbrev pub OfClaim : Claim → (List Entry → Type 0) → Certificate → Type 0
 OfClaim claimed Shows certificate = (certificate.claim ≡ claimed) × Shows certificate.entries.items
 
--- a certificate shows the least, where one is wanted
+-- a certificate shows the lower bound, if one is wanted
 abbrev pub ShowsLeast : Rows → ℕ → Bool → ℕ → Option Certificate → Type 0
 ShowsLeast rows limit wanted least certificate =
     MatchBool wanted (IsSomeAnd certificate (OfClaim (claim.Pushes least) (Certifies rows limit (claim.Pushes least)))) (certificate ≡ None)
 
--- What is found of a level within a limit, and which entries were taken: those of a certificate that shows it; where it is a limit, only if that is wanted,
--- and else none.
+-- What is found of a level within a limit, and the entries that were taken are those of a certificate that shows it; of a limit only if that is wanted, and
+-- otherwise none.
 abbrev pub IsFoundWithProof : (List Entry → Type 0) → Rows → ℕ → Bool → Found → Type 0
 IsFoundWithProof Took rows limit wanted (found.Solved dirs pushes) = (entries : List Entry) × Took entries × IsProvedSolved rows limit dirs.items pushes entries
 IsFoundWithProof Took rows limit wanted found.Unsolvable = (entries : List Entry) × Took entries × IsProvedUnsolvable rows limit entries
@@ -131,14 +131,14 @@ IsFoundWithProof Took rows limit wanted (found.Limit states least) =
     IsCutShort rows limit states least
     × MatchBool wanted ((entries : List Entry) × Took entries × Certifies rows limit (claim.Pushes least) entries) (Took [])
 
--- what is answered of a level within a limit, where a certificate is wanted of what a search shows that was cut off, or not
+-- what is answered of a level within a limit; a certificate of a limit may be wanted or not
 abbrev pub IsOutcome : Rows → ℕ → Bool → Outcome → Type 0
 IsOutcome rows limit wanted (Solved dirs pushes certificate) = OfClaim (claim.Pushes pushes) (IsProvedSolved rows limit dirs.items pushes) certificate
 IsOutcome rows limit wanted (Unsolvable certificate) = OfClaim claim.Unsolvable (IsProvedUnsolvable rows limit) certificate
 IsOutcome rows limit wanted (Limit states at_least certificate) =
     IsCutShort rows limit states at_least × ShowsLeast rows limit wanted at_least certificate
 
--- the same where it is not, and where it is
+-- if it is not, and if it is
 abbrev pub IsAnswer : Rows → ℕ → Outcome → Type 0
 IsAnswer rows limit = IsOutcome rows limit false
 

@@ -1,4 +1,4 @@
--- What a push is tried with.
+-- What the pushes of a state are tried with.
 use Rattle.std.specs.Prelude.{ℕ, ◌≡◌, ◌<◌, ◌≤◌, List, Bool, true, All, Contains, IfSome, length}
 use Rattle.std.specs.List.Sorted.{IsStrictlyIncreasing}
 use Rattle.sok_board.specs.Area.{BoardView}
@@ -13,26 +13,26 @@ use Rattle.sok_state.specs.Keys.{IsKey}
 use Rattle.sok_state.specs.Pushes.{IsLegal, IsOpened}
 use Rattle.sok_search.specs.declared.expanding.Scratch.{Scratch}
 
--- a matching for a board, which is that of some boxes if it is said so
+-- a matching for a board; if `matched`, it is that of these boxes
 pub record IsPushScratch (b : BoardView) (boxes : List ℕ) (matching : KeptMatching) (matched : Bool) : Type 0 where
   pub serves : Serves b matching
   pub holds : matched ≡ true → Holds b boxes matching
 
--- a state of few boxes that is laid out, with legal pushes
+-- the last expanded state: it has few boxes, is laid out, and its pushes are legal
 pub record IsLast (b : BoardView) (scene : Scene) (pushes : List Push) (last : Key) : Type 0 where
   pub state : IsKey b last
   pub few : length last.boxes ≤ box_limit
   pub opened : IsOpened b last scene
   pub legal : All (IsLegal b last) pushes
 
--- a matching for a board, and boxes of it that are laid out, whichever they are: those of the state that was expanded last, if it is told
+-- buffers for a board: a matching, and boxes that are laid out; those of the last expanded state, if there was one
 pub record IsReady (b : BoardView) (scratch : Scratch) : Type 0 where
   pub serves : Serves b scratch.push_scratch.matching
   pub boxes : List ℕ
   pub laid : IsLaidOut b boxes scratch.push_scratch.scene.layout
   pub of_last : IfSome scratch.last (IsLast b scratch.push_scratch.scene scratch.pushes.items)
 
--- boxes before and after one of them is moved to a square where no box is
+-- boxes before and after one of them moves to a square without a box
 pub record AreMoved (b : BoardView) (boxes : List ℕ) (from to : ℕ) (after : List ℕ) : Type 0 where
   pub exist : All (λ square. square < length b.area) boxes
   pub there : Contains boxes from

@@ -1,4 +1,4 @@
--- What a search knows all the time: which states are known, how each was come to, and why it may stand as it does.
+-- The invariant of the search: which states are known, how each was reached, and why its standing is right.
 use Rattle.std.specs.Prelude.{ℕ, ◌≡◌, ◌<◌, ◌≤◌, ◌+◌, ◌⊎◌, false, List, Option, Some, None, IfSome, IsSomeAnd, Contains, length, slice_get, ⊤}
 use Rattle.std.specs.Map.{values_of}
 use Rattle.sok_rules.specs.declared.cell.Dir.{Dir}
@@ -22,20 +22,20 @@ use Rattle.sok_search.specs.declared.note.Standing.{Standing}
 use Rattle.sok_search.specs.declared.note.Standing.TheVariants.{Open, Expanded, Dead, Lost}
 use Rattle.sok_search.specs.Limits.{state_limit}
 
--- how many squares there is room for, what is asked for, and what is known of boxes taken alone
+-- what stays while states are added: the number of squares, what is asked for, and the losses that are known
 pub record Frame : Type 0 where
   pub room : ℕ
   pub aim : Aim
   pub losses : Losses
 
--- the same, but that more may be known of boxes taken alone
+-- the same, but more losses may be known
 pub record IsLater (b : BoardView) (old new : Frame) : Type 0 where
   pub room : new.room ≡ old.room
   pub aim : new.aim ≡ old.aim
   pub kept : KeepsPlaces (losses_of old.losses) (losses_of new.losses)
   pub losses : KeepsLosses b old.losses → KeepsLosses b new.losses
 
--- its frame, the known states with their depths, a note of each, the indices that wait, and the least depth at which a solved state was taken
+-- the frame, the states with their depths, a note of each, the open list, and the fewest pushes of a known solution
 pub record Progress : Type 0 where
   pub frame : Frame
   pub table : Entries
@@ -43,13 +43,13 @@ pub record Progress : Type 0 where
   pub queue : List ℕ
   pub best : Option ℕ
 
--- what stands at an index
+-- the state at an index, with its depth and note
 pub record IsState (p : Progress) (i : ℕ) (key : Key) (depth : ℕ) (note : Note) : Type 0 where
   pub there : IsAt p.table key i
   pub depth_is : slice_get (values_of p.table) i ≡ Some depth
   pub note_is : slice_get p.notes i ≡ Some note
 
--- a push leads to it from a state that is less deep
+-- a push leads to the state from one that is less deep
 pub record IsFrom (b : BoardView) (p : Progress) (key : Key) (depth : ℕ) (origin : Origin) : Type 0 where
   pub parent : Key
   pub there : IsAt p.table parent origin.parent
@@ -60,7 +60,7 @@ pub record IsFrom (b : BoardView) (p : Progress) (key : Key) (depth : ℕ) (orig
   pub leads : LeadsTo b parent origin.push after
   pub is : IsKeyOf b after key
 
--- by its origin, or it is the start
+-- it was reached by its origin, or it is the start
 abbrev pub IsCome : BoardView → Progress → Key → ℕ → Option Origin → Type 0
 IsCome b p key depth None = IsKeyOf b (start b.rows) key
 IsCome b p key depth (Some origin) = IsFrom b p key depth origin
@@ -68,43 +68,43 @@ IsCome b p key depth (Some origin) = IsFrom b p key depth origin
 abbrev pub IsSolved : BoardView → Key → Type 0
 IsSolved b key = AllOnGoals b.rows (position_of b key.least key.boxes)
 
--- the least total of giving each box a goal of its own: an assignment costs it, and prices bound the pushes by it, wherever the player stands
+-- a lower bound of the pushes, wherever the player stands: the cost of an assignment of boxes to goals, as dual prices show
 abbrev pub HasBound : BoardView → List ℕ → ℕ → Type 0
 HasBound b boxes n = TellsLeast b boxes (Some n)
 
--- a reason bars boxes, wherever the player stands and whatever is to be shown
+-- a deadlock, wherever the player stands: a reason bars these boxes, whatever is claimed
 abbrev pub IsDead : BoardView → List ℕ → Type 0
 IsDead b boxes = (why : Barring) × IsOfBoxes why × ((player : ℕ) (rest : Rest) → Bars b player boxes why rest)
 
--- a solution with no more pushes is known
+-- a solution with at most so many pushes is known
 abbrev pub IsBeaten : Option ℕ → ℕ → Type 0
 IsBeaten best n = IsSomeAnd best (λ k. k ≤ n)
 
--- nothing solves from where a push leads
+-- a push leads to a deadlock
 abbrev pub LeadsNowhere : BoardView → Key → Push → Type 0
 LeadsNowhere b key push = (after : Position) → LeadsTo b key push after → NeverFrom b.rows after
 
--- whatever solves from where a push leads has no fewer pushes, with those before it, than the solution that is known beside the search
+-- a solution through the state that a push leads to has no fewer pushes than the known solution
 abbrev pub LeadsToNoFewer : BoardView → Option ℕ → Key → ℕ → Push → Type 0
 LeadsToNoFewer b upper key depth push =
     (after : Position) → LeadsTo b key push after → (w : List Dir) → SolvesFrom b.rows after w → IsBeaten upper (depth + 1 + pushes b.rows after w)
 
--- so it is where the state that it leads to stands so at its depth
+-- by its standing and its depth, a solution through a state has no fewer pushes than the known solution
 abbrev pub IsSpared : Option ℕ → Standing → ℕ → Type 0
 IsSpared upper (Open bound) depth = IsBeaten upper (depth + bound)
 IsSpared upper Dead depth = ⊤
 IsSpared upper standing depth = ⊥
 
--- a push is left out, since it leads to no fewer pushes, and not each state is kept
+-- a push may be left out, since not every state is kept, and a solution through it has no fewer pushes than the known one
 pub record IsLeftOut (b : BoardView) (aim : Aim) (key : Key) (depth : ℕ) (push : Push) : Type 0 where
   pub part : aim.whole ≡ false
   pub no_fewer : LeadsToNoFewer b aim.upper key depth push
 
--- the state that a push leads to is known, at most one deeper, or the push is left out
+-- a push is met: the state that it leads to is known, at most one deeper, or the push may be left out
 abbrev pub IsMet : BoardView → Progress → Key → ℕ → Push → Type 0
 IsMet b p key depth push = IsFound b p.table key depth push ⊎ IsLeftOut b p.frame.aim key depth push
 
--- why it may stand as it does
+-- why the standing of a state is right
 abbrev pub Stands : BoardView → Progress → ℕ → Key → ℕ → Standing → Type 0
 Stands b p i key depth (Open bound) = HasBound b key.boxes bound × (Contains p.queue i ⊎ IsBeaten p.best (depth + bound))
 Stands b p i key depth (Expanded bound) =
@@ -112,7 +112,7 @@ Stands b p i key depth (Expanded bound) =
 Stands b p i key depth Dead = IsDead b key.boxes
 Stands b p i key depth (Lost place) = IsLostBy b key.least key.boxes (losses_of p.frame.losses) place
 
--- a state of the board, no deeper than its index, which was come to and may stand as it does
+-- a state of the board, no deeper than its index, that was reached, and whose standing is right
 pub record IsNoted (b : BoardView) (p : Progress) (i : ℕ) (key : Key) (depth : ℕ) (note : Note) : Type 0 where
   pub state : IsKey b key
   pub as_many : length key.boxes ≡ length (boxes_of b)
@@ -120,7 +120,7 @@ pub record IsNoted (b : BoardView) (p : Progress) (i : ℕ) (key : Key) (depth :
   pub come : IsCome b p key depth note.origin
   pub stands : Stands b p i key depth note.standing
 
--- the start stands first, at depth 0
+-- the start comes first, at depth 0
 pub record IsBegun (b : BoardView) (p : Progress) : Type 0 where
   pub key : Key
   pub there : IsAt p.table key 0
@@ -137,11 +137,11 @@ pub record IsSolvedIn (b : BoardView) (p : Progress) (k : ℕ) : Type 0 where
   pub shallow : depth ≤ k
   pub solved : IsSolved b key
 
--- the same, or so many pushes has the solution that is known beside the search
+-- the same, or the solution that was known before has so many pushes
 abbrev pub IsReached : BoardView → Progress → ℕ → Type 0
 IsReached b p k = (p.frame.aim.upper ≡ Some k) ⊎ IsSolvedIn b p k
 
--- all that is known
+-- the invariant
 pub record IsSearch (b : BoardView) (limit : ℕ) (p : Progress) : Type 0 where
   pub wide : length b.area ≤ p.frame.room
   pub losses : KeepsLosses b p.frame.losses
@@ -154,7 +154,7 @@ pub record IsSearch (b : BoardView) (limit : ℕ) (p : Progress) : Type 0 where
   pub best : IfSome p.best (IsReached b p)
   pub upper : (n : ℕ) → IsBeaten p.frame.aim.upper n → IsBeaten p.best n
 
--- within some limit, and within one that a certificate allows
+-- within some limit; and within one that a certificate allows
 abbrev pub IsSearching : BoardView → Progress → Type 0
 IsSearching b p = (limit : ℕ) × IsSearch b limit p
 

@@ -1,4 +1,4 @@
--- What a search does: a state is added, or comes nearer, or is expanded.
+-- What a step of the search does: it adds a state, lowers the depth of one, or follows a push.
 use Rattle.std.specs.Prelude.{ℕ, ◌≡◌, ◌<◌, ◌≤◌, ◌+◌, ◌-◌, ◌*◌, ◌⊎◌, ◌↔◌, List, [], ◌∷◌, ◌++◌, Option, Some, MatchOption, Contains, length, slice_get, slice_set, sum_by}
 use Rattle.std.specs.Map.{keys_of, values_of}
 use Rattle.sok_board.specs.Area.{BoardView}
@@ -14,21 +14,21 @@ use Rattle.sok_search.specs.declared.note.Standing.{Standing}
 use Rattle.sok_search.specs.declared.note.Standing.TheVariants.{Open, Expanded, Dead, Lost}
 use Rattle.sok_search.specs.Searches.{Frame, Progress, HasBound, IsDead, IsMet, IsSearch, IsState}
 
--- each state stays where it is, and no deeper
+-- each state keeps its place, and its depth does not grow
 pub record Grows (old new : Entries) : Type 0 where
   pub keys : (key : Key) (i : ℕ) → IsAt old key i → IsAt new key i
   pub depths : (i depth : ℕ) → slice_get (values_of old) i ≡ Some depth → (deep : ℕ) × (slice_get (values_of new) i ≡ Some deep) × (deep ≤ depth)
 
--- the same indices and one more, in whatever order
+-- the same indices and one more, in any order
 pub record HasOneMore (fewer : List ℕ) (index : ℕ) (more : List ℕ) : Type 0 where
   pub longer : length more ≡ length fewer + 1
   pub exact : (i : ℕ) → Contains more i ↔ ((i ≡ index) ⊎ Contains fewer i)
 
--- what is told where an index is taken out: which one, or that there was none
+-- an index is removed from a list, or the list is empty
 abbrev pub TellsTaken : List ℕ → List ℕ → Option ℕ → Type 0
 TellsTaken old new taken = MatchOption taken ((old ≡ []) × (new ≡ [])) (λ index. HasOneMore new index old)
 
--- an open state waits
+-- a state is added to the open list if its standing is open
 abbrev pub Queues : Standing → ℕ → List ℕ → List ℕ → Type 0
 Queues (Open bound) index old new = HasOneMore old index new
 Queues (Expanded bound) index old new = new ≡ old
@@ -44,7 +44,7 @@ pub record IsAdded (p : Progress) (key : Key) (depth : ℕ) (note : Note) (q : P
   pub queue : Queues note.standing (length p.table) p.queue q.queue
   pub best : q.best ≡ p.best
 
--- a state has another depth and note
+-- a state gets another depth and note
 pub record IsChanged (p : Progress) (index depth : ℕ) (note : Note) (q : Progress) : Type 0 where
   pub frame : q.frame ≡ p.frame
   pub keys : keys_of q.table ≡ keys_of p.table
@@ -53,7 +53,7 @@ pub record IsChanged (p : Progress) (index depth : ℕ) (note : Note) (q : Progr
   pub queue : Queues note.standing index p.queue q.queue
   pub best : q.best ≡ p.best
 
--- a state that went last into the table is noted
+-- the state that was inserted last gets a note
 pub record IsListed (p : Progress) (index : ℕ) (note : Note) (q : Progress) : Type 0 where
   pub frame : q.frame ≡ p.frame
   pub table : q.table ≡ p.table
@@ -61,14 +61,14 @@ pub record IsListed (p : Progress) (index : ℕ) (note : Note) (q : Progress) : 
   pub queue : Queues note.standing index p.queue q.queue
   pub best : q.best ≡ p.best
 
--- open again where it was expanded
+-- an expanded state is reopened
 abbrev pub reopened : Standing → Standing
 reopened (Open bound) = Open bound
 reopened (Expanded bound) = Open bound
 reopened Dead = Dead
 reopened (Lost place) = Lost place
 
--- a known state is come to again, at a smaller depth
+-- a known state is reached again, at a smaller depth
 pub record ComesNearer (p : Progress) (index depth : ℕ) (origin : Option Origin) (q : Progress) : Type 0 where
   pub old : ℕ
   pub depth_is : slice_get (values_of p.table) index ≡ Some old
@@ -77,45 +77,45 @@ pub record ComesNearer (p : Progress) (index depth : ℕ) (origin : Option Origi
   pub nearer : depth < old
   pub changed : IsChanged p index depth (record { origin = origin; standing = reopened was.standing }) q
 
--- a known state is come to again, at a depth that is no smaller
+-- a known state is reached again, at a depth that is no smaller
 pub record StaysNear (p : Progress) (index depth : ℕ) (q : Progress) : Type 0 where
   pub old : ℕ
   pub depth_is : slice_get (values_of p.table) index ≡ Some old
   pub near : old ≤ depth
   pub same : q ≡ p
 
--- a known state is come to again
+-- a known state is reached again
 abbrev pub Nears : Progress → ℕ → ℕ → Option Origin → Progress → Type 0
 Nears p index depth origin q = StaysNear p index depth q ⊎ ComesNearer p index depth origin q
 
--- where more is known of boxes taken alone
+-- with other losses known
 abbrev pub knowing : Losses → Progress → Progress
 knowing losses p = record p { frame = record { room = p.frame.room; aim = p.frame.aim; losses = losses } }
 
--- with an index that was taken out of the queue, and is not done with
+-- with an index back in the open list that was removed from it and is still being visited
 abbrev pub holding : ℕ → Progress → Progress
 holding index p = record p { queue = index ∷ p.queue }
 
--- done with it: its note may be another, and the best may be better
+-- after the visit: a note may be another, and the best may be better
 abbrev pub done : Progress → List Note → Option ℕ → Progress
 done p notes best = record { frame = p.frame; table = p.table; notes = notes; queue = p.queue; best = best }
 
--- what is found of a new state, given by the player and the boxes, with the losses that are known
+-- the standing of a new state, given by player and boxes, is right by the known losses
 abbrev pub IsJudged : BoardView → List Loss → ℕ → List ℕ → Standing → Type 0
 IsJudged b losses player boxes (Open bound) = HasBound b boxes bound
 IsJudged b losses player boxes (Expanded bound) = ⊥
 IsJudged b losses player boxes Dead = IsDead b boxes
 IsJudged b losses player boxes (Lost place) = IsLostBy b player boxes losses place
 
--- with the losses that a frame knows
+-- by the losses of a frame
 abbrev pub IsJudgedIn : BoardView → Frame → Key → Standing → Type 0
 IsJudgedIn b frame key standing = IsJudged b (losses_of frame.losses) key.least key.boxes standing
 
--- the work that remains: room in the table, depths to be lowered, indices that wait
+-- the work that remains, by which the search ends: room in the table, depths that can be lowered, the open list
 abbrev pub work : ℕ → Progress → ℕ
 work limit p = (limit - length p.table) * (2 * limit + 2) + (2 * sum_by (λ depth. depth) (values_of p.table) + length p.queue)
 
--- what a push that was followed leaves: all that is known holds, states that are no deeper stay, the push is met, and no work was added
+-- a push was followed: the invariant holds, states that are no deeper stay as they were, the push is met, and no work was added
 pub record IsPushed (b : BoardView) (limit : ℕ) (p : Progress) (key : Key) (depth : ℕ) (push : Push) (q : Progress) : Type 0 where
   pub search : IsSearch b limit q
   pub aim : q.frame.aim ≡ p.frame.aim

@@ -3,10 +3,10 @@
 /// What a search is asked for.
 #[derive(Clone, Copy)]
 pub(crate) struct Aim {
-    /// Whether each state is kept that is reached, as a certificate needs them. Else those are left out
-    /// from which nothing solves, by the box alone that was just pushed, or by it and one or two others,
-    /// and those from which nothing solves with fewer pushes than `upper`.
+    /// Whether every state that is reached is kept, as a certificate needs them. Otherwise the search
+    /// leaves out states in which the pushed box, alone or with one or two others, can't be solved, and
+    /// states through which no solution has fewer pushes than `upper`.
     pub(crate) whole: bool,
-    /// The pushes of a solution that is known, if one is: only fewer are looked for.
+    /// The pushes of a known solution, if there is one: only fewer are looked for.
     pub(crate) upper: Option<u32>,
 }

@@ -1,4 +1,4 @@
-//! The reasons of a certificate, found again from the boxes of a state.
+//! The reasons of a certificate, computed again from the boxes of a state.
 
 ghost use Rattle.std.specs.Prelude.{ℕ, ◌<◌, ◌↔◌, IfOk, IfSome, IsTrue, All, length};
 ghost use Rattle.sok_alone.specs.Losses.{IsLostBy, losses_of};
@@ -26,7 +26,7 @@ use sok_price::matching::Matching;
 use sok_rules::fault::Memory;
 use std::alloc::Global;
 
-/// The reason why a state of a finished search may stand in a certificate.
+/// Returns the reason that bars a state in a certificate, or `Expanded`.
 pub(crate) fn reason_of(
     alloc: Global,
     setting: &Setting<'_>,
@@ -56,8 +56,8 @@ pub(crate) fn reason_of(
     }
 }
 
-/// The reason why an open state needs no more pushes: there were as many as claimed, or prices show
-/// that there will be.
+/// Returns the reason that bars an open state: as many pushes as claimed were made, or dual prices show
+/// that at least as many will be.
 fn open_reason(
     alloc: Global,
     board: &Board,
@@ -80,7 +80,7 @@ fn open_reason(
     assigned_reason(alloc, board, matching, boxes)
 }
 
-/// Whether as many pushes as claimed were made.
+/// Returns whether as many pushes as claimed were made.
 fn is_spent(claim: Claim, depth: u32) -> bool
     ensures { IsTrue result ↔ IsAtMost claim depth }
 {
@@ -90,8 +90,8 @@ fn is_spent(claim: Claim, depth: u32) -> bool
     }
 }
 
-/// The reason why nothing solves from a dead state: a box that reaches no goal, which is a crowd by
-/// itself, or else a jam, or else a crowd.
+/// Returns the reason that bars a dead state: a box that reaches no goal, which is a crowd by itself; or
+/// else a jam; or else a crowd.
 fn dead_reason(
     alloc: Global,
     setting: &Setting<'_>,
@@ -106,7 +106,7 @@ fn dead_reason(
         → ReasonBars setting.now.board.now player boxes.now why rest) }
     ensures fits { IfOk result (HasText boxes.now) }
 {
-    // The list tells as well that there are few boxes, so that their indices have a text.
+    // Listing the boxes also shows that they are few, so that their indices have a text.
     if let Some(place) = stuck_place(setting.distances, boxes.list()) {
         return stuck_reason(alloc, place as u32);
     }
@@ -119,7 +119,7 @@ fn dead_reason(
     }
 }
 
-/// The place of the first box that reaches no goal from its square, wherever the others are.
+/// Returns the place of the first box that reaches no goal from its square, even alone on the board.
 fn stuck_place(distances: &Distances, squares: &[Sq]) -> Option<usize>
     requires { All (λ square. square < length distances.now.board.area) squares.now }
     ensures { IfSome result (IsStuckAt distances.now.board squares.now) }
@@ -132,7 +132,7 @@ fn stuck_place(distances: &Distances, squares: &[Sq]) -> Option<usize>
     None
 }
 
-/// The box at a place, as a crowd.
+/// Returns the box at a place, as a crowd.
 fn stuck_reason(alloc: Global, place: u32) -> Result<Reason, Memory>
     ensures { IfOk result (IsLoneCrowd place) }
 {
@@ -142,7 +142,7 @@ fn stuck_reason(alloc: Global, place: u32) -> Result<Reason, Memory>
     Ok(Reason::Crowd { members })
 }
 
-/// The reason why nothing solves from a lost state: the loss at a place, as a pattern of its boxes.
+/// Returns the reason that bars a lost state: the loss at a place, as a pattern of its boxes.
 fn lost_reason(alloc: Global, losses: &Losses, boxes: &BoxSet, place: u32) -> Result<Reason, Memory>
     requires lost { (b : BoardView) × (player : ℕ)
         × IsLostBy b player boxes.now (losses_of losses.now) place }
@@ -157,7 +157,7 @@ fn lost_reason(alloc: Global, losses: &Losses, boxes: &BoxSet, place: u32) -> Re
     Ok(Reason::Pattern { members, inner })
 }
 
-/// The prices of a least assignment of goals to boxes, or a crowd.
+/// Returns the dual prices of a minimum assignment of goals to boxes, or a crowd.
 fn assigned_reason(
     alloc: Global,
     board: &Board,

@@ -17,7 +17,7 @@ use sok_state::key::Key;
 use sok_state::table::Table;
 use std::alloc::Global;
 
-/// A search that knows nothing but what it is asked for.
+/// Returns a search without any state.
 pub(crate) fn empty(alloc: Global, board: &Board, aim: Aim) -> Result<Search, Memory>
     ensures empty { IfOk result (IsEmpty board.now) }
     ensures aim { IfOk result (λ search. search.aim ≡ aim) }
@@ -32,7 +32,7 @@ pub(crate) fn empty(alloc: Global, board: &Board, aim: Aim) -> Result<Search, Me
     })
 }
 
-/// Enters the start into a search that knows nothing.
+/// Adds the start to a search without any state.
 pub(crate) fn enter_start(
     alloc: Global,
     setting: &Setting<'_>,

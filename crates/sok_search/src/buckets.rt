@@ -1,4 +1,4 @@
-//! Indices that wait, in buckets by rank.
+//! The open states of one layer, by their lower bounds.
 
 ghost use Rattle.std.specs.Prelude.{◌≡◌, ◌<◌, [], IfOk, MatchOption, length};
 ghost use Rattle.sok_search.specs.Steps.{HasOneMore, TellsTaken};
@@ -8,12 +8,12 @@ use sok_rules::fault::Memory;
 use std::alloc::Global;
 use std::marker::Model;
 
-/// Indices that wait, each in the bucket of its rank. They are seen as a list of which the order
+/// Indices of states in buckets, one bucket for each rank. The contracts see them as a list, whose order
 /// says nothing.
 #[derive(Drop)]
 pub(crate) struct Buckets {
     buckets: Vec<Vec<u32>>,
-    /// Where to look first: a wrong hint costs time alone.
+    /// Where to look first. A wrong hint costs time, nothing else.
     first: usize,
 }
 
@@ -26,7 +26,7 @@ impl Model for Buckets {
     ghost view = { λ queue. in_buckets queue.buckets.items };
 }
 
-/// The first bucket from a rank on that is not empty.
+/// Returns the first bucket from a rank on that is not empty.
 fn first_filled(buckets: &[Vec<u32>], from: usize) -> Option<usize>
     ensures { MatchOption result
         (from ≡ 0 → in_buckets buckets.now ≡ []) (IsFilled buckets.now) }
@@ -39,7 +39,7 @@ fn first_filled(buckets: &[Vec<u32>], from: usize) -> Option<usize>
     None
 }
 
-/// A bucket that is not empty, the first one from a rank on if there is one there.
+/// Returns a bucket that is not empty: the first from a rank on, if there is one.
 fn find_filled(buckets: &[Vec<u32>], from: usize) -> Option<usize>
     ensures { MatchOption result (in_buckets buckets.now ≡ []) (IsFilled buckets.now) }
 {
@@ -49,7 +49,7 @@ fn find_filled(buckets: &[Vec<u32>], from: usize) -> Option<usize>
     }
 }
 
-/// Makes more empty buckets, so that a rank has one.
+/// Appends empty buckets until a rank has one.
 fn make_room(alloc: Global, buckets: &mut Vec<Vec<u32>>, rank: usize) -> Result<(), Memory>
     ensures room { IfOk result (λ _. rank < length buckets.new.items) }
     ensures same { IfOk result (λ _. in_buckets buckets.new.items ≡ in_buckets buckets.old.items) }
@@ -61,7 +61,7 @@ fn make_room(alloc: Global, buckets: &mut Vec<Vec<u32>>, rank: usize) -> Result<
 }
 
 impl Buckets {
-    /// No index waits.
+    /// Returns empty buckets.
     pub(crate) fn new(alloc: Global) -> Buckets
         ensures { result ≡ [] }
     {
@@ -71,7 +71,7 @@ impl Buckets {
         }
     }
 
-    /// An index waits.
+    /// Adds an index.
     pub(crate) fn push(&mut self, alloc: Global, rank: usize, index: u32) -> Result<(), Memory>
         ensures { IfOk result (λ _. HasOneMore self.old index self.new) }
     {
@@ -81,7 +81,7 @@ impl Buckets {
         Ok(())
     }
 
-    /// Takes an index of the lowest rank out, the one that came last. None where none waits.
+    /// Removes an index of the lowest rank, the one that came last. None if they are empty.
     pub(crate) fn pop(&mut self) -> Option<u32>
         ensures { TellsTaken self.old self.new result }
     {

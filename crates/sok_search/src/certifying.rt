@@ -1,4 +1,4 @@
-//! The certificate of a search whose states are all done with.
+//! The certificate of a search, each of whose states is expanded or barred.
 
 ghost use Rattle.std.specs.Prelude.{◌≡◌, ◌<◌, [], IfOk, OnOk, length};
 ghost use Rattle.sok_board.specs.Area.{IsAccepted, BoardView};
@@ -19,7 +19,7 @@ use sok_rules::fault::Memory;
 use sok_state::key::Key;
 use std::alloc::Global;
 
-/// Has the entries of the certificate taken: one of each state, in order.
+/// Hands the certificate to `entries`: one entry for each state, in order.
 pub(crate) fn certify<C: Entries>(
     alloc: Global,
     setting: &Setting<'_>,
@@ -53,7 +53,7 @@ pub(crate) fn certify<C: Entries>(
     Ok(())
 }
 
-/// Has the entry of the state at an index taken. The two lists are places for its boxes.
+/// Hands over the entry of the state at an index. The two lists are buffers for its boxes.
 fn take_entry<C: Entries>(
     alloc: Global,
     setting: &Setting<'_>,
@@ -92,7 +92,7 @@ fn take_entry<C: Entries>(
     Ok(())
 }
 
-/// Sets a list to the same numbers as a slice of narrower ones.
+/// Copies numbers into a list of wider ones.
 fn widen(numbers: &mut Vec<u32>, squares: &[Sq]) -> Result<(), Memory>
     ensures { OnOk result (numbers.new.items ≡ squares.now) }
 {
@@ -104,7 +104,7 @@ fn widen(numbers: &mut Vec<u32>, squares: &[Sq]) -> Result<(), Memory>
     Ok(())
 }
 
-/// What stands at an index. Its boxes are listed in a room for squares first.
+/// Returns the state at an index. Its boxes are listed in `squares` first.
 fn state_at(
     alloc: Global,
     search: &Search,

@@ -7,13 +7,13 @@ ghost use Rattle.sok_cert.specs.Text.{entry_from};
 use sok_cert::entry::{Entry, Numbers, Reason};
 use std::alloc::{AllocError, Global};
 
-/// What takes the entries of a certificate, one after another, and keeps them or what is made of
-/// them, as their text.
+/// A collection that takes the entries of a certificate one by one. It keeps them, or what it makes of
+/// them, such as their text.
 pub trait Entries {
-    // These entries were taken, in this order.
+    // Which entries were taken, in order.
     ghost took: { List Entry → Self → Type 0 };
 
-    /// Takes one more, the last, which is told by its parts. It refuses only for want of memory.
+    /// Takes the next entry, given by its parts. It fails only if memory is refused.
     fn take(
         &mut self,
         alloc: Global,
@@ -26,7 +26,7 @@ pub trait Entries {
             → took (entries ++ entry_from depth player boxes.now reason ∷ []) self.new) };
 }
 
-/// They are kept as they are.
+/// The entries are kept as they are.
 impl Entries for Vec<Entry> {
     ghost took = { λ entries list. list.items ≡ entries };
 

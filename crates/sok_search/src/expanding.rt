@@ -1,4 +1,4 @@
-//! A state is expanded.
+//! The expansion of a state.
 
 ghost use Rattle.std.specs.Prelude.{ℕ, List, ◌≡◌, IfOk, IsTrue, OnOk, Some, All, Contains};
 ghost use Rattle.sok_board.specs.Area.{IsAccepted};
@@ -27,8 +27,8 @@ use sok_state::push::Push;
 use sok_state::scene::Scene;
 use std::alloc::Global;
 
-/// What is kept from state to state, so that nothing is made anew: the state that was expanded last,
-/// with its index and its pushes, what they are tried with, and room to list the boxes of a state.
+/// Buffers that are reused from one expansion to the next, and the last expanded state with its index and
+/// its pushes: a successor of it is reached by one push.
 #[derive(Drop)]
 pub(crate) struct Scratch {
     last: Option<Key>,
@@ -39,7 +39,7 @@ pub(crate) struct Scratch {
 }
 
 impl Scratch {
-    /// Room for the states of a board.
+    /// Returns buffers for the states of a board.
     pub(crate) fn new(alloc: Global, setting: &Setting<'_>) -> Result<Scratch, Memory>
         ensures { IfOk result (IsReady setting.now.board.now) }
     {
@@ -57,8 +57,9 @@ impl Scratch {
         })
     }
 
-    /// Lays out a state that was taken, and lists its pushes: behind the push that led to it, where it
-    /// comes from the state that was expanded last, and else anew.
+    /// Loads the state `key` into the scene and lists its legal pushes. If it is a successor of the last
+    /// expanded state, one push leads there; otherwise its boxes are placed and the player's region is
+    /// flooded anew.
     fn open(
         &mut self,
         alloc: Global,
@@ -87,8 +88,8 @@ impl Scratch {
         Ok(())
     }
 
-    /// Follows the push that led to a state from the one that was expanded last, and tells whether it
-    /// comes from there.
+    /// Makes the push that leads from the last expanded state to `key`. Returns false, and does nothing, if
+    /// `key` does not come from there.
     fn follow_last(
         &mut self,
         alloc: Global,
@@ -122,7 +123,7 @@ impl Scratch {
     }
 }
 
-/// Whether a push is one of some.
+/// Returns whether a push is one of these.
 fn is_listed(pushes: &[Push], push: Push) -> bool
     ensures { IsTrue result → Contains pushes.now push }
 {
@@ -134,7 +135,7 @@ fn is_listed(pushes: &[Push], push: Push) -> bool
     false
 }
 
-/// Follows some legal pushes from a state that was taken.
+/// Generates the successors of `key` by some of its legal pushes.
 fn follow(
     alloc: Global,
     setting: &Setting<'_>,
@@ -176,7 +177,7 @@ fn follow(
     Ok(())
 }
 
-/// Follows each legal push from a state that was taken.
+/// Expands a state: generates its successors by all legal pushes.
 pub(crate) fn expand(
     alloc: Global,
     setting: &Setting<'_>,

@@ -9,7 +9,7 @@ use sok_rules::fault::Memory;
 use std::fmt;
 use thiserror::Error;
 
-/// Why no answer is sought of a level. It is displayed as its name and its arguments.
+/// Why a level is not searched. It is displayed as its name and its arguments.
 #[derive(Clone, Copy, Debug, PartialEq, Eq, Error)]
 pub enum SolveFault {
     /// The limit is 0, or above 1,000,000.
@@ -21,7 +21,7 @@ pub enum SolveFault {
 }
 
 impl SolveFault {
-    /// The number by which the fault is printed.
+    /// Returns the number by which the fault is printed.
     pub fn number(&self) -> u8
         ensures { result ≡ solve_fault_number self.now }
     {

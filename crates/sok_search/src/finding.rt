@@ -1,4 +1,4 @@
-//! What a search finds beside a solution that is known, or beside none.
+//! What a search finds of a level, of which a solution is known or none.
 
 ghost use Rattle.std.specs.Prelude.{◌≡◌};
 ghost use Rattle.sok_search.specs.Findings.{found_of, improved_of};
@@ -7,21 +7,20 @@ use crate::found::Found;
 use crate::improved::Improved;
 use sok_rules::cell::Dir;
 
-/// What a search finds beside a solution that is known, or beside none.
+/// What a search finds of a level, of which a solution is known or none.
 #[derive(Drop)]
-pub(crate) enum Finding {
-    /// Letters that solve the level with the fewest pushes, which are fewer than those of the solution.
+pub enum Finding {
+    /// A solution with the fewest pushes. If one was known, it has more.
     Solved { dirs: Vec<Dir>, pushes: u32 },
-    /// No letters solve the level with fewer pushes than the solution, or none at all where none is
-    /// known.
+    /// No solution has fewer pushes than the one that was known. If none was known, there is none.
     NoBetter,
-    /// More states can be reached than the limit, which is told, and they were too few to answer. No
-    /// letters solve the level with fewer pushes than `at_least`.
+    /// More than `states` states can be reached, which is the limit, and so many did not suffice. No
+    /// solution has fewer pushes than `at_least`; the one that was known has more.
     Limit { states: u32, at_least: u32 },
 }
 
 impl Finding {
-    /// What it tells where no solution is known.
+    /// Returns what it says if no solution was known.
     pub(crate) fn found(self) -> Found
         ensures { result ≡ found_of self }
     {
@@ -32,7 +31,7 @@ impl Finding {
         }
     }
 
-    /// What it tells beside a solution.
+    /// Returns what it says if a solution was known.
     pub(crate) fn improved(self) -> Improved
         ensures { result ≡ improved_of self }
     {

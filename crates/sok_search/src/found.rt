@@ -1,15 +1,15 @@
-//! What is found of a level.
+//! What a search finds of a level.
 
 use sok_rules::cell::Dir;
 
-/// What is found of a level. The certificate of it, where one is made, stands elsewhere.
+/// What a search finds of a level, without its certificate.
 #[derive(Drop)]
 pub enum Found {
-    /// Letters that solve the level with the fewest pushes.
+    /// A solution with the fewest pushes.
     Solved { dirs: Vec<Dir>, pushes: u32 },
-    /// No letters solve the level.
+    /// There is no solution.
     Unsolvable,
-    /// More states can be reached than the limit, which is told, and they were too few to answer. No
-    /// letters solve the level with fewer pushes than `at_least`, which is at most 1,000,000.
+    /// More than `states` states can be reached, which is the limit, and so many did not suffice. No
+    /// solution has fewer pushes than `at_least`, which is at most 1,000,000.
     Limit { states: u32, at_least: u32 },
 }

@@ -1,4 +1,4 @@
-//! What a search shows that was cut off.
+//! What a search shows that ran into its limit.
 
 ghost use Rattle.std.specs.Prelude.{ℕ, ◌<◌, MatchOption, length};
 ghost use Rattle.sok_board.specs.Area.{BoardView};
@@ -10,8 +10,8 @@ use crate::note::Standing;
 use crate::search::Search;
 use sok_cert::limits;
 
-/// How many pushes the state at an index needs at least, and None where it is not open: those that
-/// were made, and those that its bound says are to come.
+/// Returns the least number of pushes of a solution through the state at an index: its depth and its lower
+/// bound together. None if the state is not open.
 fn needed(search: &Search, index: usize) -> Option<u64>
     requires search { (b : BoardView) × IsSearching b (progress_of search.now) }
     requires within { index < length search.now.table.entries }
@@ -27,8 +27,8 @@ fn needed(search: &Search, index: usize) -> Option<u64>
     }
 }
 
-/// The fewest pushes that one of the open states needs. It is no more than 1,000,000, which is the
-/// greatest number of a certificate.
+/// Returns the least such number over all open states, at most 1,000,000, which is the greatest number
+/// that a certificate may have.
 pub(crate) fn least_open(search: &Search) -> u32
     requires { (b : BoardView) × IsSearching b (progress_of search.now) }
     ensures { IsLeastOpen (progress_of search.now) result }

@@ -1,15 +1,15 @@
-//! What is found of a level beside a solution that is known.
+//! Whether a solution that is known can be improved.
 
 use sok_rules::cell::Dir;
 
-/// What is found of a level beside a solution that is known.
+/// Whether a solution that is known can be improved.
 #[derive(Drop)]
 pub enum Improved {
-    /// Letters that solve the level with the fewest pushes, which are fewer than those of the solution.
+    /// It can: this is a solution with the fewest pushes.
     Fewer { dirs: Vec<Dir>, pushes: u32 },
-    /// No letters solve the level with fewer pushes.
+    /// It can't: no solution has fewer pushes.
     Optimal,
-    /// More states can be reached than the limit, which is told, and they were too few to answer. No
-    /// letters solve the level with fewer pushes than `at_least`, which is less than the solution has.
+    /// More than `states` states can be reached, which is the limit, and so many did not suffice. No
+    /// solution has fewer pushes than `at_least`, which is less than the known one has.
     Limit { states: u32, at_least: u32 },
 }

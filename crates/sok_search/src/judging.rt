@@ -14,8 +14,8 @@ use sok_rules::fault::Memory;
 use sok_state::key::Key;
 use std::alloc::Global;
 
-/// How a state stands: dead, by a jam or a crowd, lost, by two of its boxes, or open, with prices of
-/// a total. What is found of its boxes by two is kept.
+/// Judges the start: dead by a jam or a crowd, lost by two of its boxes, or open with a lower bound. Losses
+/// that are found are kept.
 pub(crate) fn judge(
     alloc: Global,
     setting: &Setting<'_>,

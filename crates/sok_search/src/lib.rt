@@ -1,13 +1,14 @@
-//! The solver: the fewest pushes that solve a level, with a certificate that none do with fewer, or
-//! that none solve it.
+//! The solver: it finds a solution with the fewest pushes, or proves that there is none, with a
+//! certificate for the answer.
 //!
 //! | Module | What it holds |
 //! |---|---|
 //! | `collecting` | where the entries of a certificate are collected |
 //! | `fault` | why a level is not solved |
-//! | `found` | what is found of a level |
-//! | `improved` | what is found of a level beside a solution that is known |
-//! | `outcome` | what is answered of a level, with a certificate |
+//! | `finding` | what a search finds of a level, of which a solution is known or none |
+//! | `found` | what a search finds of a level |
+//! | `improved` | whether a solution that is known can be improved |
+//! | `outcome` | what the solver answers of a level, with a certificate |
 //! | `solve` | the solver |
 //! | `aim` | what a search is asked for (private) |
 //! | `barring` | the reasons of a certificate, found again (private) |
@@ -15,7 +16,6 @@
 //! | `buckets` | indices that wait, in buckets by rank (private) |
 //! | `certifying` | the certificate of a search (private) |
 //! | `expanding` | a state is expanded (private) |
-//! | `finding` | what a search finds beside a solution, or beside none (private) |
 //! | `halted` | what a search shows that was cut off (private) |
 //! | `judging` | how a new state stands, and whether a state is solved (private) |
 //! | `note` | what a search notes of a state (private) |
@@ -37,7 +37,7 @@ mod certifying;
 pub mod collecting;
 mod expanding;
 pub mod fault;
-mod finding;
+pub mod finding;
 pub mod found;
 mod halted;
 pub mod improved;

@@ -1,30 +1,30 @@
-//! What a search notes of a state.
+//! What the search knows of a state beside its depth.
 
 use sok_state::push::Push;
 
-/// Where a state was come to from.
+/// The push by which a state was reached.
 #[derive(Clone, Copy, PartialEq, Eq)]
 pub(crate) struct Origin {
-    /// The index of the state before.
+    /// The index of the state before the push.
     pub(crate) parent: u32,
-    /// The push that leads on from there.
+    /// The push.
     pub(crate) push: Push,
 }
 
-/// How a state stands in a search.
+/// How far a state is searched, or why it needs no search.
 #[derive(Clone, Copy, PartialEq, Eq)]
 pub(crate) enum Standing {
-    /// It may still be expanded. No fewer more pushes than this solve from it.
+    /// It is in the open list. At least so many more pushes are needed.
     Open(u32),
-    /// Each push leads to a state that is known. No fewer more pushes than this solve from it.
+    /// All its pushes were followed. At least so many more pushes are needed.
     Expanded(u32),
-    /// Nothing solves from it, wherever the player stands.
+    /// A deadlock, wherever the player stands.
     Dead,
-    /// Nothing solves from it, as the loss at a place shows.
+    /// A deadlock, as the loss at this place shows.
     Lost(u32),
 }
 
-/// A note of a state: its origin, which the start lacks, and its standing.
+/// The note of a state: the push that led to it, which the start lacks, and its standing.
 #[derive(Clone, Copy, PartialEq, Eq)]
 pub(crate) struct Note {
     pub(crate) origin: Option<Origin>,

@@ -1,25 +1,24 @@
-//! What is answered of a level.
+//! What the solver answers of a level.
 
 use sok_cert::entry::Certificate;
 use sok_rules::cell::Dir;
 
-/// What is answered of a level.
+/// What the solver answers of a level.
 #[derive(Drop)]
 pub enum Outcome {
-    /// Letters that solve the level with the fewest pushes, and a certificate that none solve it
-    /// with fewer.
+    /// A solution with the fewest pushes, and a certificate that none has fewer.
     Solved {
         dirs: Vec<Dir>,
         pushes: u32,
         certificate: Certificate,
     },
-    /// No letters solve the level, and a certificate shows it.
+    /// There is no solution, and a certificate shows it.
     Unsolvable {
         certificate: Certificate,
     },
-    /// More states can be reached than the limit, which is told, and they were too few to answer. No
-    /// letters solve the level with fewer pushes than `at_least`, which is at most 1,000,000; where
-    /// a certificate of this was asked for, it shows it.
+    /// More than `states` states can be reached, which is the limit, and so many did not suffice. No
+    /// solution has fewer pushes than `at_least`, which is at most 1,000,000. If a certificate of this
+    /// was asked for, here it is.
     Limit {
         states: u32,
         at_least: u32,

@@ -1,4 +1,4 @@
-//! How a new state stands that a push leads to.
+//! The judgement of a new state.
 
 ghost use Rattle.std.specs.Prelude.{ℕ, List, ◌≡◌, ◌<◌, ◌↔◌, IfOk, IfSome, IsTrue, OnOk, All, length};
 ghost use Rattle.sok_alone.specs.declared.losses.Loss.{Loss};
@@ -23,8 +23,8 @@ use sok_rules::fault::Memory;
 use sok_state::scene::Scene;
 use std::alloc::Global;
 
-/// What pushes from a state are tried with: the state, laid out, and a matching, which is made that
-/// of its boxes once a bound is asked for.
+/// What the pushes of a state are tried with: the state in a scene, and a matching, which is brought to its
+/// boxes when the first lower bound is asked for.
 #[derive(Drop)]
 pub(crate) struct PushScratch {
     pub(crate) scene: Scene,
@@ -32,7 +32,7 @@ pub(crate) struct PushScratch {
     pub(crate) matched: bool,
 }
 
-/// Makes the matching that of some boxes, unless they have a crowd.
+/// Brings the matching to some boxes, unless they have a crowd.
 fn match_boxes(board: &Board, push_scratch: &mut PushScratch, boxes: &BoxSet)
     requires push_scratch { IsPushScratch board.now boxes.now push_scratch.old.matching push_scratch.old.matched }
     requires exist { All (λ square. square < length board.now.area) boxes.now }
@@ -48,8 +48,8 @@ fn match_boxes(board: &Board, push_scratch: &mut PushScratch, boxes: &BoxSet)
     }
 }
 
-/// The least total of the boxes after a push, and None where they have a crowd. The boxes are
-/// listed only where those before have a crowd.
+/// Returns the lower bound of the boxes after a push, or None if they have a crowd. The boxes are listed
+/// only if those before the push have a crowd.
 fn bound_after(
     alloc: Global,
     board: &Board,
@@ -73,8 +73,7 @@ fn bound_after(
     Ok(push_scratch.matching.set(&after))
 }
 
-/// Whether the boxes after a push have a jam with the box that was pushed. The boxes that are laid
-/// out are shifted by the push and back.
+/// Returns whether the pushed box jams with others. The layout is shifted by the push and back.
 fn is_jammed(setting: &Setting<'_>, layout: &mut Layout, from: Sq, to: Sq) -> bool
     requires accepted { IsAccepted setting.now.board.now }
     requires laid { (boxes after : List ℕ)
@@ -93,9 +92,8 @@ fn is_jammed(setting: &Setting<'_>, layout: &mut Layout, from: Sq, to: Sq) -> bo
     jammed
 }
 
-/// How a new state with some boxes stands, of which one was pushed: dead, where that box reaches no
-/// goal, by a jam with it or by a crowd, lost, by a loss that is known, or open, with prices of a
-/// total.
+/// Judges a new state, in which the box at `to` was just pushed: dead, if that box reaches no goal, by a jam
+/// with it or by a crowd; lost, by a known loss; or open with a lower bound.
 pub(crate) fn judge_after(
     alloc: Global,
     setting: &Setting<'_>,

@@ -1,4 +1,4 @@
-//! States that wait, by the pushes that they need at least.
+//! The open list.
 
 ghost use Rattle.std.specs.Prelude.{◌≡◌, ◌<◌, [], IfOk, MatchOption, length};
 ghost use Rattle.sok_search.specs.Steps.{HasOneMore, TellsTaken};
@@ -9,13 +9,13 @@ use sok_rules::fault::Memory;
 use std::alloc::Global;
 use std::marker::Model;
 
-/// Indices of states that wait, in layers by the pushes that solve with them at least, and in each
-/// by those that are still to come. They are seen as a list of which the order says nothing.
+/// The open list: indices of states, in layers by depth and lower bound together, and within a layer by the
+/// lower bound. The contracts see it as a list, whose order says nothing.
 #[derive(Drop)]
 pub(crate) struct Queue {
     alloc: Global,
     layers: Vec<Buckets>,
-    /// Where to look first: a wrong hint costs time alone.
+    /// Where to look first. A wrong hint costs time, nothing else.
     first: usize,
 }
 
@@ -28,7 +28,7 @@ impl Model for Queue {
     ghost view = { λ queue. in_layers queue.layers.items };
 }
 
-/// Takes an index out of the first layer from a place on that has one.
+/// Removes an index from the first layer, from a place on, that has one.
 fn pop_from(layers: &mut [Buckets], from: usize) -> Option<(usize, u32)>
     ensures { MatchOption result
         ((layers.new ≡ layers.old) × (from ≡ 0 → in_layers layers.old ≡ []))
@@ -43,7 +43,7 @@ fn pop_from(layers: &mut [Buckets], from: usize) -> Option<(usize, u32)>
     None
 }
 
-/// Takes an index out of a layer, the first one from a place on if there is one there.
+/// Removes an index from a layer: the first from a place on, if one there has any.
 fn pop_any(layers: &mut [Buckets], from: usize) -> Option<(usize, u32)>
     ensures { MatchOption result ((in_layers layers.old ≡ []) × (in_layers layers.new ≡ []))
         (λ found. HasOneMore (in_layers layers.new) found.1 (in_layers layers.old)) }
@@ -54,7 +54,7 @@ fn pop_any(layers: &mut [Buckets], from: usize) -> Option<(usize, u32)>
     }
 }
 
-/// Makes more empty layers, so that a place has one.
+/// Appends empty layers until a place has one.
 fn make_room(alloc: Global, layers: &mut Vec<Buckets>, place: usize) -> Result<(), Memory>
     ensures room { IfOk result (λ _. place < length layers.new.items) }
     ensures same { IfOk result (λ _. in_layers layers.new.items ≡ in_layers layers.old.items) }
@@ -66,7 +66,7 @@ fn make_room(alloc: Global, layers: &mut Vec<Buckets>, place: usize) -> Result<(
 }
 
 impl Queue {
-    /// No state waits.
+    /// Returns an empty open list.
     pub(crate) fn new(alloc: Global) -> Queue
         ensures { result ≡ [] }
     {
@@ -77,8 +77,8 @@ impl Queue {
         }
     }
 
-    /// A state waits, by its index: a solution from it has at least so many pushes, and `bound` of
-    /// them are still to come.
+    /// Adds a state by its index. A solution through it has at least `pushes` pushes, `bound` of which are
+    /// still to come.
     pub(crate) fn push(&mut self, pushes: usize, bound: usize, index: u32) -> Result<(), Memory>
         ensures { IfOk result (λ _. HasOneMore self.old index self.new) }
     {
@@ -88,8 +88,8 @@ impl Queue {
         Ok(())
     }
 
-    /// Takes a state out for which the fewest pushes are known to be needed, and of those one with
-    /// the fewest to come. None where none waits.
+    /// Removes a state with the least `pushes`, of those one with the least `bound`, and of those the one
+    /// that came last. None if the list is empty.
     pub(crate) fn pop(&mut self) -> Option<u32>
         ensures { TellsTaken self.old self.new result }
     {

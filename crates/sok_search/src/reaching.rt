@@ -1,4 +1,4 @@
-//! A push is followed.
+//! Following a push.
 
 ghost use Rattle.std.specs.Prelude.{◌≡◌, ◌<◌, ◌≤◌, ◌+◌, ◌^◌, IfOk, IfSome, IsTrue, OnOk, Some, length};
 ghost use Rattle.sok_alone.specs.Losses.{IsLostBy, KeepsLosses, KeepsPlaces, losses_of};
@@ -24,7 +24,7 @@ use sok_state::push::Push;
 use sok_state::stepping::square_ahead;
 use std::alloc::Global;
 
-/// A state that was expanded is open again.
+/// Reopens an expanded state.
 fn reopened(standing: Standing) -> Standing
     ensures { result ≡ reopened standing }
 {
@@ -36,7 +36,7 @@ fn reopened(standing: Standing) -> Standing
     }
 }
 
-/// Comes to a known state again, at a depth: it comes nearer, or stays.
+/// Lowers the depth of a known state, and reopens it, if this way to it is shorter.
 fn approach(
     search: &mut Search,
     index: usize,
@@ -56,8 +56,8 @@ fn approach(
     lower(search, index, depth, Note { origin, standing })
 }
 
-/// The place of a loss that shows that nothing solves after a push. None is looked for where its
-/// box reaches no goal from there, which shows it as well.
+/// Looks for a loss that makes the state after a push a deadlock, and returns its place. It does not look if
+/// the pushed box reaches no goal from there, which is a deadlock as well.
 fn ask(
     alloc: Global,
     setting: &Setting<'_>,
@@ -83,8 +83,8 @@ fn ask(
     losses.loss_after(alloc, setting, known, &key.boxes, push.from, push.dir, to)
 }
 
-/// Whether a new state is spared, which stands so at a depth: nothing solves from it with fewer pushes
-/// than the solution has that is known beside the search. Where none is known, no state is spared.
+/// Returns whether a new state at `depth` can be left out: its standing shows that no solution through
+/// it has fewer pushes than the solution that is known. Where none is known, no state is left out.
 fn is_spared(upper: Option<u32>, standing: Standing, depth: u32) -> bool
     ensures { IsTrue result → IsSpared upper standing depth }
 {
@@ -99,9 +99,8 @@ fn is_spared(upper: Option<u32>, standing: Standing, depth: u32) -> bool
     }
 }
 
-/// Follows a push from a state that was taken: the next state is added, comes nearer, or stays. Or
-/// the push is left out, since its box reaches no goal from there, or it and one or two others are
-/// never solved, were they alone on the board, or since the next state is spared.
+/// Follows a push. Unless every state is kept, the push is left out if its box reaches no goal from there,
+/// or if it and one or two others can't be solved even alone on the board.
 pub(crate) fn reach(
     alloc: Global,
     setting: &Setting<'_>,
@@ -152,9 +151,8 @@ pub(crate) fn reach(
     )
 }
 
-/// Comes to the state behind a push to a square: it is added, comes nearer, or stays. A new one may
-/// be lost by a loss that is known, or spared. Where one would be added and the table is full, the
-/// search is cut off.
+/// Looks up the state that a push leads to. A known one gets a smaller depth if this way is shorter. A
+/// new one is judged, and added unless it can be left out; `Cut` if the table is full.
 fn arrive(
     alloc: Global,
     setting: &Setting<'_>,

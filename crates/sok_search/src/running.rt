@@ -15,7 +15,7 @@ use sok_closed::solved::is_solved;
 use sok_distance::setting::Setting;
 use std::alloc::Global;
 
-/// Gives a state another note.
+/// Replaces the note of a state.
 fn mark(search: &mut Search, index: usize, note: Note)
     requires { index < length search.old.notes.items }
     ensures { progress_of search.new ≡ done (progress_of search.old)
@@ -24,7 +24,7 @@ fn mark(search: &mut Search, index: usize, note: Note)
     search.notes[index] = note;
 }
 
-/// Visits an open state that was taken: it is let go, is solved, or is expanded.
+/// Visits an open state: skips it if a solution as good is known, notes it if it is solved, or expands it.
 fn visit(
     alloc: Global,
     setting: &Setting<'_>,
@@ -70,7 +70,7 @@ fn visit(
             Ok(())
         }
         Err(Stop::Cut) => {
-            // It waits still.
+            // It stays in the open list.
             wait(&mut search.queue, index as u32, depth, note.standing)?;
             Err(Stop::Cut)
         }
@@ -78,7 +78,7 @@ fn visit(
     }
 }
 
-/// One turn: a state that was taken is let go unless it is open.
+/// Visits a state that was removed from the open list, or skips it if it is not open any more.
 fn turn(
     alloc: Global,
     setting: &Setting<'_>,
@@ -102,7 +102,7 @@ fn turn(
     }
 }
 
-/// Takes one index after another, until none waits or a new state has no place in the table.
+/// Visits one state after another until the open list is empty. `Cut` if a new state has no room.
 pub(crate) fn search_on(
     alloc: Global,
     setting: &Setting<'_>,

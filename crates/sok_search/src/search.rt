@@ -1,4 +1,4 @@
-//! What a search knows, and the two ways in which it learns of a state.
+//! What a search knows, and how it learns of a state.
 
 ghost use Rattle.std.specs.Prelude.{◌<◌, ◌^◌, ◌+◌, ◌↔◌, IfOk, IsTrue, OnOk, length};
 ghost use Rattle.sok_state.specs.Tables.{depth_at};
@@ -13,9 +13,9 @@ use sok_alone::losses::Losses;
 use sok_rules::fault::Memory;
 use sok_state::table::Table;
 
-/// What is asked for, what is known of boxes taken alone, the known states with a note of each, the
-/// indices of those that wait, and the fewest pushes that a solution is known to have: the least depth
-/// at which a solved state was taken, or those of the solution beside the search.
+/// What the search is asked for; the losses that it knows; its states, with a note of each; the open list;
+/// and the fewest pushes of a known solution: the least depth of a solved state that was visited, or
+/// those of the solution that was known before.
 #[derive(Drop)]
 pub(crate) struct Search {
     pub(crate) aim: Aim,
@@ -26,13 +26,13 @@ pub(crate) struct Search {
     pub(crate) best: Option<u32>,
 }
 
-/// Lets go of a search.
+/// Frees a search. It stands apart because a function that frees one takes much longer to prove.
 pub(crate) fn let_go(search: Search) {
     search.losses.let_go();
     search.table.let_go();
 }
 
-/// Whether a solution with no more pushes is known.
+/// Returns whether a solution with at most `depth` and `bound` pushes is known.
 pub(crate) fn is_beaten(best: Option<u32>, depth: u32, bound: u32) -> bool
     ensures { IsTrue result ↔ IsBeaten best (depth + bound) }
 {
@@ -42,7 +42,7 @@ pub(crate) fn is_beaten(best: Option<u32>, depth: u32, bound: u32) -> bool
     }
 }
 
-/// Lets an index wait, if its standing is open.
+/// Adds a state to the open list if its standing is open.
 pub(crate) fn wait(
     queue: &mut Queue,
     index: u32,
@@ -62,7 +62,7 @@ pub(crate) fn wait(
     }
 }
 
-/// Notes a state that went last into the table.
+/// Adds the note of the state that was inserted last.
 pub(crate) fn add(search: &mut Search, index: usize, depth: u32, note: Note) -> Result<(), Memory>
     requires { index < 2 ^ 32 }
     ensures { OnOk result
@@ -72,7 +72,7 @@ pub(crate) fn add(search: &mut Search, index: usize, depth: u32, note: Note) -> 
     wait(&mut search.queue, index as u32, depth, note.standing)
 }
 
-/// Gives a state a smaller depth and another note.
+/// Lowers the depth of a state and replaces its note.
 pub(crate) fn lower(search: &mut Search, index: usize, depth: u32, note: Note) -> Result<(), Memory>
     requires exists { index < length search.old.table.entries }
     requires small { index < 2 ^ 32 }

@@ -5,8 +5,8 @@ ghost use Rattle.sok_rules.specs.Squares.{Rows};
 ghost use Rattle.sok_board.specs.Area.{BoardView, IsAccepted};
 ghost use Rattle.sok_cert.specs.Text.{number_limit};
 ghost use Rattle.sok_search.specs.Faults.{IsAcceptedWithin, IsBadLimit, TellsFault};
-ghost use Rattle.sok_search.specs.Findings.{IsFinding, IsFindingWithProof, IsOfBest};
-ghost use Rattle.sok_search.specs.Finished.{claim_of};
+ghost use Rattle.sok_search.specs.Findings.{IsFinding, IsFindingWithProof, claim_of};
+ghost use Rattle.sok_search.specs.Finished.{IsOfBest};
 ghost use Rattle.sok_search.specs.Limits.{state_limit};
 ghost use Rattle.sok_search.specs.Outcomes.{IsAnswer, IsBounded, IsFoundWithProof, IsFoundWithin, IsImproved, IsImprovedWithProof, IsOutcome};
 ghost use Rattle.sok_search.specs.Searches.{IsSearch, IsSearching, IsSmallSearch};
@@ -39,13 +39,18 @@ use sok_rules::fault::Memory;
 use sok_rules::level::Level;
 use std::alloc::Global;
 
-/// The greatest limit.
+/// The greatest limit on the number of states.
 pub const LIMIT: u32 = 1_000_000;
 
-/// The fewest pushes that solve a level, or that none solve it, with a certificate. Or that more
-/// states can be reached than a limit, where the answer was not found among as many. It is a best
-/// first search over states by the pushes made and the cost of a least assignment of goals to boxes
-/// (A*). Refused are, in this order, a limit of 0 or above 1,000,000, and what a board refuses.
+/// Finds a solution with the fewest pushes, or proves that there is none, and returns a certificate for
+/// the answer.
+///
+/// It is an A* search over states, which keeps at most `limit` of them; the lower bound of a state is
+/// the cost of a minimum assignment of its boxes to goals. If `limit` states do not suffice, it returns
+/// `Outcome::Limit` with the lower bound that they show.
+///
+/// Errors, in this order: `BadLimit` if `limit` is 0 or above `LIMIT`; the faults of `Board::new`;
+/// `Memory`.
 pub fn solve(alloc: Global, level: &Level, limit: u32) -> Result<Outcome, SolveFault>
     ensures answer { IfOk result (IsAnswer level.now limit) }
     ensures tells { TellsFault level.now limit result }
@@ -53,9 +58,8 @@ pub fn solve(alloc: Global, level: &Level, limit: u32) -> Result<Outcome, SolveF
     outcome(alloc, level, limit, false)
 }
 
-/// What `solve` answers. Where it tells of a limit, there is a certificate, too, which shows that no
-/// letters solve the level with fewer pushes than are told: its entries are the states that were
-/// found, and those that still waited are barred by their prices.
+/// Like `solve`, but `Outcome::Limit` comes with a certificate, too: no solution has fewer pushes than
+/// `at_least`. The states that were still in the open list are barred in it by their dual prices.
 pub fn bound(alloc: Global, level: &Level, limit: u32) -> Result<Outcome, SolveFault>
     ensures bounded { IfOk result (IsBounded level.now limit) }
     ensures tells { TellsFault level.now limit result }
@@ -63,9 +67,9 @@ pub fn bound(alloc: Global, level: &Level, limit: u32) -> Result<Outcome, SolveF
     outcome(alloc, level, limit, true)
 }
 
-/// What `solve` answers, or `bound` where a bound is asked for. The entries of the certificate are
-/// taken one after another by a collection that has none, and are listed nowhere else; of a limit,
-/// where no bound is asked for, none is taken. Where it refuses, some may have been taken.
+/// Like `solve`, or `bound` if `bound` is set, but hands the certificate to `entries` one entry at a
+/// time, so that it is never whole in memory. No entry is handed over for `Found::Limit` unless `bound`
+/// is set. On an error, `entries` may hold some of them.
 pub fn solve_into<C: Entries>(
     alloc: Global,
     level: &Level,
@@ -78,41 +82,43 @@ pub fn solve_into<C: Entries>(
         (IsFoundWithProof (λ taken. C.took taken entries.new) level.now limit bound) }
     ensures tells { TellsFault level.now limit result }
 {
-    let board = accept(alloc, level, limit)?;
-    let finding = answer(alloc, &board, limit, None, bound, entries)?;
-    Ok(finding.found())
+    match search_into(alloc, level, limit, None, bound, entries) {
+        Ok(finding) => Ok(finding.found()),
+        Err(fault) => Err(fault),
+    }
 }
 
-/// What `solve` answers, without a certificate, which takes time and most of the memory. States in
-/// which a box was pushed to where it reaches no goal, or where it and one or two others are never
-/// solved, were they alone on the board, are not kept. So there may be an answer where `solve` tells
-/// that there are more states than the limit.
+/// Like `solve`, without a certificate: faster, and with a fraction of the memory. Deadlocked states are
+/// not kept, so `find` may answer within a limit that `solve` exceeds.
 pub fn find(alloc: Global, level: &Level, limit: u32) -> Result<Found, SolveFault>
     ensures found { IfOk result (IsFoundWithin level.now limit) }
     ensures tells { TellsFault level.now limit result }
 {
-    let board = accept(alloc, level, limit)?;
-    let finding = find_on(alloc, &board, limit, None)?;
-    Ok(finding.found())
+    match search(alloc, level, limit, None) {
+        Ok(finding) => Ok(finding.found()),
+        Err(fault) => Err(fault),
+    }
 }
 
-/// Whether a solution with `best` pushes can be improved: the fewest pushes that solve the level, where
-/// these are fewer, or that none solve it with fewer; of a level that has no solution that is true, too.
-/// It is the search of `find`, in which a state isn't kept from which nothing solves with fewer than
-/// `best` pushes in all. So it takes fewer states, and answers where the states that were found show as
-/// much, though there are more than the limit.
+/// Tells whether a solution with `best` pushes can be improved: finds one with the fewest pushes if these
+/// are fewer than `best`, or proves that no solution has fewer than `best`. That is true of a level
+/// without a solution, too.
+///
+/// It is the search of `find`, which knows that only fewer than `best` pushes count, so it keeps fewer
+/// states. It also answers `Optimal` if the search exceeds the limit, but its open list shows as much.
 pub fn improve(alloc: Global, level: &Level, limit: u32, best: u32) -> Result<Improved, SolveFault>
     ensures improved { IfOk result (IsImproved level.now limit best) }
     ensures tells { TellsFault level.now limit result }
 {
-    let board = accept(alloc, level, limit)?;
-    let finding = find_on(alloc, &board, limit, Some(best))?;
-    Ok(finding.improved())
+    match search(alloc, level, limit, Some(best)) {
+        Ok(finding) => Ok(finding.improved()),
+        Err(fault) => Err(fault),
+    }
 }
 
-/// What `improve` answers. The entries of a certificate are taken as `solve_into` does it: for the
-/// fewest pushes, or for `best`; of a limit, where a bound is asked for, for that. Each state is kept
-/// that is reached, as a certificate needs them, so a limit may be met that suffices without one.
+/// Like `improve`, but hands a certificate to `entries`, as `solve_into` does: of the fewest pushes, or of
+/// `best`, or of `at_least` if `bound` is set. A certificate needs every state that was reached, so
+/// `improve_into` may exceed a limit within which `improve` answers.
 pub fn improve_into<C: Entries>(
     alloc: Global,
     level: &Level,
@@ -127,12 +133,49 @@ pub fn improve_into<C: Entries>(
         (IsImprovedWithProof (λ taken. C.took taken entries.new) level.now limit bound best) }
     ensures tells { TellsFault level.now limit result }
 {
-    let board = accept(alloc, level, limit)?;
-    let finding = answer(alloc, &board, limit, Some(best), bound, entries)?;
-    Ok(finding.improved())
+    match search_into(alloc, level, limit, Some(best), bound, entries) {
+        Ok(finding) => Ok(finding.improved()),
+        Err(fault) => Err(fault),
+    }
 }
 
-/// What is answered of a level, where a certificate of a limit that is met is wanted, or not.
+/// Answers as `improve` does if a solution with `upper` pushes is known, and as `find` if none is.
+pub fn search(
+    alloc: Global,
+    level: &Level,
+    limit: u32,
+    upper: Option<u32>,
+) -> Result<Finding, SolveFault>
+    ensures finding { IfOk result (IsFinding level.now limit upper) }
+    ensures tells { TellsFault level.now limit result }
+{
+    let board = accept(alloc, level, limit)?;
+    let finding = find_on(alloc, &board, limit, upper)?;
+    Ok(finding)
+}
+
+/// Answers as `improve_into` does if a solution with `upper` pushes is known, and as `solve_into` if none
+/// is.
+pub fn search_into<C: Entries>(
+    alloc: Global,
+    level: &Level,
+    limit: u32,
+    upper: Option<u32>,
+    bound: bool,
+    entries: &mut C,
+) -> Result<Finding, SolveFault>
+    requires fits { IfSome upper (λ k. k ≤ number_limit) }
+    requires none { C.took [] entries.old }
+    ensures finding { IfOk result
+        (IsFindingWithProof (λ taken. C.took taken entries.new) level.now limit bound upper) }
+    ensures tells { TellsFault level.now limit result }
+{
+    let board = accept(alloc, level, limit)?;
+    let finding = answer(alloc, &board, limit, upper, bound, entries)?;
+    Ok(finding)
+}
+
+/// Runs `solve_into` and collects the certificate.
 fn outcome(alloc: Global, level: &Level, limit: u32, wanted: bool) -> Result<Outcome, SolveFault>
     ensures answer { IfOk result (IsOutcome level.now limit wanted) }
     ensures tells { TellsFault level.now limit result }
@@ -144,7 +187,7 @@ fn outcome(alloc: Global, level: &Level, limit: u32, wanted: bool) -> Result<Out
     }
 }
 
-/// What was found, with the certificate that has these entries.
+/// Puts the certificate that has these entries to what was found.
 fn certified(found: Found, wanted: bool, entries: Vec<Entry>) -> Outcome
     ensures { (rows : Rows) (limit : ℕ)
         → IsFoundWithProof (λ taken. entries.items ≡ taken) rows limit wanted found
@@ -183,14 +226,14 @@ fn certified(found: Found, wanted: bool, entries: Vec<Entry>) -> Outcome
     }
 }
 
-/// Whether a limit is refused.
+/// Returns whether a limit is refused.
 fn is_bad(limit: u32) -> bool
     ensures { IsTrue result ↔ IsBadLimit limit }
 {
     limit == 0 || limit > LIMIT
 }
 
-/// The board of a level that is to be searched within a limit.
+/// Checks the limit and makes the board of a level.
 fn accept(alloc: Global, level: &Level, limit: u32) -> Result<Board, SolveFault>
     ensures board { IfOk result (IsAcceptedWithin level.now limit) }
     ensures tells { TellsFault level.now limit result }
@@ -202,8 +245,8 @@ fn accept(alloc: Global, level: &Level, limit: u32) -> Result<Board, SolveFault>
     Ok(board)
 }
 
-/// What a search of a board finds beside a solution with so many pushes, or beside none, where a
-/// certificate of a limit that is met is wanted, or not.
+/// Searches an accepted board, beside a solution with `upper` pushes or beside none, with a certificate.
+/// If the search exceeds the limit, it has one only if that is `wanted`.
 fn answer<C: Entries>(
     alloc: Global,
     board: &Board,
@@ -228,7 +271,7 @@ fn answer<C: Entries>(
     finding
 }
 
-/// The same, by a search that knows nothing but what it is asked for.
+/// Does so with the empty `search`, which the caller frees afterwards, also on an error.
 fn answer_by<C: Entries>(
     alloc: Global,
     board: &Board,
@@ -259,7 +302,7 @@ fn answer_by<C: Entries>(
     }
 }
 
-/// What a search of a board finds, as `answer`, without a certificate.
+/// Searches an accepted board as `answer` does, without a certificate.
 fn find_on(alloc: Global, board: &Board, limit: u32, upper: Option<u32>) -> Result<Finding, Memory>
     requires { 0 < limit }
     ensures { IfOk result (IsFinding board.now.rows limit upper) }
@@ -276,7 +319,7 @@ fn find_on(alloc: Global, board: &Board, limit: u32, upper: Option<u32>) -> Resu
     finding
 }
 
-/// The same, by a search that knows nothing but what it is asked for.
+/// Does so with the empty `search`, which the caller frees afterwards, also on an error.
 fn find_by(alloc: Global, board: &Board, limit: u32, search: &mut Search) -> Result<Finding, Memory>
     requires accepted { IsAccepted board.now }
     requires positive { 0 < limit }
@@ -295,7 +338,7 @@ fn find_by(alloc: Global, board: &Board, limit: u32, search: &mut Search) -> Res
     }
 }
 
-/// What a search that was cut off has found.
+/// Returns what a search found that ran into the limit.
 fn halted(limit: u32, search: &Search) -> Finding
     requires { (b : BoardView) × IsAccepted b × IsCutOff b limit search.now.aim (progress_of search.now) }
     ensures { (b : BoardView) → IsAccepted b
@@ -312,7 +355,7 @@ fn halted(limit: u32, search: &Search) -> Finding
     }
 }
 
-/// The same, with a certificate of what it shows, where it has an answer or one is wanted.
+/// Does so with a certificate, if the search has an answer all the same, or one is wanted of the limit.
 fn halt<C: Entries>(
     alloc: Global,
     setting: &Setting<'_>,
@@ -346,7 +389,7 @@ fn halt<C: Entries>(
     })
 }
 
-/// Searches from the start until no state waits, or the table is full before.
+/// Searches from the start until the open list is empty. `Cut` if the table is full before.
 fn search_all(
     alloc: Global,
     setting: &Setting<'_>,
@@ -368,7 +411,7 @@ fn search_all(
     ended
 }
 
-/// What a finished search has found.
+/// Returns what a search found whose open list is empty.
 fn find_in(alloc: Global, board: &Board, search: &Search) -> Result<Finding, Memory>
     requires accepted { IsAccepted board.now }
     requires search { IsSearching board.now (progress_of search.now) }
@@ -387,7 +430,7 @@ fn find_in(alloc: Global, board: &Board, search: &Search) -> Result<Finding, Mem
     Ok(Finding::Solved { dirs, pushes })
 }
 
-/// What is claimed of a level whose best has so many pushes, or that has none.
+/// Returns the claim about a level whose best has so many pushes, or that has no solution.
 fn claim_of(best: Option<u32>) -> Claim
     ensures { result ≡ claim_of best }
 {
@@ -397,7 +440,7 @@ fn claim_of(best: Option<u32>) -> Claim
     }
 }
 
-/// What a finished search has found, with a certificate of it.
+/// Does so with a certificate.
 fn conclude<C: Entries>(
     alloc: Global,
     setting: &Setting<'_>,
@@ -420,7 +463,7 @@ fn conclude<C: Entries>(
     find_in(alloc, setting.board, search)
 }
 
-/// Letters that solve with no more than so many pushes.
+/// Returns letters that solve the level with no more than `pushes` pushes.
 fn solution(alloc: Global, board: &Board, search: &Search, pushes: u32) -> Result<Vec<Dir>, Memory>
     requires accepted { IsAccepted board.now }
     requires search { IsSearching board.now (progress_of search.now) }

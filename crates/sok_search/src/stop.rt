@@ -8,7 +8,7 @@ use sok_rules::fault::Memory;
 /// Why a search stops before its end.
 #[derive(Clone, Copy)]
 pub(crate) enum Stop {
-    /// It is cut off: its table is full and lacks a state that is reached.
+    /// The table is full, and another state was reached.
     Cut,
     /// Memory was refused.
     Memory,

@@ -14,7 +14,7 @@ use sok_rules::fault::Memory;
 use sok_state::push::Push;
 use std::alloc::Global;
 
-/// The first solved state that is at most so deep, by its index.
+/// Returns the index of the first solved state whose depth is at most `pushes`.
 pub(crate) fn find_solved(
     alloc: Global,
     board: &Board,
@@ -36,7 +36,7 @@ pub(crate) fn find_solved(
     unreachable!()
 }
 
-/// Whether the state at an index is solved, and at most so deep.
+/// Returns whether the state at an index is solved and its depth is at most `pushes`.
 fn is_solution(
     alloc: Global,
     board: &Board,
@@ -58,7 +58,7 @@ fn is_solution(
     Ok(is_solved(board, &key.boxes))
 }
 
-/// The pushes that lead from the start to the state at an index, the last one first.
+/// Returns the pushes that lead from the start to the state at an index, last one first.
 pub(crate) fn trace(alloc: Global, search: &Search, index: usize) -> Result<Vec<Push>, Memory>
     requires back { GoesBack (progress_of search.now) }
     requires within { index < length search.now.notes.items }

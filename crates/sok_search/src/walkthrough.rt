@@ -1,4 +1,4 @@
-//! The letters that make pushes one after another.
+//! The letters of a list of pushes, with the walks between them.
 
 ghost use Rattle.std.specs.Prelude.{◌<◌, IfOk, length};
 ghost use Rattle.sok_board.specs.Area.{IsAccepted, position_of};
@@ -18,8 +18,7 @@ use sok_state::push::Push;
 use sok_state::scene::Scene;
 use std::alloc::Global;
 
-/// Letters from the start, the state to which they lead, and the square on which the player stands
-/// then.
+/// Letters from the start, the state that they lead to, and the player's square there.
 #[derive(Drop)]
 pub(crate) struct Walkthrough {
     pub(crate) key: Key,
@@ -27,12 +26,12 @@ pub(crate) struct Walkthrough {
     pub(crate) letters: Vec<Dir>,
 }
 
-/// The letters that make the pushes of a trace, which has the last one first.
+/// Returns letters that make the pushes of a trace, whose last push comes first.
 pub(crate) fn letters(alloc: Global, board: &Board, trace: Vec<Push>) -> Result<Vec<Dir>, Memory>
     requires { IsSolvingTrace board.now trace.items }
     ensures { IfOk result (λ letters. IsSolvedWith board.now (length trace.items) letters.items) }
 {
-    // Its clauses tell that the level is accepted.
+    // Called for its clauses: the level is accepted.
     let _level = board.level();
     let mut walkthrough = begin(alloc, board)?;
     let mut scene = Scene::new(alloc, board);
@@ -49,7 +48,7 @@ pub(crate) fn letters(alloc: Global, board: &Board, trace: Vec<Push>) -> Result<
     Ok(letters)
 }
 
-/// No letters, at the start.
+/// Returns no letters, at the start.
 fn begin(alloc: Global, board: &Board) -> Result<Walkthrough, Memory>
     ensures { IfOk result (IsAtStart board.now) }
 {
@@ -62,7 +61,7 @@ fn begin(alloc: Global, board: &Board) -> Result<Walkthrough, Memory>
     })
 }
 
-/// A walk to behind a box and a push of it, from the state that is laid out.
+/// Appends a walk to the square behind a box and a push of it, in the state that is laid out.
 fn follow(
     alloc: Global,
     board: &Board,
@@ -83,7 +82,7 @@ fn follow(
         letters,
     } = walkthrough;
     let letters = go(alloc, board, &key, player, push, letters)?;
-    // The list of a set of boxes tells that they are not too many.
+    // Listed for its clauses: the boxes are few.
     let _boxes = key.boxes.list();
     let key = scene.follow(alloc, board, &key, push)?;
     Ok(Walkthrough {
@@ -93,7 +92,7 @@ fn follow(
     })
 }
 
-/// Letters with a walk to behind a box and a push of it.
+/// Appends a walk to the square behind a box and a push of it.
 fn go(
     alloc: Global,
     board: &Board,

@@ -49,7 +49,7 @@ level_made : (keeping : Keeping) (limit : ℕ) (span : Span) (id : ℤ) (book be
 level_made keeping limit span id book before after line settled made (is_passed page there why says is same) = subst (IsMadeOf book) (sym same) made
 level_made keeping limit span id book before after line settled made (is_settled page shown tried kept by) =
     by_made id book before after page.level shown line settled made by
-level_made keeping limit span id book before after line settled made (is_past_limit page least tried cut says is same) = subst (IsMadeOf book) (sym same) made
+level_made keeping limit span id book before after line settled made (is_past_limit page least tried cut fewer says is same) = subst (IsMadeOf book) (sym same) made
 level_made keeping limit span id book before after line settled made (is_too_long page letters pushes tried least many says is same) =
     subst (IsMadeOf book) (sym same) made
 level_made keeping limit span id book before after line settled made (is_too_much page tried unkept says is same) = subst (IsMadeOf book) (sym same) made
@@ -74,7 +74,7 @@ settlings-keep-truth keeping limit span book after some = made_true book after (
 abbrev IsKeptAsIs : Span → ℕ → Page → Type 0
 IsKeptAsIs span id page = IsBeyond span (pos id) ⊎ (page.verdict ≢ Untested)
 
-untried : (span : Span) (n id : ℕ) (book : Book) (page other : Page) → page_at book id ≡ Some page → IsKeptAsIs span id page → IsTried span (pos (n + 1)) book other
+untried : (span : Span) (n id : ℕ) (book : Book) (page other : Page) → page_at book id ≡ Some page → IsKeptAsIs span id page → IsTried span (pos (n + 1)) other book
     → n + 1 - 1 ≡ id - 1 → ⊥
 untried span n zero book page other there kept tried same = none-some page there
 untried span n (suc m) book page other there kept tried same =
@@ -98,7 +98,7 @@ level_kept keeping limit span n book after line settled id page (is_passed other
 level_kept keeping limit span n book after line settled id page (is_settled other shown tried cert by) there kept =
     at_else book after (n + 1 - 1) id page there (untried span n id book page other there kept tried)
     (else_settled keeping limit span (pos (n + 1)) book after line settled (is_settled other shown tried cert by))
-level_kept keeping limit span n book after line settled id page (is_past_limit other least tried cut says is same) there kept =
+level_kept keeping limit span n book after line settled id page (is_past_limit other least tried cut fewer says is same) there kept =
     ap (λ (b : Book). page_at b id) same ∙ there
 level_kept keeping limit span n book after line settled id page (is_too_long other letters pushes tried least many says is same) there kept =
     ap (λ (b : Book). page_at b id) same ∙ there
@@ -148,7 +148,7 @@ level_tested keeping limit span n book after line page (is_passed other at why s
     subst (IsKeptAsIs span (n + 1)) one why
 level_tested keeping limit span n book after line page (is_settled other shown tried kept by) there =
     inr (λ untested. never_untested shown (by_verdict (pos (n + 1)) book after other.level shown line true page by there ∙ untested))
-level_tested keeping limit span n book after line page (is_past_limit other least tried cut says is same) there = absurd cc
+level_tested keeping limit span n book after line page (is_past_limit other least tried cut fewer says is same) there = absurd cc
 level_tested keeping limit span n book after line page (is_too_long other letters pushes tried least many says is same) there = absurd cc
 level_tested keeping limit span n book after line page (is_too_much other tried unkept says is same) there = absurd cc
 
@@ -230,7 +230,7 @@ module _ (keeping : Keeping) (limit : ℕ) (span : Span) where
         by_verdict (pos (n + 1)) book after other.level shown line settled new by then_there,
         subst (λ (p : Page). keeping.keeps limit (pos (n + 1)) p.level shown) one kept,
       )
-  level_cert n book after line settled page new (is_past_limit other least tried cut says is same) there then_there untested tested =
+  level_cert n book after line settled page new (is_past_limit other least tried cut fewer says is same) there then_there untested tested =
       absurd (tested (unchanged (n + 1) book after page new same there then_there untested))
   level_cert n book after line settled page new (is_too_long other letters pushes tried least many says is same) there then_there untested tested =
       absurd (tested (unchanged (n + 1) book after page new same there then_there untested))

@@ -12,7 +12,7 @@ use Rattle.sok_rules.proofs.Runs.{pushes-le-length}
 use Rattle.sok_cert.specs.Claim.{Claim}
 use Rattle.sok_cert.specs.Claim.TheVariants as claim
 use Rattle.sok_cert.specs.Text.{number_limit}
-use Rattle.sok_search.specs.Finished.{claim_of}
+use Rattle.sok_search.specs.Findings.{claim_of}
 use Rattle.sok_book.specs.declared.fault.BookFault.{BookFault}
 use Rattle.sok_book.specs.declared.fault.BookFault.TheVariants as refusal
 use Rattle.sok_book.specs.declared.record.Offer.{Offer}
@@ -28,11 +28,12 @@ use Rattle.sok_store.specs.Verdicts.{IsNotSet}
 use Rattle.sok_store.proofs.Found.{kept_at, page_there, some_and}
 use Rattle.sok_keep.specs.Offers.{HasBest}
 use Rattle.sok_settle.specs.declared.settle.Span.{Span}
-use Rattle.sok_settle.specs.Steps.{AreFewest, IsTriedAs}
+use Rattle.sok_settle.specs.Settles.{IsTried}
+use Rattle.sok_settle.specs.Steps.{AreFewest}
 
 -- ---- letters that solve a level are not refused
 
-pub never_refused : (span : Span) (id : ℤ) (page : Page) (book : Book) (letters : List Dir) (fault : BookFault) → IsTriedAs span id page book
+pub never_refused : (span : Span) (id : ℤ) (page : Page) (book : Book) (letters : List Dir) (fault : BookFault) → IsTried span id page book
     → Solves page.level letters → length letters ≤ letter_limit → IsNotOffered book (id_number id) letters fault → ⊥
 never_refused span id page book letters fault tried solves few refused =
     let answer = offer_answer (is_better (pushes page.level (start page.level) letters) (best_pushes page)) in
@@ -97,7 +98,7 @@ best_untested page solution untested =
 
 -- after the solution was offered
 pub offered_best : (span : Span) (id : ℤ) (page : Page) (book middle : Book) (letters : List Dir) (least : ℕ) (offer : Offer) → IsKeptBook book
-    → IsTriedAs span id page book → AreFewest page.level letters least → Offers book (id_number id) letters offer middle
+    → IsTried span id page book → AreFewest page.level letters least → Offers book (id_number id) letters offer middle
     → HasLeast middle (id_number id) page.level least
 offered_best span id page book middle letters least offer kept tried is offered =
     let one : offered.page ≡ page = same_Some offered.page page (sym offered.there ∙ tried.there) in
@@ -163,7 +164,7 @@ no_best rows None unsolvable kept = refl
 no_best rows (Some best) unsolvable kept = absurd (unsolvable best.letters kept.solution.solves)
 
 -- a claim of this is not refused
-pub never_solved : (span : Span) (id : ℤ) (page : Page) (book : Book) (fault : BookFault) → IsKeptBook book → IsTriedAs span id page book → IsUnsolvable page.level
+pub never_solved : (span : Span) (id : ℤ) (page : Page) (book : Book) (fault : BookFault) → IsKeptBook book → IsTried span id page book → IsUnsolvable page.level
     → IsNotSet book (id_number id) page.level claim.Unsolvable fault → ⊥
 never_solved span id page book refusal.NoLevel kept tried unsolvable refused =
     refused (some_and (page_at book (id_number id)) (λ p. p.level ≡ page.level) page tried.there refl)

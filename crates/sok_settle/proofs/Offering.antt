@@ -10,6 +10,7 @@ use Rattle.sok_rules.specs.Squares.{Rows}
 use Rattle.sok_rules.specs.Play.{IsFewest, IsUnsolvable}
 use Rattle.sok_cert.specs.Claim.{Claim}
 use Rattle.sok_cert.specs.Claim.TheVariants as claim
+use Rattle.sok_search.specs.Findings.{IsFewer}
 use Rattle.sok_search.specs.Outcomes.{IsCutShortBeside, IsLeastSolution}
 use Rattle.sok_book.specs.declared.fault.BookFault.{BookFault}
 use Rattle.sok_book.specs.Books.{Book, Page}
@@ -32,8 +33,8 @@ use Rattle.sok_settle.specs.declared.settle.Span.{Span}
 use Rattle.sok_settle.specs.Going.{MayStep}
 use Rattle.sok_settle.specs.Keeping.{Keeping, TellsKept}
 use Rattle.sok_settle.specs.Lines.{TellsFault, TellsLine, TellsUnkept, fault_line}
-use Rattle.sok_settle.specs.Settles.{EndsLevel, SettlesBy, SettlesLevel, is_past_limit, is_settled, is_too_long, is_too_much, leave_of_level, limit_line, optimal_line, too_long, unsolvable_line}
-use Rattle.sok_settle.specs.Steps.{AreFewest, GoesBy, GoesThrough, IsTriedAs, leave_of_kept}
+use Rattle.sok_settle.specs.Settles.{EndsLevel, SettlesBy, SettlesLevel, is_past_limit, is_settled, is_too_long, is_too_much, IsTried, leave_of_level, limit_line, optimal_line, too_long, unsolvable_line}
+use Rattle.sok_settle.specs.Steps.{AreFewest, GoesBy, GoesThrough, leave_of_kept}
 use Rattle.sok_settle.proofs.Going.{changes_leads, left_steps, memory_goes, same_leads, step_other, told_goes, unwritten_goes}
 use Rattle.sok_settle.proofs.Levels.{HasLeast, best_stays, best_told, never_differs, never_refused, never_solved, offered_best}
 
@@ -41,20 +42,20 @@ use Rattle.sok_settle.proofs.Levels.{HasLeast, best_stays, best_told, never_diff
 
 module _ (keeping : Keeping) (limit : ℕ) (span : Span) (id : ℤ) (page : Page) where
   abbrev through_tried : State → State → Option (List ℕ) → Option (List ℕ) → Result Bool ToolFault → Type 0
-  through_tried = GoesThrough (IsTriedAs span id page) keeping limit span id
+  through_tried = GoesThrough (IsTried span id page) keeping limit span id
 
   -- a line is told of a level that is not settled
   stays_goes : (s : State) (line : List ℕ) (held later : Option (List ℕ)) (result : Result Bool ToolFault)
-      → ((book : Book) → IsTriedAs span id page book → SettlesLevel keeping limit span id book line false book) → TellsLine line false held later result
+      → ((book : Book) → IsTried span id page book → SettlesLevel keeping limit span id book line false book) → TellsLine line false held later result
       → through_tried s s held later result
   stays_goes s line held later result stays tells =
-      told_goes (SettlesLevel keeping limit span id) (leave_of_level keeping limit span id) (IsTriedAs span id page) s s line false held later result
+      told_goes (SettlesLevel keeping limit span id) (leave_of_level keeping limit span id) (IsTried span id page) s s line false held later result
       (same_leads s _ (λ book kept tried. stays book tried)) (stops_same s _) tells
 
   -- memory is refused
   memory_refused : (s : State) (held later : Option (List ℕ)) → Keeps held later → through_tried s s held later (Err tool.Memory)
   memory_refused s held later keeps =
-      memory_goes (SettlesLevel keeping limit span id) (leave_of_level keeping limit span id) (IsTriedAs span id page) s s held later tool.Memory refl keeps
+      memory_goes (SettlesLevel keeping limit span id) (leave_of_level keeping limit span id) (IsTried span id page) s s held later tool.Memory refl keeps
       (λ clean book holds. (book, λ tried. inl refl, holds)) (stops_same s _)
 
   pub unsearched_goes : (s : State) (held : Option (List ℕ)) (fault : ToolFault) → fault ≡ tool.Memory → through_tried s s held held (Err fault)
@@ -63,17 +64,17 @@ module _ (keeping : Keeping) (limit : ℕ) (span : Span) (id : ℤ) (page : Page
 
   -- the line of its fault is told, or memory is refused for it
   fault_goes : (s : State) (fault : ToolFault) (held later : Option (List ℕ)) (result : Result Bool ToolFault)
-      → ((book : Book) → IsTriedAs span id page book → SettlesLevel keeping limit span id book (fault_line id fault) false book)
+      → ((book : Book) → IsTried span id page book → SettlesLevel keeping limit span id book (fault_line id fault) false book)
       → TellsFault id fault held later result → through_tried s s held later result
   fault_goes s fault held later result stays (inl (is, keeps)) =
       subst (λ (r : Result Bool ToolFault). through_tried s s held later r) (sym is) (memory_refused s held later keeps)
   fault_goes s fault held later result stays (inr tells) = stays_goes s (fault_line id fault) held later result stays tells
 
   pub limit_goes : (s : State) (least : ℕ) (held later : Option (List ℕ)) (result : Result Bool ToolFault)
-      → IsCutShortBeside page.level limit (best_pushes page) limit least → TellsLine (limit_line id limit least) false held later result
-      → through_tried s s held later result
-  limit_goes s least held later result cut tells =
-      stays_goes s (limit_line id limit least) held later result (λ book tried. is_past_limit page least tried cut refl refl refl) tells
+      → IsCutShortBeside page.level limit (best_pushes page) limit least → IsFewer (best_pushes page) least
+      → TellsLine (limit_line id limit least) false held later result → through_tried s s held later result
+  limit_goes s least held later result cut fewer tells =
+      stays_goes s (limit_line id limit least) held later result (λ book tried. is_past_limit page least tried cut fewer refl refl refl) tells
 
   pub too_long_goes : (s : State) (letters : List Dir) (pushes : ℕ) (held later : Option (List ℕ)) (result : Result Bool ToolFault)
       → IsLeastSolution page.level letters pushes → letter_limit < length letters → TellsFault id too_long held later result
@@ -91,7 +92,7 @@ module _ (keeping : Keeping) (limit : ℕ) (span : Span) (id : ℤ) (page : Page
         fault_goes s tool.TooMuch held later result (λ book tried. is_too_much page tried refused refl refl refl) tells
     unkept X s tool.WriteFailed held later result refused (is, keeps) =
         subst (λ (r : Result Bool ToolFault). through_tried s s held later r) (sym is)
-        (unwritten_goes (SettlesLevel keeping limit span id) (leave_of_level keeping limit span id) (IsTriedAs span id page) s held later keeps
+        (unwritten_goes (SettlesLevel keeping limit span id) (leave_of_level keeping limit span id) (IsTried span id page) s held later keeps
         (λ book tried. (page, tried, refused)))
     unkept X s tool.Memory held later result refused (is, keeps) =
         subst (λ (r : Result Bool ToolFault). through_tried s s held later r) (sym is) (memory_refused s held later keeps)
@@ -108,14 +109,14 @@ module _ (keeping : Keeping) (limit : ℕ) (span : Span) (id : ℤ) (page : Page
         → GoesBy span id page shown old new held later result → through_tried old new held later result
     kept_goes old new held later result kept goes =
         step_other (SettlesBy id page.level shown) (SettlesLevel keeping limit span id) (leave_of_kept span id) (leave_of_level keeping limit span id)
-        (IsTriedAs span id page) (λ book after line settled tried by. is_settled page shown tried kept by) (λ book after tried left. left)
+        (IsTried span id page) (λ book after line settled tried by. is_settled page shown tried kept by) (λ book after tried left. left)
         (λ book tried never. absurd never) old new held later result goes
 
 -- ---- it is settled by a claim
 
 module _ (span : Span) (id : ℤ) (page : Page) (rows : Rows) (same : page.level ≡ rows) where
   abbrev May : Claim → Book → Book → Type 0
-  May shown book after = IsTriedAs span id page book → MayStep (SettlesBy id page.level shown) (leave_of_kept span id) book after
+  May shown book after = IsTried span id page book → MayStep (SettlesBy id page.level shown) (leave_of_kept span id) book after
 
   not_set : (book : Book) (shown : Claim) (fault : BookFault) → IsNotSet book (id_number id) rows shown fault
       → IsNotSet book (id_number id) page.level shown fault
@@ -131,7 +132,7 @@ module _ (span : Span) (id : ℤ) (page : Page) (rows : Rows) (same : page.level
     least : AreFewest page.level letters pushes
     least = subst (λ (r : Rows). AreFewest r letters pushes) (sym same) fewest
 
-    left : (book after : Book) → IsTriedAs span id page book → IsOffered book after → EndsLevel span id book after
+    left : (book after : Book) → IsTried span id page book → IsOffered book after → EndsLevel span id book after
     left book after tried (told, tells) = inr (page, tried, letters, told.offer, tells.offered)
 
     offer_stops : Stops old mid (May (claim.Pushes pushes))
@@ -161,11 +162,11 @@ module _ (span : Span) (id : ℤ) (page : Page) (rows : Rows) (same : page.level
       early : HasCleanDisk new → HasCleanDisk mid
       early clean = omega (arith, clean, two.clean)
 
-      least_after : (book middle : Book) → IsKeptBook book → IsTriedAs span id page book → OffersTelling book (id_number id) letters told middle
+      least_after : (book middle : Book) → IsKeptBook book → IsTried span id page book → OffersTelling book (id_number id) letters told middle
           → HasLeast middle (id_number id) page.level pushes
       least_after book middle kept tried tells = offered_best span id page book middle letters pushes told.offer kept tried least tells.offered
 
-      optimal : (book middle after : Book) → IsKeptBook book → IsTriedAs span id page book → OffersTelling book (id_number id) letters told middle
+      optimal : (book middle after : Book) → IsKeptBook book → IsTried span id page book → OffersTelling book (id_number id) letters told middle
           → SetsVerdict middle (id_number id) (claim.Pushes pushes) after
           → SettlesBy id page.level (claim.Pushes pushes) book (optimal_line id told.pushes told.moves) true after
       optimal book middle after kept tried tells sets =
@@ -226,7 +227,7 @@ module _ (span : Span) (id : ℤ) (page : Page) (rows : Rows) (same : page.level
           → TellsLine (optimal_line id told.pushes told.moves) true held later result
           → GoesBy span id page (claim.Pushes pushes) old new held later result
       set_goes held_out later result proved tells_line =
-          told_goes (SettlesBy id page.level (claim.Pushes pushes)) (leave_of_kept span id) (IsTriedAs span id page) old new (optimal_line id told.pushes told.moves) true held_out later result
+          told_goes (SettlesBy id page.level (claim.Pushes pushes)) (leave_of_kept span id) (IsTried span id page) old new (optimal_line id told.pushes told.moves) true held_out later result
           (changes_leads old new _ (λ clean book holds.
           let (middle, tells, stores) = offered (early clean) book holds in
           let (after, sets, stores_after) = proved clean middle (held mid middle stores) in
@@ -273,7 +274,7 @@ module _ (span : Span) (id : ℤ) (page : Page) (rows : Rows) (same : page.level
         → StoresChange old new (λ book after. SetsVerdict book (id_number id) claim.Unsolvable after) → TellsLine (unsolvable_line id) true held later result
         → GoesBy span id page claim.Unsolvable old new held later result
     none_set_goes held later result proved tells =
-        told_goes (SettlesBy id page.level claim.Unsolvable) (leave_of_kept span id) (IsTriedAs span id page) old new (unsolvable_line id) true held later result
+        told_goes (SettlesBy id page.level claim.Unsolvable) (leave_of_kept span id) (IsTried span id page) old new (unsolvable_line id) true held later result
         (changes_leads old new _ (λ clean book holds.
         let (after, sets, stores) = proved clean book holds in (after, λ tried. none_solves book after sets, stores)))
         none_stops tells

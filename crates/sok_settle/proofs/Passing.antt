@@ -13,8 +13,8 @@ use Rattle.sok_store.proofs.Wide.{wide}
 use Rattle.sok_keep.proofs.Ids.{passed}
 use Rattle.sok_settle.specs.declared.settle.Span.{Span}
 use Rattle.sok_settle.specs.Keeping.{Keeping}
-use Rattle.sok_settle.specs.Settles.{IsBeyond, is_passed}
-use Rattle.sok_settle.specs.Steps.{GoesThrough, IsRecordIn, IsTriedAs, MaySettle, StepsLevel}
+use Rattle.sok_settle.specs.Settles.{IsBeyond, IsTried, is_passed}
+use Rattle.sok_settle.specs.Steps.{GoesThrough, IsRecordIn, MaySettle, StepsLevel}
 use Rattle.sok_settle.proofs.Going.{goes_other, same_leads}
 
 -- ---- the id of a record
@@ -43,7 +43,7 @@ module _ (span : Span) (kept : PageWithId) (book : Book) (of_book : IsKeptBook b
 
 -- the level of a record is tried, where nothing is proved of it
 tried_as : (span : Span) (kept : PageWithId) → (IsBeyond span (passed kept.id) → ⊥) → kept.page.verdict ≡ Untested
-    → (book : Book) → IsKeptBook book → IsRecordIn kept book → IsTriedAs span kept.id kept.page book
+    → (book : Book) → IsKeptBook book → IsRecordIn kept book → IsTried span kept.id kept.page book
 tried_as span kept other untested book of_book is =
     record { there = is.there; within = within span kept book of_book is other; untested = untested }
 
@@ -51,18 +51,18 @@ module _ (keeping : Keeping) (limit : ℕ) (span : Span) (kept : PageWithId) whe
   -- so it is settled as the level with its page is
   pub level_goes : (old new : State) (held later : Option (List ℕ)) (result : Result Bool ToolFault)
       → (IsBeyond span (passed kept.id) → ⊥) → kept.page.verdict ≡ Untested
-      → GoesThrough (IsTriedAs span (passed kept.id) kept.page) keeping limit span (passed kept.id) old new held later result
+      → GoesThrough (IsTried span (passed kept.id) kept.page) keeping limit span (passed kept.id) old new held later result
       → GoesThrough (IsRecordIn kept) keeping limit span kept.id old new held later result
   level_goes old new held later result other untested goes =
       goes_other old new _ _ _ _
       (λ book after of_book makes is.
       let same = record_passed kept book of_book is in
       subst (λ i. StepsLevel keeping limit span i book after held later result) same
-      (makes (subst (λ i. IsTriedAs span i kept.page book) (sym same) (tried_as span kept other untested book of_book is))))
+      (makes (subst (λ i. IsTried span i kept.page book) (sym same) (tried_as span kept other untested book of_book is))))
       (λ book after of_book makes is.
       let same = record_passed kept book of_book is in
       subst (λ i. MaySettle keeping limit span i book after) same
-      (makes (subst (λ i. IsTriedAs span i kept.page book) (sym same) (tried_as span kept other untested book of_book is))))
+      (makes (subst (λ i. IsTried span i kept.page book) (sym same) (tried_as span kept other untested book of_book is))))
       result goes
 
   -- a level that is beyond those that are tried, or has a verdict, is passed over

@@ -61,7 +61,7 @@ pub else_settled : (keeping : Keeping) (limit : ℕ) (span : Span) (id : ℤ) (b
     → SettlesLevel keeping limit span id book line settled after → (m : ℕ) → (id_number id - 1 ≡ m → ⊥) → slice_get after m ≡ slice_get book m
 else_settled keeping limit span id book after line settled (is_passed page there why says is same) m other = ap (λ (b : Book). slice_get b m) same
 else_settled keeping limit span id book after line settled (is_settled page shown tried kept by) m other = else_by id book after page.level shown line settled by m other
-else_settled keeping limit span id book after line settled (is_past_limit page least tried cut says is same) m other = ap (λ (b : Book). slice_get b m) same
+else_settled keeping limit span id book after line settled (is_past_limit page least tried cut fewer says is same) m other = ap (λ (b : Book). slice_get b m) same
 else_settled keeping limit span id book after line settled (is_too_long page letters pushes tried least many says is same) m other =
     ap (λ (b : Book). slice_get b m) same
 else_settled keeping limit span id book after line settled (is_too_much page tried unkept says is same) m other = ap (λ (b : Book). slice_get b m) same

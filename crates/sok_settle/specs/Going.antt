@@ -1,4 +1,4 @@
--- Steps on a book, one after another, each told in a line, and how a call that goes through them ends. The proof's own: how it treats the connection.
+-- Steps on a book, each with a line, and how a call that goes through them ends. The proof's own: what it leaves of the connection.
 use Rattle.std.specs.Prelude.{ℕ, ◌≡◌, ◌⊎◌, ◌+◌, ◌<◌, ◌&&◌, List, [], ◌++◌, Option, Bool, true, Result, Ok, Err, IfErr, OnOk, length, take}
 use Rattle.std.specs.Io.KnownBytes.{Appends, Keeps}
 use Rattle.sqlite.specs.State.{State}
@@ -20,22 +20,22 @@ pub record Leave : Type 1 where
   pub leaves : Book → Book → Type 0
   pub unwritten : Book → Type 0
 
--- so many steps were gone, the first ones, one after another, with these lines, and each of them is well done, or not each
+-- the first so many steps were done, with these lines; and whether each of them is well done
 pub data GoesFirst (StepAt : ℕ → Step) (book : Book) : ℕ → List ℕ → Bool → Book → Type 0 where
   none : GoesFirst StepAt book 0 [] true book
   more : (n : ℕ) (text line : List ℕ) (all well : Bool) (before after : Book) → GoesFirst StepAt book n text all before
       → StepAt n before line well after → GoesFirst StepAt book (n + 1) (text ++ line) (all && well) after
 
--- the first steps were gone, one or more of them, or none, and then the call ended
+-- some of the first steps were done, or none, and then the call ended
 abbrev pub GoesSome : (ℕ → Step) → (ℕ → Leave) → Book → Book → Type 0
 GoesSome StepAt LeaveAt book after =
     (n : ℕ) × (text : List ℕ) × (all : Bool) × (before : Book) × GoesFirst StepAt book n text all before × (LeaveAt n).leaves before after
 
--- a front of the line of one more step was written behind the lines before it, and not all of it
+-- a front of the line of one more step was written, and not all of it
 abbrev pub BreaksOff : List ℕ → List ℕ → Option (List ℕ) → Option (List ℕ) → Type 0
 BreaksOff text line old new = (n : ℕ) × (n < length line) × Appends old new (text ++ take n line)
 
--- How a call ends at a step, behind the lines of those before it. A write failed, in its line or before it; or memory or the database was refused at it.
+-- How a call ends at a step, after the lines before it: a write failed, in its line or before it; or memory or the database was refused.
 abbrev pub EndsAt : Step → Leave → List ℕ → Book → Book → Option (List ℕ) → Option (List ℕ) → ToolFault → Type 0
 EndsAt One Left text before after old new tool.WriteFailed =
     ((line : List ℕ) × (well : Bool) × One before line well after × BreaksOff text line old new)
@@ -44,7 +44,7 @@ EndsAt One Left text before after old new tool.Memory = Left.leaves before after
 EndsAt One Left text before after old new (tool.Book refusal.Database) = Left.leaves before after × Appends old new text
 EndsAt One Left text before after old new fault = ⊥
 
--- the first steps were gone, and how the call ended behind them
+-- the first steps were done, and then the call ended
 pub record GoesUntil (StepAt : ℕ → Step) (Ends : ℕ → List ℕ → Bool → Book → Type 0) (book : Book) : Type 0 where
   pub count : ℕ
   pub text : List ℕ
@@ -55,7 +55,7 @@ pub record GoesUntil (StepAt : ℕ → Step) (Ends : ℕ → List ℕ → Bool �
 
 -- ---- one step
 
--- it was gone, and its line was written, or a front of it; or the call ends at it, with nothing written
+-- it was done, and its line was written, or a front of it; or the call ends at it, with nothing written
 abbrev pub StepsOnce : Step → Leave → Book → Book → Option (List ℕ) → Option (List ℕ) → Result Bool ToolFault → Type 0
 StepsOnce One Left book after old new (Ok well) = (line : List ℕ) × One book line well after × Appends old new line
 StepsOnce One Left book after old new (Err tool.WriteFailed) =
@@ -65,7 +65,7 @@ StepsOnce One Left book after old new (Err tool.Memory) = Left.leaves book after
 StepsOnce One Left book after old new (Err (tool.Book refusal.Database)) = Left.leaves book after × Keeps old new
 StepsOnce One Left book after old new (Err fault) = ⊥
 
--- what is made of the book meanwhile
+-- what may become of the book meanwhile
 abbrev pub MayStep : Step → Leave → Book → Book → Type 0
 MayStep One Left book after = Left.leaves book after ⊎ ((line : List ℕ) × (well : Bool) × One book line well after)
 
@@ -85,12 +85,12 @@ GoesWhere P old new Makes MayMake = Goes old new (λ book after. P book → Make
 abbrev pub IsAnyBook : Book → Type 0
 IsAnyBook book = Unit {0}
 
--- so a call does that goes one step
+-- what a call leaves that does one step
 abbrev pub GoesStep : (Book → Type 0) → Step → Leave → State → State → Option (List ℕ) → Option (List ℕ) → Result Bool ToolFault → Type 0
 GoesStep P One Left old new here later result =
     GoesWhere {X = Bool} P old new (λ book after. StepsOnce One Left book after here later result) (MayStep One Left) result
 
--- the first steps were gone, and their lines were written
+-- the first steps were done, and their lines were written
 pub record HasGone (StepAt : ℕ → Step) (n : ℕ) (all : Bool) (book after : Book) (old new : Option (List ℕ)) : Type 0 where
   pub text : List ℕ
   pub gone : GoesFirst StepAt book n text all after

@@ -1,21 +1,21 @@
--- What becomes of the certificates of levels that are settled.
+-- What becomes of the certificates of a settling.
 use Rattle.std.specs.Prelude.{ℕ, ℤ, Result, Ok, Err, ⊤}
 use Rattle.sok_rules.specs.Squares.{Rows}
 use Rattle.sok_cert.specs.Claim.{Claim}
 use Rattle.sok_engine.specs.declared.fault.ToolFault.{ToolFault}
 use Rattle.sok_engine.specs.declared.fault.ToolFault.TheVariants as tool
 
--- What may become of the certificate of the level with an id, which has these rows, where the search had so many states at most: one for a claim is kept; or one
--- is refused, and this is told.
+-- What may become of the certificate of the level with an id, which has these rows, after a search within a limit: one for a claim is kept; or it is refused
+-- with a fault.
 pub record Keeping : Type 1 where
   pub keeps : ℕ → ℤ → Rows → Claim → Type 0
   pub refuses : ℕ → ℤ → Rows → ToolFault → Type 0
 
--- where none is wanted, none is made
+-- if none are kept
 abbrev pub no_certs : Keeping
 no_certs = record { keeps = λ limit id rows shown. ⊤; refuses = λ limit id rows fault. ⊥ }
 
--- it was kept; or memory was refused for it; or it is too long, or a write failed, where it may be refused so
+-- a certificate was kept; or memory was refused; or it is too long, or can't be written, if that may happen
 abbrev pub TellsKept : {X : Type 0} → Keeping → ℕ → ℤ → Rows → Claim → Result X ToolFault → Type 0
 TellsKept keeping limit id rows shown (Ok x) = keeping.keeps limit id rows shown
 TellsKept keeping limit id rows shown (Err tool.Memory) = ⊤

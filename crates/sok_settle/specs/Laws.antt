@@ -1,4 +1,4 @@
--- What holds of a book after some of its levels were settled, or lines of offers were gone through.
+-- What holds of a book after a settling, or after lines of offers.
 use Rattle.std.specs.Prelude.{ℕ, pos, ◌≡◌, ◌≢◌, ◌⊎◌, ◌≤◌, List, Option, Some, Result, true}
 use Rattle.sok_cert.specs.Claim.{Claim}
 use Rattle.sok_book.specs.declared.record.Verdict.TheVariants.{Untested}
@@ -11,13 +11,13 @@ use Rattle.sok_settle.specs.Keeping.{Keeping}
 use Rattle.sok_settle.specs.Offers.{OffersBytes, WritesOffers}
 use Rattle.sok_settle.specs.Settles.{IsBeyond, SettlesFirst, SettlesSome, WritesSettling}
 
--- whatever was written, and however the call ended, some of the levels were settled
+-- however a settling ends, some of the first levels were gone through, or none
 abbrev pub SettlingsAreSome : Keeping → Type 0
 SettlingsAreSome keeping =
     (limit : ℕ) (span : Span) (book after : Book) (old new : Option (List ℕ)) (result : Result ℕ ToolFault)
     → WritesSettling keeping limit span book after old new result → SettlesSome keeping limit span book after
 
--- it is what accepted commands make of the book before, one after another
+-- then the book is what accepted commands make of the one before, one after another
 abbrev pub SettlingsFold : Keeping → Type 0
 SettlingsFold keeping = (limit : ℕ) (span : Span) (book after : Book) → SettlesSome keeping limit span book after → IsMadeOf book after
 
@@ -25,19 +25,19 @@ SettlingsFold keeping = (limit : ℕ) (span : Span) (book after : Book) → Sett
 abbrev pub SettlingsKeepTruth : Keeping → Type 0
 SettlingsKeepTruth keeping = (limit : ℕ) (span : Span) (book after : Book) → SettlesSome keeping limit span book after → IsTrueBook book → IsTrueBook after
 
--- a level that is beyond those that are tried, or that has a verdict, stays as it was
+-- a level outside the span, or with a verdict, stays as it was
 abbrev pub SettlingsKeepVerdicts : Keeping → Type 0
 SettlingsKeepVerdicts keeping =
     (limit : ℕ) (span : Span) (book after : Book) (id : ℕ) (page : Page) → SettlesSome keeping limit span book after → page_at book id ≡ Some page
     → IsBeyond span (pos id) ⊎ (page.verdict ≢ Untested) → page_at after id ≡ Some page
 
--- where each of so many levels that was tried is settled, each of them has a verdict, or is beyond those
+-- if each of the first levels that was tried is settled, each of them has a verdict, or is outside the span
 abbrev pub SettledHaveVerdicts : Keeping → Type 0
 SettledHaveVerdicts keeping =
     (limit : ℕ) (span : Span) (book : Book) (n : ℕ) (text : List ℕ) (after : Book) (id : ℕ) (page : Page) → SettlesFirst keeping limit span book n text true after
     → id ≤ n → page_at after id ≡ Some page → IsBeyond span (pos id) ⊎ (page.verdict ≢ Untested)
 
--- a level that had no verdict and has one then: a certificate of the claim by which it has it was kept
+-- if a level had no verdict and has one now, a certificate of its claim was kept
 abbrev pub SettledHaveCerts : Keeping → Type 0
 SettledHaveCerts keeping =
     (limit : ℕ) (span : Span) (book after : Book) (id : ℕ) (page new : Page) → SettlesSome keeping limit span book after → page_at book id ≡ Some page
@@ -46,13 +46,13 @@ SettledHaveCerts keeping =
 
 -- ---- lines of offers
 
--- whatever was written, and however the call ended, some of the lines were offered
+-- however the call ends, some of the first lines were offered, or none
 abbrev pub OffersAreSome : Type 0
 OffersAreSome =
     (known : Option (List ℕ)) (book after : Book) (old new : Option (List ℕ)) (result : Result ℕ ToolFault) → WritesOffers book known after old new result
     → OffersBytes known book after
 
--- it is what accepted commands make of the book before, one after another
+-- then the book is what accepted commands make of the one before, one after another
 abbrev pub OffersFold : Type 0
 OffersFold = (known : Option (List ℕ)) (book after : Book) → OffersBytes known book after → IsMadeOf book after
 

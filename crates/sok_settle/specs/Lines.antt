@@ -1,4 +1,4 @@
--- The line of what has a fault of its own, which does not end the call. The proof's own: how a line is written.
+-- The line of a fault that does not end the call. The proof's own: how a line is written.
 use Rattle.std.specs.Prelude.{ℕ, ℤ, ◌≡◌, ◌≢◌, ◌⊎◌, List, ◌++◌, Option, Bool, false, Result, Ok, Err, codes}
 use Rattle.std.specs.Fmt.{signed_decimal}
 use Rattle.std.specs.Io.KnownBytes.{Appends, Keeps}
@@ -16,26 +16,26 @@ use Rattle.sok_store.specs.Faults.{IsOutside}
 abbrev pub fault_line : ℤ → ToolFault → List ℕ
 fault_line id fault = signed_decimal id ++ (codes " " ++ (fault_words fault ++ codes "\n"))
 
--- a line was written, of what is well done or not; or a front of it
+-- a line was written, of what is well done or not; or a front of it was
 abbrev pub TellsLine : List ℕ → Bool → Option (List ℕ) → Option (List ℕ) → Result Bool ToolFault → Type 0
 TellsLine line well old new (Ok told) = (told ≡ well) × Appends old new line
 TellsLine line well old new (Err fault) = (fault ≡ tool.WriteFailed) × AppendsFront old new line
 
--- so it is with the line of a fault; or memory was refused for it
+-- the line of a fault was written so; or memory was refused for it
 abbrev pub TellsFault : ℤ → ToolFault → Option (List ℕ) → Option (List ℕ) → Result Bool ToolFault → Type 0
 TellsFault id fault old new result = ((result ≡ Err tool.Memory) × Keeps old new) ⊎ TellsLine (fault_line id fault) false old new result
 
--- so it is where the certificate of a level is too long; another fault of it ends the call
+-- if the certificate of a level is too long, its line was written; any other fault of it ends the call
 abbrev pub TellsUnkept : ℤ → ToolFault → Option (List ℕ) → Option (List ℕ) → Result Bool ToolFault → Type 0
 TellsUnkept id tool.TooMuch old new result = TellsFault id tool.TooMuch old new result
 TellsUnkept id fault old new result = (result ≡ Err fault) × Keeps old new
 
--- so it is where a text does not spell letters; want of memory is not told, and ends the call
+-- if a text does not spell letters, its line was written; want of memory ends the call without a line
 abbrev pub TellsUnread : ℤ → LurdFault → Option (List ℕ) → Option (List ℕ) → Result Bool ToolFault → Type 0
 TellsUnread id fault old new result =
     ((fault ≡ lurd.Memory) × (result ≡ Err tool.Memory) × Keeps old new) ⊎ ((fault ≢ lurd.Memory) × TellsFault id (of_lurd fault) old new result)
 
--- and so where the book refuses letters; what is not of the offer ends the call
+-- if the book refuses letters, their line was written; a fault that is not of the offer ends the call
 abbrev pub TellsRefused : ℤ → BookFault → Option (List ℕ) → Option (List ℕ) → Result Bool ToolFault → Type 0
 TellsRefused id fault old new result =
     (IsOutside fault × (result ≡ Err (of_book fault)) × Keeps old new) ⊎ ((IsOutside fault → ⊥) × TellsFault id (of_book fault) old new result)

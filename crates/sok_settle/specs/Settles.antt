@@ -1,4 +1,4 @@
--- What is told of the levels of a book as they are settled, one after another, and what becomes of the book.
+-- The lines of a settling, level by level, and what becomes of the book.
 use Rattle.std.specs.Prelude.{ℕ, ℤ, pos, ◌≡◌, ◌≢◌, ◌⊎◌, ◌+◌, ◌<◌, ◌<ℤ◌, List, [], ◌++◌, Option, Some, Bool, true, false, Result, Ok, Err, codes, length}
 use Rattle.std.specs.Fmt.{decimal, signed_decimal}
 use Rattle.std.specs.Io.KnownBytes.{Appends, Keeps}
@@ -10,6 +10,7 @@ use Rattle.sok_rules.specs.Play.{IsFewest, IsUnsolvable}
 use Rattle.sok_cert.specs.Claim.{Claim}
 use Rattle.sok_cert.specs.Claim.TheVariants as claim
 use Rattle.sok_search.specs.Faults.{IsBadLimit}
+use Rattle.sok_search.specs.Findings.{IsFewer}
 use Rattle.sok_search.specs.Outcomes.{IsCutShortBeside, IsLeastSolution}
 use Rattle.sok_book.specs.declared.fault.BookFault.TheVariants as refusal
 use Rattle.sok_book.specs.declared.record.Offer.{Offer}
@@ -30,11 +31,11 @@ abbrev pub optimal_line : ℤ → ℕ → ℕ → List ℕ
 optimal_line id pushes moves =
     signed_decimal id ++ (codes " optimal " ++ (decimal pushes ++ (codes " " ++ (decimal moves ++ codes "\n"))))
 
--- of one that has no solution
+-- of one without a solution
 abbrev pub unsolvable_line : ℤ → List ℕ
 unsolvable_line id = signed_decimal id ++ codes " unsolvable\n"
 
--- of one with more states than the limit, with the fewest pushes that the search shows
+-- of one whose search reached its limit, with the lower bound that it shows
 abbrev pub limit_line : ℤ → ℕ → ℕ → List ℕ
 limit_line id limit least =
     signed_decimal id ++ (codes " limit " ++ (decimal limit ++ (codes " at least " ++ (decimal least ++ codes "\n"))))
@@ -43,17 +44,17 @@ limit_line id limit least =
 abbrev pub too_long : ToolFault
 too_long = tool.Book (refusal.Letters play.TooLong)
 
--- an id comes before the first of those that are tried, or behind the last
+-- an id is outside the span
 abbrev pub IsBeyond : Span → ℤ → Type 0
 IsBeyond span id = (id <ℤ span.first) ⊎ (span.last <ℤ id)
 
--- the level with an id is tried: it is not beyond those, and nothing is proved of it
-pub record IsTried (span : Span) (id : ℤ) (book : Book) (page : Page) : Type 0 where
+-- the level with an id is tried, and has this page: it is in the span, and has no verdict
+pub record IsTried (span : Span) (id : ℤ) (page : Page) (book : Book) : Type 0 where
   pub there : page_at book (id_number id) ≡ Some page
   pub within : IsBeyond span id → ⊥
   pub untested : page.verdict ≡ Untested
 
--- Letters that solve it are offered, and then the verdict is set that none solve it with fewer pushes than its best. So it has this best then, and none do.
+-- A solution is offered, and then the verdict `optimal` is set. So the level has this best afterwards, and no solution has fewer pushes.
 pub record IsOptimal (id : ℤ) (book : Book) (rows : Rows) (best : Solution) (after : Book) : Type 0 where
   pub letters : List Dir
   pub offer : Offer
@@ -63,54 +64,54 @@ pub record IsOptimal (id : ℤ) (book : Book) (rows : Rows) (best : Solution) (a
   pub has : HasBest after (id_number id) best
   pub fewest : IsFewest rows best.pushes
 
--- The level with an id, which has these rows, is settled by a claim, and this is its line: its best has as many pushes as are claimed, and none have fewer; or
--- none solve it.
+-- The level with an id, which has these rows, is settled by a claim, and this is its line: its best has as many pushes as claimed, and no solution has fewer;
+-- or it has no solution.
 abbrev pub SettlesBy : ℤ → Rows → Claim → Step
 SettlesBy id rows (claim.Pushes n) book line settled after =
     (best : Solution) × (best.pushes ≡ n) × IsOptimal id book rows best after × (line ≡ optimal_line id best.pushes best.moves) × (settled ≡ true)
 SettlesBy id rows claim.Unsolvable book line settled after =
     IsUnsolvable rows × SetsVerdict book (id_number id) claim.Unsolvable after × (line ≡ unsolvable_line id) × (settled ≡ true)
 
--- The level with an id is passed over, as it is beyond those that are tried or has a verdict; or it is tried, and settled, once a certificate of its claim is kept, or
--- not. This is its line.
+-- The level with an id is skipped, if it is outside the span or has a verdict. Or it is tried: it is settled, with a certificate of its claim kept, if those are
+-- kept; or it is not settled. This is its line.
 pub data SettlesLevel (keeping : Keeping) (limit : ℕ) (span : Span) (id : ℤ) (book : Book) (line : List ℕ) (settled : Bool) (after : Book) : Type 0 where
   is_passed : (page : Page) → page_at book (id_number id) ≡ Some page → IsBeyond span id ⊎ (page.verdict ≢ Untested) → line ≡ [] → settled ≡ true
       → after ≡ book → SettlesLevel keeping limit span id book line settled after
-  is_settled : (page : Page) (shown : Claim) → IsTried span id book page → keeping.keeps limit id page.level shown
+  is_settled : (page : Page) (shown : Claim) → IsTried span id page book → keeping.keeps limit id page.level shown
       → SettlesBy id page.level shown book line settled after → SettlesLevel keeping limit span id book line settled after
-  is_past_limit : (page : Page) (least : ℕ) → IsTried span id book page → IsCutShortBeside page.level limit (best_pushes page) limit least → line ≡ limit_line id limit least
-      → settled ≡ false → after ≡ book → SettlesLevel keeping limit span id book line settled after
-  is_too_long : (page : Page) (letters : List Dir) (pushes : ℕ) → IsTried span id book page → IsLeastSolution page.level letters pushes
+  is_past_limit : (page : Page) (least : ℕ) → IsTried span id page book → IsCutShortBeside page.level limit (best_pushes page) limit least
+      → IsFewer (best_pushes page) least → line ≡ limit_line id limit least → settled ≡ false → after ≡ book → SettlesLevel keeping limit span id book line settled after
+  is_too_long : (page : Page) (letters : List Dir) (pushes : ℕ) → IsTried span id page book → IsLeastSolution page.level letters pushes
       → letter_limit < length letters → line ≡ fault_line id too_long → settled ≡ false → after ≡ book
       → SettlesLevel keeping limit span id book line settled after
-  is_too_much : (page : Page) → IsTried span id book page → keeping.refuses limit id page.level tool.TooMuch → line ≡ fault_line id tool.TooMuch
+  is_too_much : (page : Page) → IsTried span id page book → keeping.refuses limit id page.level tool.TooMuch → line ≡ fault_line id tool.TooMuch
       → settled ≡ false → after ≡ book → SettlesLevel keeping limit span id book line settled after
 
--- the call ended at the level with an id: it is as it was, or letters that solve it were offered
+-- the call ended at the level with an id: it is as it was, or a solution was offered
 abbrev pub EndsLevel : Span → ℤ → Book → Book → Type 0
 EndsLevel span id book after =
     (after ≡ book)
-    ⊎ ((page : Page) × IsTried span id book page × (letters : List Dir) × (offer : Offer) × Offers book (id_number id) letters offer after)
+    ⊎ ((page : Page) × IsTried span id page book × (letters : List Dir) × (offer : Offer) × Offers book (id_number id) letters offer after)
 
--- so it may end there; or its certificate can't be written
+-- how the call may end at a level: so; or its certificate can't be written
 abbrev pub leave_of_level : Keeping → ℕ → Span → ℤ → Leave
 leave_of_level keeping limit span id = record {
   leaves = EndsLevel span id;
-  unwritten = λ book. (page : Page) × IsTried span id book page × keeping.refuses limit id page.level tool.WriteFailed;
+  unwritten = λ book. (page : Page) × IsTried span id page book × keeping.refuses limit id page.level tool.WriteFailed;
 }
 
--- the levels are gone through in order of their ids, which count from 1
+-- the levels come in order of their ids, which count from 1
 abbrev pub level_step : Keeping → ℕ → Span → ℕ → Step
 level_step keeping limit span n = SettlesLevel keeping limit span (pos (n + 1))
 
 abbrev pub level_leave : Keeping → ℕ → Span → ℕ → Leave
 level_leave keeping limit span n = leave_of_level keeping limit span (pos (n + 1))
 
--- so many levels were gone through, the first ones, one after another, with these lines, and each of them that was tried is settled, or not each
+-- the first so many levels were gone through, with these lines; and whether each of them that was tried is settled
 abbrev pub SettlesFirst : Keeping → ℕ → Span → Book → ℕ → List ℕ → Bool → Book → Type 0
 SettlesFirst keeping limit span = GoesFirst (level_step keeping limit span)
 
--- the first levels were settled, or not, one or more of them, or none, and then the call ended
+-- some of the first levels were gone through, or none, and then the call ended
 abbrev pub SettlesSome : Keeping → ℕ → Span → Book → Book → Type 0
 SettlesSome keeping limit span = GoesSome (level_step keeping limit span) (level_leave keeping limit span)
 
@@ -118,8 +119,7 @@ abbrev pub settle_status : Bool → ℕ
 settle_status true = 0
 settle_status false = 4
 
--- How the call ends behind so many levels, with these lines, which were written. All levels were gone through; or the limit was refused; or it ends at the
--- next level.
+-- How the call ends after so many levels, whose lines were written: all levels were gone through; or the limit was refused; or it ends at the next level.
 abbrev pub EndsSettling : Keeping → ℕ → Span → Book → Book → Option (List ℕ) → Option (List ℕ) → Result ℕ ToolFault → ℕ → List ℕ → Bool → Book → Type 0
 EndsSettling keeping limit span book after old new (Ok status) n text all before =
     (n ≡ length book) × (after ≡ before) × (status ≡ settle_status all) × Appends old new text
@@ -127,7 +127,7 @@ EndsSettling keeping limit span book after old new (Err tool.BadLimit) n text al
 EndsSettling keeping limit span book after old new (Err fault) n text all before =
     EndsAt (level_step keeping limit span n) (level_leave keeping limit span n) text before after old new fault
 
--- the first levels were gone through, and how it ended then
+-- the first levels were gone through, and then the call ended
 abbrev pub WritesSettling : Keeping → ℕ → Span → Book → Book → Option (List ℕ) → Option (List ℕ) → Result ℕ ToolFault → Type 0
 WritesSettling keeping limit span book after old new result =
     GoesUntil (level_step keeping limit span) (EndsSettling keeping limit span book after old new result) book

@@ -1,4 +1,4 @@
--- How far a level is settled when a call on it ends.
+-- How far a level is settled when a call on it ends. The proof's own words.
 use Rattle.std.specs.Prelude.{ℕ, ℤ, ◌≡◌, ◌≤◌, List, Bool, Option, Result, slice_get}
 use Rattle.sqlite.specs.State.{State}
 use Rattle.sok_rules.specs.declared.cell.Dir.{Dir}
@@ -18,33 +18,29 @@ use Rattle.sok_settle.specs.Settles.{IsTried, EndsLevel, SettlesBy, SettlesLevel
 abbrev pub StepsLevel : Keeping → ℕ → Span → ℤ → Book → Book → Option (List ℕ) → Option (List ℕ) → Result Bool ToolFault → Type 0
 StepsLevel keeping limit span id = StepsOnce (SettlesLevel keeping limit span id) (leave_of_level keeping limit span id)
 
--- what is made of the book meanwhile
+-- what may become of the book meanwhile
 abbrev pub MaySettle : Keeping → ℕ → Span → ℤ → Book → Book → Type 0
 MaySettle keeping limit span id = MayStep (SettlesLevel keeping limit span id) (leave_of_level keeping limit span id)
 
--- how a call that goes through the level with an id treats the connection, of the books of which something is true
+-- what a call on the level with an id leaves of the connection, for books of which something is true
 abbrev pub GoesThrough : (Book → Type 0) → Keeping → ℕ → Span → ℤ → State → State → Option (List ℕ) → Option (List ℕ) → Result Bool ToolFault → Type 0
 GoesThrough P keeping limit span id = GoesStep P (SettlesLevel keeping limit span id) (leave_of_level keeping limit span id)
 
--- the level with an id is tried, and has this page
-abbrev pub IsTriedAs : Span → ℤ → Page → Book → Type 0
-IsTriedAs span id page book = IsTried span id book page
-
--- letters that solve with so many pushes, and none solve with fewer
+-- a solution with so many pushes, and none has fewer
 pub record AreFewest (rows : Rows) (w : List Dir) (n : ℕ) : Type 0 where
   pub solves : Solves rows w
   pub counted : pushes rows (start rows) w ≡ n
   pub fewest : IsFewest rows n
 
--- how the call may end at a level of which a certificate is kept
+-- how the call may end at a level whose certificate is kept
 abbrev pub leave_of_kept : Span → ℤ → Leave
 leave_of_kept span id = record { leaves = EndsLevel span id; unwritten = λ book. ⊥ }
 
--- how a call treats the connection that settles such a level by its claim
+-- what a call leaves of the connection that settles such a level by its claim
 abbrev pub GoesBy : Span → ℤ → Page → Claim → State → State → Option (List ℕ) → Option (List ℕ) → Result Bool ToolFault → Type 0
-GoesBy span id page shown = GoesStep (IsTriedAs span id page) (SettlesBy id page.level shown) (leave_of_kept span id)
+GoesBy span id page shown = GoesStep (IsTried span id page) (SettlesBy id page.level shown) (leave_of_kept span id)
 
--- this is the record of a level
+-- this is the record of a level of the book
 abbrev pub IsRecordIn : PageWithId → Book → Type 0
 IsRecordIn kept book = IsRecordAt book (id_number kept.id) kept
 

@@ -7,30 +7,31 @@ ghost use Rattle.sok_cert.specs.Claim.{Claim};
 ghost use Rattle.sok_cert.specs.Text.{number_limit};
 ghost use Rattle.sok_engine.specs.declared.fault.ToolFault.TheVariants as tool;
 ghost use Rattle.sok_search.specs.Faults.{IsBadLimit};
-ghost use Rattle.sok_settle.specs.Finding.{IsFinding};
+ghost use Rattle.sok_settle.specs.Finding.{Shows};
 ghost use Rattle.sok_settle.specs.Keeping.{Keeping, TellsKept, no_certs};
 
-use crate::search::{Finding, search_alone};
+use crate::search::search_alone;
 use sok_cert::claim::Claim;
 use sok_engine::fault::ToolFault;
 use sok_rules::level::Level;
+use sok_search::finding::Finding;
 use std::alloc::Global;
 
-/// How the levels of a book are searched, and where their certificates go, as the files of a folder.
+/// How the levels of a book are searched, and where their certificates go, such as the files of a folder.
 pub trait Certs {
-    /// The certificate of what a search has found, until it is kept.
+    /// The certificate of what a search found, until it is kept.
     type Taken: Drop;
 
-    // It is one of these rows for a claim, with so many entries at most.
+    // It certifies a claim about a level with these rows, with at most so many entries.
     ghost certifies: { Self.Taken → Rows → ℕ → Claim → Type 0 };
 
     // Which certificates may be kept, and which refused.
     ghost keeping: { Self → Keeping };
 
-    // They may be kept where they go.
+    // Whether certificates may be kept there at all.
     ghost may_keep: { Self → Type 0 };
 
-    /// Searches a level beside a best of so many pushes, or alone. It refuses only for want of memory.
+    /// Searches a level beside a best with so many pushes, or alone. It fails only if memory is refused.
     fn search(
         &self,
         alloc: Global,
@@ -42,12 +43,13 @@ pub trait Certs {
         requires accepted { IsAcceptable level.now }
         requires small { IfSome best (λ k. k ≤ number_limit) }
         ensures found { IfOk result
-            (λ it. IsFinding (certifies it.1 level.now limit) level.now limit best it.0) }
+            (λ it. Shows (certifies it.1 level.now limit) level.now limit best it.0) }
         ensures memory { IfErr result (λ fault. fault ≡ tool.Memory) };
 
-    /// Keeps the certificate of the level with an id, for a claim. It is refused with `Memory`, with
-    /// `TooMuch` where it has more bytes than one that is read, and with `WriteFailed` where it can't
-    /// be written.
+    /// Keeps the certificate of the level with an id.
+    ///
+    /// Errors: `Memory`; `TooMuch` if it has more bytes than a certificate that is read may have;
+    /// `WriteFailed` if it can't be written.
     fn keep(
         &self,
         alloc: Global,

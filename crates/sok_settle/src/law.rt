@@ -1,4 +1,4 @@
-//! Laws of a book of which levels were settled, or to which lines were offered.
+//! Laws of a book whose levels were settled, or to which lines were offered.
 
 ghost use Rattle.sok_settle.specs.Laws.{OffersAreSome, OffersFold, OffersKeepTruth};
 ghost use Rattle.sok_settle.specs.Laws.{SettledHaveCerts, SettledHaveVerdicts, SettlingsAreSome};
@@ -6,10 +6,10 @@ ghost use Rattle.sok_settle.specs.Laws.{SettlingsFold, SettlingsKeepTruth, Settl
 
 use crate::certs::Certs;
 
-/// Whatever was settled of a book, it is what accepted commands make of it, one after another. A
-/// true book stays true. A level that was not to be tried, or that had a verdict, is as it was.
-/// Where each level that was tried is settled, each has a verdict, from the first to the last. Of each that
-/// got its verdict then a certificate was kept, wherever certificates go.
+/// However a settling ends, the book is what accepted commands make of it, one after another. So a true
+/// book stays true. A level outside the span, or with a verdict, is as it was. If every level that was
+/// tried is settled, every level of the span has a verdict. A certificate was kept of each level that got
+/// its verdict, if certificates are kept.
 pub fn settled_books_are_made_by_commands<C: Certs>(certs: &C)
     ensures some { SettlingsAreSome (C.keeping certs.now) }
     ensures folded { SettlingsFold (C.keeping certs.now) }
@@ -19,8 +19,8 @@ pub fn settled_books_are_made_by_commands<C: Certs>(certs: &C)
     ensures certified { SettledHaveCerts (C.keeping certs.now) }
 {}
 
-/// Whatever lines were offered to a book, it is what accepted commands make of it, one after another.
-/// A true book stays true.
+/// Whatever lines were offered, the book is what accepted commands make of it, one after another. So a
+/// true book stays true.
 pub fn offered_books_are_made_by_commands()
     ensures some { OffersAreSome }
     ensures folded { OffersFold }

@@ -1,4 +1,4 @@
-//! One level of a book is settled.
+//! Settling one level of a book.
 
 ghost use Rattle.std.specs.Prelude.{◌≡◌, ◌≤◌, ◌↔◌, IsTrue, ℕ, length};
 ghost use Rattle.sqlite.specs.Held.{state};
@@ -9,14 +9,13 @@ ghost use Rattle.sok_book.specs.Commands.{best_pushes};
 ghost use Rattle.sok_book.specs.Kept.{IsKeptPage};
 ghost use Rattle.sok_cert.specs.Claim.TheVariants as claim;
 ghost use Rattle.sok_search.specs.Faults.{IsBadLimit};
-ghost use Rattle.sok_settle.specs.Finding.{IsFinding};
-ghost use Rattle.sok_settle.specs.Settles.{IsBeyond};
+ghost use Rattle.sok_settle.specs.Finding.{Shows};
+ghost use Rattle.sok_settle.specs.Settles.{IsBeyond, IsTried};
 ghost use Rattle.sok_settle.specs.declared.settle.Span.{Span};
-ghost use Rattle.sok_settle.specs.Steps.{AreFewest, GoesBy, GoesThrough, IsRecordIn, IsTriedAs};
+ghost use Rattle.sok_settle.specs.Steps.{AreFewest, GoesBy, GoesThrough, IsRecordIn};
 
 use crate::certs::Certs;
 use crate::line::{limit_line, optimal_line, tell, tell_fault, tell_unkept, unsolvable_line};
-use crate::search::Finding;
 use crate::settle::Span;
 use sok_book::fault::BookFault;
 use sok_book::offering::LETTER_LIMIT;
@@ -26,13 +25,14 @@ use sok_engine::fault::ToolFault;
 use sok_rules::cell::Dir;
 use sok_rules::fault::PlayFault;
 use sok_rules::level::Level;
+use sok_search::finding::Finding;
 use sok_store::book::Book;
 use sqlite::Alter;
 use std::alloc::Global;
 use std::io::Write;
 
-/// Settles a level that nothing is proved of, from the first to the last that are tried, and gives
-/// whether it is settled. Others are passed over.
+/// Settles a level, unless it is outside the span or has a verdict. Returns false if it was tried and is
+/// not settled.
 pub(crate) fn settle_kept<S: Alter, C: Certs, W: Write>(
     alloc: Global,
     book: &mut Book<S>,
@@ -59,14 +59,14 @@ pub(crate) fn settle_kept<S: Alter, C: Certs, W: Write>(
     }
 }
 
-/// Whether an id comes before the first of those that are tried, or behind the last.
+/// Returns whether an id is outside the span.
 fn is_beyond(span: Span, id: i64) -> bool
     ensures { IsTrue result ↔ IsBeyond span id }
 {
     id < span.first || span.last < id
 }
 
-/// Settles the level with an id.
+/// Searches the level with an id, and settles it.
 fn settle_level<S: Alter, C: Certs, W: Write>(
     alloc: Global,
     book: &mut Book<S>,
@@ -79,7 +79,7 @@ fn settle_level<S: Alter, C: Certs, W: Write>(
     requires good_limit { IsBadLimit limit → ⊥ }
     requires may_keep { C.may_keep certs.now }
     requires kept { IsKeptPage kept.now.page }
-    ensures { (span : Span) → GoesThrough (IsTriedAs span id kept.now.page) (C.keeping certs.now)
+    ensures { (span : Span) → GoesThrough (IsTried span id kept.now.page) (C.keeping certs.now)
         limit span id (state S.Store book.old) (state S.Store book.new)
         (W.contents out.old) (W.contents out.new) result }
 {
@@ -91,7 +91,7 @@ fn settle_level<S: Alter, C: Certs, W: Write>(
     }
 }
 
-/// The pushes of a level's best, if it has one.
+/// Returns the pushes of a level's best, if it has one.
 fn best_pushes(kept: &Record) -> Option<u32>
     ensures { result ≡ best_pushes kept.now.page }
 {
@@ -101,7 +101,7 @@ fn best_pushes(kept: &Record) -> Option<u32>
     }
 }
 
-/// Settles the level with an id by what its search finds.
+/// Settles the level with an id by what its search found.
 fn settle_by<S: Alter, C: Certs, W: Write>(
     alloc: Global,
     book: &mut Book<S>,
@@ -115,9 +115,9 @@ fn settle_by<S: Alter, C: Certs, W: Write>(
 ) -> Result<bool, ToolFault>
     requires may_keep { C.may_keep certs.now }
     requires kept { IsKeptPage kept.now.page }
-    requires found { IsFinding (C.certifies taken kept.now.page.level limit)
+    requires found { Shows (C.certifies taken kept.now.page.level limit)
         kept.now.page.level limit (best_pushes kept.now.page) finding }
-    ensures { (span : Span) → GoesThrough (IsTriedAs span id kept.now.page) (C.keeping certs.now)
+    ensures { (span : Span) → GoesThrough (IsTried span id kept.now.page) (C.keeping certs.now)
         limit span id (state S.Store book.old) (state S.Store book.new)
         (W.contents out.old) (W.contents out.new) result }
 {
@@ -153,12 +153,14 @@ fn settle_by<S: Alter, C: Certs, W: Write>(
             ),
             None => settle_unsolvable(alloc, book, id, &kept.level, certs, taken, out),
         },
-        Finding::Limit { at_least } => tell(&limit_line(id, limit, at_least), false, out),
+        Finding::Limit {
+            states: _,
+            at_least,
+        } => tell(&limit_line(id, limit, at_least), false, out),
     }
 }
 
-/// Settles a level by letters that solve it with the fewest pushes. The book changes only once the
-/// certificate is kept.
+/// Settles a level by a solution with the fewest pushes. The certificate is kept before the book changes.
 fn settle_solved<S: Alter, C: Certs, W: Write>(
     alloc: Global,
     book: &mut Book<S>,
@@ -175,7 +177,7 @@ fn settle_solved<S: Alter, C: Certs, W: Write>(
     requires fewest { AreFewest level.now dirs.now pushes }
     ensures { (limit : ℕ) (span : Span) (page : Page) → page.level ≡ level.now
         → C.certifies taken level.now limit (claim.Pushes pushes)
-        → GoesThrough (IsTriedAs span id page) (C.keeping certs.now)
+        → GoesThrough (IsTried span id page) (C.keeping certs.now)
         limit span id (state S.Store book.old) (state S.Store book.new)
         (W.contents out.old) (W.contents out.new) result }
 {
@@ -185,7 +187,7 @@ fn settle_solved<S: Alter, C: Certs, W: Write>(
     }
 }
 
-/// Settles a level that has no solution. The book changes only once the certificate is kept.
+/// Settles a level without a solution. The certificate is kept before the book changes.
 fn settle_unsolvable<S: Alter, C: Certs, W: Write>(
     alloc: Global,
     book: &mut Book<S>,
@@ -199,7 +201,7 @@ fn settle_unsolvable<S: Alter, C: Certs, W: Write>(
     requires unsolvable { IsUnsolvable level.now }
     ensures { (limit : ℕ) (span : Span) (page : Page) → page.level ≡ level.now
         → C.certifies taken level.now limit claim.Unsolvable
-        → GoesThrough (IsTriedAs span id page) (C.keeping certs.now)
+        → GoesThrough (IsTried span id page) (C.keeping certs.now)
         limit span id (state S.Store book.old) (state S.Store book.new)
         (W.contents out.old) (W.contents out.new) result }
 {
@@ -209,7 +211,7 @@ fn settle_unsolvable<S: Alter, C: Certs, W: Write>(
     }
 }
 
-/// Offers a solution that may be kept, and sets the verdict that none has fewer pushes.
+/// Offers a solution with the fewest pushes, and sets the verdict `optimal`.
 fn set_optimal<S: Alter, W: Write>(
     book: &mut Book<S>,
     id: i64,
@@ -235,7 +237,7 @@ fn set_optimal<S: Alter, W: Write>(
     }
 }
 
-/// Sets the verdict that the level with an id has no solution.
+/// Sets the verdict `unsolvable`.
 fn set_unsolvable<S: Alter, W: Write>(
     book: &mut Book<S>,
     id: i64,

@@ -1,4 +1,4 @@
-//! The line of a level that is settled, or of an offer.
+//! The line of a level, or of an offer.
 
 ghost use Rattle.std.specs.Prelude.{◌≡◌, ◌++◌, IfOk, codes, string_bytes};
 ghost use Rattle.std.specs.Fmt.{signed_decimal};
@@ -15,10 +15,10 @@ use sok_store::standing::Standing;
 use std::alloc::{AllocError, Global};
 use std::io::Write;
 
-/// A line of at most 64 bytes, which is made without memory.
+/// A line of at most 64 bytes, which takes no memory from the allocator.
 pub(crate) type Line = ArrayString<64>;
 
-/// The line of a level whose best has the fewest pushes.
+/// Returns the line of a level whose best has the fewest pushes.
 pub(crate) fn optimal_line(id: i64, pushes: u32, moves: u32) -> Line
     ensures { result.bytes ≡ optimal_line id pushes moves }
 {
@@ -32,7 +32,7 @@ pub(crate) fn optimal_line(id: i64, pushes: u32, moves: u32) -> Line
     line
 }
 
-/// The line of a level that has no solution.
+/// Returns the line of a level without a solution.
 pub(crate) fn unsolvable_line(id: i64) -> Line
     ensures { result.bytes ≡ unsolvable_line id }
 {
@@ -42,8 +42,7 @@ pub(crate) fn unsolvable_line(id: i64) -> Line
     line
 }
 
-/// The line of a level with more states than the limit, with the fewest pushes that the search
-/// shows.
+/// Returns the line of a level whose search reached the limit, with the lower bound that it shows.
 pub(crate) fn limit_line(id: i64, limit: u32, at_least: u32) -> Line
     ensures { result.bytes ≡ limit_line id limit at_least }
 {
@@ -57,7 +56,7 @@ pub(crate) fn limit_line(id: i64, limit: u32, at_least: u32) -> Line
     line
 }
 
-/// The line of an offer: the id, what became of it, and the pushes and moves of the best after it.
+/// Returns the line of an offer: the id, what became of it, and the pushes and moves of the best.
 pub(crate) fn told_line(id: i64, told: &Standing) -> Line
     ensures { result.bytes ≡ signed_decimal id
         ++ (codes " " ++ offer_line told.now.offer told.now.pushes told.now.moves) }
@@ -69,15 +68,14 @@ pub(crate) fn told_line(id: i64, told: &Standing) -> Line
     line
 }
 
-/// The line of what has a fault of its own.
+/// Returns the line of a level or an offer with a fault.
 fn fault_line(alloc: Global, id: i64, fault: ToolFault) -> Result<String, AllocError>
     ensures { IfOk result (λ line. string_bytes line ≡ fault_line id fault) }
 {
     format!(in alloc; "{id} {fault}\n")
 }
 
-/// Writes a line, and gives whether what it tells is well done. A write that fails is `WriteFailed`
-/// at once, after a front of the line.
+/// Writes a line, and returns `well`. A failed write is `WriteFailed`; a front of the line may be written.
 pub(crate) fn tell<W: Write>(line: &Line, well: bool, out: &mut W) -> Result<bool, ToolFault>
     ensures { TellsLine line.now.bytes well (W.contents out.old) (W.contents out.new) result }
 {
@@ -85,7 +83,7 @@ pub(crate) fn tell<W: Write>(line: &Line, well: bool, out: &mut W) -> Result<boo
     Ok(well)
 }
 
-/// Writes the line of a fault, and gives that nothing is well done. It takes memory.
+/// Writes the line of a fault, and returns false. It takes memory.
 pub(crate) fn tell_fault<W: Write>(
     alloc: Global,
     id: i64,
@@ -99,7 +97,7 @@ pub(crate) fn tell_fault<W: Write>(
     Ok(false)
 }
 
-/// Tells that the certificate of a level is too long. Another fault of it ends the call.
+/// Writes that the certificate of a level is too long. Any other fault of it ends the call.
 pub(crate) fn tell_unkept<W: Write>(
     alloc: Global,
     id: i64,

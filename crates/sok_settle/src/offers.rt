@@ -1,4 +1,4 @@
-//! Lines of offers are gone through.
+//! Offering the lines of a text.
 
 ghost use Rattle.std.specs.Prelude.{◌≡◌, ◌≤◌, List, length, ℕ};
 ghost use Rattle.sqlite.specs.Held.{state};
@@ -24,17 +24,15 @@ use sqlite::Alter;
 use std::alloc::Global;
 use std::io::{Read, Write};
 
-/// Offers the lines of a text, in order: each is the id of a level in decimal digits, a blank, and a
-/// text of letters. A line of blanks alone is passed over. Each other one is answered by a line,
-/// which is written as soon as it is done: its id and then what `offer_bytes` answers, as `ID stored
-/// PUSHES MOVES` or `ID kept PUSHES MOVES`, or the fault of that, which changes nothing. A first word
-/// that is no number below 2^32 is taken as 0, which is the id of no level. The status is 0 where
-/// each line is stored or kept, and 3 where one has a fault.
+/// Offers the lines of a text, in order. A line is the id of a level in decimal digits, a blank, and a text
+/// of letters. A line of blanks alone is skipped. Each other line is answered as soon as it is done: by
+/// `ID stored PUSHES MOVES`, `ID kept PUSHES MOVES`, or the id and the fault of `offer_bytes`, which
+/// changes nothing. A first word that is no number below 2^32 counts as 0, which is the id of no level.
+/// Returns status 0 if each line is stored or kept, and 3 if one has a fault.
 ///
-/// `ReadFailed` and `TooMuch` come before any line. `Memory` or `Database` may end the call at any.
-/// Then what was written stands, and the book is as it was before that line. A write that fails is
-/// `WriteFailed` at once, after a front of the line. No memory is taken between a command and its
-/// line.
+/// Errors: `ReadFailed` and `TooMuch`, before any line; `Memory` or `Database`, at any line, with the
+/// book as it was before that line; `WriteFailed`, which may leave a front of the line. What was written
+/// before stands. No memory is taken between a command and its line.
 pub fn offers_bytes<S: Alter, R: Read, W: Write>(
     alloc: Global,
     book: &mut Book<S>,
@@ -50,7 +48,7 @@ pub fn offers_bytes<S: Alter, R: Read, W: Write>(
     offer_lines(alloc, book, bytes.as_slice(), out)
 }
 
-/// Offers the lines of a text.
+/// Offers the lines of a text that was read.
 fn offer_lines<S: Alter, W: Write>(
     alloc: Global,
     book: &mut Book<S>,
@@ -82,7 +80,7 @@ fn offers_status(all: bool) -> u8
     if all { 0 } else { 3 }
 }
 
-/// Offers the text of a line, and gives whether it is stored or kept.
+/// Offers the text of a line. Returns whether it is stored or kept.
 fn offer_line<S: Alter, W: Write>(
     alloc: Global,
     book: &mut Book<S>,
@@ -120,7 +118,7 @@ fn offer_letters<S: Alter, W: Write>(
     }
 }
 
-/// Tells that a text does not spell letters, unless memory was refused.
+/// Writes that a text does not spell letters, unless memory was refused.
 fn tell_unread<W: Write>(
     alloc: Global,
     id: i64,
@@ -135,7 +133,7 @@ fn tell_unread<W: Write>(
     }
 }
 
-/// Tells that letters are refused, unless memory or the database was.
+/// Writes that letters are refused, unless memory or the database was.
 fn tell_refused<W: Write>(
     alloc: Global,
     id: i64,

@@ -1,4 +1,4 @@
-//! The levels of a book are settled.
+//! Settling the levels of a book.
 
 ghost use Rattle.std.specs.Prelude.{◌≡◌, ◌↔◌, All, Err, IfErr, IsTrue, OnOk};
 ghost use Rattle.sqlite.specs.Held.{state};
@@ -22,28 +22,33 @@ use sqlite::Alter;
 use std::alloc::Global;
 use std::io::Write;
 
-/// The ids of the levels that are tried, from the first to the last.
+/// The ids of the levels that are tried, from the first to the last, both included.
 #[derive(Clone, Copy)]
 pub struct Span {
     pub first: i64,
     pub last: i64,
 }
 
-/// Settles the levels of a book that nothing is proved of, in order of their ids, from one to another:
-/// each is searched within a limit of states from 1 to 1,000,000, beside its best if it has one. Where letters solve it, a solution
-/// with the fewest pushes is offered, and its verdict is that none has fewer; where none do, that is
-/// its verdict. Before either its certificate is kept. Each line is written as soon as its level is done:
-/// `ID optimal PUSHES MOVES`, with those of its best; `ID unsolvable`; `ID limit S at least K` where
-/// more states can be reached, and none solves with fewer than K pushes; `ID fault 14 TooLong` where
-/// the solution has more than 1,000,000 letters; or `ID fault 52 TooMuch` where the certificate is
-/// refused as too long. The status is 0 where each level that was tried is settled, and 4 where one
-/// is not. Levels with a verdict stay as they were, and so do those that are not tried, without a line.
+/// Settles the levels of a book that have no verdict, in order of their ids. Each level is searched within
+/// `limit` states (1 to 1,000,000), beside its best if it has one. If it has a solution, one with the
+/// fewest pushes is offered, and its verdict is `optimal`; if it has none, its verdict is `unsolvable`.
+/// Its certificate is kept before the book changes. Each level has a line, which is written as soon as it
+/// is done:
 ///
-/// A limit that is bad is `BadLimit`, before anything else. `Memory` or `Database` may end the call
-/// at any level. Then what was written stands, and the level is as it was, or has a best and no
-/// verdict. A write that fails is `WriteFailed` at once: of a certificate, and the level is as it
-/// was; or after a front of the line. No memory is taken between the commands on a level and its
-/// line.
+/// - `ID optimal PUSHES MOVES`, with those of its best;
+/// - `ID unsolvable`;
+/// - `ID limit S at least K`, if the search reached the limit and shows that no solution has fewer than K
+///   pushes;
+/// - `ID fault 14 TooLong`, if the solution has more than 1,000,000 letters;
+/// - `ID fault 52 TooMuch`, if the certificate is refused as too long.
+///
+/// Levels outside the span, or with a verdict, have no line and stay as they are. Returns status 0 if each
+/// level that was tried is settled, and 4 if one is not.
+///
+/// Errors: `BadLimit`, before anything else; `Memory` or `Database`, at any level, which is then as it
+/// was, or has a best and no verdict; `WriteFailed`, if a certificate can't be written, and the level is
+/// as it was, or if a line can't be, of which a front may be written. What was written before stands. No
+/// memory is taken between the commands on a level and its line.
 pub fn settle_bytes<S: Alter, C: Certs, W: Write>(
     alloc: Global,
     book: &mut Book<S>,
@@ -72,14 +77,14 @@ pub fn settle_bytes<S: Alter, C: Certs, W: Write>(
     }
 }
 
-/// Whether a limit is refused.
+/// Returns whether a limit is refused.
 fn is_bad(limit: u32) -> bool
     ensures { IsTrue result ↔ IsBadLimit limit }
 {
     limit == 0 || limit > LIMIT
 }
 
-/// Settles the levels with these records.
+/// Settles the levels of these records.
 fn settle_all<S: Alter, C: Certs, W: Write>(
     alloc: Global,
     book: &mut Book<S>,

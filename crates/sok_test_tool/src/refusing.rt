@@ -1,4 +1,4 @@
-//! Help, the version, and words that ask for nothing.
+//! Help, the version, and words that mean no job.
 
 use crate::devices::{Failure, Sink};
 use crate::rows::{ran, run_on, words};
@@ -7,9 +7,9 @@ use std::test::Fail;
 /// The name, the version, and what proved it, as README tells it.
 const VERSION: &str = "sok 1.0\nproved with rattle-kit-13f logic dac8208d650f15bf\n";
 
-/// A line, a part of what is written to the output, or where the status is 2 to the error stream,
-/// and the status.
-const REFUSALS: [(&str, &str, u8); 36] = [
+/// A line, a part of what is written, and the status. It is written to the error stream if the
+/// status is 2, and otherwise to the output.
+const REFUSALS: [(&str, &str, u8); 37] = [
     ("sok --help", "Exit status:", 0),
     ("sok --version", VERSION, 0),
     ("sok help solve", "limit S", 0),
@@ -36,6 +36,11 @@ const REFUSALS: [(&str, &str, u8); 36] = [
     ("sok replay - 1 -", "read once in a command", 2),
     ("sok solve F 4294967296", "4294967296", 2),
     ("sok solve F 1 --limit x", "invalid value 'x'", 2),
+    (
+        "sok solve F 1 --below 1000001",
+        "1000001 is not in 0..=1000000",
+        2,
+    ),
     (
         "sok solve F 1 --cert P --cert P",
         "cannot be used multiple times",

@@ -16,13 +16,14 @@ use sok_files::file::{create, open};
 use sok_files::folder::Folder;
 use sok_files::own::Own;
 use sok_rules::level::Level;
+use sok_search::finding::Finding;
 use sok_settle::certs::Certs;
-use sok_settle::search::{Finding, search_into};
+use sok_settle::search::search_into;
 use sok_solve::certificate::{EntryLines, ReadyCert};
 use std::alloc::{AllocError, Global};
 
-/// A folder for certificates: that of the level with an id is its file `ID.cert`. None is written into
-/// the file of the book.
+/// A folder for certificates. The file `ID.cert` holds that of the level with this id. No
+/// certificate is written into the file of the book.
 #[derive(Drop)]
 pub(crate) struct CertFolder<'a, F> {
     pub(crate) files: &'a F,
@@ -65,15 +66,15 @@ impl<F: Folder> Certs for CertFolder<'_, F> {
     }
 }
 
-/// The path of the certificate of the level with an id.
+/// Returns the path of the certificate of the level with an id.
 fn path_of(alloc: Global, folder: &str, id: i64) -> Result<String, AllocError>
     ensures { IfOk result (λ path. string_bytes path ≡ cert_path folder.now id) }
 {
     format!(in alloc; "{folder}/{id}.cert")
 }
 
-/// Keeps a certificate in the file at a path. A whole one that stands there is never replaced by
-/// another.
+/// Keeps a certificate in the file at `path`. A whole certificate there is never replaced by
+/// another one.
 fn keep_at<F: Folder>(
     alloc: Global,
     files: &F,
@@ -94,7 +95,7 @@ fn keep_at<F: Folder>(
     }
 }
 
-/// Keeps a certificate where a whole one stands, if that is the same.
+/// Keeps a certificate at a path where there is a whole one: both have to be the same.
 fn keep_same<F: Folder>(
     alloc: Global,
     files: &F,
@@ -118,8 +119,8 @@ fn keep_same<F: Folder>(
     }
 }
 
-/// Writes a certificate to a file that is made for it. None stays that can't be written whole, if it
-/// can be taken away.
+/// Writes a certificate to a file that is made for it. If it can't be written whole, the file is
+/// removed, if that is possible.
 fn write_to<F: Folder>(
     files: &F,
     path: &str,

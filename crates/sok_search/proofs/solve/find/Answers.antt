@@ -1,27 +1,17 @@
-use Rattle.std.proofs.Common.{None, subst, sym}
-use Rattle.sok_rules.specs.Squares.{Rows}
-use Rattle.sok_search.specs.Findings.{IsFinding}
+use Rattle.std.proofs.Common.{subst, sym}
+use Rattle.sok_search.specs.declared.finding.Finding.{Finding}
+use Rattle.sok_search.specs.declared.found.Found.{Found}
 use Rattle.sok_search.specs.Outcomes.{IsFoundWithin}
 use Rattle.sok_search.proofs.Concluding.{found-alone}
-use Rattle.sok_search.proofs.Refusing.{good-within, handed-on, no-answer, told-also, told-answer, told-memory}
+use Rattle.sok_search.proofs.Refusing.{told-alike, told-also}
 use Rattle.sok_search.proofs.solve.find.Goals as goal
 
-pub returns-in_err-board : goal.returns-in_err-board
-returns-in_err-board c =
-    let told = told-also _ _ c.args.level.now c.args.limit _ c.in_err-board.ensures.tells in
-    let tells = handed-on _ _ _ c.from_residual.result c.from_residual.ensures.1 told in
-    assumption (tells, no-answer (IsFoundWithin c.args.level.now c.args.limit) _ c.from_residual.result c.from_residual.ensures.1)
+pub returns-in-Ok : goal.returns-in-Ok
+returns-in-Ok c = record {
+  found = subst (IsFoundWithin c.args.level.now c.args.limit) (sym c.found.ensures)
+      (found-alone c.args.level.now c.args.limit c.in-Ok.finding c.in-Ok.ensures.finding);
+  tells = told-alike Finding Found c.args.level.now c.args.limit c.in-Ok.finding _ c.in-Ok.ensures.tells;
+}
 
-pub returns-in_err-finding : goal.returns-in_err-finding
-returns-in_err-finding c =
-    let error = c.from_residual-in_err-finding.ensures.1 in
-    let told = told-memory _ c.args.level.now c.args.limit (good-within c.args.level.now c.args.limit c.in_ok-board.board c.in_ok-board.ensures.board) in
-    let tells = handed-on _ _ _ c.from_residual-in_err-finding.result error told in
-    assumption (tells, no-answer (IsFoundWithin c.args.level.now c.args.limit) _ c.from_residual-in_err-finding.result error)
-
-pub returns : goal.returns
-returns c =
-    let within = c.in_ok-board.ensures.board in
-    let is = subst (λ (level : Rows). IsFinding level c.args.limit None c.in_ok-finding.finding) within.rows_are c.in_ok-finding.ensures in
-    let found = subst (IsFoundWithin c.args.level.now c.args.limit) (sym c.found.ensures) (found-alone c.args.level.now c.args.limit c.in_ok-finding.finding is) in
-    assumption (found, told-answer c.args.level.now c.args.limit c.in_ok-board.board c.found.result within)
+pub returns-in-Err : goal.returns-in-Err
+returns-in-Err c = record { found = tt; tells = told-also Finding Found c.args.level.now c.args.limit c.in-Err.fault c.in-Err.ensures.tells }

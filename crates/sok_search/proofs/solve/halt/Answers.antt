@@ -1,5 +1,6 @@
 use Rattle.std.proofs.Common.{[], length, refl, subst, sym, true≢false}
-use Rattle.sok_search.specs.Finished.{AreDone, AreFirstEntries, claim_of}
+use Rattle.sok_search.specs.Findings.{claim_of}
+use Rattle.sok_search.specs.Finished.{AreDone, AreFirstEntries}
 use Rattle.sok_search.specs.Views.{progress_of}
 use Rattle.sok_search.proofs.Certified.{done-beaten, done-least}
 use Rattle.sok_search.proofs.Concluding.{and-none, certifies, cut-short, fewer-beaten, fits-claim, no-fewer, not-beaten, shown-least, wanted-not, wanted-so}
